@@ -199,6 +199,8 @@ def run_unpack(words: argparse.Namespace) -> int:
         console.problem("no CRC-64 is compared, as --no-crc says")
     with Progress(console) as progress:
         done = unpack(words.archive, words.directory, with_crc=not words.no_crc, say=console.line, progress=progress.over)
+    if done.error:
+        console.problem(f"{words.archive}: {done.error}")
     rows = ("collections", len(done.collections)), ("documents", sum(it.documents for it in done.collections))
     broken = sum(bool(it.error) for it in done.collections)
     _print_table([*rows, *([("not whole", broken)] if broken else [])], console)

@@ -2,6 +2,7 @@
 
 from __future__ import annotations
 
+import errno
 import os
 import secrets
 import stat
@@ -124,4 +125,4 @@ def refuse_there(*names: str) -> None:
     """Refuses names of what is there."""
     for name in names:
         if os.path.lexists(name):
-            raise OutputError(f"{name} is there")
+            raise FileExistsError(errno.EEXIST, os.strerror(errno.EEXIST), name)

@@ -53,7 +53,7 @@ class _Reading:
         self._future: Future[None] = pool.submit(_read_all, namespace, read, output)
 
     def write(self, data: memoryview) -> None:
-        """Writes bytes to the pipe. A thread that has ended reads no more; why it has is raised, where it does not say it itself."""
+        """Writes bytes to the pipe. A thread that has ended reads no more; an error that ended it is raised."""
         try:
             self._pipe.write(data)
         except BrokenPipeError:

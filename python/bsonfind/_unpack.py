@@ -24,8 +24,8 @@ _METADATA = ".metadata.json", ".metadata.part"
 class Collection:
     """A collection of an archive: where its documents and its metadata were written, and how many documents and bytes these are.
 
-    One that is not whole has an `error`, and its file a name that ends in `.part`. What was not written is None: a view has metadata
-    alone.
+    One that is not whole has an `error`, and its file a name that ends in `.part`. What was not written is None, such as the file
+    of a view, which has metadata alone.
     """
 
     name: str
@@ -60,10 +60,10 @@ def unpack(
 
     The archive is read once; `-` is standard input. It may be one by `--gzip`. The end of each collection is checked, and its
     CRC-64 unless `with_crc` is false. Files get their names at the end, when all was read. One of a collection that is not whole
-    keeps the ending `.part`. Nothing that is there is replaced. `say` gets what the command prints.
+    keeps the ending `.part`. Nothing that is there is replaced. `say` gets what the command prints of each collection.
 
-    What is no archive is a `DumpError`, and so is one whose list of collections is damaged; a file that is there is a
-    `BsonfindError`, and what cannot be written an `OSError`. Then nothing is left behind.
+    What is no archive is a `DumpError`, and so is one whose list of collections is damaged. A file that is there, or that cannot be
+    written, is an `OSError`. Then nothing is left behind.
     """
     name = os.fsdecode(archive)
     with ExitStack() as files:
@@ -75,7 +75,7 @@ def unpack(
         except DumpError as error:
             raise DumpError(f"{name}: {error}", error.fault) from error
         if say:
-            for line in work.lines(name):
+            for line in work.lines():
                 say(line)
         return work.finish()
 
@@ -161,16 +161,14 @@ class _Unpacking:
             self._stack.callback(_remove_empty, directory)
         return self._stack.enter_context(NewOutput(*(name + ending for ending in endings)))
 
-    def lines(self, name: str) -> Iterator[str]:
-        """What is printed of the collections, and of the archive."""
+    def lines(self) -> Iterator[str]:
+        """What is printed of the collections."""
         for it in self._collections.values():
             error = f"{it.error}: " if it.error else ""
             if it.path:
                 yield f"{it.name}: {error}{it.documents} documents to {it.path}"
             elif it.error:
                 yield f"{it.name}: {error}no documents"
-        if self._error:
-            yield f"{name}: {self._error}"
 
     def finish(self) -> Unpacked:
         """Gives all files that are whole their names, and leaves the others."""

@@ -13,9 +13,10 @@ from bsonfind._archive import Archive, Documents, Namespace, documents_of, is_ar
 from bsonfind._backups import stem_of
 from bsonfind._crc64 import Crc64
 
-from .archives import MAGIC, END, archive, block, block_header, crc64, end, header, listed, prelude, string
+from .archives import END, MAGIC, archive, block, block_header, crc64, end, header, listed, prelude, string
+from .archives import documents_of as dump_documents
 from .bson import document, field, int32
-from .support import PEOPLE, SHOP
+from .support import PEOPLE, ROOT, SHOP
 
 # By Go's `hash/crc64` over the first bytes of those whose number i is i*i/8 + i, the table being crc64.ECMA.
 GO = {
@@ -245,6 +246,13 @@ class Frames(unittest.TestCase):
             self.assertEqual(Read(lists + block(database, "x", b"")).error, f"byte {len(lists)}: {told}")
         for collection in ("", "a\0b", "\0"):
             self.assertEqual(Read(prelude(listed("a", collection))).error, f"byte {at}: no name of a collection: {collection!r}")
+
+
+class Example(unittest.TestCase):
+    def test_the_writer_of_these_tests_wrote_it(self) -> None:
+        orders, people = (b"".join(dump_documents(it)[:40]) for it in (SHOP_DATA, PEOPLE_DATA))
+        example = (ROOT / "examples/backup.archive").read_bytes()
+        self.assertEqual(example, archive([("shop", "orders", orders), ("club", "people", people)], each=10))
 
 
 class Members(unittest.TestCase):

@@ -28,7 +28,7 @@ from bsonfind import (
     unpack,
 )
 
-from .archives import END, MAGIC, METADATA, archive, block, block_header, crc64, end, header, listed, prelude
+from .archives import END, MAGIC, METADATA, archive, block, block_header, crc64, documents_of, end, header, listed, prelude
 from .support import DOUBLE, PEOPLE, PEOPLE_LINES, PROGRAM, Room, environment, run_package, wait_for
 from .test_archive import PEOPLE_DATA, SHOP_DATA, small
 
@@ -85,7 +85,8 @@ class Unpacks(Room):
         self.assertEqual((done.is_good, done.error), (True, None))
         orders, people = done.collections
         self.assertEqual((orders.name, orders.documents, orders.size, orders.error), ("shop.orders", 400, len(SHOP_DATA), None))
-        self.assertEqual((people.path, people.metadata), tuple(f"{self.room}/out/club/people{it}" for it in (".bson", ".metadata.json")))
+        stem = f"{self.room}/out/club/people"
+        self.assertEqual((people.path, people.metadata), (f"{stem}.bson", f"{stem}.metadata.json"))
 
     def test_other_kinds_of_collections(self) -> None:
         """An oplog, users of one database, a view, a time series, one without metadata and an empty one."""
@@ -144,8 +145,8 @@ class Unpacks(Room):
             told = f"bsonfind: A: byte {len(MAGIC + header())}: no name of a database: {database!r}\n"
             self.assertEqual(self.unpack(prelude(listed(database, "x")), status=2, told=told), [])
             data = prelude(listed("a", "x")) + block(database, "x", small(1))
-            lines = self.unpack(data, status=1)
-            self.assertIn(f"A: byte {len(prelude(listed('a', 'x')))}: no name of a database: {database!r}", lines)
+            told = f"bsonfind: A: byte {len(prelude(listed('a', 'x')))}: no name of a database: {database!r}\n"
+            self.assertEqual(self.unpack(data, status=1, told=told), ["a.x: no end: no documents", *self.table(1, 0, 1)])
             self.assertEqual(sorted(self.files("")), ["a", "out/a/x.metadata.json"])
             (self.room / "out/a/x.metadata.json").unlink()
         above = prelude(listed("a", "../../x")) + block("a", "../../x", small(1)) + end("a", "../../x", small(1))
@@ -185,10 +186,13 @@ class Unpacks(Room):
     def test_what_is_told_of_one_that_was_cut(self) -> None:
         """`audit` of the directory reports the files that are not whole."""
         at = TWO.index(block_header("shop", "orders"), 100_000)
-        lines = self.unpack(TWO[: at + 5000], status=1)
-        told = f"A: byte {at + 5000}: the archive ends inside a block"
-        self.assertEqual(lines[-4:], [told, *self.table(2, lines_documents(lines), 2)])
-        self.assertTrue(all(": no end: " in line and line.endswith(".bson.part") for line in lines[:2]), lines)
+        told = f"bsonfind: A: byte {at + 5000}: the archive ends inside a block\n"
+        lines = self.unpack(TWO[: at + 5000], status=1, told=told)
+        orders, people = (len(documents_of(self.files()[f"{it}.bson.part"])) for it in ("shop/orders", "club/people"))
+        # The last document of the last block was cut.
+        self.assertEqual(lines[0], f"shop.orders: no end: {orders - 1} documents to O/shop/orders.bson.part")
+        self.assertEqual(lines[1], f"club.people: no end: {people} documents to O/club/people.bson.part")
+        self.assertEqual(lines[2:], self.table(2, orders + people - 1, 2))
         run = run_package("audit", str(self.room / "out"))
         self.assertEqual(run.returncode, 1)
         for name in ("club/people", "shop/orders"):
@@ -196,8 +200,8 @@ class Unpacks(Room):
         self.assertEqual(run.stdout.count("\n"), 2 + 4)
 
     def test_gzip_that_was_cut(self) -> None:
-        lines = self.unpack(gzip.compress(TWO, 0)[:150_000], status=1)
-        self.assertEqual(lines[2], "A: not a sound file of gzip: it ends too soon")
+        told = "bsonfind: A: not a sound file of gzip: it ends too soon\n"
+        self.unpack(gzip.compress(TWO, 0)[:150_000], status=1, told=told)
         self.assertTrue(SHOP_DATA.startswith(self.files()["shop/orders.bson.part"]))
 
     def test_crc_that_is_wrong(self) -> None:
@@ -216,12 +220,12 @@ class Unpacks(Room):
         """What comes after it is not read; what was ended before is whole."""
         lists = prelude(listed("a", "x"), listed("a", "y"), listed("a", "z"))
         before = block("a", "x", small(1)) + end("a", "x", small(1)) + block_header("a", "y") + small(2, 3)
-        lines = self.unpack(lists + before + b"\4\0\0\0" + END + end("a", "y", small(2, 3)), status=1)
+        told = f"bsonfind: A: byte {len(lists + before)}: bad length\n"
+        lines = self.unpack(lists + before + b"\4\0\0\0" + END + end("a", "y", small(2, 3)), status=1, told=told)
         wanted = [
             "a.x: 1 documents to O/a/x.bson",
             "a.y: no end: 2 documents to O/a/y.bson.part",
             "a.z: no end: no documents",
-            f"A: byte {len(lists + before)}: bad length",
         ]
         self.assertEqual(lines, [*wanted, *self.table(3, 3, 2)])
 
@@ -239,18 +243,18 @@ class Unpacks(Room):
         data += block("b", "y", small(1)) + end("b", "y", small(1))
         for name in ("a/x.bson", "a/x.metadata.json", "a/x.bson.part", "b/y.bson", "b/y.bson.part"):
             there = self.file(b"there", f"out/{name}")
-            self.assertEqual(self.unpack(data, status=2, told=f"bsonfind: O/{name} is there\n"), [])
+            self.assertEqual(self.unpack(data, status=2, told=f"bsonfind: O/{name}: File exists\n"), [])
             self.assertEqual(self.files(), {name: b"there"})
             there.unlink()
         (self.room / "out/a/x.bson").symlink_to("nothing")
-        self.unpack(data, status=2, told="bsonfind: O/a/x.bson is there\n")
+        self.unpack(data, status=2, told="bsonfind: O/a/x.bson: File exists\n")
         (self.room / "out/a/x.bson").unlink()
         self.unpack(data)
         self.assertEqual(sorted(self.files()), ["a/x.bson", "a/x.metadata.json", "b/y.bson"])
 
     def test_names_that_come_to_one_file(self) -> None:
         data = prelude(listed("", "x", ""), listed("$a", "x", "")) + block("", "x", small(1)) + block("$a", "x", small(2))
-        self.assertEqual(self.unpack(data, status=2, told="bsonfind: O/x.bson.part is there\n"), [])
+        self.assertEqual(self.unpack(data, status=2, told="bsonfind: O/x.bson.part: File exists\n"), [])
         self.assertFalse((self.room / "out").exists())
 
     def test_file_that_comes_meanwhile(self) -> None:
@@ -270,7 +274,7 @@ class Unpacks(Room):
         writer.start()
         run = run_package("unpack", str(pipe), str(out))
         writer.join()
-        self.assertEqual((run.returncode, self.named(run.stderr)), (2, "bsonfind: O/shop/orders.bson is there\n"))
+        self.assertEqual((run.returncode, self.named(run.stderr)), (2, "bsonfind: O/shop/orders.bson: File exists\n"))
         self.assertEqual((out / "shop/orders.bson").read_bytes(), b"there")
         self.assertEqual([name for name in self.files() if name.endswith(".part")], [])
 
@@ -350,7 +354,9 @@ class Unpacks(Room):
         command = [sys.executable, "-m", "bsonfind", "unpack", str(path), str(self.room / "out")]
         limited = ["sh", "-c", 'ulimit -S -v 131072; exec "$@"', "sh", *command]
         run = subprocess.run(limited, env=environment(), stdout=subprocess.PIPE, stderr=subprocess.PIPE, text=True)
-        self.assertEqual((run.returncode, run.stderr), (1, ""))
+        size = path.stat().st_size
+        told = f"bsonfind: {path}: byte {size}: the archive ends before the end of a.x\n"
+        self.assertEqual((run.returncode, run.stderr), (1, told))
         self.assertIn("a.x: no end: 20 documents to ", run.stdout)
 
 
@@ -369,7 +375,8 @@ class Audits(Room):
         log = self.file(b"\tdone dumping shop.orders (400 documents)\n\tdone dumping club.people (500 documents)\n", "log")
         for data in (TWO, gzip.compress(TWO)):
             lines = self.audit(data, "--expect", str(log), status=0)
-            self.assertEqual(sorted(lines[:2]), ["A::club.people: 500 documents, 0 faulty", "A::shop.orders: 400 documents, 0 faulty"])
+            told = ["A::club.people: 500 documents, 0 faulty", "A::shop.orders: 400 documents, 0 faulty"]
+            self.assertEqual(sorted(lines[:2]), told)
             self.assertEqual(lines[2:], ["files                2", "documents          900", "faulty               0"])
         log.write_text("\tdone dumping shop.orders (401 documents)\n\tdumped 7 oplog entries\n")
         lines = self.audit(TWO, "--expect", str(log), status=1)[2:5]
@@ -438,11 +445,6 @@ class Audits(Room):
         self.assertEqual(self.interrupt(f"import sys\nfrom bsonfind.__main__ import main\nsys.exit(main({words!r}))", 1), 130)
 
 
-def lines_documents(lines: List[str]) -> int:
-    """How many documents the lines of collections tell."""
-    return sum(int(line.split(": ")[-1].split(" ")[0]) for line in lines if " documents to " in line)
-
-
 class Members(Room):
     """Collections of an archive where a file is named."""
 
@@ -477,8 +479,8 @@ class Members(Room):
 
     def test_commands(self) -> None:
         path = self.people[0]
-        run = run_package("audit", *self.people)
-        self.assertEqual(run.stdout.splitlines()[2:], ["files                2", "documents         1000", "faulty               0"])
+        lines = run_package("audit", *self.people).stdout.splitlines()
+        self.assertEqual(lines[2:], ["files                2", "documents         1000", "faulty               0"])
         run = run_package("compare", path, str(PEOPLE))
         self.assertEqual((run.returncode, run.stderr), (0, ""))
         run = run_package("query", path, "--query", '{"age":99}')
