@@ -19,11 +19,13 @@ from ._answers import Answer, count_documents, find, find_one
 from ._asyncio_sessions import AsyncCursor, AsyncSession
 from ._audit import Audit, Report, audit
 from ._errors import (
+    ArgumentError,
     BsonfindError,
     CancelledError,
     CommandError,
     CursorStateError,
     DumpError,
+    FileError,
     OtherProcessError,
     PartError,
     ProgramError,
@@ -49,6 +51,7 @@ __version__ = _version()
 
 __all__ = [
     "Answer",
+    "ArgumentError",
     "AsyncCursor",
     "AsyncSession",
     "Audit",
@@ -61,6 +64,7 @@ __all__ = [
     "CursorStateError",
     "DumpError",
     "Fault",
+    "FileError",
     "FileState",
     "LeftOut",
     "ObjectId",

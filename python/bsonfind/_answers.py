@@ -13,7 +13,7 @@ from ._decoding import Decode, Dicts, Texts, decoder
 from ._dumps import Dump, File, dump_of
 from ._errors import CancelledError, CursorStateError, ProgramError
 from ._processes import Group, Run, check_owner
-from ._requests import Filter, Request, Sort, whole
+from ._requests import Filter, Request, Sort, seconds, whole
 from ._steps import Reading
 
 T = TypeVar("T")
@@ -110,7 +110,7 @@ class Answer(Iterator[T]):
         self.token: str | None = None
         self.end = False
         self._lines, self._batches = lines, lines.batches()
-        self._group, self._timeout = group, timeout
+        self._group, self._timeout = group, seconds(timeout)
         self._document_of = decoder(decode)
         self._owner = os.getpid()
         self._texts = Texts([], self._document_of)

@@ -5,17 +5,16 @@ from __future__ import annotations
 import asyncio
 import contextlib
 import os
-import tempfile
 from collections import deque
 from typing import Any, AsyncIterator, Callable, Literal, TypeVar, overload
 
 from . import _steps
 from ._decoding import Decode, Dicts
 from ._dumps import File, dump_of
-from ._errors import BsonfindError, CancelledError, ProgramError, SessionEndedError, TimedOutError
+from ._errors import BsonfindError, CancelledError, SessionEndedError, TimedOutError
 from ._messages import error_of
-from ._processes import Descriptor, Feeder, check_owner
-from ._requests import Filter, Request, Sort
+from ._processes import Descriptor, Feeder, check_owner, file_for_messages, start_error
+from ._requests import Filter, Request, Sort, seconds
 from ._steps import Command, Hint, Reading, Steps, Use, kill, use_of
 
 T = TypeVar("T")
@@ -192,7 +191,7 @@ class _Connection:
     """A run of `serve` over a dump. Tasks may share it: a command has its reply before the next one is sent."""
 
     def __init__(self, path: File, program: str, timeout: float | None) -> None:
-        self._dump, self._program, self._timeout = dump_of(path), program, timeout
+        self._dump, self._program, self._timeout = dump_of(path), program, seconds(timeout)
         self._owner = os.getpid()
         self._left: deque[int] = deque()
         self._files = contextlib.ExitStack()
@@ -207,7 +206,7 @@ class _Connection:
         self.check()
         if self._process:
             return self.check_open()
-        self._lock, self._stderr = asyncio.Lock(), self._files.enter_context(tempfile.TemporaryFile())
+        self._lock, self._stderr = asyncio.Lock(), self._files.enter_context(file_for_messages(self._program))
         try:
             await self._start()
             self._ended = None
@@ -225,8 +224,8 @@ class _Connection:
             words, passed = (self._program, "serve", descriptor.word), descriptor.passed
             try:
                 self._process = await asyncio.create_subprocess_exec(*words, stdin=pipe, stdout=pipe, pass_fds=passed, **how)
-            except OSError as error:
-                raise ProgramError(f"cannot start {self._program}: {error.strerror}") from error
+            except (OSError, TypeError, ValueError) as error:
+                raise start_error(self._program, error) from error
             if self._dump.pieces is not None:
                 self._feeder = Feeder(self._dump.pieces, descriptor.take_pipe(), self._kill)
                 self._feeder.start()

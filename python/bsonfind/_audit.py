@@ -12,10 +12,11 @@ from typing import Any, Callable, Iterable, NamedTuple
 from ._archive import Archive, Namespace
 from ._backups import Dump, Log, dumps_of, fault_of_listed, fault_of_metadata, is_oplog, namespace_of, read_log, text_lines
 from ._console import Console, Progress
-from ._dumps import File, name_in
-from ._errors import BsonfindError
+from ._dumps import File, name_in, name_of
+from ._errors import ArgumentError, BsonfindError
 from ._faults import NO_DAMAGE, Fault, faults_of, finish_check
 from ._processes import Group, processors
+from ._requests import whole
 from ._sources import Source, try_program
 from ._split import split
 
@@ -151,7 +152,7 @@ class Audit(NamedTuple):
 def audit(
     paths: File | Iterable[File],
     *,
-    expect: str | os.PathLike[str] | None = None,
+    expect: File | None = None,
     jobs: int | None = None,
     max_faults: int = MOST_FAULTS,
     program: str = "bsonfind",
@@ -160,13 +161,16 @@ def audit(
 
     Nothing is passed over in silence: what cannot be read has a report with its error.
     """
+    jobs, most = None if jobs is None else whole("jobs", jobs, 1), whole("max_faults", max_faults)
     names = [paths] if isinstance(paths, (str, bytes, os.PathLike)) else paths
-    return audit_dumps(dumps_of(map(os.fsdecode, names)), expect, jobs, max_faults, program)
+    if not isinstance(names, Iterable) or not (names := list(names)):
+        raise ArgumentError(f"audit takes a name, or some names, not {paths!r}")
+    return audit_dumps(dumps_of(map(name_of, names)), expect, jobs, most, program)
 
 
 def audit_dumps(
     dumps: list[Dump],
-    expect: str | os.PathLike[str] | None = None,
+    expect: File | None = None,
     jobs: int | None = None,
     max_faults: int = MOST_FAULTS,
     program: str = "bsonfind",

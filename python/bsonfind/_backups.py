@@ -13,8 +13,8 @@ from typing import Any, Iterable, Iterator, NamedTuple
 from urllib.parse import quote, unquote
 
 from ._archive import Listed, Namespace
-from ._dumps import file_of, member_of
-from ._errors import DumpError
+from ._dumps import File, file_of, member_of, name_of
+from ._errors import DumpError, FileError
 from ._unpacking import unpacked
 
 _ENDING = re.compile(r"\.bson(\.gz)?$")
@@ -125,10 +125,14 @@ def dumps_below(directory: str) -> Iterator[Dump]:
             yield Dump(entry.path, error=error.strerror)
 
 
-def text_lines(path: str | os.PathLike[str]) -> list[str]:
+def text_lines(path: File) -> list[str]:
     """The lines of a file; bytes that are not UTF-8 stay as they are in names."""
-    with open(path, encoding="utf-8", errors="surrogateescape", newline="\n") as file:
-        return file.read().split("\n")
+    name = name_of(path)
+    try:
+        with open(name, encoding="utf-8", errors="surrogateescape", newline="\n") as file:
+            return file.read().split("\n")
+    except OSError as error:
+        raise FileError(error.errno, error.strerror, name) from None
 
 
 def read_log(lines: Iterable[str]) -> Log:

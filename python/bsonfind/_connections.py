@@ -10,6 +10,7 @@ from typing import TypeVar
 from ._dumps import Dump
 from ._errors import CancelledError, SessionEndedError, TimedOutError
 from ._processes import Group, Run
+from ._requests import seconds
 from ._steps import Command, Steps, kill
 
 T = TypeVar("T")
@@ -21,7 +22,7 @@ class Connection:
 
     def __init__(self, dump: Dump, program: str, timeout: float | None = None, group: Group | None = None) -> None:
         self._lock = threading.Lock()
-        self._timeout = timeout
+        self._timeout = seconds(timeout)
         self._group = group or Group()
         self._run = Run.serving(dump, program, self._group)
         # Why it ended, where it has.

@@ -5,6 +5,7 @@ from __future__ import annotations
 import json
 from typing import Any, Callable, Generic, Literal, TypeVar, Union
 
+from ._errors import ArgumentError
 from ._replies import documents_in
 from ._values import plain_document
 
@@ -31,12 +32,14 @@ def decoder(decode: Decode[Any]) -> Callable[[bytes], Any]:
     if decode == "plain":
         return lambda line: plain_document(json.loads(line))
     if decode == "json_util":
-        from bson import json_util
-
+        try:
+            from bson import json_util
+        except ImportError:
+            raise ArgumentError('decode="json_util" needs pymongo, which this Python has not') from None
         return json_util.loads
     if decode == "bytes":
         return bytes
-    raise ValueError(f'decode is "dict", "plain", "json_util", "bytes" or a function, not {decode!r}')
+    raise ArgumentError(f'decode is "dict", "plain", "json_util", "bytes" or a function, not {decode!r}')
 
 
 class Texts(Generic[T]):

@@ -10,7 +10,7 @@ from typing import BinaryIO, Iterable, Iterator, NamedTuple, Union
 
 from . import _unpacking
 from ._archive import Namespace, documents_of
-from ._errors import DumpError
+from ._errors import ArgumentError, DumpError
 
 File = Union[str, bytes, "os.PathLike[str]", "os.PathLike[bytes]"]
 
@@ -29,12 +29,24 @@ class Dump(NamedTuple):
     path: str | None = None
 
 
+def name_of(path: File) -> str:
+    """The name of a file; what can be none is an `ArgumentError`."""
+    try:
+        name = os.fsdecode(path)
+        os.fsencode(name)
+    except (TypeError, UnicodeError):
+        raise ArgumentError(f"not the name of a file: {path!r}") from None
+    if "\0" in name:
+        raise ArgumentError(f"a name of a file has no zero byte: {path!r}")
+    return name
+
+
 def dump_of(path: File) -> Dump:
     """The dump of a file.
 
     The program takes names in UTF-8 alone, so a file with another name is opened here, and so is a descriptor of this process.
     """
-    name = os.fsdecode(path)
+    name = name_of(path)
     if is_packed(name):
         return Dump(pieces=unpacked(name))
     if name.startswith(_DESCRIPTORS):
@@ -56,7 +68,7 @@ class Member(NamedTuple):
 
 def member_of(path: File) -> Member | None:
     """The collection of an archive that a name is of, None where it is the name of a file or of nothing that is there."""
-    name = os.fsdecode(path)
+    name = name_of(path)
     if INSIDE in name and not os.path.lexists(name):
         at = name.find(INSIDE)
         while at >= 0:
@@ -76,7 +88,7 @@ def name_in(archive: str, namespace: Namespace) -> str:
 def file_of(path: File) -> str:
     """The file that is opened for a name: the archive, where it is that of a collection of one."""
     member = member_of(path)
-    return member.archive if member else os.fsdecode(path)
+    return member.archive if member else name_of(path)
 
 
 def is_packed(path: File) -> bool:

@@ -13,6 +13,17 @@ class BsonfindError(Exception):
     """What this package raises of its own."""
 
 
+class ArgumentError(BsonfindError, TypeError, ValueError):
+    """An argument that a call does not take: of another type, out of its range, or at odds with another one."""
+
+
+class FileError(BsonfindError, OSError):
+    """A file other than a dump that cannot be read or written, such as a log, or a file that `salvage` writes."""
+
+    def __str__(self) -> str:
+        return f"{self.filename}: {self.strerror}"
+
+
 class ProgramError(BsonfindError):
     """The program cannot be started, or it failed for a reason of its own."""
 

@@ -24,12 +24,12 @@ from ._answers import Lines
 from ._connections import Connection
 from ._decoding import Decode, Dicts, decoder
 from ._dumps import Dump
-from ._errors import BsonfindError, DumpError, PartError, ProgramError
+from ._errors import ArgumentError, BsonfindError, DumpError, PartError, ProgramError
 from ._faults import Fault, faults_of, finish_check
 from ._parts import Part
 from ._plain import plain_pieces
 from ._processes import Group, Run
-from ._requests import Filter, Request, Sort
+from ._requests import Filter, Request, Sort, seconds, whole
 
 T = TypeVar("T")
 Map = Callable[[Callable[[Part], Any], Sequence[Part]], Iterable[Any]]
@@ -123,13 +123,13 @@ class _Asking:
     """The asking of parts: how they are run, and what ends all of them."""
 
     def __init__(self, program: str, workers: int, map: Map | None, timeout: float | None) -> None:
-        if workers < 1:
-            raise ValueError(f"workers is 1 or more, not {workers}")
+        self._program, self._workers, self._map = program, whole("workers", workers, 1), map
+        if not (map is None or callable(map)):
+            raise ArgumentError(f"map is a function, not {map!r}")
         if map and workers != 1:
-            raise TypeError("workers and map both say how the parts are run: give one of them")
-        self._program, self._workers, self._map = program, workers, map
+            raise ArgumentError("workers and map both say how the parts are run: give one of them")
         self.group = Group()
-        if timeout is not None:
+        if seconds(timeout) is not None:
             self.group.end_after(timeout)
 
     def try_request(self, request: Request) -> None:
@@ -138,7 +138,9 @@ class _Asking:
 
     def each(self, parts: Sequence[Part], ask: Callable[[Group, Part], T]) -> list[T]:
         """What each part gives, in their order. Where one fails, or the caller is interrupted, all runs of this process end."""
-        parts = list(parts)
+        parts = list(parts) if isinstance(parts, Iterable) else [None]
+        if not all(isinstance(it, Part) for it in parts):
+            raise ArgumentError("parts is a list of parts, as plan makes it")
         try:
             given = list(self._run(partial(_asked, ask, self.group), parts))
         except BaseException as error:
@@ -146,13 +148,14 @@ class _Asking:
             if self.group.error and isinstance(error, Exception):
                 raise self.group.error from None  # The first part that failed, which ended the others.
             raise
-        if [part for part, _ in given] != parts:
+        if [it[0] for it in given if isinstance(it, tuple)] != parts:
             raise ProgramError("map did not give a result for each part, in the order of the parts")
         return [result for _, result in given]
 
     def _run(self, ask: Callable[[Part], T], parts: Sequence[Part]) -> Iterator[T]:
         if self._map:
-            yield from self._map(ask, parts)
+            given = self._map(ask, parts)
+            yield from given if isinstance(given, Iterable) else ()
         elif self._workers == 1:
             yield from (ask(part) for part in parts)
         else:

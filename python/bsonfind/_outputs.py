@@ -8,20 +8,16 @@ import secrets
 import stat
 
 from ._dumps import file_of
-from ._errors import BsonfindError
-
-
-class OutputError(BsonfindError):
-    """A file that is not to be written."""
+from ._errors import ArgumentError, FileError
 
 
 def refuse_names(dump: str, good: str, bad: str) -> None:
     """Refuses files that are the dump, or one another, by whatever names."""
     for name in (good, bad):
         if is_same(name, file_of(dump)):
-            raise OutputError(f"{name} is the dump")
+            raise ArgumentError(f"{name} is the dump")
     if is_same(good, bad) and not (os.path.exists(good) and stat.S_ISCHR(os.stat(good).st_mode)):
-        raise OutputError(f"{good} is named twice")
+        raise ArgumentError(f"{good} is named twice")
 
 
 def is_same(one: str, other: str) -> bool:
@@ -38,11 +34,11 @@ class Output:
         self.name = name
         self._path = self._beside = os.path.realpath(name)
         there = os.stat(name) if os.path.exists(name) else None
-        if there and not stat.S_ISREG(there.st_mode):
-            self._path = self._beside = name
-            self._file = open(name, "wb")
-            return
         try:
+            if there and not stat.S_ISREG(there.st_mode):
+                self._path = self._beside = name
+                self._file = open(name, "wb")
+                return
             self._beside = f"{self._path}.{secrets.token_hex(4)}.new"
             self._file = open(self._beside, "xb")
             if there:
@@ -69,11 +65,14 @@ class Output:
     def put_in_place(self) -> None:
         """Gives the file its name."""
         if self._beside != self._path:
-            os.replace(self._beside, self._path)
+            try:
+                os.replace(self._beside, self._path)
+            except OSError as error:
+                raise self._named(error) from None
             self._beside = self._path
 
-    def _named(self, error: OSError) -> OSError:
-        return OSError(error.errno, error.strerror, self.name)
+    def _named(self, error: OSError) -> FileError:
+        return FileError(error.errno, error.strerror, self.name)
 
     def __enter__(self) -> Output:
         return self

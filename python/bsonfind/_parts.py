@@ -8,13 +8,16 @@ import struct
 from dataclasses import dataclass, field
 from typing import BinaryIO, Iterable, Iterator, NamedTuple
 
-from ._dumps import File, is_packed, opened, unpacked
+from ._dumps import File, is_packed, name_of, opened, unpacked
 from ._errors import DumpError, PartError
 from ._faults import Fault
 from ._framing import LONGEST, SHORTEST, walk
+from ._requests import whole
 
 # What a part has at most where nothing else is asked for; a run of `find` holds its part in memory.
 MOST = 1 << 30
+# What a file has at most.
+LARGEST = (1 << 63) - 1
 _PIECE = 1 << 20
 _length_at = struct.Struct("<i").unpack_from
 
@@ -46,6 +49,11 @@ class Part:
     length: int
     first: int
     state: FileState | None = field(default=None, compare=False)
+
+    def __post_init__(self) -> None:
+        name_of(self.path)
+        for name in ("offset", "length", "first"):
+            whole(name, getattr(self, name), 0, LARGEST)
 
     def __str__(self) -> str:
         return f"{self.path}, the part of {self.length} bytes at byte {self.offset}"
@@ -103,9 +111,8 @@ def plan(path: File, most: int = MOST) -> list[Part]:
     Nothing but the lengths is looked at. Where one is wrong there is no plan, but a `DumpError` that gives the byte. A file by
     `mongodump --gzip` is unpacked for the plan, and again from its beginning for each part.
     """
-    if most < 1:
-        raise ValueError(f"a part has 1 byte or more, not {most}")
-    name = os.fsdecode(path)
+    whole("most", most, 1, LARGEST)
+    name = name_of(path)
     parts, start, first, at, number = [], 0, 0, 0, 0
     with opened(name) as file:
         state = FileState.of(file)

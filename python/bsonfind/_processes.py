@@ -11,7 +11,7 @@ import threading
 from typing import IO, Any, Callable, Iterable, Sequence
 
 from ._dumps import Dump, opened
-from ._errors import BsonfindError, OtherProcessError, ProgramError, TimedOutError
+from ._errors import ArgumentError, BsonfindError, OtherProcessError, ProgramError, TimedOutError
 from ._messages import error_line, error_of
 
 # As many bytes as a pipe of Linux holds.
@@ -38,8 +38,8 @@ class Group:
                 raise self.error or ProgramError("not started: what it is for was ended")
             try:
                 process = subprocess.Popen(words, **streams)
-            except OSError as error:
-                raise ProgramError(f"cannot start {words[0]}: {error.strerror}") from error
+            except (OSError, TypeError, ValueError) as error:
+                raise start_error(words[0], error) from error
             self._processes.add(process)
             return process
 
@@ -72,6 +72,20 @@ class Group:
         return Group, ()
 
 
+def start_error(program: object, error: OSError | TypeError | ValueError) -> BsonfindError:
+    """Why a program cannot be started; a word that no program takes is an argument of the caller."""
+    kind = ProgramError if isinstance(error, OSError) else ArgumentError
+    return kind(f"cannot start {program}: {getattr(error, 'strerror', None) or error}")
+
+
+def file_for_messages(program: object) -> IO[bytes]:
+    """A file without a name for standard error, so that no message is too long for a pipe."""
+    try:
+        return tempfile.TemporaryFile()
+    except OSError as error:
+        raise start_error(program, error) from error
+
+
 class Feeder(threading.Thread):
     """Writes pieces to the pipe of a program, closes it, and keeps what was wrong with the pieces."""
 
@@ -95,10 +109,7 @@ class Feeder(threading.Thread):
 
 
 class Run:
-    """A run of the program, which is killed where it has not ended when the run is left.
-
-    Standard error goes to a file without a name, so that no message is too long for a pipe.
-    """
+    """A run of the program, which is killed where it has not ended when the run is left."""
 
     def __init__(
         self,
@@ -140,7 +151,7 @@ class Run:
         self._group = group or Group()
         self._feeder: Feeder | None = None
         self._owner = os.getpid()
-        self._stderr = tempfile.TemporaryFile()
+        self._stderr = file_for_messages(words[0])
         try:
             self.process = self._group.start(words, **streams, stderr=self._stderr)
         except BaseException:

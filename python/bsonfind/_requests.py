@@ -4,9 +4,11 @@ from __future__ import annotations
 
 import json
 import operator
+import threading
 from dataclasses import dataclass, replace
 from typing import Any, Iterable, Mapping, Sequence, Union
 
+from ._errors import ArgumentError
 from ._values import extended
 
 Filter = Mapping[str, Any]
@@ -18,22 +20,49 @@ MOST = 2_147_483_647
 LONGEST_ARGUMENT = 131_000
 
 
-def whole(name: str, number: int, least: int = 0) -> int:
-    """A number that the program takes; others are a ValueError."""
-    number = operator.index(number)
-    if not least <= number <= MOST:
-        raise ValueError(f"{name} is {least} to {MOST}, not {number}")
+def whole(name: str, number: int, least: int = 0, most: int = MOST) -> int:
+    """A whole number in a range; others are an `ArgumentError`."""
+    try:
+        number = operator.index(number)
+    except TypeError:
+        raise ArgumentError(f"{name} is a whole number, not {number!r}") from None
+    if not least <= number <= most:
+        raise ArgumentError(f"{name} is {least} to {most}, not {number}")
     return number
+
+
+def seconds(timeout: float | None) -> float | None:
+    """A number of seconds that a thread can wait, or None; others are an `ArgumentError`."""
+    try:
+        is_time = timeout is None or 0 <= timeout <= threading.TIMEOUT_MAX
+    except TypeError:
+        is_time = False
+    if not is_time:
+        raise ArgumentError(f"timeout is a number of seconds, 0 to {threading.TIMEOUT_MAX:.0f}, or None, not {timeout!r}")
+    return timeout
 
 
 def text_of(value: Any) -> str:
     """The JSON of a value. An `ObjectId`, a date, bytes, and by pymongo its own types, are written in canonical form."""
-    return json.dumps(value, separators=(",", ":"), default=extended)
+    try:
+        return json.dumps(value, separators=(",", ":"), default=extended)
+    except (TypeError, ValueError, OverflowError, RecursionError) as error:
+        raise ArgumentError(str(error)) from None
 
 
 def text_of_pairs(pairs: Iterable[tuple[str, str]]) -> str:
     """The JSON of an object of names and the texts of their values; a name may stand twice."""
     return "{" + ",".join(f"{text_of(name)}:{text}" for name, text in pairs) + "}"
+
+
+def _pairs_of(sort: Sort | None) -> list[tuple[str, int]]:
+    try:
+        if not isinstance(sort, (str, bytes)):
+            pairs = sort.items() if isinstance(sort, Mapping) else () if sort is None else sort
+            return [(path, way) for path, way in pairs]
+    except (TypeError, ValueError):
+        pass
+    raise ArgumentError(f'sort is [("age", -1), ..] or {{"age": -1, ..}}, not {sort!r}')
 
 
 @dataclass(frozen=True)
@@ -48,8 +77,9 @@ class Request:
     @classmethod
     def of(cls, filter: Filter | None = None, sort: Sort | None = None, skip: int = 0, limit: int = 0) -> Request:
         """The request for what pymongo's `Collection.find` is asked by."""
-        pairs = sort.items() if isinstance(sort, Mapping) else sort or ()
-        sort_text = text_of_pairs((path, text_of(way)) for path, way in pairs)
+        if not (filter is None or isinstance(filter, Mapping)):
+            raise ArgumentError(f'filter is a mapping such as {{"age": 7}}, not {filter!r}')
+        sort_text = text_of_pairs((path, text_of(way)) for path, way in _pairs_of(sort))
         return cls(text_of({} if filter is None else filter), sort_text, whole("skip", skip), whole("limit", limit))
 
     def of_part(self) -> Request:

@@ -9,8 +9,8 @@ from collections import deque
 from contextlib import ExitStack, nullcontext
 from typing import Callable, ContextManager, Iterable, Iterator, NamedTuple
 
-from ._dumps import File
-from ._errors import DumpError, ProgramError
+from ._dumps import File, name_of
+from ._errors import ArgumentError, DumpError, ProgramError
 from ._faults import NO_DAMAGE, Fault, faults_of, finish_check
 from ._framing import LONGEST, SHORTEST
 from ._outputs import Output, refuse_names
@@ -93,7 +93,9 @@ def salvage(
     The files get their names at the end, when all was copied. Before that, whatever goes wrong, nothing that was there is
     touched. `say` gets what the command prints.
     """
-    names = [os.fsdecode(name) for name in (good, bad)]
+    names = [name_of(name) for name in (good, bad)]
+    if not (callable(progress) and (say is None or callable(say))):
+        raise ArgumentError("say and progress are functions")
     with ExitStack() as files:
         try:
             source = files.enter_context(Source(path))

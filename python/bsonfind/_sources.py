@@ -8,7 +8,7 @@ from typing import Any, BinaryIO, Iterator, NamedTuple, Sequence
 
 from . import _framing
 from ._archive import is_archive
-from ._dumps import INSIDE, File, file_of, is_packed, member_of, unpacked_of
+from ._dumps import INSIDE, File, file_of, is_packed, member_of, name_of, unpacked_of
 from ._errors import DumpError
 from ._faults import finish_check
 from ._processes import Run
@@ -40,7 +40,7 @@ class Source:
     """
 
     def __init__(self, path: File) -> None:
-        self.name = os.fsdecode(path)
+        self.name = name_of(path)
         try:
             is_stdin = self.name == "-"
             self._file: BinaryIO = open(0 if is_stdin else file_of(path), "rb", buffering=0, closefd=not is_stdin)

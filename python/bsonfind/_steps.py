@@ -8,7 +8,7 @@ from __future__ import annotations
 from typing import Any, Generator, Generic, Mapping, NamedTuple, Sequence, TypeVar, Union
 
 from ._decoding import Decode, Parsed, Texts, batches_by
-from ._errors import CommandError, CursorStateError
+from ._errors import ArgumentError, CommandError, CursorStateError
 from ._replies import Batch, read_batch, read_reply
 from ._requests import Request, text_of, text_of_pairs, whole
 
@@ -38,7 +38,7 @@ class Command(NamedTuple):
         """The command of these names and the JSON of their values."""
         line = text_of_pairs(fields).encode()
         if len(line) > LONGEST_COMMAND:
-            raise ValueError(f"a command has at most {LONGEST_COMMAND} bytes, not {len(line)}")
+            raise ArgumentError(f"a command has at most {LONGEST_COMMAND} bytes, not {len(line)}")
         starts, end = [], 0
         for name, text in fields:
             starts.append(end + len(f',"{name}":'))
@@ -66,17 +66,17 @@ def use_of(use: Use, hint: Hint | None) -> Use:
     if hint is None:
         return use
     if use != "auto":
-        raise TypeError("use and hint say the same: give one of them")
+        raise ArgumentError("use and hint say the same: give one of them")
     if isinstance(hint, str):
         return {"index": hint}
-    pairs = list(hint.items() if isinstance(hint, Mapping) else hint)
-    if len(pairs) != 1:
-        raise ValueError(f"an index is on one path, not on {len(pairs)}")
-    ((path, way),) = pairs
+    try:
+        ((path, way),) = hint.items() if isinstance(hint, Mapping) else hint
+    except (TypeError, ValueError):
+        raise ArgumentError(f'hint is a path, [(PATH, 1)] or {{"$natural": 1}}, not {hint!r}: an index is on one path') from None
     if path != "$natural":
         return {"index": path}
     if way != 1:
-        raise ValueError("documents are read in the order of the dump, not backwards")
+        raise ArgumentError("documents are read in the order of the dump, not backwards")
     return "scan"
 
 

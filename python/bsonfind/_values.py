@@ -5,7 +5,9 @@ from __future__ import annotations
 import base64
 import re
 from datetime import datetime, timedelta, timezone
-from typing import Any, Callable
+from typing import Any, Callable, Mapping
+
+from ._errors import ArgumentError
 
 _EPOCH = datetime(1970, 1, 1, tzinfo=timezone.utc)
 _HEX = re.compile("[0-9a-f]{24}")
@@ -18,7 +20,7 @@ class ObjectId:
 
     def __init__(self, digits: str) -> None:
         if not isinstance(digits, str) or not _HEX.fullmatch(digits.lower()):
-            raise ValueError(f"an id has 24 hexadecimal digits, not {digits!r}")
+            raise ArgumentError(f"an id has 24 hexadecimal digits, not {digits!r}")
         self._digits = digits.lower()
 
     def __str__(self) -> str:
@@ -100,6 +102,8 @@ def extended(value: Any) -> Any:
         return {"$date": {"$numberLong": str(since // timedelta(milliseconds=1))}}
     if isinstance(value, (bytes, bytearray, memoryview)):
         return {"$binary": {"base64": base64.b64encode(value).decode(), "subType": "00"}}
+    if isinstance(value, Mapping):
+        return dict(value)
     try:
         from bson import json_util
     except ImportError:

@@ -36,7 +36,7 @@ class Answers(Room):
             ({"filter": {"$or": [{"a": 1}, {"b": {"$regex": "^A"}}]}}, ("filter", 2, "not in the profile", "$or.1.b.$regex")),
             ({"filter": {"a.": 1}}, ("filter", 5, "bad path", "a.")),
             ({"filter": {"a": 1.5}}, ("json", 5, "not in the profile", 5)),
-            ({"filter": [1]}, ("json", 2, "not a document", None)),
+            ({"filter": {"$numberInt": "1"}}, ("json", 2, "not a document", None)),
             ({"sort": {"a": 0.5}}, ("json", 5, "not in the profile", 5)),
             ({"sort": {"a": 3}}, ("session", 1, "not a sort", None)),
             ({"index": "a..b"}, ("path", 1, "empty component", None)),

@@ -1,0 +1,161 @@
+"""Tests of what the calls of the package refuse: each error is one of the package, whatever the argument is."""
+
+import asyncio
+import inspect
+import itertools
+import sys
+from functools import partial
+from typing import Any, Callable, Dict, Iterator, List, Tuple
+from unittest import mock
+
+import bsonfind
+from bsonfind import (
+    ArgumentError,
+    AsyncSession,
+    BsonfindError,
+    CommandError,
+    FileError,
+    ObjectId,
+    Part,
+    Session,
+    audit,
+    check_parts,
+    count_documents,
+    count_parts,
+    find,
+    find_one,
+    find_parts,
+    plan,
+    salvage,
+)
+
+from .support import PEOPLE, PROGRAM, Room
+
+CIRCULAR: Dict[str, Any] = {}
+CIRCULAR["again"] = CIRCULAR
+NAMES = [5, None, "a\0b", "\ud800"]
+NUMBERS = [-1, "1", 1.5, None, 1 << 63]
+# Values that no call takes, by the name of the parameter.
+BAD: Dict[str, List[Any]] = {
+    **dict.fromkeys(("path", "good", "bad"), NAMES),
+    **dict.fromkeys(("skip", "limit", "offset", "length", "first"), NUMBERS),
+    **dict.fromkeys(("batch_size", "jobs"), [-1, "1", 1.5, 1 << 63]),
+    **dict.fromkeys(("workers", "most"), [0, *NUMBERS]),
+    **dict.fromkeys(("say", "progress", "map"), [5]),
+    "max_faults": NUMBERS,
+    "paths": [5, None, [], [5], "a\0b"],
+    "expect": [5, "a\0b"],
+    "filter": ["name", 5, [("age", 1)], {"age": object()}, {"age": {1}}, {("age",): 1}, CIRCULAR, {"age": "x" * (1 << 24)}],
+    "sort": ["name", b"name", 5, [5], [("age",)], ["name"], {"age": object()}],
+    "index": ["a\0b", "\ud800", ""],
+    "after": [5, "a\0b", "token"],
+    "decode": ["bson", None, 5],
+    "program": [5, None, "a\0b"],
+    "timeout": [-1, "1", float("nan"), float("inf")],
+    "use": [object(), "name", {"age": 1}],
+    "hint": [5, {}, [("age",)], ["age", "name"], {"age": 1, "name": 1}, {"$natural": -1}],
+    "parts": [5, None, [5], "ab", Part(str(PEOPLE), 0, 5, 0)],
+    "sparse": [object(), "yes"],
+    "digits": [5, "5", "g" * 24],
+}
+# Parameters of which one value is as good as another: the part keeps what plan noted of its file.
+FREE = ("self", "state")
+PATHS = {"create_index": {"path": "age"}, "drop_index": {"path": "age"}}
+
+
+async def awaited(session: AsyncSession, method: str, *words: Any, **options: Any) -> Any:
+    """What a call of a session for asyncio gives, or the first thing that its cursor does."""
+    given = getattr(session, method)(*words, **options)
+    return await (given.__anext__() if method == "find" else given)
+
+
+class Refusals(Room):
+    def calls(self) -> Iterator[Tuple[Callable[..., Any], Callable[..., Any]]]:
+        """Each public call, and what does it with all that it needs but one argument."""
+        parts, program = plan(PEOPLE), {"program": PROGRAM}
+        yield find, lambda path=PEOPLE, **it: list(find(path, **{**program, **it}))
+        for ask in (find_one, count_documents):
+            yield ask, lambda path=PEOPLE, ask=ask, **it: ask(path, **{**program, **it})
+        for ask in (find_parts, count_parts, check_parts):
+            yield ask, lambda parts=parts, ask=ask, **it: ask(parts, **{**program, **it})
+        yield plan, lambda path=PEOPLE, **it: plan(path, **it)
+        yield audit, lambda paths=PEOPLE, **it: audit(paths, **{**program, **it})
+        yield salvage, lambda **it: salvage(**{"path": PEOPLE, "good": self.room / "good", "bad": self.room / "bad", **program, **it})
+        yield ObjectId, ObjectId
+        yield Part, lambda **it: Part(**{"path": "a", "offset": 0, "length": 5, "first": 0, **it})
+        yield Session, lambda path=PEOPLE, **it: Session(path, **{**program, **it}).close()
+        yield AsyncSession, lambda path=PEOPLE, **it: asyncio.run(AsyncSession(path, **{**program, **it}).open())
+        with Session(PEOPLE, PROGRAM) as session:
+            yield Session.find, lambda **it: list(session.find(**it))
+            for method in ("find_one", "count_documents", "create_index", "drop_index", "explain"):
+                yield getattr(Session, method), partial(getattr(session, method), **PATHS.get(method, {}))
+        loop = asyncio.new_event_loop()
+        try:
+            session = loop.run_until_complete(AsyncSession(PEOPLE, PROGRAM).open())
+            for method in ("find", "find_one", "count_documents", "create_index", "drop_index", "explain"):
+                ask = partial(awaited, session, method, **PATHS.get(method, {}))
+                yield getattr(AsyncSession, method), lambda ask=ask, **it: loop.run_until_complete(ask(**it))
+            loop.run_until_complete(session.close())
+        finally:
+            loop.close()
+
+    def test_each_argument_of_each_call(self) -> None:
+        """A bad argument is an error of the package. One that is found here is a TypeError and a ValueError too."""
+        for function, call in self.calls():
+            for name in inspect.signature(function).parameters:
+                bad = [object(), 5, ""] if name == "path" and function.__name__ in PATHS else BAD.get(name, [])
+                self.assertEqual(bool(bad), name not in FREE, name)
+                for value in bad:
+                    with self.subTest(f"{function.__qualname__}({name}={value!r:.50})"):
+                        with self.assertRaises((ArgumentError, CommandError)) as raised:
+                            call(**{name: value})
+                        self.assertTrue(str(raised.exception))
+                        if isinstance(raised.exception, ArgumentError):
+                            self.assertIsInstance(raised.exception, TypeError)
+                            self.assertIsInstance(raised.exception, ValueError)
+
+    def test_all_calls_are_tried(self) -> None:
+        """What is exported is tried, or made by these calls alone."""
+        made = "Answer AsyncCursor Audit Check Cursor Fault FileState LeftOut Report Salvaged".split()
+        tried = {function.__qualname__ for function, _ in self.calls()}
+        for name in bsonfind.__all__:
+            kind = getattr(bsonfind, name)
+            is_error = isinstance(kind, type) and issubclass(kind, Exception)
+            self.assertTrue(name in tried or name in made or is_error, name)
+            if is_error:
+                self.assertTrue(issubclass(kind, BsonfindError), name)
+
+    def test_arguments_that_do_not_go_together(self) -> None:
+        parts = plan(PEOPLE)
+        with self.assertRaises(ArgumentError):
+            find_parts(parts, workers=2, map=map, program=PROGRAM)
+        for results in ([], [5], None, iter([("other", 5)])):
+            with self.assertRaises(BsonfindError):
+                find_parts(parts, map=lambda ask, these, results=results: results, program=PROGRAM)
+        with Session(PEOPLE, PROGRAM) as session, self.assertRaises(ArgumentError):
+            session.find(use="scan", hint="age")
+        for good, bad in itertools.permutations((self.room / "new", PEOPLE), 2):
+            with self.assertRaises(ArgumentError):
+                salvage(PEOPLE, good, bad, program=PROGRAM)
+        with self.assertRaises(ArgumentError):
+            salvage(PEOPLE, self.room / "new", self.room / "new", program=PROGRAM)
+        self.assertEqual(list(self.room.iterdir()), [])
+
+    def test_without_pymongo(self) -> None:
+        with mock.patch.dict(sys.modules, {"bson": None}), self.assertRaisesRegex(ArgumentError, "pymongo"):
+            find_one(PEOPLE, decode="json_util", program=PROGRAM)
+
+    def test_files_that_are_no_dumps(self) -> None:
+        """A log, and a file that is written, have an error with their name, which is an OSError too."""
+        away = self.room / "away/file"
+        for ask in (
+            lambda: audit(PEOPLE, expect=away, program=PROGRAM),
+            lambda: audit(PEOPLE, expect=self.room, program=PROGRAM),
+            lambda: salvage(PEOPLE, away, self.room / "bad", program=PROGRAM),
+            lambda: salvage(PEOPLE, self.room / "good", self.room, program=PROGRAM),
+        ):
+            with self.assertRaises(FileError) as raised:
+                ask()
+            self.assertIsInstance(raised.exception, OSError)
+            self.assertIn(str(raised.exception.filename), str(raised.exception))
+        self.assertEqual(list(self.room.iterdir()), [])
