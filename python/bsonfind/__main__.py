@@ -23,6 +23,7 @@ from ._requests import Request
 from ._salvage import salvage
 from ._sources import try_program
 from ._unpack import unpack
+from ._unpacking import UnpackError
 
 GOOD, FAULTY, FAILED, INTERRUPTED = 0, 1, 2, 130
 _EPILOG = "COMMAND --help explains a command and its status. ARCHIVE::db.collection names a collection of an archive as a FILE."
@@ -75,7 +76,7 @@ class _Version(argparse.Action):
 
 
 def _add_audit(command: argparse.ArgumentParser) -> None:
-    command.epilog = "The status is 0 where all is good, 1 where something is faulty, missing or not read, and else 2."
+    command.epilog = "The status is 0 where all is good, 1 where something is faulty or missing, and 2 where something was not read."
     _add_files(command)
     command.add_argument("--expect", metavar="LOG", help="compare the counts with those in a log of mongodump")
     command.add_argument("--json", action="store_true", help="print one line of JSON, and nothing else")
@@ -114,7 +115,7 @@ def _add_compare(command: argparse.ArgumentParser) -> None:
 
 
 def _add_query(command: argparse.ArgumentParser) -> None:
-    command.epilog = "The status is 0 where all files were asked, 1 where a file is refused for a fault, and else 2."
+    command.epilog = "The status is 0 where all files were asked, 1 where a file is refused for a fault, and 2 where one was not read."
     _add_files(command)
     command.add_argument("--query", default="{}", metavar="Q", help="a query as bsonfind find takes it")
     command.add_argument("--jobs", type=int, default=processors(), metavar="N", help="ask so many files at once")
@@ -140,7 +141,7 @@ def run_audit(words: argparse.Namespace) -> int:
         console.line(done.as_json())
     else:
         _print_audit(done, console)
-    return GOOD if done.is_good else FAULTY
+    return FAILED if done.unseen else GOOD if done.is_good else FAULTY
 
 
 def _refuse_below(name: str, number: int, least: int) -> None:
@@ -241,7 +242,8 @@ def run_query(words: argparse.Namespace) -> int:
             names.add(name)
         if error:
             console.problem(f"{name}: {getattr(error, 'strerror', None) or error}")
-            status = max(status, FAULTY if isinstance(error, DumpError) and error.fault else FAILED)
+            is_fault = isinstance(error, UnpackError) or isinstance(error, DumpError) and error.fault
+            status = max(status, FAULTY if is_fault else FAILED)
     console.note(f"{documents} documents in {len(names)} of {len(dumps)} files")
     return status
 

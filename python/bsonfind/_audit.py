@@ -19,6 +19,7 @@ from ._processes import Group, processors
 from ._requests import whole
 from ._sources import Source, try_program
 from ._split import split
+from ._unpacking import UnpackError
 
 # How many faults of a file are reported one by one.
 MOST_FAULTS = 10
@@ -38,6 +39,8 @@ class Report:
     faults: list[Fault] = field(default_factory=list)
     error: str | None = None
     metadata: str | None = None
+    # Whether the error is a fault of the backup: a file of gzip that is cut or damaged, or metadata without its dump.
+    is_fault: bool = False
     # The collections of which the log must speak, none for the oplog; and what it says of the first that it names.
     namespaces: list[str] = field(default_factory=list)
     expected: int | None = None
@@ -91,6 +94,11 @@ class Audit(NamedTuple):
     def unread(self) -> list[Report]:
         """The files and directories that could not be read to their ends."""
         return [it for it in self.reports if it.error]
+
+    @property
+    def unseen(self) -> list[Report]:
+        """Those of them that may be good: they are not there, or could not be read."""
+        return [it for it in self.unread if not it.is_fault]
 
     @property
     def miscounted(self) -> list[Report]:
@@ -218,7 +226,7 @@ class _Checker:
 
     def check(self, dump: Dump) -> list[Report]:
         """Checks a file, or each collection of an archive."""
-        report = Report(dump.name, error=dump.error)
+        report = Report(dump.name, error=dump.error, is_fault=dump.is_missing)
         reports = [report]
         if not dump.error:
             report.namespaces = [namespace_of(name) for name in dump.names]
@@ -246,6 +254,7 @@ class _Checker:
         if self.group.is_ended:
             raise error
         report.error = (error.strerror if isinstance(error, OSError) else None) or str(error)
+        report.is_fault = isinstance(error, UnpackError)
 
     def _saying(self, report: Report) -> Callable[[str], None]:
         return _Saying(report.name, self._console).line
@@ -261,6 +270,10 @@ class _Checker:
                 reports[namespace] = Report(name, namespaces=[namespace_of(name)])
             return reports[namespace]
 
+        def note_damage(namespace: Namespace, error: str) -> None:
+            report = report_of(namespace)
+            report.error, report.is_fault = error, True
+
         def check(namespace: Namespace, documents: Source) -> None:
             report = report_of(namespace)
             try:
@@ -271,12 +284,13 @@ class _Checker:
         others: list[Report] = []
         try:
             for end in split(archive, check):
-                report_of(end.namespace).error = end.error
+                if end.error:
+                    note_damage(end.namespace, end.error)
         except (BsonfindError, OSError) as error:
             others = [Report(source.name)]
             self._note(others[0], error)
         for namespace in archive.unended():
-            report_of(namespace).error = "no end"
+            note_damage(namespace, "no end")
         for listed in archive.listed:
             if fault := fault_of_listed(listed):
                 report_of(listed.buckets if listed.buckets in reports else listed.namespace).metadata = fault

@@ -39,6 +39,8 @@ class Dump:
     is_below: bool = False
     size: int | None = None
     error: str | None = None
+    # Whether only its metadata is there.
+    is_missing: bool = False
     others: list[str] = field(default_factory=list)
 
     @property
@@ -120,7 +122,7 @@ def dumps_below(directory: str) -> Iterator[Dump]:
                 yield Dump(entry.path, error="not whole: unpack left it so")
             elif _METADATA.search(entry.name) and _METADATA.sub("", entry.name) not in stems and not _is_view(entry.path):
                 name = f"{_METADATA.sub('', entry.path)}.bson"
-                yield Dump(name, error=f"missing: only {entry.name} is there")
+                yield Dump(name, error=f"missing: only {entry.name} is there", is_missing=True)
         except OSError as error:
             yield Dump(entry.path, error=error.strerror)
 

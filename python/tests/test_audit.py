@@ -142,7 +142,7 @@ class Audits(Room):
         (shop / "broken").symlink_to("missing")
         (shop / "loop").symlink_to("loop")
         (shop / "fine.bson").symlink_to(self.orders)
-        lines = self.audit(self.backup, status=1)
+        lines = self.audit(self.backup, status=2)
         for name, problem in (
             ("club/pipe.bson", "not a regular file"),
             ("club/socket.bson", "not a regular file"),
@@ -153,7 +153,7 @@ class Audits(Room):
         ):
             self.assertIn(f"{self.backup}/{name}: {problem}", lines)
         self.assertEqual(lines[-4:], self.table(("files", 8), ("documents", 900), ("faulty", 0), ("not read", 6)))
-        self.assertIn(f"{club}/linked/: no dump is below this directory", self.audit(f"{club}/linked/", status=1))
+        self.assertIn(f"{club}/linked/: no dump is below this directory", self.audit(f"{club}/linked/", status=2))
 
     def test_directory_that_cannot_be_read(self) -> None:
         """The system lets root read every directory, so here the call fails."""
@@ -311,7 +311,7 @@ class Audits(Room):
         cut = self.collection(PEOPLE.read_bytes()[:50_000], "old")
         log = self.file(LOG.replace("500", "501").encode(), "log")
         none = str(self.room / "none.bson")
-        (line,) = self.audit(self.backup, none, "--json", "--expect", str(log), status=1)
+        (line,) = self.audit(self.backup, none, "--json", "--expect", str(log), status=2)
         good = {"faulty": 0, "kinds": {}, "faults": [], "error": None, "metadata": None}
         faults = [{"document": 273, "byte": 49744, "path": "", "kind": "bad length"}]
         bad = {**good, "faulty": 1, "kinds": {"bad length": 1}, "faults": faults}
@@ -365,7 +365,7 @@ class Audits(Room):
         empty = self.room / "empty"
         empty.mkdir()
         for words in ([str(empty)], [str(empty), self.backup]):
-            lines = self.audit(*words, status=1)
+            lines = self.audit(*words, status=2)
             self.assertIn(f"{empty}: no dump is below this directory", lines)
         self.audit(status=2, told="bsonfind: no dump is named\n")
         self.audit(self.backup, "--jobs", "0", status=2, told="bsonfind: --jobs is 1 or more\n")
