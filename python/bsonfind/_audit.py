@@ -226,7 +226,7 @@ class _Checker:
 
     def check(self, dump: Dump) -> list[Report]:
         """Checks a file, or each collection of an archive."""
-        report = Report(dump.name, error=dump.error, is_fault=dump.is_missing)
+        report = Report(dump.name, error=dump.error, is_fault=dump.is_fault)
         reports = [report]
         if not dump.error:
             report.namespaces = [namespace_of(name) for name in dump.names]

@@ -39,8 +39,8 @@ class Dump:
     is_below: bool = False
     size: int | None = None
     error: str | None = None
-    # Whether only its metadata is there.
-    is_missing: bool = False
+    # Whether that is damage of the backup, as where only the metadata is there.
+    is_fault: bool = False
     others: list[str] = field(default_factory=list)
 
     @property
@@ -119,10 +119,10 @@ def dumps_below(directory: str) -> Iterator[Dump]:
                 is_file = entry.is_file()
                 yield Dump(entry.path, is_below=True, error=None if is_file else "not a regular file")
             elif _HALF.search(entry.name):
-                yield Dump(entry.path, error="not whole: unpack left it so")
+                yield Dump(entry.path, error="not whole: unpack left it so", is_fault=True)
             elif _METADATA.search(entry.name) and _METADATA.sub("", entry.name) not in stems and not _is_view(entry.path):
                 name = f"{_METADATA.sub('', entry.path)}.bson"
-                yield Dump(name, error=f"missing: only {entry.name} is there", is_missing=True)
+                yield Dump(name, error=f"missing: only {entry.name} is there", is_fault=True)
         except OSError as error:
             yield Dump(entry.path, error=error.strerror)
 
