@@ -442,7 +442,7 @@ class Audits(Room):
         empty = '[ "$(head -c 4 | wc -c)" = 4 ] || exec "$PROGRAM" check /dev/null'
         stuck = self.script(f'{empty}\necho $$ >>"$ROOM/pids"\nexec sleep 600')
         words = ["--program", stuck, "audit", path]
-        self.assertEqual(self.interrupt(f"import sys\nfrom bsonfind.__main__ import main\nsys.exit(main({words!r}))", 1), 130)
+        self.assertEqual(self.interrupt(f"import sys\nfrom bsonfind.__main__ import main\nsys.exit(main({words!r}))", 2), 130)
 
 
 class Members(Room):
