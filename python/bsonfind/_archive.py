@@ -27,6 +27,8 @@ _STRING, _BOOLEAN = 0x02, 0x08
 _KINDS = {str: "string", int: "integer", bool: "boolean"}
 _HEADER = {"concurrent_collections": int, "version": str, "server_version": str, "tool_version": str}
 _LISTED = {"db": str, "collection": str, "metadata": str, "size": int, "type": str}
+# So many headers of blocks are kept at most.
+_MOST_KNOWN = 1000
 _BLOCK = {"db": str, "collection": str, "EOF": bool, "CRC": int}
 
 
@@ -113,6 +115,8 @@ class Archive:
         while not self._reader.is_at_end():
             start, header = self._reader.offset, self._document()
             if header not in known:
+                if len(known) == _MOST_KNOWN:
+                    known.clear()
                 known[header] = _block(header, start)
             namespace, crc = known[header]
             if namespace in self._ended:

@@ -22,7 +22,7 @@ _METADATA = re.compile(r"\.metadata\.json(\.gz)?$")
 _DUMPED = re.compile(r"done dumping (\S.*) \((\d+) documents?\)")
 _OPLOG_DUMPED = re.compile(r"dumped (\d+) oplog entr(?:y|ies)")
 # The names of dumps that mongodump writes without a file of metadata beside them.
-_BARE = re.compile(r"^(\$admin\..*|system\.indexes)\.bson")
+_BARE = re.compile(r"^(\$admin\..*|system\.(indexes|buckets\..*))\.bson")
 # A file that is not whole, as `unpack` leaves it.
 _HALF = re.compile(r"\.bson\.part$")
 # What mongodump does not escape in the name of a collection beside letters, digits and "_.-~"; its longest name of a file without

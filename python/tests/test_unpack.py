@@ -89,12 +89,11 @@ class Unpacks(Room):
         self.assertEqual((people.path, people.metadata), (f"{stem}.bson", f"{stem}.metadata.json"))
 
     def test_other_kinds_of_collections(self) -> None:
-        """An oplog, users of one database, a view, a time series, one without metadata and an empty one."""
+        """An oplog, users of one database, a view, a time series and an empty one: a directory that is good by `audit`."""
         view = '{"options":{"viewOn":"people","pipeline":[]},"type":"view"}'
         data = prelude(
             listed("club", "people"),
             listed("club", "none"),
-            listed("club", "bare", ""),
             listed("club", "seen", view, "view"),
             listed("club", "heat", '{"options":{"timeseries":{}},"type":"timeseries"}', "timeseries"),
             listed("club", "$admin.system.users", ""),
@@ -103,18 +102,16 @@ class Unpacks(Room):
         blocks = (
             ("club", "people", PEOPLE_DATA),
             ("club", "none", b""),
-            ("club", "bare", small(1)),
             ("club", "system.buckets.heat", small(2)),
             ("club", "$admin.system.users", small(3)),
             ("", "oplog", small(4, 5)),
         )
         data += b"".join((block(*it) if it[2] else b"") + end(*it) for it in blocks)
         lines = self.unpack(data)
-        self.assertEqual(lines[-2:], self.table(8, 505))
+        self.assertEqual(lines[-2:], self.table(7, 504))
         self.assertIn("oplog: 2 documents to O/oplog.bson", lines)
         wanted = {
             "club/$admin.system.users.bson": small(3),
-            "club/bare.bson": small(1),
             "club/heat.metadata.json": b'{"options":{"timeseries":{}},"type":"timeseries"}',
             "club/none.bson": b"",
             "club/none.metadata.json": b"{}",
@@ -125,6 +122,9 @@ class Unpacks(Room):
             "oplog.bson": small(4, 5),
         }
         self.assertEqual(self.files(), wanted)
+        for path in (self.room / "out", self.room / "a"):
+            done = audit(path, program=PROGRAM)
+            self.assertEqual((done.is_good, sum(it.documents for it in done.reports)), (True, 504), done)
 
     def test_names_that_are_escaped(self) -> None:
         """As `audit` reads them of a directory by mongodump."""
