@@ -189,8 +189,11 @@ def stem_of(namespace: Namespace) -> str:
     if len(escaped) > _LONGEST_STEM:
         digest = urlsafe_b64encode(sha1(namespace.collection.encode()).digest()).decode().rstrip("=")
         escaped = f"{escaped[:_KEPT]}%24{digest}"
-    is_at_top = not namespace.database or namespace.database.startswith("$")
-    return escaped if is_at_top else os.path.join(os.fsdecode(namespace.database.encode()), escaped)
+    return escaped if _is_at_top(namespace) else os.path.join(os.fsdecode(namespace.database.encode()), escaped)
+
+
+def _is_at_top(namespace: Namespace) -> bool:
+    return not namespace.database or namespace.database.startswith("$")
 
 
 def fault_of_metadata(name: str, is_below: bool) -> str | None:
@@ -208,7 +211,7 @@ def fault_of_metadata(name: str, is_below: bool) -> str | None:
 def fault_of_listed(listed: Listed) -> str | None:
     """What is wrong with the metadata that an archive has of a collection. That of the oplog and the like is empty."""
     if not listed.metadata:
-        is_bare = stem_of(listed.namespace) == listed.namespace.collection or _BARE.match(f"{listed.namespace.collection}.bson")
+        is_bare = _is_at_top(listed.namespace) or _BARE.match(f"{listed.namespace.collection}.bson")
         return None if is_bare else "none in the archive"
     try:
         metadata = json.loads(listed.metadata)

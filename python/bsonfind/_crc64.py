@@ -33,7 +33,7 @@ class Crc64:
         try:
             import lzma
         except ImportError:
-            raise BsonfindError("this Python lacks its module lzma, by which a CRC-64 is checked") from None
+            raise BsonfindError("this Python lacks its module lzma, which a CRC-64 is checked by; unpack --no-crc does without") from None
         self._wrong = lzma.LZMAError
         self._decoder = lzma.LZMADecompressor(lzma.FORMAT_XZ)
         self._decoder.decompress(_BEGINNING)
