@@ -124,4 +124,4 @@ def refuse_there(*names: str) -> None:
     """Refuses names of what is there."""
     for name in names:
         if os.path.lexists(name):
-            raise FileExistsError(errno.EEXIST, os.strerror(errno.EEXIST), name)
+            raise FileError(errno.EEXIST, os.strerror(errno.EEXIST), name)

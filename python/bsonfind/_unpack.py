@@ -9,8 +9,8 @@ from typing import Callable, ContextManager, Iterator, NamedTuple
 
 from ._archive import Archive, Documents, End, Listed, Namespace
 from ._backups import stem_of
-from ._dumps import File
-from ._errors import DumpError
+from ._dumps import File, name_of
+from ._errors import ArgumentError, DumpError, FileError
 from ._outputs import NewOutput, refuse_there
 from ._sources import Source
 from ._unpacking import UnpackError
@@ -63,14 +63,16 @@ def unpack(
     keeps the ending `.part`. Nothing that is there is replaced. `say` gets what the command prints of each collection.
 
     What is no archive is a `DumpError`, and so is one whose list of collections is damaged. A file that is there, or that cannot be
-    written, is an `OSError`. Then nothing is left behind.
+    written, is a `FileError`. Then nothing is left behind.
     """
-    name = os.fsdecode(archive)
+    name, place = name_of(archive), name_of(directory)
+    if not (isinstance(with_crc, bool) and callable(progress) and (say is None or callable(say))):
+        raise ArgumentError("with_crc is True or False, say and progress are functions")
     with ExitStack() as files:
         try:
             source = files.enter_context(Source(name))
             files.enter_context(progress(source))
-            work = _Unpacking(Archive(source.raw(), with_crc), os.fsdecode(directory), files)
+            work = _Unpacking(Archive(source.raw(), with_crc), place, files)
             work.write_all()
         except DumpError as error:
             raise DumpError(f"{name}: {error}", error.fault) from error
@@ -157,7 +159,10 @@ class _Unpacking:
             missing.append(above)
             above = os.path.dirname(above)
         for directory in reversed(missing):
-            os.mkdir(directory)
+            try:
+                os.mkdir(directory)
+            except OSError as error:
+                raise FileError(error.errno, error.strerror, directory) from None
             self._stack.callback(_remove_empty, directory)
         return self._stack.enter_context(NewOutput(*(name + ending for ending in endings)))
 

@@ -27,9 +27,10 @@ from bsonfind import (
     find_parts,
     plan,
     salvage,
+    unpack,
 )
 
-from .support import PEOPLE, PROGRAM, Room
+from .support import PEOPLE, PROGRAM, ROOT, Room
 
 CIRCULAR: Dict[str, Any] = {}
 CIRCULAR["again"] = CIRCULAR
@@ -37,7 +38,7 @@ NAMES = [5, None, "a\0b", "\ud800"]
 NUMBERS = [-1, "1", 1.5, None, 1 << 63]
 # Values that no call takes, by the name of the parameter.
 BAD: Dict[str, List[Any]] = {
-    **dict.fromkeys(("path", "good", "bad"), NAMES),
+    **dict.fromkeys(("path", "good", "bad", "archive", "directory"), NAMES),
     **dict.fromkeys(("skip", "limit", "offset", "length", "first"), NUMBERS),
     **dict.fromkeys(("batch_size", "jobs"), [-1, "1", 1.5, 1 << 63]),
     **dict.fromkeys(("workers", "most"), [0, *NUMBERS]),
@@ -55,7 +56,7 @@ BAD: Dict[str, List[Any]] = {
     "use": [object(), "name", {"age": 1}],
     "hint": [5, {}, [("age",)], ["age", "name"], {"age": 1, "name": 1}, {"$natural": -1}],
     "parts": [5, None, [5], "ab", Part(str(PEOPLE), 0, 5, 0)],
-    "sparse": [object(), "yes"],
+    **dict.fromkeys(("sparse", "with_crc"), [object(), "yes"]),
     "digits": [5, "5", "g" * 24],
 }
 # Parameters of which one value is as good as another: the part keeps what plan noted of its file.
@@ -81,6 +82,7 @@ class Refusals(Room):
         yield plan, lambda path=PEOPLE, **it: plan(path, **it)
         yield audit, lambda paths=PEOPLE, **it: audit(paths, **{**program, **it})
         yield salvage, lambda **it: salvage(**{"path": PEOPLE, "good": self.room / "good", "bad": self.room / "bad", **program, **it})
+        yield unpack, lambda **it: unpack(**{"archive": ROOT / "examples/backup.archive", "directory": self.room / "out", **it})
         yield ObjectId, ObjectId
         yield Part, lambda **it: Part(**{"path": "a", "offset": 0, "length": 5, "first": 0, **it})
         yield Session, lambda path=PEOPLE, **it: Session(path, **{**program, **it}).close()
@@ -116,7 +118,7 @@ class Refusals(Room):
 
     def test_all_calls_are_tried(self) -> None:
         """What is exported is tried, or made by these calls alone."""
-        made = "Answer AsyncCursor Audit Check Cursor Fault FileState LeftOut Report Salvaged".split()
+        made = "Answer AsyncCursor Audit Check Collection Cursor Fault FileState LeftOut Report Salvaged Unpacked".split()
         tried = {function.__qualname__ for function, _ in self.calls()}
         for name in bsonfind.__all__:
             kind = getattr(bsonfind, name)

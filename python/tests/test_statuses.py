@@ -14,6 +14,7 @@ from unittest import mock
 from bsonfind import audit
 from bsonfind.__main__ import main
 
+from .archives import archive
 from .support import DOUBLE, PEOPLE, PROGRAM, Room, environment, packed, run_package, wait_for
 
 COMMANDS = ("audit", "salvage", "compare", "query", "ids")
@@ -51,7 +52,9 @@ class Statuses(Room):
                 self.assertEqual(self.status(*self.words(command, dump), *options), wanted[command])
 
     def test_good_dumps(self) -> None:
-        for dump in (PEOPLE, self.file(gzip.compress(PEOPLE.read_bytes()), "packed.bson.gz")):
+        data = PEOPLE.read_bytes()
+        inside = f"{self.file(archive([('club', 'people', data)]), 'archive')}::club.people"
+        for dump in (PEOPLE, self.file(gzip.compress(data), "packed.bson.gz"), inside):
             self.want(dump, dict.fromkeys(COMMANDS, 0))
 
     def test_other_documents(self) -> None:
@@ -64,6 +67,8 @@ class Statuses(Room):
         small = gzip.compress(data)
         for name, bad in (("cut.bson", data[:-1]), ("cut.bson.gz", small[:-9]), ("no.bson.gz", data)):
             self.want(self.file(bad, name), {"audit": 1, "salvage": 1, "compare": 2, "query": 1, "ids": 2})
+        cut = self.file(archive([("club", "people", data)])[:-9], "archive")
+        self.want(f"{cut}::club.people", {"audit": 1, "salvage": 1, "compare": 2, "query": 1, "ids": 2})
 
     def test_dumps_that_are_not_seen(self) -> None:
         self.want(self.room / "missing.bson", dict.fromkeys(COMMANDS, 2))
@@ -71,6 +76,8 @@ class Statuses(Room):
         self.want(self.room / "folder.bson", dict.fromkeys(COMMANDS, 2))
         (self.room / "link.bson").symlink_to("nothing")
         self.want(self.room / "link.bson", dict.fromkeys(COMMANDS, 2))
+        whole = self.file(archive([("club", "people", PEOPLE.read_bytes())]), "archive")
+        self.want(f"{whole}::club.nobody", dict.fromkeys(COMMANDS, 2))
 
     def test_dumps_that_may_not_be_read(self) -> None:
         """The system lets root read every file, so here the call fails."""
