@@ -76,7 +76,7 @@ class _Version(argparse.Action):
 
 
 def _add_audit(command: argparse.ArgumentParser) -> None:
-    command.epilog = "The status is 0 where all is good, 1 where something is faulty or missing, and 2 where something was not read."
+    command.epilog = "The status is 0 where all is good, 1 where something is faulty or missing, 2 where something was not read."
     _add_files(command)
     command.add_argument("--expect", metavar="LOG", help="compare the counts with those in a log of mongodump")
     command.add_argument("--json", action="store_true", help="print one line of JSON, and nothing else")
@@ -115,7 +115,7 @@ def _add_compare(command: argparse.ArgumentParser) -> None:
 
 
 def _add_query(command: argparse.ArgumentParser) -> None:
-    command.epilog = "The status is 0 where all files were asked, 1 where a file is refused for a fault, and 2 where one was not read."
+    command.epilog = "The status is 0 where all files were asked, 1 where one has a fault, and 2 where one was not read."
     _add_files(command)
     command.add_argument("--query", default="{}", metavar="Q", help="a query as bsonfind find takes it")
     command.add_argument("--jobs", type=int, default=processors(), metavar="N", help="ask so many files at once")

@@ -5,6 +5,7 @@ import inspect
 import itertools
 import sys
 from functools import partial
+from types import MappingProxyType
 from typing import Any, Callable, Dict, Iterator, List, Tuple
 from unittest import mock
 
@@ -81,7 +82,8 @@ class Refusals(Room):
             yield ask, lambda parts=parts, ask=ask, **it: ask(parts, **{**program, **it})
         yield plan, lambda path=PEOPLE, **it: plan(path, **it)
         yield audit, lambda paths=PEOPLE, **it: audit(paths, **{**program, **it})
-        yield salvage, lambda **it: salvage(**{"path": PEOPLE, "good": self.room / "good", "bad": self.room / "bad", **program, **it})
+        files = {"path": PEOPLE, "good": self.room / "good", "bad": self.room / "bad"}
+        yield salvage, lambda **it: salvage(**{**files, **program, **it})
         yield unpack, lambda **it: unpack(**{"archive": ROOT / "examples/backup.archive", "directory": self.room / "out", **it})
         yield ObjectId, ObjectId
         yield Part, lambda **it: Part(**{"path": "a", "offset": 0, "length": 5, "first": 0, **it})
@@ -142,6 +144,13 @@ class Refusals(Room):
         with self.assertRaises(ArgumentError):
             salvage(PEOPLE, self.room / "new", self.room / "new", program=PROGRAM)
         self.assertEqual(list(self.room.iterdir()), [])
+
+    def test_mappings(self) -> None:
+        """A filter and a sort are any mappings, also inside of others, as pymongo takes them."""
+        old = MappingProxyType({"age": MappingProxyType({"$gte": 90})})
+        found = list(find(PEOPLE, old, sort=MappingProxyType({"age": -1}), decode="bytes", program=PROGRAM))
+        self.assertEqual(found, list(find(PEOPLE, {"age": {"$gte": 90}}, sort=[("age", -1)], decode="bytes", program=PROGRAM)))
+        self.assertEqual(len(found), 49)
 
     def test_without_pymongo(self) -> None:
         with mock.patch.dict(sys.modules, {"bson": None}), self.assertRaisesRegex(ArgumentError, "pymongo"):

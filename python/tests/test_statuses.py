@@ -17,6 +17,13 @@ from bsonfind.__main__ import main
 from .archives import archive
 from .support import DOUBLE, PEOPLE, PROGRAM, Room, environment, packed, run_package, wait_for
 
+# The package as a shell starts it, also where this process was started with interrupts ignored.
+MAIN = """
+import signal, sys
+from bsonfind.__main__ import main
+signal.signal(signal.SIGINT, signal.default_int_handler)
+sys.exit(main())
+"""
 COMMANDS = ("audit", "salvage", "compare", "query", "ids")
 
 
@@ -89,7 +96,8 @@ class Statuses(Room):
                 raise PermissionError(13, "Permission denied", name)
             return real(name, *words, **how)
 
-        with mock.patch("bsonfind._sources.open", refusing, create=True), mock.patch("bsonfind._dumps.open", refusing, create=True):
+        sources, dumps = (mock.patch(f"bsonfind.{it}.open", refusing, create=True) for it in ("_sources", "_dumps"))
+        with sources, dumps:
             for command in COMMANDS:
                 with self.subTest(command):
                     self.assertEqual(self.status(*self.words(command, closed)), 2)
@@ -132,8 +140,7 @@ class Statuses(Room):
             for number in (signal.SIGINT, signal.SIGTERM):
                 shutil.rmtree(self.room / "first", ignore_errors=True)
                 pids.write_text("")
-                code = "import signal, sys\nsignal.signal(signal.SIGINT, signal.default_int_handler)\nfrom bsonfind.__main__ import main\nsys.exit(main())"
-                words = [sys.executable, "-c", code, "--program", program, *self.words(command, PEOPLE)]
+                words = [sys.executable, "-c", MAIN, "--program", program, *self.words(command, PEOPLE)]
                 run = subprocess.Popen(words, env=environment(), stdout=subprocess.DEVNULL, stderr=subprocess.DEVNULL)
                 wait_for(lambda: bool(pids.read_text()))
                 run.send_signal(number)
