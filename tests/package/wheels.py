@@ -26,6 +26,8 @@ PACKAGE = ROOT / "python"
 VERSION = (ROOT / "VERSION").read_text(encoding="ascii").strip()
 PROGRAM_HERE = os.environ.get("BSONFIND") or str(PROGRAM)
 WHEEL = f"bsonfind-{VERSION}-py3-none-any.whl"
+# What the README prints of an audit and a salvage.
+REPORTS = "False [('people.bson', 500, 0, None), ('missing.bson', 0, 0, 'No such file or directory')]\n500 0 0\n"
 HAS_PIP = importlib.util.find_spec("pip") is not None
 # What each copy of the package is asked for.
 ASKS = """
@@ -175,7 +177,8 @@ class Wheels(unittest.TestCase):
         """The scripts of the package's README run, and find what is there."""
         text = (PACKAGE / "README.md").read_text(encoding="utf-8")
         scripts = re.findall(r"^```python\n(.*?)^```", text, re.MULTILINE | re.DOTALL)
-        wanted = ("49\nFarid 99\nHélène 99\n", "Małgorzata\n", "3 49\nHélène\n")
+        found = "Farid 99\nHélène 99\n"
+        wanted = (f"{found}False\nLuís\n", f"49\n{found}", "Małgorzata\n", "3 49\nHélène\n", REPORTS)
         self.assertEqual(len(scripts), len(wanted))
         (self.room / "people.bson").write_bytes((ROOT / "examples/people.bson").read_bytes())
         (self.room / "bin").mkdir()
