@@ -1,9 +1,14 @@
-"""What `bsonwide` writes of a dump, by Python: `mask`, and `wrap` with the texts of doubles and decimal128."""
+"""What `bsonwide` writes of a dump, by Python: `mask`, `wrap` with the texts of doubles and decimal128, and `order` with the codes."""
 
+import json
+import re
 import struct
 from collections.abc import Callable
 from decimal import Decimal
+from fractions import Fraction
+from typing import NamedTuple
 
+from model.answers import INT64
 from model.dumps import LEVELS, LONGEST
 
 FIXED = {0x01: 8, 0x06: 0, 0x07: 12, 0x08: 1, 0x09: 8, 0x0A: 0, 0x10: 4, 0x11: 8, 0x12: 8, 0x13: 16, 0x7F: 0, 0xFF: 0}
@@ -36,12 +41,25 @@ class TooDeep(Exception):
     """Nothing can stand in the place of a number at the deepest level."""
 
 
-# An element by its type, its name with the zero, its value, and how many levels are left below it.
-Element = Callable[[int, bytes, bytes, int], bytes]
+class Place(NamedTuple):
+    """Where an element or a document is: its byte, the names to it without those of elements of arrays, and how many levels are left."""
+
+    at: int
+    names: tuple[bytes, ...]
+    room: int
+
+    def inside(self, size: int, *names: bytes, levels: int = 1) -> "Place":
+        """What begins so many bytes on, with more names before it, and levels deeper."""
+        return Place(self.at + size, (*self.names, *names), self.room - levels)
+
+
+# An element by its type, its name with the zero, its value, and its place, whose last name is its own unless it is in an array.
+Element = Callable[[int, bytes, bytes, Place], bytes]
 Others = Callable[[bytes], bytes]
 
 
-def elements(data: bytes, room: int, element: Element, others: Others) -> bytes:
+def elements(data: bytes, place: Place, is_array: bool, element: Element, others: Others) -> bytes:
+    """The elements of a document or an array; the place is that of the first, with the names to the document."""
     made = b""
     while data:
         zero = data.find(0, 1)
@@ -49,28 +67,32 @@ def elements(data: bytes, room: int, element: Element, others: Others) -> bytes:
         if size is None:
             return made + others(data)
         kind, name, value = data[0], data[1 : zero + 1], data[zero + 1 : zero + 1 + size]
-        if kind in (0x03, 0x04) and room > 0:
-            made += data[: zero + 1] + document(value, room - 1, element, others)
-        elif kind == 0x0F and room > 0:
-            made += data[: zero + 1] + scoped(value, room - 1, element, others)
+        here = place.inside(0, *([] if is_array else [name[:-1]]), levels=0)
+        if kind in (0x03, 0x04) and place.room > 0:
+            made += data[: zero + 1] + document(value, here.inside(zero + 1), kind == 0x04, element, others)
+        elif kind == 0x0F and place.room > 0:
+            made += data[: zero + 1] + scoped(value, here.inside(zero + 1), element, others)
         elif kind in (0x01, 0x10, 0x12, 0x13):
-            made += element(kind, name, value, room)
+            made += element(kind, name, value, here)
         else:
             made += data[: zero + 1 + size]
         data = data[zero + 1 + size :]
+        place = place.inside(zero + 1 + size, levels=0)
     return made
 
 
-def document(data: bytes, room: int, element: Element, others: Others) -> bytes:
-    made = elements(data[4:-1], room, element, others)
+def document(data: bytes, place: Place, is_array: bool, element: Element, others: Others, more: bytes = b"") -> bytes:
+    """A document or an array, with more elements at its end."""
+    made = elements(data[4:-1], place.inside(4, levels=0), is_array, element, others) + more
     return (len(made) + 5).to_bytes(4, "little") + made + data[-1:]
 
 
-def scoped(data: bytes, room: int, element: Element, others: Others) -> bytes:
+def scoped(data: bytes, place: Place, element: Element, others: Others) -> bytes:
+    """Code with scope; the room of its place is that of a document in its place."""
     at = 8 + number(data, 4)
     if at == 8 or len(data) < at + 5 or number(data, at) != len(data) - at:
         return data
-    scope = document(data[at:], room - 1, element, others) if room > 0 else data[at:]
+    scope = document(data[at:], place.inside(at, b"$scope"), False, element, others) if place.room > 0 else data[at:]
     return (at + len(scope)).to_bytes(4, "little") + data[4:at] + scope
 
 
@@ -84,7 +106,7 @@ def frames(data: bytes) -> tuple[list[bytes], bytes]:
 
 
 def mask(data: bytes) -> bytes:
-    def element(kind: int, name: bytes, value: bytes, _room: int) -> bytes:
+    def element(kind: int, name: bytes, value: bytes, _: Place) -> bytes:
         if kind == 0x01:
             return b"\x12" + name + value
         if kind == 0x13:
@@ -95,7 +117,7 @@ def mask(data: bytes) -> bytes:
         return (b"\x12" if rest[0] == 0x01 and 0 in rest[1:] else rest[:1]) + rest[1:]
 
     documents, rest = frames(data)
-    return b"".join(document(it, LEVELS - 1, element, others) for it in documents) + rest
+    return b"".join(document(it, Place(0, (), LEVELS - 1), False, element, others) for it in documents) + rest
 
 
 def double_text(bits: bytes) -> bytes:
@@ -121,22 +143,25 @@ def double_text(bits: bytes) -> bytes:
     return f"{sign}{whole}.{text[first + 1 :] or '0'}".encode()
 
 
-def decimal_text(data: bytes) -> bytes:
-    """To-scientific-string, by Python's `decimal`, of the 16 bytes."""
+def decimal_of(data: bytes) -> Decimal:
+    """The decimal128 of 16 bytes."""
     bits = int.from_bytes(data, "little")
     sign = bits >> 127
     five = bits >> 122 & 31
-    if five == 31:
-        return b"NaN"
-    if five == 30:
-        return b"-Infinity" if sign else b"Infinity"
+    if five >= 30:
+        return Decimal("NaN" if five == 31 else "-Infinity" if sign else "Infinity")
     if five >= 24:
         coefficient, power = 0, bits >> 111 & 0x3FFF
     else:
         coefficient, power = bits & (1 << 113) - 1, bits >> 113 & 0x3FFF
     if coefficient >= 10**34:
         coefficient = 0
-    return str(Decimal((sign, tuple(map(int, str(coefficient))), power - 6176))).encode()
+    return Decimal((sign, tuple(map(int, str(coefficient))), power - 6176))
+
+
+def decimal_text(data: bytes) -> bytes:
+    """To-scientific-string, by Python's `decimal`, of the 16 bytes."""
+    return str(decimal_of(data)).encode()
 
 
 def wrapper(name: bytes, text: bytes) -> bytes:
@@ -147,8 +172,8 @@ def wrapper(name: bytes, text: bytes) -> bytes:
 def wrap(data: bytes) -> tuple[bytes, int]:
     """What is written, and how many documents stay as they are."""
 
-    def element(kind: int, name: bytes, value: bytes, room: int) -> bytes:
-        if kind in (0x01, 0x13) and room == 0:
+    def element(kind: int, name: bytes, value: bytes, place: Place) -> bytes:
+        if kind in (0x01, 0x13) and place.room == 0:
             raise TooDeep
         if kind == 0x01:
             return b"\x03" + name + wrapper(b"$numberDouble", double_text(value))
@@ -160,7 +185,7 @@ def wrap(data: bytes) -> tuple[bytes, int]:
     documents, rest = frames(data)
     for it in documents:
         try:
-            new = document(it, LEVELS - 1, element, lambda others: others)
+            new = document(it, Place(0, (), LEVELS - 1), False, element, lambda others: others)
         except TooDeep:
             new = b""
         if new and len(new) <= LONGEST:
@@ -169,3 +194,84 @@ def wrap(data: bytes) -> tuple[bytes, int]:
             made.append(it)
             kept += 1
     return b"".join(made) + rest, kept
+
+
+# The codes of numbers, which are in the order of their values.
+
+NOT_WHOLE, NO_DOUBLE, TOO_LONG = "not a whole number of 64 bits", "no double equals it", "document too long"
+
+
+class NoCode(Exception):
+    """A number that is not taken, and why."""
+
+
+def value_of(kind: int, data: bytes) -> Fraction | Decimal:
+    """The value of a number, exactly; NaN and the infinities as a `Decimal`."""
+    if kind in (0x10, 0x12):
+        return Fraction(int.from_bytes(data, "little", signed=True))
+    value = struct.unpack("<d", data)[0] if kind == 0x01 else decimal_of(data)
+    return Fraction(value) if Decimal(value).is_finite() else Decimal(value)
+
+
+def code(value: Fraction | Decimal) -> int:
+    """The bits of the double that equals a number, of a negative one the negative of its bits without the sign; NaN is the least."""
+    if value != value:
+        return -(1 << 63)
+    try:
+        double = float(value)
+    except OverflowError:
+        raise NoCode(NO_DOUBLE) from None
+    if isinstance(value, Fraction) and Fraction(double) != value:
+        raise NoCode(NO_DOUBLE)
+    size = int.from_bytes(struct.pack("<d", abs(double)), "little")
+    return -size if double < 0 else size
+
+
+def whole(value: Fraction | Decimal, factor: int = 1) -> int:
+    """A number, times a factor, as an int64."""
+    if isinstance(value, Fraction) and (value * factor).denominator == 1 and int(value * factor) in INT64:
+        return int(value * factor)
+    raise NoCode(NOT_WHOLE)
+
+
+def factor_of(path: bytes) -> tuple[bytes, int | None]:
+    """The path that a PATH of the command line names, and the factor that follows it: a power of ten up to 10^18."""
+    found = re.fullmatch(rb"(.*)\*(10{0,18})", path, re.DOTALL)
+    return (found[1], int(found[2])) if found else (path, None)
+
+
+def order(data: bytes, paths: list[bytes]) -> tuple[bytes, str]:
+    """What is written, and what is refused; all before the document that is refused is written. Of two factors of a path the first."""
+    factors: dict[bytes, int | None] = {}
+    for path, factor in map(factor_of, paths):
+        factors.setdefault(path, factor)
+
+    def element(kind: int, name: bytes, value: bytes, place: Place) -> bytes:
+        path, number = b".".join(place.names), value_of(kind, value)
+        try:
+            if path not in factors:
+                return bytes([kind]) + name + value if kind in (0x10, 0x12) else long(name, whole(number))
+            factor = factors[path]
+            return long(name, code(number) if factor is None else whole(number, factor))
+        except NoCode as fault:
+            shown = json.dumps(path.decode(errors="surrogateescape"), ensure_ascii=False)
+            raise NoCode(f"byte {place.at}, path {shown}: {fault}") from None
+
+    made, at = b"", 0
+    documents, rest = frames(data)
+    for index, it in enumerate(documents):
+        place, mark = Place(at, (), LEVELS - 1), long(b"~n\0", index)
+        try:
+            new = document(it, place, False, element, lambda others: others, mark)
+        except NoCode as fault:
+            return made, f"document {index}, {fault}"
+        if len(new) > LONGEST:
+            return made, f"document {index}: {TOO_LONG}"
+        made += new
+        at += len(it)
+    return made + rest, ""
+
+
+def long(name: bytes, value: int) -> bytes:
+    """An int64 with a name, which has its zero."""
+    return b"\x12" + name + value.to_bytes(8, "little", signed=True)
