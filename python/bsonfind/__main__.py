@@ -8,10 +8,11 @@ import os
 import signal
 import sys
 import threading
-from typing import NoReturn, Sequence
+from typing import Callable, NoReturn, Sequence
 
 from ._audit import MOST_FAULTS, Audit, audit_dumps
 from ._backups import Dump, dumps_of, text_lines
+from ._commands import check_file, dump_file
 from ._compare import NOTHING, CompareError, compare, pairs_of, rows
 from ._console import CannotWrite, Console, Progress, print_text
 from ._errors import BsonfindError, DumpError
@@ -47,6 +48,8 @@ def parser() -> argparse.ArgumentParser:
     _add_common(main, "bsonfind")
     commands = main.add_subparsers(required=True, metavar="COMMAND")
     for name, add, about in (
+        ("check", _add_check, "Prints each fault of dumps; doubles and decimal128 are none."),
+        ("dump", _add_dump, "Prints the documents of dumps, one a line."),
         ("audit", _add_audit, "Checks many files, on all processors."),
         ("salvage", _add_salvage, "Copies each document of a damaged dump to one of two files."),
         ("unpack", _add_unpack, "Writes the collections of an archive of mongodump to files."),
@@ -73,6 +76,22 @@ class _Version(argparse.Action):
 
         print_text(f"bsonfind {__version__}")
         command.exit()
+
+
+def _add_check(command: argparse.ArgumentParser) -> None:
+    command.epilog = "The status is 0 where all is good, 1 where a document has a fault, and else 2."
+    _add_dumps(command)
+    command.set_defaults(run=lambda words: run_each(words, check_file))
+
+
+def _add_dump(command: argparse.ArgumentParser) -> None:
+    command.epilog = "The status is 0 where all is printed, 1 where a document has a fault, and else 2."
+    _add_dumps(command)
+    command.set_defaults(run=lambda words: run_each(words, dump_file))
+
+
+def _add_dumps(command: argparse.ArgumentParser) -> None:
+    command.add_argument("files", nargs="+", metavar="FILE", help="a dump of any size, one by mongodump --gzip, or - for standard input")
 
 
 def _add_audit(command: argparse.ArgumentParser) -> None:
@@ -128,6 +147,12 @@ def _add_ids(command: argparse.ArgumentParser) -> None:
     command.add_argument("--ids", required=True, metavar="F", help="a file of ids: 24 digits a line, or as dump prints them")
     command.add_argument("--missing", metavar="M", help="write the ids without a document to this file")
     command.set_defaults(run=run_ids)
+
+
+def run_each(words: argparse.Namespace, run: Callable[[str, str, Console], bool]) -> int:
+    """Runs a command over one dump after the other, and gives the status."""
+    console = Console()
+    return GOOD if all([run(name, words.program, console) for name in words.files]) else FAULTY
 
 
 def run_audit(words: argparse.Namespace) -> int:

@@ -14,15 +14,17 @@ from ._backups import Dump, Log, dumps_of, fault_of_listed, fault_of_metadata, i
 from ._console import Console, Progress
 from ._dumps import File, name_in, name_of
 from ._errors import ArgumentError, BsonfindError
-from ._faults import NO_DAMAGE, Fault, faults_of, finish_check
+from ._faults import NO_DAMAGE, Fault
 from ._processes import Group, processors
 from ._requests import whole
 from ._sources import Source, try_program
 from ._split import split
 from ._unpacking import UnpackError
+from ._wide import Checking
 
 # How many faults of a file are reported one by one.
 MOST_FAULTS = 10
+_WIDE = "doubles or decimal128"
 
 
 @dataclass
@@ -30,11 +32,13 @@ class Report:
     """What the check of a file came to.
 
     `kinds` says how many documents have each kind of first fault, and `faults` has the first of those that are damage, and then
-    the first of each other kind. `error` says why the file was not read to its end, `metadata` what is wrong with its metadata.
+    the first of each other kind. `wide` says how many documents hold doubles or decimal128, which is no fault. `error` says why
+    the file was not read to its end, `metadata` what is wrong with its metadata.
     """
 
     name: str
     documents: int = 0
+    wide: int = 0
     kinds: Counter[str] = field(default_factory=Counter)
     faults: list[Fault] = field(default_factory=list)
     error: str | None = None
@@ -70,6 +74,7 @@ class Report:
         return {
             "name": self.name,
             "documents": self.documents,
+            "doubles_or_decimal128": self.wide,
             "faulty": self.faulty,
             "kinds": self.kinds,
             "faults": [{"document": it.document, "byte": it.offset, "path": it.path, "kind": it.kind} for it in self.faults],
@@ -122,7 +127,7 @@ class Audit(NamedTuple):
 
     def rows(self) -> list[tuple[str, int]]:
         """The table; the kinds of faults that are no damage come last."""
-        kinds = self.kinds.most_common()
+        kinds, wide = self.kinds.most_common(), sum(it.wide for it in self.reports)
         damage = [(f"  {kind}", count) for kind, count in kinds if kind not in NO_DAMAGE]
         harmless = [(f"  {kind} (no damage)", count) for kind, count in kinds if kind in NO_DAMAGE]
         others = (
@@ -138,6 +143,7 @@ class Audit(NamedTuple):
             ("faulty", sum(self.kinds.values())),
             *damage,
             *harmless,
+            *([(f"with {_WIDE}", wide)] if wide else []),
             *((name, len(those)) for name, those in others if those),
         ]
 
@@ -243,7 +249,8 @@ class _Checker:
                 self._note(report, error)
         for it in reports:
             say = self._saying(it)
-            say(it.error or f"{it.documents} documents, {it.faulty} faulty")
+            wide = f", {it.wide} with {_WIDE}" if it.wide else ""
+            say(it.error or f"{it.documents} documents, {it.faulty} faulty{wide}")
             if it.metadata:
                 say(f"metadata: {it.metadata}")
         self._progress.add_file()
@@ -298,19 +305,17 @@ class _Checker:
 
     def _check_documents(self, report: Report, source: Source) -> None:
         damage, harmless, say = 0, {}, self._saying(report)
+        checking = Checking(self._program, is_counting=True, group=self.group)
         try:
-            for part in source.inputs():
-                with part.run([self._program, "check", "-"], group=self.group) as run:
-                    for fault in faults_of(run):
-                        fault = fault.moved(report.documents, part.offset)
-                        report.kinds[fault.kind] += 1
-                        if fault.kind in NO_DAMAGE:
-                            harmless.setdefault(fault.kind, fault)
-                        elif (damage := damage + 1) <= self._max_faults:
-                            report.faults.append(fault)
-                            say(str(fault))
-                    report.documents += finish_check(run)
+            for fault in checking.faults(source):
+                report.kinds[fault.kind] += 1
+                if fault.kind in NO_DAMAGE:
+                    harmless.setdefault(fault.kind, fault)
+                elif (damage := damage + 1) <= self._max_faults:
+                    report.faults.append(fault)
+                    say(str(fault))
         finally:
+            report.documents, report.wide = checking.documents, checking.wide
             if damage > self._max_faults:
                 say(f"and {damage - self._max_faults} more")
             if harmless:

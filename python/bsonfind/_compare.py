@@ -7,13 +7,11 @@ from collections import Counter
 from hashlib import blake2b
 from typing import Callable, Iterator, NamedTuple, Sequence
 
-from ._answers import lines_of
 from ._backups import dumps_below
-from ._errors import BsonfindError, DumpError
+from ._errors import BsonfindError
 from ._fields import field_of, id_of
-from ._query import moved
+from ._printing import Printing
 from ._sorting import Sorter
-from ._sources import Source
 
 # How documents differ, in the order in which they are counted.
 KINDS = ("same", "changed", "removed", "added")
@@ -171,14 +169,7 @@ def _one_alone(pair: Pair, program: str, say: Callable[[str], None]) -> Comparis
 def _lines(name: str, program: str) -> Iterator[list[bytes]]:
     """The documents of a dump as lines. What is wrong with it is raised with its name."""
     try:
-        with Source(name) as source:
-            for part in source.inputs():
-                with part.run([program, "dump", "-"]) as run:
-                    yield from lines_of(run.stdout)
-                    try:
-                        run.finish()
-                    except DumpError as error:
-                        raise moved(error, part) from None
+        yield from Printing(program).lines(name)
     except (BsonfindError, OSError) as error:
         raise CompareError(f"{name}: {getattr(error, 'strerror', None) or error}") from None
 

@@ -10,7 +10,7 @@ if TYPE_CHECKING:
     from ._processes import Run
 
 # The kinds of faults that are no damage: another program can read such a document.
-NO_DAMAGE = ("double", "decimal128", "too deep")
+NO_DAMAGE = ("too deep",)
 _COUNTED = re.compile(r"(\d+) documents, \d+ faulty")
 _LINE = re.compile(r'document (\d+), byte (\d+), path (".*"): (.+)')
 

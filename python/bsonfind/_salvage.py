@@ -15,8 +15,9 @@ from ._faults import NO_DAMAGE, Fault, faults_of, finish_check
 from ._framing import LONGEST, SHORTEST
 from ._outputs import Output, refuse_names
 from ._processes import Run, processors
-from ._sources import Source, try_program
+from ._sources import Input, Source, try_program
 from ._unpacking import UnpackError
+from ._wide import WIDE, Filtered
 
 # From so many documents in a row, or from fewer that end with the file, a place is guessed to be the beginning of a document.
 IN_A_ROW = 4
@@ -196,7 +197,7 @@ class _Salvage:
     def __init__(self, source: Source, good: Output, bad: Output, program: str, say: Callable[[str], None]) -> None:
         self._window = _Window(source.pieces())
         self._good_file, self._bad_file = good, bad
-        self._program, self._say = program, say
+        self._check, self._say = _Check(program), say
         self._good = self._bad = 0
         self._left_out: list[LeftOut] = []
         # Documents that are being checked, how many runs do so at most, and the bytes that the next one checks.
@@ -233,7 +234,7 @@ class _Salvage:
             if not ends:
                 break
             data = self._window.bytes(start, ends[-1])
-            self._ahead.append(_Batch(start, ends, data, Run([self._program, "check", "-"], [data])))
+            self._ahead.append(_Batch(start, ends, data, self._check.run([data])))
             self._window.drop(ends[-1])
             self._size = min(2 * self._size, _MOST)
         return bool(self._ahead)
@@ -248,7 +249,7 @@ class _Salvage:
         """Copies documents, and gives the place after them, or that of documents which a wrong length passes over."""
         start, ends, data = batch.start, batch.ends, memoryview(batch.data)
         at, copied = start, 0
-        faults = _faults(batch.run, len(ends))
+        faults = self._check.faults([batch.data], len(ends), batch.run)
         if faults:
             # What stands in and after a bad document is looked at.
             self._window.put_back(start, b"".join([batch.data, *(it.data for it in self._ahead)]))
@@ -351,8 +352,8 @@ class _Salvage:
         """The places of those chains in which one run finds no damage."""
         if not chains:
             return []
-        run = Run([self._program, "check", "-"], [data for it in chains for data in (it.before, it.data)])
-        faults = {it.document: it.kind for it in _faults(run, sum(bool(it.before) + it.documents for it in chains))}
+        data = [data for it in chains for data in (it.before, it.data)]
+        faults = {it.document: it.kind for it in self._check.faults(data, sum(bool(it.before) + it.documents for it in chains))}
         places, first = [], 0
         for chain in chains:
             documents = range(first + bool(chain.before), first + bool(chain.before) + chain.documents)
@@ -379,14 +380,31 @@ def _places(pattern: re.Pattern[bytes], data: bytes, first: int, with_values: bo
                 yield at
 
 
-def _faults(run: Run, documents: int) -> list[Fault]:
-    """The faults that a run finds in so many documents."""
-    with run:
-        faults = list(faults_of(run))
-        count = finish_check(run)
-    if count != documents:
-        raise ProgramError(f"check found {count} documents in place of {documents}")
-    return faults
+class _Check:
+    """The check of some documents after others. All go through the filter once one of them holds doubles or decimal128."""
+
+    def __init__(self, program: str) -> None:
+        self._words = [program, "check", "-"]
+        self._is_filtered = False
+
+    def run(self, data: list[bytes]) -> Run:
+        """A run over documents."""
+        if self._is_filtered:
+            return Filtered(self._words, "mask", Input(0, 0, None, iter(data)))
+        return Run(self._words, data)
+
+    def faults(self, data: list[bytes], documents: int, run: Run | None = None) -> list[Fault]:
+        """The damage of so many documents, as a run that was started finds it."""
+        run = run or self.run(data)
+        with run:
+            faults = list(faults_of(run))
+            count = finish_check(run)
+        if count != documents:
+            raise ProgramError(f"check found {count} documents in place of {documents}")
+        if not isinstance(run, Filtered) and any(it.kind in WIDE for it in faults):
+            self._is_filtered = True
+            return self.faults(data, documents)
+        return faults
 
 
 class _Batch(NamedTuple):

@@ -4,7 +4,7 @@ from __future__ import annotations
 
 import os
 import stat
-from typing import Any, BinaryIO, Iterator, NamedTuple, Sequence
+from typing import Any, BinaryIO, Iterable, Iterator, NamedTuple, Sequence
 
 from . import _framing
 from ._archive import is_archive
@@ -68,7 +68,7 @@ class Source:
         limit = _framing.LARGEST_INPUT if most is None else most
         if self._is_packed or self.size is None or self.size > limit:
             errors: list[Exception] = []
-            for offset, first, pieces in _framing.inputs(_up_to_error(self.pieces(), errors), limit):
+            for offset, first, pieces in _framing.inputs(up_to_error(self.pieces(), errors), limit):
                 yield Input(offset, first, None, pieces)
             if errors:
                 raise errors[0]
@@ -109,7 +109,7 @@ def try_program(program: str) -> None:
         finish_check(run)
 
 
-def _up_to_error(pieces: Iterator[bytes], errors: list[Exception]) -> Iterator[bytes]:
+def up_to_error(pieces: Iterable[bytes], errors: list[Exception]) -> Iterator[bytes]:
     """The pieces before an error, which is put into a list."""
     try:
         yield from pieces

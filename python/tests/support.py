@@ -19,8 +19,9 @@ SHOP = ROOT / "examples/shop.bson"
 # The documents of the examples, as another program wrote them.
 PEOPLE_LINES = (ROOT / "examples/people.jsonl").read_bytes().splitlines()
 SHOP_LINES = (ROOT / "examples/shop.jsonl").read_bytes().splitlines()
-# A document with a double, which is refused.
+# A document with a double, which the program reads by way of the filter; and one with a boolean of 2, which is refused.
 DOUBLE = bytes.fromhex("10000000016400000000000000f03f00")
+DAMAGED = bytes.fromhex("090000000864000200")
 PATIENCE = 60.0
 
 

@@ -13,13 +13,20 @@ from bsonfind import BsonfindError
 from bsonfind._audit import audit
 from bsonfind._console import progress_of
 
-from .support import DOUBLE, PEOPLE, PROGRAM, SHOP, Room, environment, run_package
+from .support import DAMAGED, DOUBLE, PEOPLE, PROGRAM, SHOP, Room, environment, run_package
 
 LOG = """\
 2026-11-25T10:00:00.000+0000\twriting shop.orders to backup/shop/orders.bson
 2026-11-25T10:00:01.000+0000\tdone dumping shop.orders (400 documents)
 2026-11-25T10:00:02.000+0000\tdone dumping club.people (500 documents)
 """
+
+
+# A document in a document and so on, a level deeper than the program reads; and one with a decimal128.
+DEEP = bytes.fromhex("0500000000")
+for _ in range(200):
+    DEEP = (len(DEEP) + 8).to_bytes(4, "little") + b"\x03a\0" + DEEP + b"\0"
+DECIMAL = bytes.fromhex("18000000136400") + (1234 | 6174 << 113).to_bytes(16, "little") + b"\0"
 
 
 class Audits(Room):
@@ -55,19 +62,44 @@ class Audits(Room):
 
     def test_faulty_files(self) -> None:
         """What is no damage comes last, as one line with a count."""
-        cut = self.collection(DOUBLE * 2 + PEOPLE.read_bytes()[:50_000], "old")
+        cut = self.collection(DEEP * 2 + PEOPLE.read_bytes()[:50_000], "old")
         lines = self.audit(self.backup, status=1)
-        first = 'the first at document 0, byte 4, path "d": double'
+        place = f'document 0, byte 1397, path "{".".join("a" * 200)}": too deep'
         self.assertEqual(
             [line for line in lines if line.startswith(cut)],
             [
-                f'{cut}: document 275, byte 49776, path "": bad length',
-                f"{cut}: no damage, but not readable: 2 double; {first}",
+                f'{cut}: document 275, byte {2 * len(DEEP) + 49744}, path "": bad length',
+                f"{cut}: no damage, but not readable: 2 too deep; the first at {place}",
                 f"{cut}: 276 documents, 3 faulty",
             ],
         )
-        rows = ("files", 3), ("documents", 1176), ("faulty", 3), ("  bad length", 1), ("  double (no damage)", 2)
+        rows = ("files", 3), ("documents", 1176), ("faulty", 3), ("  bad length", 1), ("  too deep (no damage)", 2)
         self.assertEqual(lines[5:], self.table(*rows))
+
+    def test_doubles_are_no_faults(self) -> None:
+        """They are counted; damage after them in a document is found. A file, a compressed one and a pipe."""
+        hidden = bytes.fromhex("1400000001640000000000000000000862000200")
+        data = PEOPLE.read_bytes() + DOUBLE * 2 + DAMAGED + DECIMAL + hidden + SHOP.read_bytes() + DOUBLE
+        start = len(PEOPLE.read_bytes()) + 2 * len(DOUBLE)
+        pipe = self.room / "pipe.bson"
+        os.mkfifo(pipe)
+        for path in (self.file(data, "a.bson"), self.file(gzip.compress(data), "a.bson.gz"), pipe):
+            if path is pipe:
+                threading.Thread(target=pipe.write_bytes, args=[data], daemon=True).start()
+            lines = self.audit(str(path), status=1)
+            found = [
+                f'document 502, byte {start + 7}, path "d": bad boolean',
+                f'document 504, byte {start + len(DAMAGED + DECIMAL) + 18}, path "b": bad boolean',
+                "906 documents, 2 faulty, 5 with doubles or decimal128",
+            ]
+            self.assertEqual(lines[:3], [f"{path}: {it}" for it in found])
+            wide = "with doubles or decimal128", 5
+            self.assertEqual(lines[3:], self.table(("files", 1), ("documents", 906), ("faulty", 2), ("  bad boolean", 2), wide))
+        sound = self.file(DOUBLE * 3, "sound.bson")
+        self.assertEqual(self.audit(str(sound), status=0)[0], f"{sound}: 3 documents, 0 faulty, 3 with doubles or decimal128")
+        (line,) = self.audit(str(sound), "--json", status=0)
+        (report,) = json.loads(line)["files"]
+        self.assertEqual((report["documents"], report["doubles_or_decimal128"], report["faulty"]), (3, 3, 0))
 
     def test_most_faults_of_a_file(self) -> None:
         data = bytearray(SHOP.read_bytes())
@@ -214,8 +246,8 @@ class Audits(Room):
     def test_file_larger_than_what_a_run_reads(self) -> None:
         """With a largest input of 30,000 bytes in place of 4,294,967,295: a file, a compressed one and a pipe."""
         people = PEOPLE.read_bytes()
-        whole, wrong = people[:79930] + DOUBLE + people[79930:], people[:39978] + b"\xff" * 50_000
-        harmless = {"document": 436, "byte": 79934, "path": "d", "kind": "double"}
+        whole, wrong = people[:79930] + DAMAGED + people[79930:], people[:39978] + b"\xff" * 50_000
+        harmless = {"document": 436, "byte": 79937, "path": "d", "kind": "bad boolean"}
         damage = {"document": 220, "byte": 39978, "path": "", "kind": "bad length"}
         pipe = self.room / "pipe.bson"
         os.mkfifo(pipe)
@@ -312,7 +344,7 @@ class Audits(Room):
         log = self.file(LOG.replace("500", "501").encode(), "log")
         none = str(self.room / "none.bson")
         (line,) = self.audit(self.backup, none, "--json", "--expect", str(log), status=2)
-        good = {"faulty": 0, "kinds": {}, "faults": [], "error": None, "metadata": None}
+        good = {"faulty": 0, "doubles_or_decimal128": 0, "kinds": {}, "faults": [], "error": None, "metadata": None}
         faults = [{"document": 273, "byte": 49744, "path": "", "kind": "bad length"}]
         bad = {**good, "faulty": 1, "kinds": {"bad length": 1}, "faults": faults}
         files = [

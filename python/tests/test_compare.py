@@ -4,6 +4,7 @@ import gzip
 import json
 import os
 import random
+import struct
 import tracemalloc
 from typing import List, Tuple
 from unittest import mock
@@ -12,7 +13,7 @@ from bsonfind._compare import Pair, compare
 from bsonfind._fields import field_of, id_of
 from bsonfind._sorting import Sorter
 
-from .support import DOUBLE, PEOPLE, PEOPLE_LINES, PROGRAM, SHOP, SHOP_LINES, Room, packed, run_package
+from .support import DAMAGED, PEOPLE, PEOPLE_LINES, PROGRAM, SHOP, SHOP_LINES, Room, packed, run_package
 
 Rows = Tuple[Tuple[str, int], ...]
 
@@ -102,18 +103,35 @@ class Compares(Room):
         self.assertEqual(found[-7:], self.rows(one, two, (1120, 809), 809, 0, 311, 0, more=more))
         self.assertEqual(len(self.compared(one, one, status=0)), 6)
 
+    def test_doubles(self) -> None:
+        """By their texts: 0.0, -0.0, 1.0 and, as decimal128 and int32, 1, 1.00 and 1 are six values."""
+
+        def document(place: int, value: bytes) -> bytes:
+            body = b"\x10_id\0" + bytes([place, 0, 0, 0]) + value[:1] + b"v\0" + value[1:]
+            return (len(body) + 5).to_bytes(4, "little") + body + b"\0"
+
+        decimals = [(coefficient | power << 113).to_bytes(16, "little") for coefficient, power in ((1, 6176), (100, 6174))]
+        values = [*(b"\x01" + struct.pack("<d", it) for it in (0.0, -0.0, 1.0)), *(b"\x13" + it for it in decimals), b"\x10\1\0\0\0"]
+        documents = [document(*it) for it in enumerate(values)]
+        one, two = (str(self.file(b"".join(it), name)) for it, name in ((documents, "one.bson"), (reversed(documents), "two.bson")))
+        self.assertEqual(self.compared(one, two, status=0), self.rows(one, two, (6, 6), 6, 0, 0, 0))
+        other = str(self.file(b"".join(document(*it) for it in enumerate(values[1:] + values[:1])), "other.bson"))
+        found = self.compared(one, other, status=1)
+        self.assertEqual(found[:6], [f'changed {{"$numberInt":"{place}"}}' for place in range(6)])
+        self.assertEqual(found[6:], self.rows(one, other, (6, 6), 0, 6, 0, 0))
+
     def test_what_cannot_be_compared(self) -> None:
-        bad = str(self.file(PEOPLE.read_bytes() + DOUBLE, "a/club/people.bson"))
+        bad = str(self.file(PEOPLE.read_bytes() + DAMAGED, "a/club/people.bson"))
         self.file(PEOPLE.read_bytes(), "b/club/people.bson")
         self.file(SHOP.read_bytes(), "a/orders.bson")
         orders = self.file(SHOP.read_bytes()[:99809], "b/orders.bson")
         (self.room / "b/lost").symlink_to("nothing")
         missing, one, two = str(self.room / "missing.bson"), str(self.room / "a"), str(self.room / "b")
-        double = f'bsonfind: {bad}: document 500, byte 92730, path "d": double\n'
-        self.assertEqual(self.compared(bad, str(PEOPLE), status=2, told=double), [])  # No zeros: nothing was compared.
+        damage = f'bsonfind: {bad}: document 500, byte 92733, path "d": bad boolean\n'
+        self.assertEqual(self.compared(bad, str(PEOPLE), status=2, told=damage), [])  # No zeros: nothing was compared.
         self.compared(missing, bad, status=2, told=f"bsonfind: {missing}: No such file or directory\n")
         self.compared(one, bad, status=2, told=f"bsonfind: {bad} is no directory, and {one} is one\n")
-        told = f"bsonfind: {two}/lost: a link to nothing that can be seen\n{double}"
+        told = f"bsonfind: {two}/lost: a link to nothing that can be seen\n{damage}"
         found = self.compared(one, two, status=2, told=told)
         self.assertEqual(len(found), 91 + 6)  # The others are compared nevertheless.
         for name in ("empty", "other"):

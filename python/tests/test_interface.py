@@ -11,7 +11,7 @@ import unittest
 import bsonfind
 from bsonfind import AsyncSession, Session, audit, find, find_one, find_parts, salvage
 
-from .support import DOUBLE, PACKAGE, PEOPLE, PROGRAM, Room
+from .support import DAMAGED, PACKAGE, PEOPLE, PROGRAM, Room
 
 
 class Exports(Room):
@@ -27,10 +27,10 @@ class Exports(Room):
 
     def test_functions_for_the_commands(self) -> None:
         good, bad = self.room / "good.bson", self.room / "bad.bson"
-        path = self.file(PEOPLE.read_bytes() + DOUBLE)
+        path = self.file(PEOPLE.read_bytes() + DAMAGED)
         done = salvage(path, good, bad, program=PROGRAM)
         self.assertEqual((done.good, done.bad, done.left_out), (500, 1, []))
-        self.assertEqual((good.read_bytes(), bad.read_bytes()), (PEOPLE.read_bytes(), DOUBLE))
+        self.assertEqual((good.read_bytes(), bad.read_bytes()), (PEOPLE.read_bytes(), DAMAGED))
         self.file(gzip.compress(PEOPLE.read_bytes()), "backup/club/people.bson.gz")
         found = audit([self.room / "backup", path], program=PROGRAM)
         self.assertEqual(sorted((it.documents, it.faulty) for it in found.reports), [(500, 0), (501, 1)])

@@ -11,7 +11,7 @@ from unittest import mock
 
 from bsonfind._salvage import LeftOut, Salvaged, salvage
 
-from .support import DOUBLE, PEOPLE, PROGRAM, SHOP, Room, environment, run_package, wait_for
+from .support import DAMAGED, DOUBLE, PEOPLE, PROGRAM, SHOP, Room, environment, run_package, wait_for
 
 
 def ends_of(data: bytes) -> List[int]:
@@ -44,8 +44,8 @@ class Salvages(Room):
         """The first, the last, and some in a row."""
         data = PEOPLE.read_bytes()
         first, rest = data[:39978], data[39978:]
-        told = self.salvage(DOUBLE + first + DOUBLE * 3 + rest + DOUBLE, 1)
-        self.assertEqual(told, (self.counted(500, 5, 0), data, DOUBLE * 5))
+        told = self.salvage(DAMAGED + first + DAMAGED * 3 + rest + DAMAGED, 1)
+        self.assertEqual(told, (self.counted(500, 5, 0), data, DAMAGED * 5))
 
     def test_faults_of_the_guide(self) -> None:
         data = bytearray(SHOP.read_bytes())
@@ -75,8 +75,8 @@ class Salvages(Room):
     def test_wrong_lengths_and_faults(self) -> None:
         """Bytes that are no documents stand before, between and after some, of which one has a fault."""
         people, junk = PEOPLE.read_bytes(), b"\xff" * 3_000_000
-        told, good, bad = self.salvage(junk + people + DOUBLE + junk + people + junk, 1)
-        self.assertEqual((good, bad), (people * 2, DOUBLE))
+        told, good, bad = self.salvage(junk + people + DAMAGED + junk + people + junk, 1)
+        self.assertEqual((good, bad), (people * 2, DAMAGED))
         self.assertEqual(told.count("is a guess"), 2)
         self.assertEqual(told.splitlines()[-1] + "\n", self.counted(1000, 1, 9_000_000))
 
@@ -86,13 +86,13 @@ class Salvages(Room):
         for data, kept, left_out in (
             (people, people, 0),
             (people[:39978] + junk + people[39978:], people, 1),
-            (junk + people + DOUBLE + junk * 1000, people, 2),
+            (junk + people + DAMAGED + junk * 1000, people, 2),
         ):
             for patched in ({"_MOST": 300, "_FIRST": 300}, {"_MOST_DOCUMENTS": 7}, {"_PIECE": 64}):
                 with mock.patch.multiple("bsonfind._salvage", **patched):
                     done = self.salvaged(data)
                 self.assertEqual((len(done.left_out), self.good.read_bytes()), (left_out, kept))
-                self.assertEqual((done.good, done.bad), (500, self.bad.stat().st_size // len(DOUBLE)))
+                self.assertEqual((done.good, done.bad), (500, self.bad.stat().st_size // len(DAMAGED)))
 
     def salvaged(self, data: bytes, name: str = "damaged.bson") -> Salvaged:
         """What the function gives for bytes."""
@@ -123,12 +123,12 @@ class Salvages(Room):
     def test_pipes(self) -> None:
         pipe, people = self.room / "pipe", PEOPLE.read_bytes()
         os.mkfifo(pipe)
-        writer = threading.Thread(target=pipe.write_bytes, args=[people + DOUBLE])
+        writer = threading.Thread(target=pipe.write_bytes, args=[people + DAMAGED])
         writer.start()
         good, bad = self.room / "good.bson", self.room / "bad.bson"
         self.assertEqual(salvage(pipe, good, bad, program=PROGRAM), Salvaged(500, 1, [], None))
         writer.join()
-        self.assertEqual((good.read_bytes(), bad.read_bytes()), (people, DOUBLE))
+        self.assertEqual((good.read_bytes(), bad.read_bytes()), (people, DAMAGED))
 
     def test_beginning_over_the_end_of_what_is_read_at_once(self) -> None:
         data = PEOPLE.read_bytes()
@@ -180,11 +180,22 @@ class Salvages(Room):
                 line = f"{self.damaged}: {passed}; that a document begins at byte {end} is a guess\n"
                 self.assertEqual((told, good, bad), (line + self.counted(399, 0, end - start), data[:start] + data[end:], b""))
 
+    def test_doubles_are_good(self) -> None:
+        """Documents with doubles and decimal128 are copied with the good ones, between damage too; one with damage after them is bad."""
+        people, damaged = PEOPLE.read_bytes(), bytes.fromhex("1400000001640000000000000000000862000200")
+        decimal = bytes.fromhex("18000000136400") + bytes(15) + b"\x30\0"
+        sound = people + (DOUBLE + decimal) * 1000
+        told = self.salvage(sound + damaged + sound, 1)
+        self.assertEqual(told, (self.counted(5000, 1, 0), sound * 2, damaged))
+        done = self.salvaged(sound + b"\xff\xff\xff\x7f" + DOUBLE[4:] + sound)
+        left_out = LeftOut(len(sound), len(sound + DOUBLE), True)
+        self.assertEqual((done, self.good.read_bytes()), (Salvaged(5000, 0, [left_out], None), sound * 2))
+
     def test_numbers_that_look_like_lengths(self) -> None:
         """The number of the bytes that are left stands in a document: with the fields after it, it is like a sound document."""
         rest = b"\x02name\0\x06\0\0\0hello\0"
         inside = (4 + len(rest) + 1).to_bytes(4, "little") + rest
-        for first in (b"\x01d\0" + bytes(8), b"\x08a\0\x09", b"\x02s\0\x03\0\0\0\xff\xff\0"):
+        for first in (b"\x08a\0\x09", b"\x02s\0\x03\0\0\0\xff\xff\0"):
             body = first + b"\x10left\0" + inside
             bad = (4 + len(body) + 1).to_bytes(4, "little") + body + b"\0"
             good = PEOPLE.read_bytes()
@@ -220,7 +231,7 @@ class Salvages(Room):
         """A dump in binary data is a part of its document, which has another fault; that it stands there is reported."""
         people = PEOPLE.read_bytes()[:39978]
         inside = b"\x05b\0" + len(people).to_bytes(4, "little") + b"\0" + people
-        for element in (b"\x08a\0\x09", b"\x01d\0" + bytes(8)):
+        for element in (b"\x08a\0\x09", b"\x01d\0" + bytes(8) + b"\x08a\0\x09"):
             length = 4 + len(element) + len(inside) + 1
             holder = length.to_bytes(4, "little") + element + inside + b"\0"
             for before, after in ((b"", b""), (people, people)):
@@ -313,7 +324,7 @@ class BadInput(Room):
         with self.subTest("a full disk"), open("/dev/full", "wb") as full:
             run = run_package(*words, bad, stdout=full)
             self.assertEqual((run.returncode, run.stderr), (2, "bsonfind: cannot write: No space left on device\n"))
-        self.file(people + DOUBLE)
+        self.file(people + DAMAGED)
         self.refused(*words, "/dev/full", told="/dev/full: No space left on device")
         self.file(people)
         self.kept(path, people, good, bad)
@@ -332,7 +343,7 @@ class BadInput(Room):
         self.assertEqual(os.listdir(good.parent), ["good.bson"])
 
     def test_full_disk(self) -> None:
-        path = str(self.file(PEOPLE.read_bytes() + DOUBLE))
+        path = str(self.file(PEOPLE.read_bytes() + DAMAGED))
         for good, bad in (("/dev/full", "/dev/null"), ("/dev/null", "/dev/full")):
             self.refused("salvage", path, "--good", good, "--bad", bad, told="/dev/full: No space left on device")
         with open("/dev/full", "wb") as full:

@@ -1,0 +1,67 @@
+"""The commands `check` and `dump` of the program, over any dump: any type of BSON, any size, and files by `mongodump --gzip`."""
+
+from __future__ import annotations
+
+import sys
+from typing import NoReturn
+
+from ._console import Console
+from ._dumps import dump_of
+from ._errors import DumpError, ProgramError
+from ._printing import Printing
+from ._processes import Run
+from ._sources import Source
+from ._wide import Checking
+
+
+def check_file(name: str, program: str, console: Console) -> bool:
+    """Prints the damage of a dump, as `check` does; gives whether there is none."""
+    path, faulty = _path_of(name), 0
+    if not _can_open(path):
+        _run_own("check", name, program)
+    checking = Checking(program, is_counting=False)
+    with Source(path) as source:
+        for fault in checking.faults(source):
+            faulty += 1
+            console.line(str(fault))
+    console.note(f"{checking.documents} documents, {faulty} faulty")
+    return not faulty
+
+
+def dump_file(name: str, program: str, console: Console) -> bool:
+    """Prints the documents of a dump, as `dump` does; gives whether none is refused."""
+    path = _path_of(name)
+    if not _can_open(path):
+        _run_own("dump", name, program)
+    sys.stdout.flush()
+    printing, refused = Printing(program, stdout=sys.stdout.fileno()), False
+    try:
+        for _ in printing.lines(path):
+            pass  # Each run prints by itself.
+    except DumpError as error:
+        if not error.fault:
+            raise
+        console.problem(str(error))
+        refused = True
+    console.note(f"{printing.documents} objects found")
+    return not refused
+
+
+def _path_of(name: str) -> str:
+    """The path of a name; a hyphen is standard input."""
+    return "/dev/stdin" if name == "-" else name
+
+
+def _can_open(path: str) -> bool:
+    try:
+        with open(path, "rb", buffering=0):
+            return True
+    except OSError:
+        return False
+
+
+def _run_own(command: str, name: str, program: str) -> NoReturn:
+    """Has the program itself say what is wrong with a name."""
+    with Run.over(dump_of(name), program, command) as run:
+        run.finish()
+    raise ProgramError(f"cannot open {name}")

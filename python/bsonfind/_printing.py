@@ -1,0 +1,119 @@
+"""The documents of any dump as lines of canonical Extended JSON, as `dump` prints them."""
+
+from __future__ import annotations
+
+import os
+import re
+import stat
+import subprocess
+from typing import Iterable
+
+from . import _framing
+from ._answers import Batches, lines_of
+from ._dumps import dump_of, is_packed
+from ._errors import DumpError, ProgramError
+from ._processes import Run
+from ._sources import Source
+from ._wide import Chunk, Filtered, chunks, end_of, fault_of, is_wide
+
+_FOUND = re.compile(r"(\d+) objects found")
+_PIECE = 1 << 20
+
+
+class Printing:
+    """The lines of a dump, which one run after the other prints; all go through the filter from the first on that needs it."""
+
+    def __init__(self, program: str, stdout: int = subprocess.PIPE) -> None:
+        """Where the runs print to a descriptor, no lines are given."""
+        self._words, self._stdout = [program, "dump"], stdout
+        self._is_filtered = False
+        self.documents = 0
+
+    def lines(self, path: str) -> Batches:
+        """The lines as they come. A fault is a `DumpError`, with its place in the dump."""
+        if _is_for_one_run(path):
+            yield from self._of_file(path)
+        else:
+            with Source(path) as source:
+                yield from self._of_pieces(source.pieces())
+
+    def _of_file(self, path: str) -> Batches:
+        """Those of one run over a file; from the first document on that this refuses for a double or a decimal128 by others."""
+        try:
+            with Run.over(dump_of(path), *self._words, stdout=self._stdout) as run:
+                yield from self._told(run)
+                self.documents = _found(run)
+        except DumpError as error:
+            self.documents = error.fault.document if error.fault else 0
+            if not is_wide(error):
+                raise
+            self._is_filtered = True
+            with open(path, "rb", buffering=0) as file:
+                start = end_of(file, self.documents)
+                file.seek(start)
+                yield from self._of_pieces(iter(lambda: file.read(_PIECE), b""), start, self.documents)
+
+    def _of_pieces(self, pieces: Iterable[bytes], offset: int = 0, first: int = 0) -> Batches:
+        """Those of some bytes, the first of which have this place and number in the whole dump."""
+        before: tuple[Chunk, Run] | None = None
+        errors: list[Exception] = []
+        try:
+            for chunk in chunks(pieces, errors, offset, first):
+                # The next bytes are read while a run prints those before them.
+                if before:
+                    yield from self._finish(*before)
+                before = chunk, self._start(chunk)
+            if before:
+                yield from self._finish(*before)
+        finally:
+            if before:
+                before[1].close()
+        if errors:
+            raise errors[0]
+
+    def _start(self, chunk: Chunk) -> Run:
+        words = [*self._words, "-"]
+        if self._is_filtered:
+            return Filtered(words, "wrap", chunk.given(), stdout=self._stdout)
+        return Run(words, [chunk.data], stdout=self._stdout)
+
+    def _finish(self, chunk: Chunk, run: Run) -> Batches:
+        """The lines of a run; where it needs the filter, another run prints the rest."""
+        try:
+            with run:
+                yield from self._told(run)
+                self.documents = chunk.first + _found(run)
+        except DumpError as error:
+            if not error.fault:
+                raise
+            rest = chunk.after(error.fault.document)
+            self.documents = rest.first
+            if is_wide(error) and not isinstance(run, Filtered):
+                self._is_filtered = True
+                yield from self._finish(rest, self._start(rest))
+                return
+            # The filter moves bytes, so that the place of the fault is not the one in the dump.
+            fault = fault_of(rest.document(), self._words[0]) or error.fault
+            fault = fault.moved(rest.first - fault.document, rest.offset)
+            raise DumpError(str(fault), fault) from None
+
+    def _told(self, run: Run) -> Batches:
+        if self._stdout == subprocess.PIPE:
+            yield from lines_of(run.stdout)
+
+
+def _is_for_one_run(path: str) -> bool:
+    """Whether one run can read a file by its name."""
+    try:
+        status = os.stat(path)
+    except OSError as error:
+        raise DumpError(str(error.strerror)) from error
+    return stat.S_ISREG(status.st_mode) and status.st_size <= _framing.LARGEST_INPUT and not is_packed(path)
+
+
+def _found(run: Run) -> int:
+    """How many documents a run printed."""
+    found = _FOUND.fullmatch(run.finish())
+    if not found:
+        raise ProgramError("no count was printed")
+    return int(found.group(1))

@@ -1,0 +1,196 @@
+"""Dumps with doubles and decimal128, which the program reads by way of `bsonwide`, the filter that stands beside it."""
+
+from __future__ import annotations
+
+import os
+import shutil
+from itertools import islice
+from typing import Any, BinaryIO, Iterable, Iterator, NamedTuple, Sequence
+
+from . import _framing
+from ._errors import DumpError
+from ._faults import Fault, faults_of, finish_check, read_fault
+from ._processes import Group, Run
+from ._sources import Input, Source, up_to_error
+
+# The faults that are none: documents of these kinds are read by way of the filter.
+WIDE = ("double", "decimal128")
+_WIDE_LINES = tuple(f": {kind}\n".encode() for kind in WIDE)
+# How many bytes of a stream, which cannot be read twice, are looked at by one run.
+_AT_ONCE = 1 << 24
+
+
+def is_wide(error: DumpError) -> bool:
+    """Whether a dump was refused for a double or a decimal128."""
+    return error.fault is not None and error.fault.kind in WIDE
+
+
+def filter_beside(program: str) -> str:
+    """The filter that goes with a program: the one beside it, and else the one on `PATH`."""
+    found = shutil.which(program)
+    beside = os.path.join(os.path.dirname(found), "bsonwide") if found else ""
+    return beside if beside and os.access(beside, os.X_OK) else "bsonwide"
+
+
+class Chunk(NamedTuple):
+    """Documents that one run reads: the place and the number of the first, and their bytes."""
+
+    offset: int
+    first: int
+    data: bytes
+
+    def given(self) -> Input:
+        """What a run reads."""
+        return Input(self.offset, self.first, None, iter([self.data]))
+
+    def after(self, documents: int) -> Chunk:
+        """What follows so many documents."""
+        at = 0
+        for _ in range(documents):
+            at += int.from_bytes(self.data[at : at + 4], "little")
+        return Chunk(self.offset + at, self.first + documents, self.data[at:])
+
+    def document(self) -> bytes:
+        """The first document, or all bytes where its length is wrong."""
+        length = int.from_bytes(self.data[:4], "little")
+        return self.data[:length] if _framing.is_length(length, len(self.data)) else self.data
+
+
+def chunks(pieces: Iterable[bytes], errors: list[Exception], offset: int = 0, first: int = 0) -> Iterator[Chunk]:
+    """The documents of some bytes, as many at once as are held. An error of the bytes is kept, and comes after those before it."""
+    for at, number, inner in _framing.inputs(up_to_error(pieces, errors), min(_AT_ONCE, _framing.LARGEST_INPUT)):
+        data = bytearray()
+        for piece in inner:
+            data += piece
+            # After a wrong length no document follows.
+            if len(data) > _AT_ONCE + _framing.LONGEST:
+                break
+        yield Chunk(offset + at, first + number, bytes(data))
+
+
+class Filtered(Run):
+    """A run of the program that reads what the filter writes of its input."""
+
+    def __init__(self, words: Sequence[str], way: str, given: Input, **how: Any) -> None:
+        """The filter is run as `mask` or `wrap`."""
+        group = how.get("group")
+        self._filter = given.run([filter_beside(words[0]), way, "-"], group=group)
+        try:
+            super().__init__(words, stdin=self._filter.stdout, **how)
+        except BaseException:
+            self._filter.close()
+            raise
+        self._filter.stdout.close()
+
+    def wait(self) -> int:
+        """The status, once both have ended. The filter's counts where it failed by itself."""
+        status = super().wait()
+        return 1 if self._filter.wait() and self._failure() else status
+
+    def messages(self) -> str:
+        """What standard error says; of a filter that failed what it says, as the program would."""
+        return self._failure() or super().messages()
+
+    def _failure(self) -> str:
+        """Why the filter failed, where it was not because the program read no more."""
+        told = self._filter.messages().strip()
+        _, found, text = told.rpartition("bsonwide: ")
+        if self._filter.process.wait() == 0 or text == "cannot write":
+            return ""
+        return f"bsonfind: {text}" if found else told or f"bsonfind: bsonwide ended with status {self._filter.process.wait()}"
+
+    def close(self) -> None:
+        """Kills both where they run."""
+        super().close()
+        self._filter.close()
+
+
+class Checking:
+    """The check of a dump, in which documents with doubles and decimal128 are sound.
+
+    `documents` is how many were checked by now, and `wide` how many of them hold doubles or decimal128 before any damage; these
+    are counted only where that is asked for.
+    """
+
+    def __init__(self, program: str, *, is_counting: bool, group: Group | None = None) -> None:
+        self._words = [program, "check", "-"]
+        self._is_counting, self._group = is_counting, group or Group()
+        self.documents = self.wide = 0
+        # The first document that needs the filter.
+        self._first: int | None = None
+
+    def faults(self, source: Source) -> Iterator[Fault]:
+        """The damage, in the order of the documents. A file is read once more where the filter is needed, and a stream in pieces."""
+        if source.size is None or source.name == "-":
+            errors: list[Exception] = []
+            for chunk in chunks(source.pieces(), errors):
+                yield from self._faults_of_stream(chunk)
+            if errors:
+                raise errors[0]
+            return
+        for part in source.inputs():
+            with part.run(self._words, group=self._group) as run:
+                yield from self._own_faults(run, part)
+                if self._first is not None and not self._is_counting:
+                    break
+                self.documents += finish_check(run)
+        if self._first is not None:
+            yield from self._faults_again(source)
+
+    def _faults_of_stream(self, chunk: Chunk) -> Iterator[Fault]:
+        self._first, before = None, self.documents
+        with Run(self._words, [chunk.data], group=self._group) as run:
+            yield from self._own_faults(run, chunk.given())
+            if self._first is None or self._is_counting:
+                self.documents += finish_check(run)
+        if self._first is not None:
+            self.documents = before
+            yield from self._masked_faults(chunk.given())
+
+    def _faults_again(self, source: Source) -> Iterator[Fault]:
+        """The faults from the first document on that needs the filter."""
+        counted, self.documents = self.documents, 0
+        with Source(source.name) as again:
+            for part in again.inputs():
+                yield from self._masked_faults(part)
+        if self._is_counting and counted != self.documents:
+            raise DumpError(f"{self.documents} documents in place of {counted}: the file was written to")
+
+    def _own_faults(self, run: Run, part: Input) -> Iterator[Fault]:
+        """The damage before the first document that needs the filter; those after it are counted."""
+        for line in run.stdout:
+            if line.endswith(_WIDE_LINES):
+                self.wide += 1
+                if self._first is None:
+                    fault = read_fault(line.decode().rstrip("\n"))
+                    self._first = self.documents + fault.document if fault else None
+                    if not self._is_counting:
+                        return
+            elif self._first is None:
+                fault = read_fault(line.decode().rstrip("\n"))
+                if fault:
+                    yield fault.moved(self.documents, part.offset)
+
+    def _masked_faults(self, part: Input) -> Iterator[Fault]:
+        with Filtered(self._words, "mask", part, group=self._group) as run:
+            for fault in faults_of(run):
+                fault = fault.moved(self.documents, part.offset)
+                if self._first is None or fault.document >= self._first:
+                    yield fault
+            self.documents += finish_check(run)
+
+
+def fault_of(document: bytes, program: str) -> Fault | None:
+    """The fault of a single document: its damage, or else what keeps the program from reading it."""
+    given = Input(0, 0, None, iter([document]))
+    with Filtered([program, "check", "-"], "mask", given) as masked:
+        faults = list(faults_of(masked))
+    if not faults:
+        with Run([program, "check", "-"], [document]) as run:
+            faults = list(faults_of(run))
+    return faults[0] if faults else None
+
+
+def end_of(file: BinaryIO, documents: int) -> int:
+    """Where so many documents of a file end."""
+    return next(islice(_framing.walk(file), documents - 1, None)) if documents else 0

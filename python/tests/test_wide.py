@@ -1,0 +1,108 @@
+"""Tests of the commands `check` and `dump` over dumps with doubles and decimal128, and of any size."""
+
+import gzip
+import os
+import subprocess
+import sys
+from typing import List, Tuple, Union
+from unittest import mock
+
+from bsonfind._commands import check_file, dump_file
+from bsonfind._console import Console
+
+from .support import DAMAGED, DOUBLE, PATIENCE, PEOPLE, PEOPLE_LINES, PROGRAM, Room, environment
+
+DECIMAL = bytes.fromhex("18000000136400") + (1234 | 6174 << 113).to_bytes(16, "little") + b"\0"
+# A double before damage; the byte of the fault is 18.
+HIDDEN = bytes.fromhex("1400000001640000000000000000000862000200")
+# The lines of these, as the specifications of Extended JSON and of decimal128 have them.
+LINES = [b'{"d":{"$numberDouble":"1.0"}}', b'{"d":{"$numberDecimal":"12.34"}}']
+
+
+class Commands(Room):
+    def run_command(self, *words: Union[str, "os.PathLike[str]"], stdin: bytes = b"") -> Tuple[int, List[bytes], str]:
+        """The status, the lines of standard output and what standard error says."""
+        command = [sys.executable, "-m", "bsonfind", "--program", PROGRAM, *words]
+        run = subprocess.run(command, env=environment(), input=stdin, stdout=subprocess.PIPE, stderr=subprocess.PIPE, timeout=PATIENCE)
+        return run.returncode, run.stdout.splitlines(), run.stderr.decode()
+
+    def forms(self, data: bytes) -> list:
+        """The words for a file, a compressed one and standard input, with the bytes of that."""
+        return [(self.file(data), b""), (self.file(gzip.compress(data), "dump.bson.gz"), b""), ("-", data)]
+
+    def test_sound_dumps(self) -> None:
+        """Of doubles alone, of none, and with doubles late."""
+        people = PEOPLE.read_bytes()
+        for data, lines in (
+            (people, PEOPLE_LINES),
+            (DOUBLE + DECIMAL, LINES),
+            (people + DOUBLE + people + DECIMAL, [*PEOPLE_LINES, LINES[0], *PEOPLE_LINES, LINES[1]]),
+            (b"", []),
+        ):
+            for word, stdin in self.forms(data):
+                if data or not str(word).endswith(".gz"):
+                    told = self.run_command("dump", word, stdin=stdin)
+                    self.assertEqual(told, (0, lines, f"{len(lines)} objects found\n"))
+                    told = self.run_command("check", word, stdin=stdin)
+                    self.assertEqual(told, (0, [], f"{len(lines)} documents, 0 faulty\n"))
+
+    def test_damage(self) -> None:
+        """A fault has the byte that it has in the dump; doubles before it, in the same document too, move none."""
+        people = PEOPLE.read_bytes()
+        front = people + DOUBLE * 2
+        for bad, byte, fault in (
+            (HIDDEN, 18, 'path "b": bad boolean'),
+            (DAMAGED, 7, 'path "d": bad boolean'),
+            (b"\xff\xff\xff\x7f" + DOUBLE[4:], 0, 'path "": bad length'),
+            (DECIMAL[:10], 0, 'path "": bad length'),
+            (b"\1\2", 0, 'path "": length cut short'),
+        ):
+            line = f"document 502, byte {len(front) + byte}, {fault}"
+            for word, stdin in self.forms(front + bad):
+                told = self.run_command("check", word, stdin=stdin)
+                self.assertEqual(told, (1, [line.encode()], "503 documents, 1 faulty\n"))
+                told = self.run_command("dump", word, stdin=stdin)
+                self.assertEqual(told, (1, [*PEOPLE_LINES, LINES[0], LINES[0]], f"bsonfind: {line}\n502 objects found\n"))
+
+    def test_documents_that_cannot_be_wrapped(self) -> None:
+        """The deepest level holds no double; the fault is the one that the program itself reports."""
+        deep = DOUBLE
+        for _ in range(199):
+            deep = (len(deep) + 8).to_bytes(4, "little") + b"\x03a\0" + deep + b"\0"
+        place = f'document 1, byte {len(DOUBLE) + 199 * 7 + 4}, path "{"a." * 199}d": double'
+        for word, stdin in self.forms(DOUBLE + deep):
+            self.assertEqual(self.run_command("dump", word, stdin=stdin), (1, LINES[:1], f"bsonfind: {place}\n1 objects found\n"))
+            self.assertEqual(self.run_command("check", word, stdin=stdin), (0, [], "2 documents, 0 faulty\n"))
+
+    def test_names(self) -> None:
+        """What is told of a file that is not there, or no file, is what the program tells."""
+        for command in ("check", "dump"):
+            self.assertEqual(self.run_command(command, "none.bson")[::2], (2, "bsonfind: cannot open none.bson\n"))
+            self.assertEqual(self.run_command(command, self.room)[0], 2)
+        path = os.fsencode(self.room) + b"/-\xff.bson"
+        with open(path, "wb") as file:
+            file.write(DOUBLE)
+        self.assertEqual(self.run_command("dump", os.fsdecode(path))[1], LINES[:1])
+
+    def test_the_filter_is_started_where_it_is_needed(self) -> None:
+        script = self.script('echo bsonwide "$@" >>"$ROOM/starts"\nexec "$(dirname "$PROGRAM")/bsonwide" "$@"', "bsonwide")
+        program = self.counting()
+        for data, ways in ((PEOPLE.read_bytes(), set()), (DOUBLE, {"bsonwide mask -", "bsonwide wrap -"})):
+            for word, stdin in self.forms(data):
+                for command in ("check", "dump"):
+                    self.run_command("--program", program, command, word, stdin=stdin)
+            self.assertEqual({it for it in self.starts() if it.startswith("bsonwide")}, ways)
+        os.unlink(script)
+
+    def test_larger_than_what_a_run_reads(self) -> None:
+        """With a largest input of 30,000 bytes in place of 4,294,967,295."""
+        data = PEOPLE.read_bytes() + DOUBLE + PEOPLE.read_bytes() + DAMAGED
+        path = str(self.file(data))
+        place = f'document 1001, byte {len(data) - 2}, path "d": bad boolean'
+        for run, wanted in ((check_file, [place]), (dump_file, [*PEOPLE_LINES, LINES[0], *PEOPLE_LINES])):
+            with open(self.room / "out", "w+b") as out, mock.patch("bsonfind._framing.LARGEST_INPUT", 30_000):
+                with mock.patch("sys.stdout", open(out.fileno(), "w", closefd=False)), mock.patch("sys.stderr", open(os.devnull, "w")) as err:
+                    self.assertFalse(run(path, PROGRAM, Console()))
+                    err.close()
+                out.seek(0)
+                self.assertEqual(out.read().splitlines(), [it.encode() if isinstance(it, str) else it for it in wanted])
