@@ -16,6 +16,7 @@ from ._commands import check_file, dump_file
 from ._compare import NOTHING, CompareError, compare, pairs_of, rows
 from ._console import CannotWrite, Console, Progress, print_text
 from ._errors import BsonfindError, DumpError
+from ._finding import Finding
 from ._ids import Ids, find_ids
 from ._outputs import Output, refuse_names
 from ._processes import processors
@@ -50,6 +51,7 @@ def parser() -> argparse.ArgumentParser:
     for name, add, about in (
         ("check", _add_check, "Prints each fault of dumps; doubles and decimal128 are none."),
         ("dump", _add_dump, "Prints the documents of dumps, one a line."),
+        ("find", _add_find, "Prints the documents of a dump that match a query, sorted."),
         ("audit", _add_audit, "Checks many files, on all processors."),
         ("salvage", _add_salvage, "Copies each document of a damaged dump to one of two files."),
         ("unpack", _add_unpack, "Writes the collections of an archive of mongodump to files."),
@@ -92,6 +94,22 @@ def _add_dump(command: argparse.ArgumentParser) -> None:
 
 def _add_dumps(command: argparse.ArgumentParser) -> None:
     command.add_argument("files", nargs="+", metavar="FILE", help="a dump of any size, one by mongodump --gzip, or - for standard input")
+
+
+def _add_find(command: argparse.ArgumentParser) -> None:
+    command.epilog = "The status is 0 where the dump was asked, 1 where it is refused for a fault, and else 2."
+    command.add_argument("file", metavar="FILE", help="a dump, one by mongodump --gzip, or - for standard input")
+    for name, metavar, text in (
+        ("query", "Q", "a query, in which numbers may have fractions"),
+        ("sort", "S", "the fields by which documents are sorted"),
+        ("index", "PATH", "find documents by an index on this path"),
+        ("after", "TOKEN", "resume after the documents that were printed with this token"),
+    ):
+        command.add_argument(f"--{name}", metavar=metavar, help=text)
+    for name, text in (("skip", "pass over so many documents"), ("limit", "print so many at most"), ("batch", "print the next so many")):
+        command.add_argument(f"--{name}", type=int, metavar="N", help=text)
+    command.add_argument("--bson", action="store_true", help="print the documents as they are, in BSON")
+    command.set_defaults(run=run_find)
 
 
 def _add_audit(command: argparse.ArgumentParser) -> None:
@@ -153,6 +171,13 @@ def run_each(words: argparse.Namespace, run: Callable[[str, str, Console], bool]
     """Runs a command over one dump after the other, and gives the status."""
     console = Console()
     return GOOD if all([run(name, words.program, console) for name in words.files]) else FAULTY
+
+
+def run_find(words: argparse.Namespace) -> int:
+    """Asks a dump, and gives the status."""
+    request = Request(words.query or "{}", words.sort or "{}", words.skip or 0, words.limit or 0)
+    finding = Finding(words.file, request, words.batch, words.index, words.after, words.bson)
+    return GOOD if finding.print(words.program, Console()) else FAULTY
 
 
 def run_audit(words: argparse.Namespace) -> int:

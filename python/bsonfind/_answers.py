@@ -3,99 +3,18 @@
 from __future__ import annotations
 
 import os
-import re
-from io import BufferedReader
-from typing import Any, Callable, Generator, Iterator, Literal, NamedTuple, TypeVar, overload
+from typing import Any, Callable, Iterator, Literal, TypeVar, overload
 
 from . import _steps
-from ._connections import Connection
 from ._decoding import Decode, Dicts, Texts, decoder
-from ._dumps import Dump, File, dump_of
-from ._errors import CancelledError, CursorStateError, ProgramError
-from ._processes import Group, Run, check_owner
+from ._dumps import File
+from ._errors import CancelledError, CursorStateError
+from ._lines import Lines
+from ._ordered import AnyLines, Questions
+from ._processes import Group, check_owner
 from ._requests import Filter, Request, Sort, seconds, whole
-from ._steps import Reading
 
 T = TypeVar("T")
-_COUNTED = re.compile(r"(\d+) documents, (end|more)(?:, token (\S+))?")
-Batches = Generator["list[bytes]", None, None]
-_PIECE = 1 << 16
-
-
-class Counted(NamedTuple):
-    """How many documents were printed, whether none is left, and the token that leads on."""
-
-    documents: int
-    end: bool
-    token: str | None
-
-
-def counted(told: str) -> Counted:
-    """What the last line of a run of `find` says."""
-    found = _COUNTED.fullmatch(told)
-    if not found:
-        raise ProgramError(told or "no count was printed")
-    documents, end, token = found.groups()
-    return Counted(int(documents), end == "end", token)
-
-
-class Lines:
-    """The lines that answer a request over a dump: by a run of `find`, or by a session where a command line is too short."""
-
-    def __init__(
-        self,
-        dump: Dump,
-        request: Request,
-        program: str,
-        *,
-        size: int | None = None,
-        index: str | None = None,
-        after: str | None = None,
-        group: Group | None = None,
-    ) -> None:
-        self._dump, self._request, self._program = dump, request, program
-        self._size, self._index, self._after = size, index, after
-        self._group = group or Group()
-        # Whether nothing follows the lines, and the token that leads on; known once all are read.
-        self.end, self.token = False, after
-
-    def batches(self) -> Batches:
-        """The lines as they come, without their newlines. Closing this ends the program."""
-        return self._by_session() if self._request.is_long else self._by_run()
-
-    def _by_run(self) -> Batches:
-        words = self._request.words()
-        options = (("batch", self._size), ("index", self._index), ("after", self._after))
-        words += [f"--{name}={value}" for name, value in options if value is not None]
-        with Run.over(self._dump, self._program, "find", words, group=self._group) as run:
-            yield from lines_of(run.stdout)
-            _, self.end, self.token = counted(run.finish())
-
-    def _by_session(self) -> Batches:
-        with Connection(self._dump, self._program, group=self._group) as connection:
-            if self._index is not None:
-                connection.do(_steps.create_index(self._index, False))
-            left = self._size
-            reading = Reading(self._request, "auto", left or _steps.FIRST_BATCH, self._after, "bytes")
-            connection.do(reading.start())
-            while not reading.is_at_end and left != 0:
-                connection.do(reading.read_on(left))
-                texts = reading.held.documents
-                lines = [texts.give() for _ in range(texts.left)]
-                left = None if left is None else left - len(lines)
-                yield lines
-            self.end, self.token = reading.is_at_end, connection.do(reading.token())
-
-
-def lines_of(pipe: BufferedReader) -> Batches:
-    """The lines that a program prints, as they come. Bytes after the last newline are none."""
-    parts: list[bytes] = []
-    while piece := pipe.read1(_PIECE):
-        parts.append(piece)
-        if b"\n" in piece:
-            *lines, rest = b"".join(parts).split(b"\n")
-            parts = [rest]
-            yield lines
 
 
 class Answer(Iterator[T]):
@@ -209,7 +128,7 @@ def find(
     """
     request, group = Request.of(filter, sort, skip, limit), Group()
     size = None if batch_size is None else whole("batch_size", batch_size)
-    lines = Lines(dump_of(path), request, program, size=size, index=index, after=after, group=group)
+    lines = AnyLines(path, request, program, is_bson=decode == "bson", size=size, index=index, after=after, group=group)
     return Answer(lines, group, decode, timeout)
 
 
@@ -249,5 +168,5 @@ def count_documents(
     path: File, filter: Filter | None = None, *, program: str = "bsonfind", timeout: float | None = None
 ) -> int:
     """How many documents of a dump match."""
-    with Connection(dump_of(path), program, timeout) as connection:
-        return connection.do(_steps.count(Request.of(filter)))
+    with Questions(path, program, timeout) as questions:
+        return questions.do(_steps.count, Request.of(filter))

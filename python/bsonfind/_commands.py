@@ -6,7 +6,7 @@ import sys
 from typing import NoReturn
 
 from ._console import Console
-from ._dumps import dump_of
+from ._dumps import dump_of, file_of
 from ._errors import DumpError, ProgramError
 from ._printing import Printing
 from ._processes import Run
@@ -54,7 +54,7 @@ def _path_of(name: str) -> str:
 
 def _can_open(path: str) -> bool:
     try:
-        with open(path, "rb", buffering=0):
+        with open(file_of(path), "rb", buffering=0):
             return True
     except OSError:
         return False

@@ -12,7 +12,7 @@ from ._values import plain_document
 T = TypeVar("T")
 # What makes documents of lines by a name; each gives a dictionary for a line.
 Dicts = Literal["dict", "plain", "json_util"]
-Decode = Union[Callable[[bytes], T], Literal["dict", "plain", "json_util", "bytes"]]
+Decode = Union[Callable[[bytes], T], Literal["dict", "plain", "json_util", "bytes", "bson"]]
 
 
 def decoder(decode: Decode[Any]) -> Callable[[bytes], Any]:
@@ -23,6 +23,7 @@ def decoder(decode: Decode[Any]) -> Callable[[bytes], Any]:
     - `"plain"` gives a `dict` of plain values of Python: `int`, `str`, `bytes`, `datetime` and the like, see `plain_document`.
     - `"json_util"` gives what `bson.json_util.loads` of pymongo makes of the line.
     - `"bytes"` gives the line as it is, without its newline.
+    - `"bson"` gives in place of it the bytes of the document as they are in the dump.
     - A function is called with the line.
     """
     if callable(decode):
@@ -37,9 +38,9 @@ def decoder(decode: Decode[Any]) -> Callable[[bytes], Any]:
         except ImportError:
             raise ArgumentError('decode="json_util" needs pymongo, which this Python has not') from None
         return json_util.loads
-    if decode == "bytes":
+    if decode in ("bytes", "bson"):
         return bytes
-    raise ArgumentError(f'decode is "dict", "plain", "json_util", "bytes" or a function, not {decode!r}')
+    raise ArgumentError(f'decode is "dict", "plain", "json_util", "bytes", "bson" or a function, not {decode!r}')
 
 
 class Texts(Generic[T]):

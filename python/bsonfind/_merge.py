@@ -20,23 +20,25 @@ from functools import partial
 from typing import Any, Callable, Iterable, Iterator, Literal, NamedTuple, Sequence, TypeVar, overload
 
 from . import _steps
-from ._answers import Lines
 from ._connections import Connection
 from ._decoding import Decode, Dicts, decoder
 from ._dumps import Dump
 from ._errors import ArgumentError, BsonfindError, DumpError, PartError, ProgramError
 from ._faults import Fault, faults_of, finish_check
+from ._lines import Lines
 from ._parts import Part
 from ._plain import plain_pieces
 from ._processes import Group, Run
 from ._requests import Filter, Request, Sort, seconds, whole
+from ._sources import Input
+from ._wide import WIDE, Filtered
 
 T = TypeVar("T")
 Map = Callable[[Callable[[Part], Any], Sequence[Part]], Iterable[Any]]
 
 
 class Check(NamedTuple):
-    """How many documents there are, and the first fault of each that has one."""
+    """How many documents there are, and the first fault of each that has one; doubles and decimal128 are none."""
 
     documents: int
     faults: list[Fault]
@@ -228,6 +230,12 @@ def _count(request: Request, program: str, group: Group, part: Part) -> int:
 
 
 def _check(program: str, group: Group, part: Part) -> Check:
-    with Run.over(Dump(pieces=part.pieces()), program, "check", group=group) as run:
-        faults = [fault.moved(part.first, part.offset) for fault in faults_of(run)]
-        return Check(finish_check(run), faults)
+    words = [program, "check", "-"]
+    with Run(words, part.pieces(), group=group) as run:
+        faults = list(faults_of(run))
+        documents = finish_check(run)
+    if any(it.kind in WIDE for it in faults):
+        with Filtered(words, "mask", Input(0, 0, None, part.pieces()), group=group) as run:
+            faults = list(faults_of(run))
+            documents = finish_check(run)
+    return Check(documents, [fault.moved(part.first, part.offset) for fault in faults])

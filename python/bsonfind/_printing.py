@@ -2,16 +2,13 @@
 
 from __future__ import annotations
 
-import os
 import re
-import stat
 import subprocess
 from typing import Iterable
 
-from . import _framing
-from ._answers import Batches, lines_of
-from ._dumps import dump_of, is_packed
+from ._dumps import dump_of
 from ._errors import DumpError, ProgramError
+from ._lines import Batches, lines_of
 from ._processes import Run
 from ._sources import Source
 from ._wide import Chunk, Filtered, chunks, end_of, fault_of, is_wide
@@ -31,10 +28,10 @@ class Printing:
 
     def lines(self, path: str) -> Batches:
         """The lines as they come. A fault is a `DumpError`, with its place in the dump."""
-        if _is_for_one_run(path):
-            yield from self._of_file(path)
-        else:
-            with Source(path) as source:
+        with Source(path) as source:
+            if source.is_for_one_run():
+                yield from self._of_file(path)
+            else:
                 yield from self._of_pieces(source.pieces())
 
     def _of_file(self, path: str) -> Batches:
@@ -100,15 +97,6 @@ class Printing:
     def _told(self, run: Run) -> Batches:
         if self._stdout == subprocess.PIPE:
             yield from lines_of(run.stdout)
-
-
-def _is_for_one_run(path: str) -> bool:
-    """Whether one run can read a file by its name."""
-    try:
-        status = os.stat(path)
-    except OSError as error:
-        raise DumpError(str(error.strerror)) from error
-    return stat.S_ISREG(status.st_mode) and status.st_size <= _framing.LARGEST_INPUT and not is_packed(path)
 
 
 def _found(run: Run) -> int:

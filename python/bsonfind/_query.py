@@ -5,13 +5,16 @@ from __future__ import annotations
 from collections import deque
 from typing import Iterator, NamedTuple, Sequence
 
-from ._answers import counted, lines_of
+from . import _framing
 from ._backups import Dump
 from ._errors import BsonfindError, DumpError
 from ._faults import Fault
-from ._processes import Group, Run
+from ._lines import Batches, counted, lines_of
+from ._ordered import AnyLines, Original, can_be_read_again, try_request
+from ._processes import Group
 from ._requests import Request
-from ._sources import Input, Source
+from ._sources import Input, Source, up_to_error
+from ._wide import is_wide
 
 # What one run holds in memory of a larger dump.
 MOST_HELD = 1 << 28
@@ -27,13 +30,12 @@ class Found(NamedTuple):
 
 def query_dumps(dumps: Sequence[Dump], request: Request, jobs: int, program: str) -> Iterator[Found]:
     """The documents of dumps that match, in the order of the dumps; so many are asked at once. A refused request is raised."""
-    with Run([program, "find", "-", *request.words()]) as run:
-        run.finish()
+    is_copied = try_request(request, program)
     group = Group()
     ahead: deque[Iterator[Found]] = deque()
     try:
         for dump in dumps:
-            answer = _answer(dump, request, program, group)
+            answer = _answer(dump, request, program, group, is_copied)
             ahead.append(answer)
             next(answer)  # starts the first run, whose answer waits until it is read
             if len(ahead) >= jobs:
@@ -44,14 +46,16 @@ def query_dumps(dumps: Sequence[Dump], request: Request, jobs: int, program: str
         group.end()
 
 
-def _answer(dump: Dump, request: Request, program: str, group: Group) -> Iterator[Found]:
+def _answer(dump: Dump, request: Request, program: str, group: Group, is_copied: bool) -> Iterator[Found]:
     """The documents of a dump, after one thing that is empty, which is given when its first run is started."""
     name, is_started = dump.name, False
+    # Where the parts begin that are asked by way of copies.
+    copied_from = 0 if is_copied else None
     try:
         if dump.error:
             raise DumpError(dump.error)
         with Source(name) as source:
-            for part in source.inputs(MOST_HELD):
+            for part in source.inputs(MOST_HELD) if copied_from is None else ():
                 with part.run([program, "find", "-", *request.words()], group=group) as run:
                     if not is_started:
                         is_started = True
@@ -61,7 +65,16 @@ def _answer(dump: Dump, request: Request, program: str, group: Group) -> Iterato
                     try:
                         counted(run.finish())
                     except DumpError as error:
-                        raise moved(error, part) from None
+                        if not is_wide(error) or not can_be_read_again(name):
+                            raise moved(error, part) from None
+                        copied_from = part.offset
+                        break
+        if copied_from is not None:
+            if not is_started:
+                is_started = True
+                yield Found(name, [])
+            for lines in _by_copies(name, copied_from, request, program, group):
+                yield Found(name, lines)
     except (BsonfindError, OSError) as error:
         if not is_started:
             yield Found(name, [])
@@ -69,6 +82,26 @@ def _answer(dump: Dump, request: Request, program: str, group: Group) -> Iterato
         return
     if not is_started:
         yield Found(name, [])
+
+
+def _by_copies(name: str, start: int, request: Request, program: str, group: Group) -> Batches:
+    """The lines of the documents from a place on, some of which hold doubles or decimal128, in parts that are copied."""
+    errors: list[Exception] = []
+    with Source(name) as source:
+        for offset, first, pieces in _framing.inputs(up_to_error(source.pieces(), errors), MOST_HELD):
+            if offset < start:
+                for _ in pieces:
+                    pass
+                continue
+            original = Original.of_pieces(pieces)
+            try:
+                yield from AnyLines(original, request, program, is_known=True, group=group).batches()
+            except DumpError as error:
+                raise moved(error, Input(offset, first, None, None)) from None
+            finally:
+                original.close()
+    if errors:
+        raise errors[0]
 
 
 def moved(error: DumpError, part: Input) -> DumpError:

@@ -8,7 +8,8 @@ from typing import Any, Callable, Iterator, Literal, TypeVar, overload
 from . import _steps
 from ._connections import Connection
 from ._decoding import Decode, Dicts
-from ._dumps import File, dump_of
+from ._dumps import File
+from ._ordered import Questions
 from ._requests import Filter, Request, Sort
 from ._steps import Hint, Reading, Use, use_of
 
@@ -20,12 +21,13 @@ class Session:
 
     Threads may share a session, and a cursor belongs to one thread at a time. Another process, such as one by a fork, opens its
     own session: there each call of this one is an `OtherProcessError`. A dump that is refused is a `DumpError` at once, and a
-    `SessionEndedError` reports that the program went away later. Where a `timeout` is given, no reply may take more seconds: a
+    `SessionEndedError` reports that the program went away later. A dump with doubles or decimal128 is asked by way of a copy, which
+    is written when the session begins; a request that needs codes of further numbers has another copy, which is kept too. Where a `timeout` is given, no reply may take more seconds: a
     `TimedOutError` then ends the session.
     """
 
     def __init__(self, path: File, program: str = "bsonfind", *, timeout: float | None = None) -> None:
-        self._connection = Connection(dump_of(path), program, timeout)
+        self._questions = Questions(path, program, timeout)
 
     # fmt: off
     @overload
@@ -63,8 +65,10 @@ class Session:
         or {"index": PATH}. `hint` says the same as pymongo does: the path of an index, [(PATH, 1)], or {"$natural": 1} for a
         scan.
         """
-        reading = Reading(Request.of(filter, sort, skip, limit), use_of(use, hint), batch_size, after, decode)
-        return Cursor(self._connection, reading)
+        asked = self._questions.asked(Request.of(filter, sort, skip, limit), is_bson=decode == "bson")
+        reading = Reading(asked.request, use_of(use, hint), batch_size, after, decode, asked.documents_of(decode))
+        with asked.places():
+            return Cursor(asked.connection, reading)
 
     # fmt: off
     @overload
@@ -99,15 +103,15 @@ class Session:
 
     def count_documents(self, filter: Filter | None = None) -> int:
         """How many documents match."""
-        return self._connection.do(_steps.count(Request.of(filter)))
+        return self._questions.do(_steps.count, Request.of(filter))
 
     def create_index(self, path: str, sparse: bool = False) -> dict[str, Any]:
         """Makes an index on a path: how many `entries` it has, and whether a document has more than one (`multikey`)."""
-        return self._connection.do(_steps.create_index(path, sparse))
+        return self._questions.create_index(path, sparse)
 
     def drop_index(self, path: str) -> None:
         """Drops the index on a path; cursors that were opened by it give the same."""
-        self._connection.do(_steps.drop_index(path))
+        self._questions.drop_index(path)
 
     def explain(
         self,
@@ -120,15 +124,15 @@ class Session:
         hint: Hint | None = None,
     ) -> dict[str, Any]:
         """How an answer is found: the `plan`, the path of the `index`, and how many `entries`, `documents` and `matches`."""
-        return self._connection.do(_steps.explain(Request.of(filter, sort, skip, limit), use_of(use, hint)))
+        return self._questions.do(_steps.explain, Request.of(filter, sort, skip, limit), use_of(use, hint))
 
     def cancel(self) -> None:
         """Ends the session at once, from any thread: a call that waits for a reply gets a `CancelledError`."""
-        self._connection.cancel()
+        self._questions.cancel()
 
     def close(self) -> None:
         """Ends the session."""
-        self._connection.close()
+        self._questions.close()
 
     def __enter__(self) -> Session:
         return self

@@ -76,6 +76,11 @@ class Source:
             self._refuse_archive()
             yield Input(0, 0, self._file, None)
 
+    def is_for_one_run(self) -> bool:
+        """Whether a run reads the file by its name: one of this size, which is neither packed nor an archive."""
+        is_small = self.size is not None and self.size <= _framing.LARGEST_INPUT
+        return is_small and not self._is_packed and not self.is_archive()
+
     def _refuse_archive(self) -> None:
         if self.is_archive():
             raise DumpError(f"an archive: name one of its collections, {self.name}{INSIDE}db.collection, or unpack it")

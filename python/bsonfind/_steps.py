@@ -5,7 +5,7 @@ Each function here is a generator: it yields a command, is sent the line of the 
 
 from __future__ import annotations
 
-from typing import Any, Generator, Generic, Mapping, NamedTuple, Sequence, TypeVar, Union
+from typing import Any, Callable, Generator, Generic, Mapping, NamedTuple, Sequence, TypeVar, Union
 
 from ._decoding import Decode, Parsed, Texts, batches_by
 from ._errors import ArgumentError, CommandError, CursorStateError
@@ -111,11 +111,20 @@ class Held(NamedTuple):
 class Reading(Generic[T]):
     """The reading of an answer by a cursor of the program, a batch at a time."""
 
-    def __init__(self, request: Request, use: Use, batch_size: int, after: str | None, decode: Decode[T]) -> None:
+    def __init__(
+        self,
+        request: Request,
+        use: Use,
+        batch_size: int,
+        after: str | None,
+        decode: Decode[T],
+        documents_of: Callable[[bytes, int], Texts[T] | Parsed] | None = None,
+    ) -> None:
+        """What makes the documents of a batch of its text and their number is given, or follows from `decode`."""
         self._request, self._use = request, text_of(use)
         self._batch_size = whole("batch_size", batch_size, 1)
         self._size = min(self._batch_size, FIRST_BATCH)
-        self._documents_of = batches_by(decode)
+        self._documents_of = documents_of or batches_by(decode)
         # The number of the cursor, where it is open.
         self.number: int | None = None
         self._is_opened = self.is_at_end = False

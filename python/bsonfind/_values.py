@@ -5,6 +5,7 @@ from __future__ import annotations
 import base64
 import re
 from datetime import datetime, timedelta, timezone
+from decimal import Decimal
 from typing import Any, Callable, Mapping
 
 from ._errors import ArgumentError
@@ -42,7 +43,7 @@ class ObjectId:
 def plain_document(document: dict[str, Any]) -> dict[str, Any]:
     """A document with plain values in place of canonical Extended JSON.
 
-    Numbers become `int`, dates a `datetime` in UTC, binary data of subtype 0 `bytes`, and ids an `ObjectId`. What Python has no
+    Whole numbers become `int`, doubles `float`, decimal128 a `Decimal`, dates a `datetime` in UTC, binary data of subtype 0 `bytes`, and ids an `ObjectId`. What Python has no
     plain value for stays as it is, such as `{"$minKey": 1}`, and a date after the year 9999.
     """
     return {name: _plain(value) for name, value in document.items()}
@@ -56,7 +57,7 @@ def _plain(value: Any) -> Any:
             if read:
                 try:
                     return read(inner)
-                except (AttributeError, TypeError, ValueError, OverflowError):
+                except (AttributeError, TypeError, ValueError, ArithmeticError):
                     return value  # Another document than the value that the name stands for, or one without a plain value.
         return plain_document(value)
     if isinstance(value, list):
@@ -83,9 +84,17 @@ def _binary(inner: Any) -> bytes:
     return base64.b64decode(inner["base64"], validate=True)
 
 
+def _text(text: Any) -> str:
+    if not isinstance(text, str):
+        raise TypeError
+    return text
+
+
 _READERS: dict[str, Callable[[Any], Any]] = {
     "$numberInt": _whole,
     "$numberLong": _whole,
+    "$numberDouble": lambda text: float(_text(text)),
+    "$numberDecimal": lambda text: Decimal(_text(text)),
     "$oid": ObjectId,
     "$date": _date,
     "$binary": _binary,
@@ -100,6 +109,8 @@ def extended(value: Any) -> Any:
         # As pymongo takes it, a time without a zone is one of UTC.
         since = (value if value.tzinfo else value.replace(tzinfo=timezone.utc)) - _EPOCH
         return {"$date": {"$numberLong": str(since // timedelta(milliseconds=1))}}
+    if isinstance(value, Decimal):
+        return {"$numberDecimal": str(value)}
     if isinstance(value, (bytes, bytearray, memoryview)):
         return {"$binary": {"base64": base64.b64encode(value).decode(), "subType": "00"}}
     if isinstance(value, Mapping):

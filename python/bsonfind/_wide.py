@@ -180,11 +180,16 @@ class Checking:
             self.documents += finish_check(run)
 
 
+def faults_in(given: Input, program: str, group: Group | None = None) -> Iterator[Fault]:
+    """The damage of some documents."""
+    with Filtered([program, "check", "-"], "mask", given, group=group) as masked:
+        yield from faults_of(masked)
+        finish_check(masked)
+
+
 def fault_of(document: bytes, program: str) -> Fault | None:
     """The fault of a single document: its damage, or else what keeps the program from reading it."""
-    given = Input(0, 0, None, iter([document]))
-    with Filtered([program, "check", "-"], "mask", given) as masked:
-        faults = list(faults_of(masked))
+    faults = list(faults_in(Input(0, 0, None, iter([document])), program))
     if not faults:
         with Run([program, "check", "-"], [document]) as run:
             faults = list(faults_of(run))

@@ -5,7 +5,7 @@ import os
 
 from bsonfind import CommandError, DumpError, ProgramError, find
 
-from .support import DOUBLE, PEOPLE, PEOPLE_LINES, PROGRAM, Room
+from .support import DAMAGED, PEOPLE, PEOPLE_LINES, PROGRAM, Room
 
 OLD = {"age": {"$gte": 90}}
 
@@ -35,7 +35,7 @@ class Answers(Room):
         for words, wanted in (
             ({"filter": {"$or": [{"a": 1}, {"b": {"$regex": "^A"}}]}}, ("filter", 2, "not in the profile", "$or.1.b.$regex")),
             ({"filter": {"a.": 1}}, ("filter", 5, "bad path", "a.")),
-            ({"filter": {"a": 1.5}}, ("json", 5, "not in the profile", 5)),
+            ({"filter": {"a": {"$size": 1.5}}}, ("json", 5, "not in the profile", 14)),
             ({"filter": {"$numberInt": "1"}}, ("json", 2, "not a document", None)),
             ({"sort": {"a": 0.5}}, ("json", 5, "not in the profile", 5)),
             ({"sort": {"a": 3}}, ("session", 1, "not a sort", None)),
@@ -57,8 +57,8 @@ class Answers(Room):
 
     def test_dump_that_is_refused(self) -> None:
         with self.assertRaises(DumpError) as raised:
-            next(find(self.file(DOUBLE), program=PROGRAM))
-        self.assertEqual(raised.exception.fault, (0, 4, "d", "double"))
+            next(find(self.file(DAMAGED), program=PROGRAM))
+        self.assertEqual(raised.exception.fault, (0, 7, "d", "bad boolean"))
         with self.assertRaises(DumpError):
             next(find(self.room / "missing.bson", program=PROGRAM))
 

@@ -11,7 +11,7 @@ from concurrent.futures import ProcessPoolExecutor, ThreadPoolExecutor
 
 from bsonfind import Check, CommandError, Fault, PartError, ProgramError, check_parts, count_parts, find, find_parts, plan
 
-from .support import DOUBLE, PEOPLE, PEOPLE_LINES, PROGRAM, ROOT, Room, packed
+from .support import DAMAGED, DOUBLE, PEOPLE, PEOPLE_LINES, PROGRAM, ROOT, Room, packed
 
 OLD = {"age": {"$gte": 90}}
 SORT = [("address.city", -1), ("age", 1)]
@@ -132,9 +132,10 @@ class Parts(Room):
 
     def test_faults_count_in_the_whole_file(self) -> None:
         data = PEOPLE.read_bytes()
-        path = self.file(data[:39978] + DOUBLE + data[39978:] + DOUBLE)
+        path = self.file(data[:39978] + DAMAGED + DOUBLE + data[39978:] + DAMAGED)
         checked = check_parts(plan(path, 10_000), program=PROGRAM)
-        self.assertEqual(checked, Check(502, [Fault(220, 39982, "d", "double"), Fault(501, len(data) + 20, "d", "double")]))
+        faults = [Fault(220, 39985, "d", "bad boolean"), Fault(502, len(data) + 32, "d", "bad boolean")]
+        self.assertEqual(checked, Check(503, faults))
 
 
 class BadInput(Room):

@@ -12,7 +12,7 @@ from bsonfind._ids import Ids, find_ids
 from bsonfind._query import query_dumps
 from bsonfind._requests import Request
 
-from .support import DOUBLE, PEOPLE, PEOPLE_LINES, PROGRAM, SHOP, SHOP_LINES, Room, packed, run_package
+from .support import DAMAGED, DOUBLE, PEOPLE, PEOPLE_LINES, PROGRAM, SHOP, SHOP_LINES, Room, packed, run_package
 
 OLD = '{"age":{"$gte":90}}'
 OLD_LINES = [line.decode() for line in PEOPLE_LINES if int(json.loads(line)["age"]["$numberInt"]) >= 90]
@@ -42,9 +42,9 @@ class Queries(Room):
 
     def test_files_that_are_refused(self) -> None:
         """The others are asked nevertheless."""
-        bad, missing = self.file(PEOPLE.read_bytes() + DOUBLE, "bad.bson"), self.room / "missing.bson"
+        bad, missing = self.file(PEOPLE.read_bytes() + DAMAGED, "bad.bson"), self.room / "missing.bson"
         wanted = [f"{PEOPLE}\t{line}" for line in OLD_LINES]
-        fault = f'bsonfind: {bad}: document 500, byte 92730, path "d": double\n'
+        fault = f'bsonfind: {bad}: document 500, byte 92733, path "d": bad boolean\n'
         for words, status, told in (
             ([bad, PEOPLE], 1, f"{fault}49 documents in 1 of 2 files\n"),
             ([missing, PEOPLE, bad], 2, f"bsonfind: {missing}: No such file or directory\n{fault}49 documents in 1 of 3 files\n"),
@@ -58,7 +58,7 @@ class Queries(Room):
     def test_files_larger_than_a_run_holds(self) -> None:
         """With at most 20,000 bytes in place of megabytes: a file, a compressed one and a pipe, one with a fault."""
         data, pipe = PEOPLE.read_bytes(), self.room / "pipe"
-        bad = data[:79930] + DOUBLE + data[79930:]
+        bad = data[:79930] + DAMAGED + data[79930:]
         os.mkfifo(pipe)
         writer = threading.Thread(target=pipe.write_bytes, args=[data])
         writer.start()
@@ -69,7 +69,7 @@ class Queries(Room):
         for path in paths[:3]:
             self.assertEqual([line.decode() for it in found for line in it.lines if it.name == path], OLD_LINES)
         errors = [(it.name, str(it.error)) for it in found if it.error]
-        self.assertEqual(errors, [(paths[3], 'document 436, byte 79934, path "d": double')])
+        self.assertEqual(errors, [(paths[3], 'document 436, byte 79937, path "d": bad boolean')])
 
     def test_full_disk(self) -> None:
         with open("/dev/full", "wb") as full:

@@ -11,7 +11,7 @@ from unittest import mock
 from bsonfind import CommandError, DumpError, ProgramError, Session, SessionEndedError, find
 from bsonfind._steps import LONGEST_COMMAND
 
-from .support import DOUBLE, PEOPLE, PEOPLE_LINES, PROGRAM, SHOP, SHOP_LINES, Room, packed
+from .support import DAMAGED, PEOPLE, PEOPLE_LINES, PROGRAM, SHOP, SHOP_LINES, Room, packed
 
 OLD = {"age": {"$gte": 90}}
 BY_NAME = [("name", 1)]
@@ -38,13 +38,13 @@ class Sessions(Room):
         json_util.loads = lambda line: ("document", line)
         bson = types.ModuleType("bson")
         bson.json_util = json_util
-        with mock.patch.dict(sys.modules, {"bson": bson, "bson.json_util": json_util}):
+        with mock.patch.dict(sys.modules, {"xml": bson, "bson.json_util": json_util}):
             found = list(self.session.find(limit=3, decode="json_util"))
         self.assertEqual(found, [("document", line) for line in PEOPLE_LINES[:3]])
 
     def test_unknown_decode(self) -> None:
         with self.assertRaises(ValueError):
-            self.session.find(decode="bson")
+            self.session.find(decode="xml")
 
     def test_filter_sort_skip_and_limit(self) -> None:
         ages = [(int(it["age"]["$numberInt"]), number) for number, it in enumerate(map(json.loads, PEOPLE_LINES))]
@@ -68,7 +68,7 @@ class Sessions(Room):
         self.session.create_index("age")
         for refused, wanted in (
             (lambda: self.session.find({"a": {"$above": 1}}), ("filter", 1, "unknown operator", "a.$above")),
-            (lambda: self.session.find({"a": 1.5}), ("json", 5, "not in the profile", 5)),
+            (lambda: self.session.find({"a": {"$size": 1.5}}), ("json", 5, "not in the profile", 14)),
             (lambda: self.session.find({"a": float("nan")}), ("json", 1, "not JSON", 5)),
             (lambda: self.session.find(sort=[("a", 1), ("a", -1)]), ("session", 1, "not a sort", None)),
             (lambda: self.session.find(sort={"a": 2}), ("session", 1, "not a sort", None)),
@@ -166,17 +166,17 @@ class Sessions(Room):
 class Endings(Room):
     def test_dump_with_a_fault(self) -> None:
         with self.assertRaises(DumpError) as raised:
-            Session(self.file(PEOPLE.read_bytes() + DOUBLE), PROGRAM)
-        self.assertEqual(str(raised.exception), 'document 500, byte 92730, path "d": double')
-        self.assertEqual(raised.exception.fault, (500, 92730, "d", "double"))
+            Session(self.file(PEOPLE.read_bytes() + DAMAGED), PROGRAM)
+        self.assertEqual(str(raised.exception), 'document 500, byte 92733, path "d": bad boolean')
+        self.assertEqual(raised.exception.fault, (500, 92733, "d", "bad boolean"))
 
     def test_fault_in_a_long_path(self) -> None:
         """The message does not fit into a pipe, and has characters that end a line elsewhere."""
         name = "\u2028x\x85" * 60_000
-        element = b"\x01" + name.encode() + b"\0" + bytes(8)
+        element = b"\x08" + name.encode() + b"\0\2"
         with self.assertRaises(DumpError) as raised:
             Session(self.file((len(element) + 5).to_bytes(4, "little") + element + b"\0"), PROGRAM)
-        self.assertEqual(raised.exception.fault, (0, 4, name, "double"))
+        self.assertEqual(raised.exception.fault, (0, 6 + len(name.encode()), name, "bad boolean"))
 
     def test_file_that_is_not_there(self) -> None:
         with self.assertRaises(DumpError) as raised:

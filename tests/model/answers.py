@@ -8,6 +8,9 @@ import base64
 import hashlib
 import json
 import re
+import struct
+from decimal import Decimal
+from fractions import Fraction
 from typing import Callable, Iterator, NamedTuple
 
 INT32 = range(-(1 << 31), 1 << 31)
@@ -18,7 +21,10 @@ LEVELS = 50  # of a filter
 
 
 class Value(NamedTuple):
-    """A value: of an object its pairs, of an array its elements, of others what their kind wants."""
+    """A value: of an object its pairs, of an array its elements, of others what their kind wants.
+
+    A double is its eight bytes, and a decimal128 a `Decimal`.
+    """
 
     kind: str
     of: object = None
@@ -33,6 +39,9 @@ KINDS = {
     "date": (0x09, 10), "timestamp": (0x11, 11), "regex": (0x0B, 12), "dbPointer": (0x0C, 13), "javascript": (0x0D, 14),
     "javascriptWithScope": (0x0F, 15), "maxKey": (0x7F, 16),
 }  # fmt: skip
+
+# Kinds that the program reads by way of the filter.
+WIDE_KINDS = {"double": (0x01, 3), "decimal": (0x13, 3)}
 
 NULL, UNDEFINED = Value("null"), Value("undefined")
 
@@ -53,6 +62,11 @@ def obj(*pairs: tuple[str, Value]) -> Value:
 # Values in bytes and in texts.
 
 
+def byte_and_class(kind: str) -> tuple[int, int]:
+    """The byte of a kind, and its class."""
+    return KINDS[kind] if kind in KINDS else WIDE_KINDS[kind]
+
+
 def encoded(value: Value) -> bytes:
     """The bytes of a value, in which the elements of an array have their indexes as names."""
 
@@ -66,7 +80,7 @@ def encoded(value: Value) -> bytes:
     match kind:
         case "object" | "array":
             pairs = of if kind == "object" else [(str(place), element) for place, element in enumerate(of)]
-            inside = b"".join(bytes([KINDS[it.kind][0]]) + name.encode() + b"\0" + encoded(it) for name, it in pairs)
+            inside = b"".join(bytes([byte_and_class(it.kind)[0]]) + name.encode() + b"\0" + encoded(it) for name, it in pairs)
             return little(len(inside) + 5) + inside + b"\0"
         case "string" | "symbol" | "javascript":
             return text(of)
@@ -74,8 +88,10 @@ def encoded(value: Value) -> bytes:
             return little(of)
         case "long" | "date":
             return little(of, 8)
-        case "objectId":
+        case "objectId" | "double":
             return of
+        case "decimal":
+            return decimal_bytes(of)
         case "bool":
             return bytes([of])
         case "timestamp":
@@ -92,6 +108,15 @@ def encoded(value: Value) -> bytes:
             inside = text(of[0]) + encoded(of[1])
             return little(len(inside) + 4) + inside
     return b""
+
+
+def decimal_bytes(value: Decimal) -> bytes:
+    """The 16 bytes of a decimal128."""
+    sign, digits, power = value.as_tuple()
+    if not value.is_finite():
+        return (sign << 127 | (0x1E if value.is_infinite() else 0x1F) << 122).to_bytes(16, "little")
+    coefficient = int("".join(map(str, digits)))
+    return (sign << 127 | (int(power) + 6176) << 113 | coefficient).to_bytes(16, "little")
 
 
 def written(value: Value) -> str:
@@ -112,6 +137,11 @@ def written(value: Value) -> str:
             return json.dumps(of)
         case "int" | "long":
             return f'{{"$number{kind.title()}":"{of}"}}'
+        case "double":
+            number = struct.unpack("<d", of)[0]
+            return f'{{"$numberDouble":"{str(number).replace("nan", "NaN").replace("inf", "Infinity")}"}}'
+        case "decimal":
+            return f'{{"$numberDecimal":"{of}"}}'
         case "symbol":
             return f'{{"$symbol":{quoted(of)}}}'
         case "javascript":
@@ -140,15 +170,27 @@ def written(value: Value) -> str:
 # The order of values, and paths.
 
 
+def magnitude(value: Value) -> tuple:
+    """What a number is compared by, exactly: NaN is the least."""
+    of = struct.unpack("<d", value.of)[0] if value.kind == "double" else value.of
+    if of != of:
+        return (0, 0)
+    return (1, Fraction(of) if abs(of) != float("inf") else float(of))
+
+
 def rank(value: Value) -> tuple:
     """What a value is compared by: Python's order of these tuples is that of the values."""
     kind, of = value
     rest: object = of
     match kind:
+        case "int" | "long":
+            rest = (1, of)
+        case "double" | "decimal":
+            rest = magnitude(value)
         case "string" | "symbol" | "javascript":
             rest = of.encode()
         case "object":
-            rest = tuple((KINDS[it.kind][1], name.encode(), rank(it)) for name, it in of)
+            rest = tuple((byte_and_class(it.kind)[1], name.encode(), rank(it)) for name, it in of)
         case "array":
             rest = tuple(map(rank, of))
         case "binData":
@@ -159,7 +201,7 @@ def rank(value: Value) -> tuple:
             rest = (of[0].encode(), of[1])
         case "javascriptWithScope":
             rest = (of[0].encode(), rank(of[1]))
-    return KINDS[kind][1], rest
+    return byte_and_class(kind)[1], rest
 
 
 def path_fault(text: str) -> int | None:
@@ -270,7 +312,7 @@ def types_of(operand: Value) -> list[str] | None:
     for member in members:
         name = TYPES.get(member.of) if is_whole(member) else member.of if member.kind == "string" else None
         if name == "number":
-            kinds += ["int", "long"] if member.kind == "string" else []
+            kinds += ["int", "long", *WIDE_KINDS] if member.kind == "string" else []
         elif name in TYPES.values():
             kinds.append(name)
         else:
@@ -348,8 +390,10 @@ def equals(value: Value | None, other: Value) -> bool:
 
 
 def is_related(name: str, value: Value | None, operand: Value) -> bool:
-    """Whether a value of the operand's class is in this order to it."""
+    """Whether a value of the operand's class is in this order to it. NaN is neither less nor greater than a number."""
     mine, its = rank(NULL if value is None else value), rank(operand)
+    if mine[0] == its[0] == KINDS["int"][1] and (0, 0) in (mine[1], its[1]):
+        return mine == its and name in ("$gte", "$lte")
     return mine[0] == its[0] and RELATIONS[name](mine, its)
 
 
@@ -510,7 +554,7 @@ def bounds_of_element(name: str, operand: Value) -> Bounds | None:
 
 def of_classes(kinds: list[str]) -> Bounds:
     classes = {KINDS[kind][1] for kind in kinds if kind in KINDS}
-    return lambda key: KINDS[key.kind][1] in classes
+    return lambda key: byte_and_class(key.kind)[1] in classes
 
 
 # Requests over documents, and their tokens.

@@ -1,0 +1,89 @@
+"""The command `find` of the program over any dump."""
+
+from __future__ import annotations
+
+import sys
+from dataclasses import dataclass
+from typing import Sequence
+
+from ._codes import read_query
+from ._console import Console
+from ._dumps import dump_of
+from ._errors import BsonfindError, CommandError, DumpError
+from ._ordered import AnyLines, can_be_read_again, paths_of
+from ._processes import Run
+from ._requests import Request
+from ._wide import is_wide
+
+# What the program calls the option whose text a layer refuses.
+_OPTIONS = {"json": "query", "filter": "query", "numbers": "query", "path": "index"}
+_OF_A_SESSION = {1: "sort", 7: "token", 8: "token", 9: "token"}
+
+
+@dataclass
+class Finding:
+    """What is asked of a dump on a command line."""
+
+    name: str
+    request: Request
+    batch: int | None = None
+    index: str | None = None
+    after: str | None = None
+    is_bson: bool = False
+
+    def words(self) -> Sequence[str]:
+        """The options of the program."""
+        options = (("batch", self.batch), ("index", self.index), ("after", self.after))
+        return [*self.request.words(), *(f"--{name}={value}" for name, value in options if value is not None)]
+
+    def print(self, program: str, console: Console) -> bool:
+        """Prints the documents as lines of JSON, or as they are; gives whether the dump has no fault."""
+        path = "/dev/stdin" if self.name == "-" else self.name
+        query = read_query(self.request.filter, paths_of(self.request))
+        is_own = not self.is_bson and not (query and query.is_wide) and can_be_read_again(path)
+        try:
+            if is_own and self._print_own(path, program):
+                return True
+            self._print_by_copy(path, program, console, is_own)
+        except DumpError as error:
+            if not error.fault:
+                raise
+            console.problem(str(error))
+            return False
+        except CommandError as error:
+            raise _Refused(_refusal(error)) from None
+        return True
+
+    def _print_own(self, path: str, program: str) -> bool:
+        """Has the program print; False where it refuses the dump for a double or a decimal128."""
+        sys.stdout.flush()
+        with Run.over(dump_of(path), program, "find", self.words(), stdout=sys.stdout.fileno()) as run:
+            try:
+                run.finish()
+            except DumpError as error:
+                if is_wide(error):
+                    return False
+                raise
+            if sys.stderr:
+                print(run.messages(), end="", file=sys.stderr)
+        return True
+
+    def _print_by_copy(self, path: str, program: str, console: Console, is_known: bool) -> None:
+        end = b"" if self.is_bson else b"\n"
+        how = {"size": self.batch, "index": self.index, "after": self.after}
+        lines, documents = AnyLines(path, self.request, program, is_bson=self.is_bson, is_known=is_known, **how), 0
+        for batch in lines.batches():
+            console.documents([line + end for line in batch])
+            documents += len(batch)
+        token = f", token {lines.token}" if lines.token else ""
+        console.note(f"{documents} documents, {'end' if lines.end else 'more'}{token}")
+
+
+class _Refused(BsonfindError):
+    """A refused request, as the program says it."""
+
+
+def _refusal(error: CommandError) -> str:
+    option = _OPTIONS.get(error.layer) or _OF_A_SESSION.get(error.number, "query")
+    place = "" if error.place is None or error.layer == "path" else str(error).partition(": ")[2].rpartition(error.text)[0]
+    return f"{option}: {place}{error.text}"

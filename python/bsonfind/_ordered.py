@@ -1,0 +1,436 @@
+"""Questions about dumps with doubles and decimal128: they are asked of a copy, in which `bsonwide order` writes numbers by codes.
+
+A copy has the documents of the dump in the same order, each with its number as its last field. What is given back are the
+documents of the dump. A copy is a file without a name, as large as the dump, in the directory for temporary files.
+"""
+
+from __future__ import annotations
+
+import json
+import os
+import re
+import stat
+import tempfile
+from array import array
+from contextlib import contextmanager
+from dataclasses import replace
+from typing import Any, BinaryIO, Callable, ContextManager, Iterable, Iterator, NamedTuple, Sequence, TypeVar
+
+from . import _framing, _steps
+from ._codes import CODE, MOST_LEVEL, Probe, Query, read_json, read_query, refused, word_of
+from ._connections import Connection
+from ._decoding import Decode, Texts, decoder
+from ._dumps import Dump, File, dump_of, file_of, is_packed, opened, unpacked
+from ._errors import CommandError, DumpError, ProgramError
+from ._lines import Batches, Lines, lines_of
+from ._messages import error_of
+from ._parts import FileState
+from ._processes import Group, Run
+from ._replies import documents_in
+from ._requests import Request
+from ._sources import Input
+from ._steps import Steps
+from ._wide import Filtered, fault_of, faults_in, filter_beside, is_wide
+
+T = TypeVar("T")
+_REFUSED = re.compile(r'document (\d+), byte (\d+), path (".*"): (not a whole number of 64 bits|no double equals it)')
+# The number of a document at the end of its line.
+_NUMBERED = re.compile(rb'"~n":\{"\$numberLong":"([0-9]+)"\}\}$')
+_PIECE = 1 << 20
+
+
+class Original:
+    """The documents of a dump in an open file, and where each of them ends."""
+
+    def __init__(self, file: BinaryIO) -> None:
+        self._file, self._state = file, FileState.of(file)
+        self._ends: array[int] | None = None
+
+    @classmethod
+    def of(cls, path: File) -> Original:
+        """Those of a file. What is packed, or can be read only once, is written to a file without a name."""
+        if is_packed(path):
+            return cls.of_pieces(unpacked(path))
+        file = opened(path)
+        if stat.S_ISREG(os.fstat(file.fileno()).st_mode):
+            return cls(file)
+        with file:
+            return cls.of_pieces(iter(lambda: file.read(_PIECE), b""))
+
+    @classmethod
+    def of_pieces(cls, pieces: Iterable[bytes]) -> Original:
+        """Those of some bytes."""
+        file = temporary_file()
+        try:
+            for piece in pieces:
+                try:
+                    file.write(piece)
+                except OSError as error:
+                    raise _no_room() from error
+        except BaseException:
+            file.close()
+            raise
+        return cls(file)
+
+    @property
+    def dump(self) -> Dump:
+        """What a run reads."""
+        return Dump(path=f"/dev/fd/{self._file.fileno()}")
+
+    def rewound(self) -> BinaryIO:
+        """The file, from its beginning on."""
+        self._file.seek(0)
+        return self._file
+
+    def documents(self, numbers: Sequence[int]) -> list[bytes]:
+        """The documents of these numbers, as they are."""
+        found = []
+        for number in numbers:
+            start, end = self._place(number)
+            found.append(_framing.read_at(self._file, start, end - start, end - start))
+        if FileState.of(self._file) != self._state:
+            raise DumpError("the file was written to since it was opened")
+        return found
+
+    def lines(self, numbers: Sequence[int], program: str, group: Group | None = None) -> list[bytes]:
+        """The lines of the documents of these numbers."""
+        if not numbers:
+            return []
+        documents = self.documents(numbers)
+        with Filtered([program, "dump", "-"], "wrap", Input(0, 0, None, iter(documents)), group=group) as run:
+            lines = [line for batch in lines_of(run.stdout) for line in batch]
+            try:
+                run.finish()
+            except DumpError as error:
+                if error.fault:
+                    at = error.fault.document
+                    fault = fault_of(documents[at], program) or error.fault
+                    fault = fault.moved(numbers[at] - fault.document, self._place(numbers[at])[0])
+                    raise DumpError(str(fault), fault) from None
+                raise
+        return lines
+
+    def given(self, lines: Sequence[bytes], is_bson: bool, program: str, group: Group) -> list[bytes]:
+        """The documents, or their lines, of those that have these lines in a copy."""
+        numbers = numbers_in(lines)
+        return self.documents(numbers) if is_bson else self.lines(numbers, program, group)
+
+    def fault(self, program: str, group: Group | None) -> DumpError | None:
+        """The first damage, where there is some."""
+        for fault in faults_in(Input(0, 0, self.rewound(), None), program, group):
+            return DumpError(str(fault), fault)
+        return None
+
+    def _place(self, number: int) -> tuple[int, int]:
+        if self._ends is None:
+            self._ends = array("Q", _framing.walk(self._file))
+        return self._ends[number - 1] if number else 0, self._ends[number]
+
+    def close(self) -> None:
+        """Closes the file."""
+        self._file.close()
+
+
+def temporary_file() -> BinaryIO:
+    """A file without a name."""
+    try:
+        return tempfile.TemporaryFile(buffering=0)  # type: ignore[return-value]
+    except OSError as error:
+        raise _no_room() from error
+
+
+def _no_room() -> ProgramError:
+    return ProgramError(f"cannot write a copy of the dump in {tempfile.gettempdir()}: TMPDIR names another directory")
+
+
+def numbers_in(lines: Iterable[bytes]) -> list[int]:
+    """The numbers of the documents of a copy, by their lines."""
+    numbers = []
+    for line in lines:
+        found = _NUMBERED.search(line)
+        if not found:
+            raise ProgramError("a document of the copy has no number")
+        numbers.append(int(found.group(1)))
+    return numbers
+
+
+def paths_of(request: Request) -> list[str]:
+    """The paths by which documents are sorted."""
+    try:
+        return [name for name, _ in read_json(request.sort).pairs]
+    except (ValueError, RecursionError):
+        return []
+
+
+def write_copy(original: Original, query: Query, levels: dict[str, int], program: str, group: Group, copy: BinaryIO) -> None:
+    """Writes a copy of a dump; the levels become those of all paths that need codes, which are found by asking for a copy."""
+    while True:
+        query.settle(levels)
+        words = [word_of(path, level) for path, level in sorted(levels.items())]
+        # An argument that begins with a hyphen would be an option.
+        words = [filter_beside(program), "order", *(["--"] if any(it.startswith("-") for it in words) else []), "-", *words]
+        copy.seek(0)
+        copy.truncate()
+        with Run(words, stdin=original.rewound(), stdout=copy.fileno(), group=group) as run:
+            if run.wait() == 0:
+                return
+            _raise_level(run, levels)
+
+
+def _raise_level(run: Run, levels: dict[str, int]) -> None:
+    """Takes up the path that a run refuses; raises why there is no copy, where it is for another reason."""
+    told = run.messages().strip()
+    line = told.rpartition("bsonwide: ")[2]
+    found = _REFUSED.fullmatch(line)
+    if line == "cannot write":
+        raise _no_room()
+    if not found:
+        raise DumpError(line) if line.startswith("document ") else error_of(1, f"bsonfind: {line}")
+    document, byte, text, reason = found.groups()
+    path = json.loads(text)
+    level = levels.get(path)
+    if level == MOST_LEVEL:
+        raise DumpError(f"document {document}, byte {byte}, path {text}: {reason}; no codes hold all numbers of this field")
+    levels[path] = CODE if level is None else level + 1
+
+
+class Asked(NamedTuple):
+    """What a request is asked by: the connection, and the request in which numbers are codes; the query is None without a copy."""
+
+    connection: Connection
+    request: Request
+    query: Query | None = None
+    levels: dict[str, int] = {}
+    documents: Callable[[bytes, int], list[bytes]] | None = None
+
+    def documents_of(self, decode: Decode[T]) -> Callable[[bytes, int], Texts[T]] | None:
+        """What makes the documents of a batch, None where `decode` says it all."""
+        if self.documents is None:
+            return None
+        documents, document_of = self.documents, decoder(decode)
+        return lambda text, size: Texts(documents(text, size), document_of)
+
+    def places(self) -> ContextManager[None]:
+        """Has refusals name the place in the query as it was given."""
+        return places(self.query, self.levels)
+
+
+@contextmanager
+def places(query: Query | None, levels: dict[str, int]) -> Iterator[None]:
+    """Has refusals name the place in a query as it was before its numbers became codes."""
+    try:
+        yield
+    except CommandError as error:
+        if query and error.layer == "json" and isinstance(error.place, int):
+            raise CommandError(error.layer, error.number, error.text, query.original_byte(levels, error.place)) from None
+        raise
+
+
+class Questions:
+    """The connections over a dump: over the dump itself, or over a copy for each set of paths of which requests need codes."""
+
+    def __init__(self, path: File, program: str, timeout: float | None = None, group: Group | None = None) -> None:
+        self._path, self._program, self._timeout = path, program, timeout
+        self.group = group or Group()
+        self._original = Original.of(path) if not can_be_read_again(path) else None
+        self._copies: dict[frozenset[tuple[str, int]], Connection] = {}
+        self._indexes: list[tuple[str, bool]] = []
+        self._levels: dict[str, int] = {}
+        self.own: Connection | None = None
+        try:
+            self._open()
+        except BaseException:
+            self.close()
+            raise
+
+    def _open(self) -> None:
+        """Opens the dump, or where the program refuses it for its numbers a copy."""
+        dump = self._original.dump if self._original else dump_of(self._path)
+        try:
+            self.own = Connection(dump, self._program, self._timeout, self.group)
+        except DumpError as error:
+            if not is_wide(error):
+                raise
+            self._connection_by(Query("{}"), self._levels)
+
+    @property
+    def connections(self) -> list[Connection]:
+        """All that are open; the first is the one that was opened first."""
+        return [*([self.own] if self.own else []), *self._copies.values()]
+
+    @property
+    def original(self) -> Original:
+        """The documents of the dump."""
+        if self._original is None:
+            self._original = Original.of(self._path)
+        return self._original
+
+    def do(self, steps: Callable[..., Steps[T]], request: Request, *more: Any) -> T:
+        """What steps of a request come to."""
+        asked = self.asked(request)
+        with asked.places():
+            return asked.connection.do(steps(asked.request, *more))
+
+    def asked(self, request: Request, is_bson: bool = False) -> Asked:
+        """What a request is asked by. Where neither it nor the dump has doubles or decimal128 that is the dump itself."""
+        is_copied = is_bson or self.own is None
+        query = read_query(request.filter, paths_of(request), is_copied)
+        if query is None or not (is_copied or query.is_wide):
+            return Asked(self.connections[0], request)
+        if query.refusals:
+            raise query.refusals[0]
+        levels = dict(self._levels)
+        connection = self._connection_by(query, levels)
+        refuse_nan(connection, query.probes_at(levels))
+
+        def documents(text: bytes, size: int) -> list[bytes]:
+            return self.original.given(documents_in(text, size), is_bson, self._program, self.group)
+
+        return Asked(connection, replace(request, filter=query.rewritten(levels)), query, levels, documents)
+
+    def _connection_by(self, query: Query, levels: dict[str, int]) -> Connection:
+        """The connection over a copy for a query."""
+        query.settle(levels)
+        known = self._copies.get(frozenset(levels.items()))
+        if known:
+            return known
+        with temporary_file() as file:
+            write_copy(self.original, query, levels, self._program, self.group, file)
+            known = self._copies.get(frozenset(levels.items()))
+            if known:
+                return known
+            dump = Dump(path=f"/dev/fd/{file.fileno()}")
+            try:
+                connection = Connection(dump, self._program, self._timeout, self.group)
+            except DumpError as error:
+                raise (self.original.fault(self._program, self.group) if error.fault else None) or error from None
+        for path, sparse in self._indexes:
+            connection.do(_steps.create_index(path, sparse))
+        self._copies[frozenset(levels.items())] = connection
+        return connection
+
+    def create_index(self, path: str, sparse: bool) -> dict[str, Any]:
+        """Makes an index on a path, also for copies that come later."""
+        made = [connection.do(_steps.create_index(path, sparse)) for connection in self.connections]
+        self._indexes.append((path, sparse))
+        return made[0]
+
+    def drop_index(self, path: str) -> None:
+        """Drops the index on a path."""
+        for connection in self.connections:
+            connection.do(_steps.drop_index(path))
+        self._indexes = [it for it in self._indexes if it[0] != path]
+
+    def cancel(self) -> None:
+        """Ends all at once. Any thread may call it."""
+        for connection in self.connections:
+            connection.cancel()
+
+    def close(self) -> None:
+        """Ends all connections."""
+        for connection in self.connections:
+            connection.close()
+        if self._original:
+            self._original.close()
+
+    def __enter__(self) -> Questions:
+        return self
+
+    def __exit__(self, *_: object) -> None:
+        self.close()
+
+
+def refuse_nan(connection: Connection, probes: Iterable[Probe]) -> None:
+    """Refuses a query that says of a field which has NaN that it is less than a number."""
+    for probe in probes:
+        if connection.do(_steps.count(Request(probe.text))):
+            raise refused('the field has NaN, which counts as the least number: add "$ne":{"$numberDouble":"NaN"}', probe.place)
+
+
+def can_be_read_again(path: File) -> bool:
+    """Whether a file can be read as often as needed, unlike a pipe; one that is not there is for the program to tell."""
+    try:
+        mode = os.stat(file_of(path)).st_mode
+    except OSError:
+        return True
+    return not (stat.S_ISFIFO(mode) or stat.S_ISCHR(mode) or stat.S_ISSOCK(mode))
+
+
+class AnyLines(Lines):
+    """The lines that answer a request over any dump, or with `is_bson` the documents as they are."""
+
+    def __init__(
+        self,
+        path: File | Original,
+        request: Request,
+        program: str,
+        *,
+        is_bson: bool = False,
+        is_known: bool = False,
+        size: int | None = None,
+        index: str | None = None,
+        after: str | None = None,
+        group: Group | None = None,
+    ) -> None:
+        """Where it is known that the program refuses the dump for its numbers, it is not asked."""
+        self._path, self._original = (None, path) if isinstance(path, Original) else (path, None)
+        dump = self._original.dump if self._path is None else dump_of(self._path)
+        super().__init__(dump, request, program, size=size, index=index, after=after, group=group)
+        self._is_bson, self._is_copied = is_bson, is_bson or is_known
+        self._probes: list[Probe] = []
+
+    def batches(self) -> Batches:
+        """The lines as they come, without their newlines, or documents. Closing this ends the program."""
+        paths = paths_of(self._request)
+        query = read_query(self._request.filter, paths, self._is_copied)
+        try:
+            if self._path is not None and not can_be_read_again(self._path):
+                self._original = Original.of(self._path)
+                self._dump = self._original.dump
+            if not self._is_copied and not (query and query.is_wide):
+                try:
+                    yield from super().batches()
+                    return
+                except DumpError as error:
+                    if not is_wide(error):
+                        raise
+                    query = read_query(self._request.filter, paths, True)
+            yield from self._by_copy(query or Query(self._request.filter))
+        finally:
+            if self._original and self._path is not None:
+                self._original.close()
+
+    def _by_copy(self, query: Query) -> Batches:
+        if query.refusals:
+            raise query.refusals[0]
+        if self._original is None:
+            assert self._path is not None
+            self._original = Original.of(self._path)
+        original, levels = self._original, {}
+        with temporary_file() as file:
+            write_copy(original, query, levels, self._program, self._group, file)
+            self._request = replace(self._request, filter=query.rewritten(levels))
+            self._dump, self._probes = Dump(path=f"/dev/fd/{file.fileno()}"), query.probes_at(levels)
+            try:
+                with places(query, levels):
+                    for lines in self._by_session():
+                        yield original.given(lines, self._is_bson, self._program, self._group)
+            except DumpError as error:
+                raise (original.fault(self._program, self._group) if error.fault else None) or error from None
+
+    def _begin(self, connection: Connection) -> None:
+        refuse_nan(connection, self._probes)
+
+
+def try_request(request: Request, program: str) -> bool:
+    """Asks no documents, so that a refused request is raised; gives whether it compares by doubles or decimal128."""
+    query = read_query(request.filter, paths_of(request))
+    levels: dict[str, int] = {}
+    if query and query.is_wide:
+        if query.refusals:
+            raise query.refusals[0]
+        query.settle(levels)
+        request = replace(request, filter=query.rewritten(levels))
+    with places(query, levels), Run([program, "find", "-", *request.words()]) as run:
+        run.finish()
+    return query is not None and query.is_wide

@@ -1,0 +1,297 @@
+"""Tests of questions about dumps with doubles and decimal128, from Python and by the commands `find` and `query`."""
+
+import gzip
+import json
+import os
+import struct
+import subprocess
+import sys
+import threading
+from decimal import Decimal
+from typing import List
+from unittest import mock
+
+from bsonfind import CommandError, DumpError, Session, count_documents, find, find_one
+
+from .support import DAMAGED, PATIENCE, PEOPLE, PROGRAM, Room, environment, run_package
+
+
+def document(*fields: bytes) -> bytes:
+    """A document of these fields."""
+    body = b"".join(fields)
+    return (len(body) + 5).to_bytes(4, "little") + body + b"\0"
+
+
+def whole(name: str, value: int) -> bytes:
+    """An int32."""
+    return b"\x10" + name.encode() + b"\0" + value.to_bytes(4, "little", signed=True)
+
+
+def double(name: str, value: float) -> bytes:
+    """A double."""
+    return b"\x01" + name.encode() + b"\0" + struct.pack("<d", value)
+
+
+def decimal(name: str, coefficient: int, power: int) -> bytes:
+    """A decimal128."""
+    return b"\x13" + name.encode() + b"\0" + (coefficient | power + 6176 << 113).to_bytes(16, "little")
+
+
+def array(name: str, *values: bytes) -> bytes:
+    """An array of fields; the names of its elements are theirs."""
+    return b"\x04" + name.encode() + b"\0" + document(*values)
+
+
+# Goods, of which the prices are of several types, and the names of elements of an array are not their positions.
+GOODS = [
+    document(whole("_id", 0), double("price", 9.5), decimal("cost", 1999, -2)),
+    document(whole("_id", 1), whole("price", 9), decimal("cost", 19, 0)),
+    document(whole("_id", 2), double("price", 10.25), decimal("cost", 190, -1)),
+    document(whole("_id", 3), array("price", double("7", 1.5), whole("7", 30)), decimal("cost", 5, 1)),
+    document(whole("_id", 4), double("price", -0.0), whole("cost", 50)),
+    document(whole("_id", 5)),
+]
+FIRST = '{"_id":{"$numberInt":"0"},"price":{"$numberDouble":"9.5"},"cost":{"$numberDecimal":"19.99"}}'
+
+
+class Goods(Room):
+    def setUp(self) -> None:
+        super().setUp()
+        self.path = self.file(b"".join(GOODS))
+
+    def ids(self, filter: dict, **how: object) -> List[int]:
+        """The ids of what is found, by a run."""
+        found = find(self.path, filter, program=PROGRAM, decode="bson", **how)
+        numbers = [GOODS.index(it) for it in found]
+        return numbers
+
+
+class Finds(Goods):
+    def test_queries_and_sorts(self) -> None:
+        """By a scan and by an index, from a run and from a session."""
+        cases = (
+            ({"price": {"$gt": 9.25}}, None, [0, 2, 3]),
+            ({"price": {"$gte": 9, "$lt": 10.25}}, None, [0, 1, 3]),
+            ({"price": 9.0}, None, [1]),
+            ({"price": 0}, None, [4]),
+            ({"price": {"$in": [10.25, 30.0, 7]}}, None, [2, 3]),
+            ({"price": {"$elemMatch": {"$lt": 2, "$gt": 1.25}}}, None, [3]),
+            ({"price.0": 1.5}, None, [3]),
+            ({"price": {"$size": 2}}, None, [3]),
+            ({"cost": {"$numberDecimal": "19.990"}}, None, [0]),
+            ({"cost": Decimal("19")}, None, [1, 2]),
+            ({"cost": 50.0}, None, [3, 4]),
+            ({"_id": {"$gt": 3.5}}, None, [4, 5]),
+            ({"price": {"$exists": True}}, [("price", 1)], [4, 3, 1, 0, 2]),
+            ({}, [("price", -1), ("_id", -1)], [3, 2, 0, 1, 4, 5]),
+            ({"cost": {"$type": "number"}}, {"cost": 1}, [1, 2, 0, 3, 4]),
+        )
+        with Session(self.path, PROGRAM) as session:
+            session.create_index("price")
+            for filter, sort, wanted in cases:
+                self.assertEqual(self.ids(filter, sort=sort), wanted, filter)
+                self.assertEqual(self.ids(filter, sort=sort, index="price"), wanted, filter)
+                for use in ("auto", "scan", {"index": "price"}):
+                    found = session.find(filter, sort=sort, use=use, decode="bson", batch_size=2)
+                    self.assertEqual([GOODS.index(it) for it in found], wanted, (filter, use))
+                self.assertEqual(session.count_documents(filter), len(wanted))
+                self.assertEqual(count_documents(self.path, filter, program=PROGRAM), len(wanted))
+            self.assertEqual(session.explain({"price": {"$gt": 9.25}})["plan"], "index")
+            session.drop_index("price")
+            self.assertEqual(session.explain({"price": {"$gt": 9.25}})["plan"], "scan")
+
+    def test_forms_of_documents(self) -> None:
+        plain = {"_id": 0, "price": 9.5, "cost": Decimal("19.99")}
+        with Session(self.path, PROGRAM) as session:
+            for decode, wanted in (("dict", json.loads(FIRST)), ("plain", plain), ("bytes", FIRST.encode()), ("bson", GOODS[0]), (len, len(FIRST))):
+                self.assertEqual(find_one(self.path, {"price": 9.5}, decode=decode, program=PROGRAM), wanted)
+                self.assertEqual(session.find_one({"price": 9.5}, decode=decode), wanted)
+        self.assertEqual(list(find(PEOPLE, decode="bson", program=PROGRAM)), list(find(PEOPLE, {"_id": {"$gte": -0.5}}, decode="bson", program=PROGRAM)))
+
+    def test_tokens(self) -> None:
+        """Those of a run and of a session are the same, also where the session had other questions before."""
+        filter, sort = {"price": {"$gte": 9}, "_id": {"$lt": 99.5}}, [("price", -1)]
+        with Session(self.path, PROGRAM) as session:
+            self.assertEqual(session.count_documents({"cost": 1.5, "none": 2.5}), 0)
+            token, found = None, []
+            while True:
+                answer = find(self.path, filter, sort=sort, batch_size=1, after=token, decode="bson", program=PROGRAM)
+                found += [GOODS.index(it) for it in answer]
+                token = answer.token
+                rest = session.find(filter, sort=sort, after=token, decode="bson")
+                self.assertEqual(found + [GOODS.index(it) for it in rest], [3, 2, 0, 1])
+                self.assertEqual(rest.token(), find_last(self.path, filter, sort))
+                if answer.end:
+                    break
+        with self.assertRaises(CommandError) as raised:
+            list(find(self.path, {"price": {"$gte": 9}}, after=token, program=PROGRAM))
+        self.assertEqual(raised.exception.text, "token of another dump or request")
+
+    def test_compressed_dumps_and_pipes(self) -> None:
+        pipe = self.room / "pipe"
+        os.mkfifo(pipe)
+        for path in (self.file(gzip.compress(b"".join(GOODS)), "dump.bson.gz"), pipe):
+            for ask in (
+                lambda path: list(find(path, {"cost": Decimal("19.99")}, decode="bytes", program=PROGRAM)),
+                lambda path: [ask_session(path)],
+            ):
+                if path is pipe:
+                    threading.Thread(target=pipe.write_bytes, args=[b"".join(GOODS)], daemon=True).start()
+                self.assertEqual(ask(path), [FIRST.encode()])
+
+    def test_nothing_is_prepared_where_nothing_needs_it(self) -> None:
+        self.script('echo bsonwide "$@" >>"$ROOM/starts"\nexec "$(dirname "$PROGRAM")/bsonwide" "$@"', "bsonwide")
+        program = self.counting()
+        self.assertEqual(len(list(find(PEOPLE, {"age": {"$gte": 99}}, program=program))), 5)
+        with Session(PEOPLE, program) as session:
+            self.assertEqual(session.count_documents({"age": {"$gte": 99}}), 5)
+            self.assertFalse(any(it.startswith("bsonwide") for it in self.starts()))
+            self.assertEqual(session.count_documents({"age": {"$gte": 98.5}}), 5)
+            self.assertEqual(session.count_documents({"age": {"$lt": 98.5}}), 495)
+            # A copy serves all requests of its kind.
+            self.assertEqual([it for it in self.starts() if it.startswith("bsonwide")], ["bsonwide order - age"])
+
+    def test_paths_are_found_by_asking(self) -> None:
+        self.script('echo bsonwide "$@" >>"$ROOM/starts"\nexec "$(dirname "$PROGRAM")/bsonwide" "$@"', "bsonwide")
+        with Session(self.path, self.counting()) as session:
+            self.assertEqual(session.count_documents({}), 6)
+        orders = [it for it in self.starts() if it.startswith("bsonwide order")]
+        self.assertEqual(orders[-1], "bsonwide order - cost*100 price")
+
+    def test_damage(self) -> None:
+        """A fault has its place in the dump, and not the one in the copy."""
+        for bad, place in ((DAMAGED, 'path "d": bad boolean'), (GOODS[0][:20], 'path "": bad length')):
+            data = b"".join(GOODS)
+            path = self.file(data + bad, "bad.bson")
+            byte = len(data) + (7 if bad is DAMAGED else 0)
+            for ask in (lambda: list(find(path, {"price": 9.5}, program=PROGRAM)), lambda: Session(path, PROGRAM), lambda: count_documents(path, program=PROGRAM)):
+                with self.assertRaises(DumpError) as raised:
+                    ask()
+                self.assertEqual(str(raised.exception), f"document 6, byte {byte}, {place}")
+                self.assertTrue(raised.exception.fault)
+
+    def test_what_is_refused(self) -> None:
+        """By name, with the place in the query or in the dump."""
+        nan = {"$numberDouble": "NaN"}
+        with Session(self.path, PROGRAM) as session:
+            for filter, text in (
+                ({"price": {"$type": "double"}}, 'place "price.$type": the types of numbers are not told apart here'),
+                ({"~n": 1}, 'place "~n": a path through the field ~n'),
+                ({"cost": {"$lt": 19.99}}, 'place "cost.$lt": 19.99 cannot be compared exactly'),
+                ({"price": {"$gt": nan}}, 'place "price.$gt": NaN is neither less nor greater'),
+            ):
+                for ask in (lambda: list(find(self.path, filter, program=PROGRAM)), lambda: list(session.find(filter)), lambda: session.count_documents(filter)):
+                    with self.assertRaises(CommandError) as raised:
+                        ask()
+                    self.assertIn(text, str(raised.exception))
+            self.assertEqual(session.count_documents({"price": nan}), 0)
+            with self.assertRaises(CommandError) as raised:
+                session.find({"a": 1.5, "é": {"$oid": "x"}})
+            self.assertEqual(raised.exception.args, ("json", 4, "bad wrapper", 18))
+            self.assertEqual(session.count_documents({"price": 9.5}), 1)
+        mixed = document(double("m", 0.1)) + document(whole("n", 1), decimal("m", 1, -1))
+        with self.assertRaises(DumpError) as raised:
+            list(find(self.file(mixed, "mixed.bson"), program=PROGRAM))
+        byte = len(document(double("m", 0.1))) + 4 + 7
+        self.assertIn("no codes hold all numbers of this field", str(raised.exception))
+        self.assertRegex(str(raised.exception), rf'^document (0, byte 4|1, byte {byte}), path "m"')
+
+    def test_nan(self) -> None:
+        """As a server has it: first in a sort, equal to itself, and neither less nor greater than a number."""
+        numbers = [3.5, float("nan"), -1.0, float("-inf")]
+        path = self.file(b"".join(document(double("x", it)) for it in numbers), "nan.bson")
+        nan = {"$numberDouble": "NaN"}
+
+        def places(filter: dict, **how: object) -> List[int]:
+            made = [document(double("x", it)) for it in numbers]
+            return [made.index(it) for it in find(path, filter, decode="bson", program=PROGRAM, **how)]
+
+        self.assertEqual(places({}, sort={"x": 1}), [1, 3, 2, 0])
+        self.assertEqual(places({"x": nan}), [1])
+        self.assertEqual(places({"x": {"$lte": nan}}), [1])
+        self.assertEqual(places({"x": {"$gt": -2}}), [0, 2])
+        self.assertEqual(places({"x": {"$lt": 3, "$ne": nan}}), [2, 3])
+        for filter in ({"x": {"$lt": 3}}, {"x": {"$not": {"$lte": 3}}}):
+            with self.assertRaises(CommandError) as raised:
+                places(filter)
+            self.assertIn('the field has NaN, which counts as the least number: add "$ne"', raised.exception.text)
+
+    def test_file_that_is_written_to(self) -> None:
+        with Session(self.path, PROGRAM) as session:
+            self.path.write_bytes(b"".join(reversed(GOODS)))
+            with self.assertRaises(DumpError) as raised:
+                session.find_one({"price": 9.5})
+            self.assertEqual(str(raised.exception), "the file was written to since it was opened")
+
+
+def find_last(path: object, filter: dict, sort: list) -> object:
+    """The token after all of an answer."""
+    answer = find(path, filter, sort=sort, program=PROGRAM)
+    list(answer)
+    return answer.token
+
+
+def ask_session(path: object) -> bytes:
+    """A line that a session gives."""
+    with Session(path, PROGRAM) as session:
+        return session.find_one({"cost": Decimal("19.99")}, decode="bytes")
+
+
+class Commands(Goods):
+    def run_find(self, *words: object, stdin: bytes = b"") -> tuple:
+        """The status, standard output and standard error of `find`."""
+        command = [sys.executable, "-m", "bsonfind", "--program", PROGRAM, "find", *words]
+        run = subprocess.run(command, env=environment(), input=stdin, stdout=subprocess.PIPE, stderr=subprocess.PIPE, timeout=PATIENCE)
+        return run.returncode, run.stdout, run.stderr.decode()
+
+    def test_find(self) -> None:
+        """What is printed is what the program prints: over a dump without doubles by itself."""
+        own = subprocess.run([PROGRAM, "find", PEOPLE, '--query={"age":99}', "--limit=2"], stdout=subprocess.PIPE, stderr=subprocess.PIPE)
+        self.assertEqual(self.run_find(PEOPLE, '--query={"age":99}', "--limit=2"), (0, own.stdout, own.stderr.decode()))
+        for word, stdin in ((self.path, b""), ("-", b"".join(GOODS))):
+            status, lines, told = self.run_find(word, "--query", '{"price":{"$gt":9.25}}', "--batch", "1", stdin=stdin)
+            self.assertEqual((status, lines), (0, FIRST.encode() + b"\n"))
+            self.assertRegex(told, r"^1 documents, more, token \S{60}\n$")
+            token = told.split()[-1]
+            status, data, told = self.run_find(word, "--query", '{"price":{"$gt":9.25}}', "--after", token, "--bson", stdin=stdin)
+            self.assertEqual((status, data), (0, GOODS[2] + GOODS[3]))
+            self.assertRegex(told, r"^2 documents, end, token \S{60}\n$")
+        self.assertEqual(self.run_find(self.path, "--bson")[:2], (0, b"".join(GOODS)))
+        self.assertEqual(self.run_find(self.path, "--query", '{"price":1.5}', "--batch", "0"), (0, b"", "0 documents, more\n"))
+
+    def test_refusals(self) -> None:
+        for words, told in (
+            (("--query", '{"price":{"$type":1}}'), 'query: place "price.$type": the types of numbers are not told apart here: ask for "number" in place of "double"'),
+            (("--query", '{"price":{"$x":1}}'), 'query: place "price.$x": unknown operator'),
+            (("--query", '{"price":1.5,"a":'), "query: byte 17: not JSON"),
+            (("--sort", '{"price":2}'), "sort: not a sort"),
+            (("--after", "x", "--query", '{"price":1.5}'), "token: not a token"),
+        ):
+            self.assertEqual(self.run_find(self.path, *words), (2, b"", f"bsonfind: {told}\n"))
+        bad = self.file(b"".join(GOODS) + DAMAGED, "bad.bson")
+        told = f'bsonfind: document 6, byte {len(b"".join(GOODS)) + 7}, path "d": bad boolean\n'
+        self.assertEqual(self.run_find(bad), (1, b"", told))
+
+    def test_query_of_many_files(self) -> None:
+        """Of dumps with doubles and without, in parts of 100 bytes; one has its doubles late."""
+        late = self.file(PEOPLE.read_bytes() + b"".join(GOODS), "late.bson")
+        packed = self.file(gzip.compress(b"".join(GOODS)), "goods.bson.gz")
+        names = [str(it) for it in (self.path, PEOPLE, packed, late)]
+        run = run_package("query", *names, "--query", '{"price":9.5}')
+        lines = [f"{names[at]}\t{FIRST}" for at in (0, 2, 3)]
+        self.assertEqual((run.returncode, run.stdout.splitlines(), run.stderr), (0, lines, "3 documents in 3 of 4 files\n"))
+        run = run_package("query", *names, "--query", '{"cost":{"$exists":true},"_id":0}')
+        self.assertEqual((run.returncode, run.stdout.splitlines()), (0, lines))
+
+    def test_query_in_parts(self) -> None:
+        from bsonfind._backups import Dump
+        from bsonfind._query import query_dumps
+        from bsonfind._requests import Request
+
+        paths = [str(self.path), str(self.file(gzip.compress(b"".join(GOODS)), "goods.bson.gz"))]
+        with mock.patch("bsonfind._query.MOST_HELD", 100):
+            found = list(query_dumps([Dump(path) for path in paths], Request('{"_id":{"$in":[0,5]}}'), 2, PROGRAM))
+        self.assertEqual([it.error for it in found], [None] * len(found))
+        for path in paths:
+            lines = [line.decode() for it in found for line in it.lines if it.name == path]
+            self.assertEqual(lines, [FIRST, '{"_id":{"$numberInt":"5"}}'])

@@ -1,0 +1,182 @@
+#!/usr/bin/env python3
+"""Asks random dumps with doubles and decimal128 from Python, by scans and indexes, and compares with a model.
+
+    tests/wide/questions.py [PROGRAM [DUMPS [SEED]]]
+
+The program is `bsonfind`, with `bsonwide` beside it. The model compares all numbers exactly, as MongoDB does, and the documents
+that are found must be those of the dump to the byte. What is refused for its numbers is counted, and must be one of what is said to be.
+"""
+
+import random
+import struct
+import sys
+import tempfile
+from decimal import Decimal
+from pathlib import Path
+
+sys.path[:0] = [str(Path(__file__).resolve().parents[1]), str(Path(__file__).resolve().parents[2] / "python")]
+
+from model.answers import BadFilter, Dump, Request, Value, check_filter, encoded, path_fault, sort_pairs
+from model.inputs import Inputs
+from support import PROGRAM as BUILT
+from support import Tests
+
+from bsonfind import CommandError, DumpError, Session, find
+
+PROGRAM = str(Path(sys.argv[1]).resolve()) if len(sys.argv) > 1 else str(BUILT)
+DUMPS = int(sys.argv[2]) if len(sys.argv) > 2 else 200
+SEED = int(sys.argv[3]) if len(sys.argv) > 3 else 58
+REQUESTS = 25
+
+# Of each kind of dump its numbers: those that doubles equal, amounts with two digits, and all at once.
+DOUBLES = [0.0, -0.0, 0.1, 0.5, 1.0, 1.5, 2.0, -1.0, -1.5, 9.99, 3.0, 1e300, -1e300, 5e-324, 2.0**53, 2.0**53 + 2, float("inf"), float("-inf"), float("nan")]
+DYADIC = ["0", "-0", "0.0", "0.5", "1", "1.0", "1.50", "2E+0", "-1", "3.00", "9007199254740992", "9007199254740994", "Infinity", "-Infinity", "NaN", "1E+2"]
+CENTS = ["0", "0.00", "0.10", "0.1", "1", "1.00", "1.50", "2.0", "-1.25", "19.99", "9.99", "3E+0", "90071992547409.93", "-0.01"]
+WHOLE = [0, 1, 1, 2, 2, 3, 5, -1, 1 << 53, -(1 << 53)]
+ANY = [*WHOLE, (1 << 53) + 1, (1 << 53) - 1, (1 << 63) - 1, -(1 << 63)]
+WHOLE_DOUBLES = [it for it in DOUBLES if it == it and abs(it) <= 2.0**53 and it == int(it)]
+
+
+def double(value: float) -> Value:
+    return Value("double", struct.pack("<d", value))
+
+
+class WideInputs(Inputs):
+    """Makes inputs in which most scalars are numbers of all types."""
+
+    def __init__(self, rng: random.Random) -> None:
+        super().__init__(rng)
+        self.profile = "doubles"
+
+    def scalar(self) -> Value:
+        rng, chosen = self.rng, self.rng.randrange(8)
+        if chosen == 0:
+            return super().scalar()
+        if chosen <= 3:
+            whole = rng.choice(ANY if self.profile == "all" else WHOLE)
+            return Value("int" if abs(whole) < 1 << 31 and self.chance(0.6) else "long", whole)
+        if self.profile == "cents":
+            return double(rng.choice([0.0, 0.5, 0.25, 1.0, -1.25, 2.0])) if chosen == 4 else Value("decimal", Decimal(rng.choice(CENTS)))
+        if self.profile == "whole":
+            return double(rng.choice(WHOLE_DOUBLES)) if chosen <= 6 else Value("decimal", Decimal(rng.choice(["0", "1.0", "2E+0", "-1.00", "5"])))
+        if chosen == 7:
+            return Value("decimal", Decimal(rng.choice([*DYADIC, *CENTS] if self.profile == "all" else DYADIC)))
+        value = rng.choice(DOUBLES)
+        return double(value if value == value or self.chance(0.3) else 1.5)
+
+    def documents(self) -> list[Value]:
+        self.profile = self.rng.choice(["doubles", "doubles", "doubles", "cents", "whole", "all"])
+        made = super().documents()
+        self.kinds = []
+        return made
+
+    def text(self, value: Value) -> str:
+        """Doubles are bare here and there, where JSON has them."""
+        if value.kind == "double":
+            number = struct.unpack("<d", value.of)[0]
+            if number == number and abs(number) != float("inf") and self.chance(0.5):
+                return repr(number)
+        return super().text(value)
+
+
+# Why a request or a dump is refused for its numbers.
+REASONS = (
+    "cannot be compared exactly with the numbers of this field",
+    "the types of numbers are not told apart here",
+    "a path through the field ~n",
+    "the field has NaN, which counts as the least number",
+    "NaN is neither less nor greater than a number",
+    "no codes hold all numbers of this field",
+)
+
+
+class Asking:
+    """The comparison of one dump after the other with the model."""
+
+    def __init__(self, rng: random.Random, room: str) -> None:
+        self.rng, self.tests, self.room = rng, Tests(), Path(room)
+        self.inputs = WideInputs(rng)
+        self.refused = dict.fromkeys(REASONS, 0)
+
+    def ask_dump(self, number: int) -> None:
+        """Asks a dump by a session, and once by a run."""
+        documents = self.inputs.documents()
+        model, path = Dump(documents), self.room / "dump.bson"
+        path.write_bytes(model.bytes)
+        try:
+            with Session(path, PROGRAM) as session:
+                for _ in range(self.rng.choice([0, 0, 1, 2])):
+                    index = self.inputs.path()
+                    if not path_fault(index):
+                        try:
+                            session.create_index(index, sparse=self.rng.random() < 0.3)
+                        except CommandError as error:  # The session has it already.
+                            self.tests.want(f"dump {number}: index", error.layer == "session", error)
+                token = None
+                for turn in range(REQUESTS):
+                    request, texts = self.request()
+                    name = f"dump {number}, {texts}"
+                    self.ask(name, model, request, lambda: list(session.find(Raw(texts[0]), sort=Raw(texts[1]), skip=request.skip, limit=request.limit, decode="bson")))
+                    if turn == 0:
+                        self.ask(f"{name}: a run", model, request, lambda: list(find(path, Raw(texts[0]), sort=Raw(texts[1]), skip=request.skip, limit=request.limit, decode="bson", program=PROGRAM)))
+                        self.ask(f"{name}: an index", model, request, lambda: list(find(path, Raw(texts[0]), sort=Raw(texts[1]), skip=request.skip, limit=request.limit, decode="bson", index="a", program=PROGRAM)))
+        except DumpError as error:
+            self.note(f"dump {number}", error)
+
+    def request(self) -> tuple[Request, tuple[str, str]]:
+        query, sort = self.inputs.filter(), self.inputs.sort()
+        request = Request(query, sort, self.rng.choice([0, 0, 0, 1, 2]), self.rng.choice([0, 0, 0, 1, 5]))
+        return request, (self.inputs.text(query), self.inputs.text(sort))
+
+    def ask(self, name: str, model: Dump, request: Request, answer: object) -> None:
+        try:
+            check_filter(request.query)
+            fault = None if sort_pairs(request.sort) is not None else "sort"
+        except BadFilter as error:
+            fault = error.number
+        try:
+            found = answer()
+        except (CommandError, DumpError) as error:
+            if isinstance(error, CommandError) and error.layer != "numbers":
+                told = error.number if error.layer == "filter" else "sort" if error.text == "not a sort" else error.layer
+                self.tests.want(name, told == fault or (fault is not None and told in ("json", "path", "sort")), (error, fault))
+            else:
+                self.note(name, error)
+            return
+        wanted = None if fault else [encoded(model.documents[place]) for place in model.answer(request)]
+        self.tests.want(name, found == wanted, (found, wanted))
+
+    def note(self, name: str, error: Exception) -> None:
+        reason = next((it for it in REASONS if it in str(error)), None)
+        self.tests.want(name, reason is not None, error)
+        if reason:
+            self.refused[reason] += 1
+
+
+class Raw(str):
+    """A text of JSON that stands for what it says."""
+
+
+def main() -> int:
+    import bsonfind._requests as requests
+
+    plain = requests.text_of
+    requests.text_of = lambda value: str(value) if isinstance(value, Raw) else plain(value)
+    of = requests.Request.of.__func__
+
+    def raw_of(cls, filter=None, sort=None, skip=0, limit=0):  # noqa: ANN001, ANN202
+        return requests.Request(str(filter), str(sort), skip, limit) if isinstance(filter, Raw) else of(cls, filter, sort, skip, limit)
+
+    requests.Request.of = classmethod(raw_of)
+    with tempfile.TemporaryDirectory() as room:
+        asking = Asking(random.Random(SEED), room)
+        for number in range(DUMPS):
+            asking.ask_dump(number)
+    for reason, count in asking.refused.items():
+        print(f"refused {count} times: {reason}")
+    print(f"{asking.tests.passed} passed, {asking.tests.failed} failed")
+    return int(asking.tests.failed > 0)
+
+
+if __name__ == "__main__":
+    sys.exit(main())
