@@ -1,15 +1,15 @@
 -- The first refused number among elements.
-use Rattle.std.proofs.Common.{◌≡◌, ℕ, zero, suc, ◌+◌, ◌-◌, ◌<◌, ◌≤◌, List, [], ◌∷◌, length, take, drop, Option, Some, None, refl, sym, ap, ◌∙◌, arith, subst, Bool, true, false, true≢false, Result, Ok, Err, IfOk}
+use Rattle.std.proofs.Common.{◌≡◌, ℕ, zero, suc, ◌+◌, ◌-◌, ◌<◌, ◌≤◌, List, [], ◌∷◌, length, take, drop, Option, Some, None, refl, sym, ap, ◌∙◌, arith, Bool, true, false, true≢false, Result, Ok, Err, IfOk}
 use Rattle.bd_raw.specs.declared.raw_parts.ElementType.{ElementType}
-use Rattle.bd_wide.specs.Rewritten.{front}
+use Rattle.bd_wide.specs.declared.element.Part.{Part}
+use Rattle.bd_wide.specs.Rewritten.{front, part_of, path_of}
+use Rattle.bd_raw.specs.declared.raw_parts.Holder.{Holder}
 use Rattle.bd_raw.specs.declared.raw_parts.Holder.TheVariants as holders
-use Rattle.std.specs.Io.{StartsWith}
+use Rattle.bd_wide.specs.declared.find.Refusal.{Refusal}
 use Rattle.std.specs.Option.{is_some}
-use Rattle.bd_value.proofs.FrontLemmas.{front_then}
-use Rattle.std.proofs.Math.Seq.{take-append_seam, take-length}
 use Rattle.bd_wide.specs.declared.find.Found.{Found}
-use Rattle.bd_wide.specs.Refused.{Refused, Refuses, Element, Finds, FindsPlaced, first_of_two, name_in, path_of, refused_body, refused_element, refused_elements, refused_nested, refused_scope}
-use Rattle.bd_wide.proofs.WalkLemmas.{shorter, front_nil}
+use Rattle.bd_wide.specs.Refused.{Refused, Refuses, Element, Finds, FindsPlaced, first_of_two, refused_body, refused_element, refused_elements, refused_nested, refused_part, refused_scope}
+use Rattle.bd_wide.proofs.WalkLemmas.{path_back, shorter, front_nil}
 
 -- one turn, by what stands at the front
 abbrev pub Turn : Element → (List ℕ → List ℕ) → ℕ → ℕ → List ℕ → Option (ElementType × ℕ × ℕ) → Option Refused
@@ -89,22 +89,20 @@ passed_on element b old at here bytes rest head more value after path new t k n 
       finds.1 ∙ p,
     )
 
--- the path is cut to what it was
-own_begins : (b : Bool) (old head : List ℕ) → StartsWith (path_of b old head) old
-own_begins true old head = take-length old
-own_begins false old head = take-append_seam old (name_in head)
-
 pub restored : (F : List ℕ → Option Refused) (b : Bool) (old head own after new : List ℕ) (size : ℕ) (found : Option Found) → own ≡ path_of b old head → size ≡ length old
     → FindsPlaced (F own) own after found → is_some found ≡ false → new ≡ take size after → Finds (F (path_of b old head)) old new found
 restored F b old head own after new size (Some f) is here placed none cut = absurd (true≢false none)
-restored F b old head own after new size None is here placed none cut =
-    let begun : StartsWith own old = subst (λ (p : List ℕ). StartsWith p old) (sym is) (own_begins b old head) in
-    (ap F (sym is) ∙ placed.0, cut ∙ ap (λ n. take n after) here ∙ front_then old own after begun placed.1)
+restored F b old head own after new size None is here placed none cut = (ap F (sym is) ∙ placed.0, path_back b old head own after new size is here placed.1 cut)
 
 pub kept_path : (F : List ℕ → Option Refused) (b : Bool) (old head own after : List ℕ) (found : Option Found) → own ≡ path_of b old head
     → FindsPlaced (F own) own after found → is_some found ≡ true → Finds (F (path_of b old head)) old after found
 kept_path F b old head own after None is placed yes_is = absurd (true≢false (sym yes_is))
 kept_path F b old head own after (Some f) is placed yes_is = ap F (sym is) ∙ placed
+
+pub part_refused : (refuses : List ℕ → ElementType → List ℕ → Option Refusal) (nested : Holder → List ℕ → ℕ → List ℕ → Option Refused) (part : Option Part) (type : ElementType) (path : List ℕ) (at k : ℕ) (value : List ℕ)
+    → part ≡ part_of type → refused_element refuses nested type path at k value ≡ refused_part refuses nested part type path at k value
+unfolding refused_element
+part_refused refuses nested part type path at k value is = ap (λ p. refused_part refuses nested p type path at k value) (sym is)
 
 pub deeper : (refuses : Refuses) (room : ℕ) (path : List ℕ) (at : ℕ) (value : List ℕ) → 0 < room
     → (refused_nested refuses room holders.Document path at value ≡ refused_body (refused_element (refuses (room - 1)) (refused_nested refuses (room - 1))) (path_of false path) at value)
@@ -119,7 +117,10 @@ deeper refuses (suc room) path at value some =
       ap (λ r. refused_scope (refused_nested refuses r holders.Document path) at value) s,
     )
 
+pub finds_same : (found : Option Found) (one two : Option Refused) (old new : List ℕ) → two ≡ one → Finds one old new found → Finds two old new found
+finds_same None one two old new same h = (same ∙ h.0, h.1)
+finds_same (Some f) one two old new same h = same ∙ h
+
 pub finds_as : {E : Type 0} (r : Result (Option Found) E) (one two : Option Refused) (old new : List ℕ) → two ≡ one → IfOk r (Finds one old new) → IfOk r (Finds two old new)
 finds_as (Err e) one two old new same h = _
-finds_as (Ok None) one two old new same h = (same ∙ h.0, h.1)
-finds_as (Ok (Some f)) one two old new same h = same ∙ h
+finds_as (Ok found) one two old new same h = finds_same found one two old new same h

@@ -7,7 +7,7 @@ use Rattle.bd_raw.specs.declared.raw_parts.ElementType.TheVariants.{Kept, Double
 use Rattle.bd_raw.specs.declared.raw_parts.Holder.{Holder}
 use Rattle.bd_raw.specs.declared.raw_parts.Holder.TheVariants as holders
 use Rattle.bd_raw.specs.{Spelling.type_at, Spelling.number, Sizes.number_of, Unique.number_length}
-use Rattle.bd_wide.specs.Rewritten.{◌>>=◌, Writes, Others, Nested, fixed, counted, first_zero, two_texts, size_at, front, least, holder_least, scope_at, IsElement, AreElements, IsBody, IsScoped, IsNested, IsRewritten}
+use Rattle.bd_wide.specs.Rewritten.{◌>>=◌, Writes, Others, Nested, fixed, counted, first_zero, two_texts, size_at, front, least, holder_least, part_of, path_of, separator, scope_at, IsElement, AreElements, IsBody, IsScoped, IsNested, IsRewritten}
 use Rattle.bd_wide.proofs.WalkLemmas.{Turn, to_turn, none_only, no_turn, ScopeTurn, to_scope}
 
 -- ---- sizes
@@ -105,11 +105,11 @@ front_fits (b ∷ bytes) x is = named (length (b ∷ bytes)) (type_at b) (first_
 -- ---- what is written
 
 pub record Keeps (Is : Writes) (others : Others) : Type 0 where
-  pub element : (t : ElementType) (head value new : List ℕ) → 2 ≤ length head → least t ≤ length value → Is t head value new → length new ≡ length head + length value
+  pub element : (path : List ℕ) (t : ElementType) (head value new : List ℕ) → 2 ≤ length head → least t ≤ length value → Is path t head value new → length new ≡ length head + length value
   pub rest : (bytes : List ℕ) → length (others bytes) ≡ length bytes
 
 abbrev KeepsNested : Nested → Type 0
-KeepsNested f = (h : Holder) (value new : List ℕ) → holder_least h ≤ length value → f h value new → length new ≡ length value
+KeepsNested f = (h : Holder) (path value new : List ℕ) → holder_least h ≤ length value → f h path value new → length new ≡ length value
 
 headed_keeps : (f : List ℕ → Type 0) (head value new : List ℕ) → ((v : List ℕ) → f v → length v ≡ length value) → (v : List ℕ) × f v × (new ≡ head ++ v) → length new ≡ length head + length value
 headed_keeps f head value new below h = omega (arith, ap (λ xs. length xs) h.2, length-append head h.0, below h.0 h.1)
@@ -117,24 +117,24 @@ headed_keeps f head value new below h = omega (arith, ap (λ xs. length xs) h.2,
 same_keeps : (head value new : List ℕ) → new ≡ head ++ value → length new ≡ length head + length value
 same_keeps head value new h = ap (λ xs. length xs) h ∙ length-append head value
 
-element_keeps : (Is : Writes) (others : Others) → Keeps Is others → (f : Nested) → KeepsNested f → (t : ElementType) (head value new : List ℕ) → 2 ≤ length head → least t ≤ length value
-    → IsElement Is f t head value new → length new ≡ length head + length value
-unfolding IsElement least holder_least
-element_keeps Is others keeps f below Double head value new two some h = keeps.element Double head value new two some h
-element_keeps Is others keeps f below Decimal128 head value new two some h = keeps.element Decimal128 head value new two some h
-element_keeps Is others keeps f below (Kept kinds.Int32) head value new two some h = keeps.element (Kept kinds.Int32) head value new two some h
-element_keeps Is others keeps f below (Kept kinds.Int64) head value new two some h = keeps.element (Kept kinds.Int64) head value new two some h
-element_keeps Is others keeps f below (Kept kinds.Doc) head value new two some h = headed_keeps (f holders.Document value) head value new (λ v. below holders.Document value v some) h
-element_keeps Is others keeps f below (Kept kinds.Array) head value new two some h = headed_keeps (f holders.Array value) head value new (λ v. below holders.Array value v some) h
-element_keeps Is others keeps f below (Kept kinds.CodeScope) head value new two some h = headed_keeps (f holders.CodeScope value) head value new (λ v. below holders.CodeScope value v some) h
-element_keeps Is others keeps f below (Kept _) head value new two some h = same_keeps head value new h
+element_keeps : (Is : Writes) (others : Others) → Keeps Is others → (f : Nested) → KeepsNested f → (path : List ℕ) (t : ElementType) (head value new : List ℕ) → 2 ≤ length head → least t ≤ length value
+    → IsElement Is f path t head value new → length new ≡ length head + length value
+unfolding IsElement part_of least holder_least
+element_keeps Is others keeps f below path Double head value new two some h = keeps.element path Double head value new two some h
+element_keeps Is others keeps f below path Decimal128 head value new two some h = keeps.element path Decimal128 head value new two some h
+element_keeps Is others keeps f below path (Kept kinds.Int32) head value new two some h = keeps.element path (Kept kinds.Int32) head value new two some h
+element_keeps Is others keeps f below path (Kept kinds.Int64) head value new two some h = keeps.element path (Kept kinds.Int64) head value new two some h
+element_keeps Is others keeps f below path (Kept kinds.Doc) head value new two some h = headed_keeps (f holders.Document (path ++ separator holders.Document) value) head value new (λ v. below holders.Document (path ++ separator holders.Document) value v some) h
+element_keeps Is others keeps f below path (Kept kinds.Array) head value new two some h = headed_keeps (f holders.Array (path ++ separator holders.Array) value) head value new (λ v. below holders.Array (path ++ separator holders.Array) value v some) h
+element_keeps Is others keeps f below path (Kept kinds.CodeScope) head value new two some h = headed_keeps (f holders.CodeScope (path ++ separator holders.CodeScope) value) head value new (λ v. below holders.CodeScope (path ++ separator holders.CodeScope) value v some) h
+element_keeps Is others keeps f below path (Kept _) head value new two some h = same_keeps head value new h
 
-elements_keep : (Is : Writes) (others : Others) → Keeps Is others → (f : Nested) → KeepsNested f → (n : ℕ) (bytes new : List ℕ) → AreElements Is others f n bytes new → length new ≡ length bytes
-elements_keep Is others keeps f below zero bytes new h = ap (λ xs. length xs) (no_turn Is others f bytes new h)
-elements_keep Is others keeps f below (suc n) [] new h = ap (λ xs. length xs) (none_only Is others f (suc n) new h)
-elements_keep Is others keeps f below (suc n) (b ∷ bytes) new h =
+elements_keep : (Is : Writes) (others : Others) → Keeps Is others → (f : Nested) → KeepsNested f → (own : List ℕ → List ℕ) (n : ℕ) (bytes new : List ℕ) → AreElements Is others f own n bytes new → length new ≡ length bytes
+elements_keep Is others keeps f below own zero bytes new h = ap (λ xs. length xs) (no_turn Is others f own bytes new h)
+elements_keep Is others keeps f below own (suc n) [] new h = ap (λ xs. length xs) (none_only Is others f own (suc n) new h)
+elements_keep Is others keeps f below own (suc n) (b ∷ bytes) new h =
     let all : List ℕ = b ∷ bytes in
-    let here : (r : Option (ElementType × ℕ × ℕ)) → front all ≡ r → Turn Is others f n all r new → length new ≡ length all = elim [
+    let here : (r : Option (ElementType × ℕ × ℕ)) → front all ≡ r → Turn Is others f own n all r new → length new ≡ length all = elim [
       | None ↦ λ is t. ap (λ xs. length xs) t ∙ keeps.rest all
       | Some x ↦ λ is t.
           let fits = front_fits all x is in
@@ -143,19 +143,19 @@ elements_keep Is others keeps f below (suc n) (b ∷ bytes) new h =
           let rest : List ℕ = drop x.2 (drop x.1 all) in
           let hs : length head ≡ x.1 = length-take-le x.1 all (omega (arith, fits.2)) in
           let vs : length value ≡ x.2 = length-take-le x.2 (drop x.1 all) (omega (arith, fits.2, length-drop x.1 all)) in
-          let one = element_keeps Is others keeps f below x.0 head value t.0 (omega (arith, hs, fits.0)) (omega (arith, vs, fits.1)) t.2 in
-          let two = elements_keep Is others keeps f below n rest t.1 t.3 in
+          let one = element_keeps Is others keeps f below (own head) x.0 head value t.0 (omega (arith, hs, fits.0)) (omega (arith, vs, fits.1)) t.2 in
+          let two = elements_keep Is others keeps f below own n rest t.1 t.3 in
           omega (arith, ap (λ xs. length xs) t.4, length-append t.0 t.1, one, two, hs, vs, fits.2, length-drop x.2 (drop x.1 all), length-drop x.1 all)
     ] in
-    here (front all) refl (to_turn Is others f n b bytes new h)
+    here (front all) refl (to_turn Is others f own n b bytes new h)
 
-body_keeps : (Is : Writes) (others : Others) → Keeps Is others → (f : Nested) → KeepsNested f → (value new : List ℕ) → 5 ≤ length value → IsBody Is others f value new → length new ≡ length value
+body_keeps : (Is : Writes) (others : Others) → Keeps Is others → (f : Nested) → KeepsNested f → (own : List ℕ → List ℕ) (value new : List ℕ) → 5 ≤ length value → IsBody Is others f own value new → length new ≡ length value
 unfolding IsBody
-body_keeps Is others keeps f below value new some h =
+body_keeps Is others keeps f below own value new some h =
     let inner : List ℕ = take (length value - 5) (drop 4 value) in
     let last : List ℕ = drop (length value - 1) value in
     let i : length inner ≡ length value - 5 = length-take-le (length value - 5) (drop 4 value) (omega (arith, length-drop 4 value)) in
-    let n : length h.0 ≡ length inner = elements_keep Is others keeps f below (length inner) inner h.0 h.1 in
+    let n : length h.0 ≡ length inner = elements_keep Is others keeps f below own (length inner) inner h.0 h.1 in
     omega (arith, ap (λ xs. length xs) h.2, length-append (number (length h.0 + 5)) (h.0 ++ last), number_length (length h.0 + 5), length-append h.0 last, length-drop (length value - 1) value, i, n)
 
 scope_cases : (count size n at : ℕ) (b : Bool) → (count == 0 || nat_lt size (8 + count + 5) || not (n == size - (8 + count))) ≡ b → (if b then None else Some (8 + count)) ≡ Some at → (8 ≤ at) × (at + 5 ≤ size)
@@ -185,28 +185,28 @@ scoped_keeps document below value new h =
 
 nested_keeps : (Is : Writes) (others : Others) → Keeps Is others → (room : ℕ) → KeepsNested (IsNested Is others room)
 unfolding IsNested holder_least
-nested_keeps Is others keeps zero h value new some is = ap (λ xs. length xs) is
-nested_keeps Is others keeps (suc room) holders.Document value new some is = body_keeps Is others keeps (IsNested Is others room) (nested_keeps Is others keeps room) value new some is
-nested_keeps Is others keeps (suc room) holders.Array value new some is = body_keeps Is others keeps (IsNested Is others room) (nested_keeps Is others keeps room) value new some is
-nested_keeps Is others keeps (suc room) holders.CodeScope value new some is =
-    scoped_keeps (IsNested Is others room holders.Document) (λ v n h. nested_keeps Is others keeps room holders.Document v n h) value new is
+nested_keeps Is others keeps zero h path value new some is = ap (λ xs. length xs) is
+nested_keeps Is others keeps (suc room) holders.Document path value new some is = body_keeps Is others keeps (IsNested Is others room) (nested_keeps Is others keeps room) (path_of false path) value new some is
+nested_keeps Is others keeps (suc room) holders.Array path value new some is = body_keeps Is others keeps (IsNested Is others room) (nested_keeps Is others keeps room) (path_of true path) value new some is
+nested_keeps Is others keeps (suc room) holders.CodeScope path value new some is =
+    scoped_keeps (IsNested Is others room holders.Document path) (λ v n h. nested_keeps Is others keeps room holders.Document path v n h) value new is
 
 pub long_enough : (bytes : List ℕ) → nat_lt (length bytes) 5 ≡ false → 5 ≤ length bytes
 long_enough bytes at = grind (arith, nat_tests)
 
 abbrev pub WholeTurn : Writes → Others → List ℕ → List ℕ → Bool → Type 0
 WholeTurn Is others bytes new true = new ≡ bytes
-WholeTurn Is others bytes new false = IsNested Is others 200 holders.Document bytes new
+WholeTurn Is others bytes new false = IsNested Is others 200 holders.Document [] bytes new
 
 pub to_whole : (Is : Writes) (others : Others) (bytes new : List ℕ) → IsRewritten Is others bytes new → WholeTurn Is others bytes new (nat_lt (length bytes) 5)
 unfolding IsRewritten
-to_whole Is others bytes new = elim (nat_lt (length bytes) 5) as (λ b. (elim b [ true ↦ new ≡ bytes | false ↦ IsNested Is others 200 holders.Document bytes new ]) → WholeTurn Is others bytes new b) [ true ↦ λ h. h | false ↦ λ h. h ]
+to_whole Is others bytes new = elim (nat_lt (length bytes) 5) as (λ b. (elim b [ true ↦ new ≡ bytes | false ↦ IsNested Is others 200 holders.Document [] bytes new ]) → WholeTurn Is others bytes new b) [ true ↦ λ h. h | false ↦ λ h. h ]
 
 pub rewritten_keeps : (Is : Writes) (others : Others) → Keeps Is others → (bytes new : List ℕ) → IsRewritten Is others bytes new → length new ≡ length bytes
 unfolding holder_least
 rewritten_keeps Is others keeps bytes new h =
     let cases : (b : Bool) → nat_lt (length bytes) 5 ≡ b → WholeTurn Is others bytes new b → length new ≡ length bytes = elim [
       | true ↦ λ is t. ap (λ xs. length xs) t
-      | false ↦ λ is t. nested_keeps Is others keeps 200 holders.Document bytes new (long_enough bytes is) t
+      | false ↦ λ is t. nested_keeps Is others keeps 200 holders.Document [] bytes new (long_enough bytes is) t
     ] in
     cases (nat_lt (length bytes) 5) refl (to_whole Is others bytes new h)

@@ -1,5 +1,5 @@
 -- What has no number that is refused stays as it is, where all others do.
-use Rattle.std.proofs.Common.{◌≡◌, ℕ, zero, suc, ◌+◌, ◌-◌, ◌<◌, ◌≤◌, List, [], ◌∷◌, ◌++◌, length, take, drop, get_or, Option, Some, None, refl, sym, ap, ap₂, ◌∙◌, subst, arith, append_assoc, append-nil, length-append, length-drop, length-take, take-append-drop, Bool, true, false, not, nat_lt, inl, inr, drop-drop, ◌==◌, ◌||◌, if◌then◌else◌, codes, option_map}
+use Rattle.std.proofs.Common.{◌≡◌, ℕ, zero, suc, ◌+◌, ◌-◌, ◌<◌, ◌≤◌, List, [], ◌∷◌, ◌++◌, length, take, drop, get_or, Option, Some, None, refl, sym, ap, ap₂, ◌∙◌, subst, arith, append_assoc, length-drop, length-take, take-append-drop, Bool, true, false, not, nat_lt, inl, inr, drop-drop, ◌==◌, ◌||◌, if◌then◌else◌, option_map}
 use Rattle.std.proofs.lemmas.{Bool.cases_lt, Bool.Decides.nat_tests, Nat.le_bytes_4, List.get_or-drop, List.get_or-take, List.length-take-le, List.take-take, List.get_or_past}
 use Rattle.std.specs.Int.{w32, from_le_bytes}
 use Rattle.bd_value.specs.declared.node.Kind.TheVariants as kinds
@@ -8,12 +8,12 @@ use Rattle.bd_raw.specs.declared.raw_parts.ElementType.TheVariants.{Kept, Double
 use Rattle.bd_raw.specs.declared.raw_parts.Holder.{Holder}
 use Rattle.bd_raw.specs.declared.raw_parts.Holder.TheVariants as holders
 use Rattle.bd_raw.specs.{Spelling.type_at, Spelling.number, Sizes.number_of}
-use Rattle.bd_wide.specs.Rewritten.{◌>>=◌, Writes, Others, Nested, fixed, counted, first_zero, size_at, front, least, holder_least, scope_at, IsElement, AreElements, IsBody, IsScoped, IsNested, IsRewritten}
-use Rattle.bd_wide.specs.Refused.{Refused, Refuses, Element, first_of_two, first_refused, name_in, path_of, refused_at, refused_body, refused_element, refused_elements, refused_nested, refused_scope}
+use Rattle.bd_wide.specs.Rewritten.{◌>>=◌, Writes, Others, Nested, counted, first_zero, size_at, front, least, holder_least, part_of, path_of, separator, scope_at, IsElement, AreElements, IsBody, IsScoped, IsNested, IsRewritten}
+use Rattle.bd_wide.specs.Refused.{Refused, Refuses, Element, first_of_two, first_refused, refused_body, refused_element, refused_elements, refused_nested, refused_scope}
 use Rattle.bd_wide.proofs.WalkLemmas.{Turn, to_turn, none_only, no_turn, ScopeTurn, to_scope}
 use Rattle.bd_wide.proofs.FindLemmas.{turned}
 use Rattle.bd_wide.proofs.FindLemmas as finds
-use Rattle.bd_wide.proofs.LengthLemmas.{front_fits, counted_fits, fixed_fits, scope_inside, long_enough, to_whole, WholeTurn}
+use Rattle.bd_wide.proofs.LengthLemmas.{front_fits, counted_fits, scope_inside, long_enough, to_whole, WholeTurn}
 
 abbrev pub IsBytes : List ℕ → Type 0
 IsBytes bytes = (i : ℕ) → get_or bytes i 0 < 256
@@ -30,13 +30,13 @@ bytes_take n bytes h i = elim (cases_lt i n) [
 -- ---- a writer that keeps what is not refused
 
 pub record Same (Is : Writes) (others : Others) (refuses : Refuses) : Type 0 where
-  pub element : (room : ℕ) (path : List ℕ) (t : ElementType) (head value new : List ℕ) → refuses room path t value ≡ None → Is t head value new → new ≡ head ++ value
+  pub element : (room : ℕ) (path : List ℕ) (t : ElementType) (head value new : List ℕ) → refuses room path t value ≡ None → Is path t head value new → new ≡ head ++ value
   pub rest : (bytes : List ℕ) → others bytes ≡ bytes
 
 -- what holds values and counts its bytes stays as it is
 abbrev SameNested : Nested → (Holder → List ℕ → ℕ → List ℕ → Option Refused) → Type 0
 SameNested f g = (h : Holder) (path : List ℕ) (at : ℕ) (value new : List ℕ) → holder_least h ≤ length value → number_of value ≡ length value → IsBytes value
-    → g h path at value ≡ None → f h value new → new ≡ value
+    → g h path at value ≡ None → f h path value new → new ≡ value
 
 first_none : (a b : Option Refused) → first_of_two a b ≡ None → (a ≡ None) × (b ≡ None)
 first_none None b e = (refl, e)
@@ -102,29 +102,32 @@ headed_same f head value new below h = h.2 ∙ ap (λ v. head ++ v) (below h.0 h
 
 element_same : (Is : Writes) (others : Others) (refuses : Refuses) → Same Is others refuses → (f : Nested) (g : Holder → List ℕ → ℕ → List ℕ → Option Refused) → SameNested f g
     → (room : ℕ) (t : ElementType) (path : List ℕ) (at k : ℕ) (head value new : List ℕ) → least t ≤ length value → Counts t value → IsBytes value
-    → refused_element (refuses room) g t path at k value ≡ None → IsElement Is f t head value new → new ≡ head ++ value
-unfolding IsElement refused_element least holder_least
+    → refused_element (refuses room) g t path at k value ≡ None → IsElement Is f path t head value new → new ≡ head ++ value
+unfolding IsElement refused_element part_of least holder_least
 element_same Is others refuses same f g below room Double path at k head value new some counts fits clear h = same.element room path Double head value new (none_mapped _ _ clear) h
 element_same Is others refuses same f g below room Decimal128 path at k head value new some counts fits clear h = same.element room path Decimal128 head value new (none_mapped _ _ clear) h
 element_same Is others refuses same f g below room (Kept kinds.Int32) path at k head value new some counts fits clear h = same.element room path (Kept kinds.Int32) head value new (none_mapped _ _ clear) h
 element_same Is others refuses same f g below room (Kept kinds.Int64) path at k head value new some counts fits clear h = same.element room path (Kept kinds.Int64) head value new (none_mapped _ _ clear) h
 element_same Is others refuses same f g below room (Kept kinds.Doc) path at k head value new some counts fits clear h =
-    headed_same (f holders.Document value) head value new (λ v. below holders.Document (path ++ codes ".") (at + k) value v some counts fits clear) h
+    let inner : List ℕ = path ++ separator holders.Document in
+    headed_same (f holders.Document inner value) head value new (λ v. below holders.Document inner (at + k) value v some counts fits clear) h
 element_same Is others refuses same f g below room (Kept kinds.Array) path at k head value new some counts fits clear h =
-    headed_same (f holders.Array value) head value new (λ v. below holders.Array path (at + k) value v some counts fits clear) h
+    let inner : List ℕ = path ++ separator holders.Array in
+    headed_same (f holders.Array inner value) head value new (λ v. below holders.Array inner (at + k) value v some counts fits clear) h
 element_same Is others refuses same f g below room (Kept kinds.CodeScope) path at k head value new some counts fits clear h =
-    headed_same (f holders.CodeScope value) head value new (λ v. below holders.CodeScope (path ++ codes ".$scope.") (at + k) value v some counts fits clear) h
+    let inner : List ℕ = path ++ separator holders.CodeScope in
+    headed_same (f holders.CodeScope inner value) head value new (λ v. below holders.CodeScope inner (at + k) value v some counts fits clear) h
 element_same Is others refuses same f g below room (Kept _) path at k head value new some counts fits clear h = h
 
 elements_same : (Is : Writes) (others : Others) (refuses : Refuses) → Same Is others refuses → (f : Nested) (g : Holder → List ℕ → ℕ → List ℕ → Option Refused) → SameNested f g
     → (room : ℕ) (own : List ℕ → List ℕ) (n at : ℕ) (bytes new : List ℕ) → IsBytes bytes → refused_elements (refused_element (refuses room) g) own n at bytes ≡ None
-    → AreElements Is others f n bytes new → new ≡ bytes
-elements_same Is others refuses same f g below room own zero at bytes new fits clear h = no_turn Is others f bytes new h
-elements_same Is others refuses same f g below room own (suc n) at [] new fits clear h = none_only Is others f (suc n) new h
+    → AreElements Is others f own n bytes new → new ≡ bytes
+elements_same Is others refuses same f g below room own zero at bytes new fits clear h = no_turn Is others f own bytes new h
+elements_same Is others refuses same f g below room own (suc n) at [] new fits clear h = none_only Is others f own (suc n) new h
 elements_same Is others refuses same f g below room own (suc n) at (b ∷ bytes) new fits clear h =
     let all : List ℕ = b ∷ bytes in
     let element : Element = refused_element (refuses room) g in
-    let here : (r : Option (ElementType × ℕ × ℕ)) → front all ≡ r → finds.Turn element own n at all r ≡ None → Turn Is others f n all r new → new ≡ all = elim [
+    let here : (r : Option (ElementType × ℕ × ℕ)) → front all ≡ r → finds.Turn element own n at all r ≡ None → Turn Is others f own n all r new → new ≡ all = elim [
       | None ↦ λ is none t. t ∙ same.rest all
       | Some x ↦ λ is none t.
           let apart = first_none _ _ none in
@@ -137,7 +140,7 @@ elements_same Is others refuses same f g below room own (suc n) at (b ∷ bytes)
           t.4 ∙ ap₂ (λ (a c : List ℕ). a ++ c) one two ∙ append_assoc (take x.1 all) (take x.2 rest) (drop x.2 rest)
           ∙ ap (λ l. take x.1 all ++ l) (take-append-drop x.2 rest) ∙ take-append-drop x.1 all
     ] in
-    here (front all) refl (sym (turned element own n at b bytes) ∙ clear) (to_turn Is others f n b bytes new h)
+    here (front all) refl (sym (turned element own n at b bytes) ∙ clear) (to_turn Is others f own n b bytes new h)
 
 -- ---- documents, arrays and code with scope
 
@@ -147,7 +150,7 @@ number_back value some fits = le_bytes_4 (take 4 value) _ (length-take-le 4 valu
 
 body_same : (Is : Writes) (others : Others) (refuses : Refuses) → Same Is others refuses → (f : Nested) (g : Holder → List ℕ → ℕ → List ℕ → Option Refused) → SameNested f g
     → (room : ℕ) (own : List ℕ → List ℕ) (at : ℕ) (value new : List ℕ) → 5 ≤ length value → number_of value ≡ length value → IsBytes value
-    → refused_body (refused_element (refuses room) g) own at value ≡ None → IsBody Is others f value new → new ≡ value
+    → refused_body (refused_element (refuses room) g) own at value ≡ None → IsBody Is others f own value new → new ≡ value
 unfolding IsBody refused_body
 body_same Is others refuses same f g below room own at value new some counts fits clear h =
     let rest : List ℕ = drop 4 value in
@@ -207,7 +210,7 @@ nested_same Is others refuses same (suc room) holders.Document path at value new
 nested_same Is others refuses same (suc room) holders.Array path at value new some counts fits clear is =
     body_same Is others refuses same (IsNested Is others room) (refused_nested refuses room) (nested_same Is others refuses same room) room (path_of true path) at value new some counts fits clear is
 nested_same Is others refuses same (suc room) holders.CodeScope path at value new some counts fits clear is =
-    scoped_same (IsNested Is others room holders.Document) (refused_nested refuses room holders.Document path) (λ a v n s c b e i. nested_same Is others refuses same room holders.Document path a v n s c b e i) at value new some counts fits clear is
+    scoped_same (IsNested Is others room holders.Document path) (refused_nested refuses room holders.Document path) (λ a v n s c b e i. nested_same Is others refuses same room holders.Document path a v n s c b e i) at value new some counts fits clear is
 
 pub rewritten_same : (Is : Writes) (others : Others) (refuses : Refuses) → Same Is others refuses → (bytes new : List ℕ) → number_of bytes ≡ length bytes → IsBytes bytes
     → first_refused refuses bytes ≡ None → IsRewritten Is others bytes new → new ≡ bytes

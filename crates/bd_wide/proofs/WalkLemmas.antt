@@ -1,13 +1,18 @@
 -- Elements one after the other.
-use Rattle.std.proofs.Common.{◌≡◌, ℕ, zero, suc, ◌+◌, ◌-◌, ◌<◌, ◌≤◌, List, [], ◌∷◌, ◌++◌, length, take, drop, Option, Some, None, refl, sym, ap, ap₂, ◌∙◌, arith, append_assoc, length-append, length-drop, append-nil, Result, Ok, Err, OnOk, OnErr, take_at, drop_at, subst, true, ◌==◌}
+use Rattle.std.proofs.Common.{◌≡◌, ℕ, zero, suc, ◌+◌, ◌-◌, ◌<◌, ◌≤◌, List, [], ◌∷◌, ◌++◌, length, take, drop, Option, Some, None, refl, sym, ap, ap₂, ◌∙◌, arith, append_assoc, length-append, length-drop, append-nil, Result, Ok, Err, OnOk, OnErr, take_at, drop_at, subst, Bool, true, false, ◌==◌}
 use Rattle.std.proofs.lemmas.{Bool.eqb-true, List.nil_from_length, List.length-take-le}
+use Rattle.std.proofs.Math.Seq.{take-append_seam, take-length}
 use Rattle.bd_raw.specs.{Spelling.type_at, Spelling.number, Unique.number_length}
 use Rattle.std.specs.Io.{StartsWith}
 use Rattle.bd_value.proofs.FrontLemmas.{front_then, front_all}
 use Rattle.bd_raw.specs.declared.raw_parts.ElementType.{ElementType}
 use Rattle.bd_raw.specs.declared.raw_parts.Holder.{Holder}
 use Rattle.bd_raw.specs.declared.raw_parts.Holder.TheVariants as holders
-use Rattle.bd_wide.specs.Rewritten.{Writes, Others, Nested, Adds, front, IsElement, AreElements, IsBody, IsScoped, IsNested, scope_at, ◌>>=◌, first_zero, size_at}
+use Rattle.bd_value.specs.declared.node.Kind.TheVariants as kinds
+use Rattle.bd_raw.specs.declared.raw_parts.ElementType.TheVariants.{Kept}
+use Rattle.bd_wide.specs.declared.element.Part.{Part}
+use Rattle.bd_wide.specs.declared.element.Part.TheVariants as parts
+use Rattle.bd_wide.specs.Rewritten.{Writes, Others, Nested, Adds, front, least, holder_least, part_of, name_in, path_of, IsPart, IsElement, AreElements, IsBody, IsScoped, IsNested, scope_at, ◌>>=◌, first_zero, size_at}
 
 -- ---- the element at the front
 
@@ -34,77 +39,78 @@ shorter b bytes x is = omega (arith, front_takes (b ∷ bytes) x is, length-drop
 -- ---- elements
 
 -- what may be written from there on, by what stands at the front
-abbrev pub Turn : Writes → Others → Nested → ℕ → List ℕ → Option (ElementType × ℕ × ℕ) → List ℕ → Type 0
-Turn Is others nested n bytes None new = new ≡ others bytes
-Turn Is others nested n bytes (Some x) new = (one : List ℕ) × (two : List ℕ) × IsElement Is nested x.0 (take x.1 bytes) (take x.2 (drop x.1 bytes)) one
-    × AreElements Is others nested n (drop x.2 (drop x.1 bytes)) two × (new ≡ one ++ two)
+abbrev pub Turn : Writes → Others → Nested → (List ℕ → List ℕ) → ℕ → List ℕ → Option (ElementType × ℕ × ℕ) → List ℕ → Type 0
+Turn Is others nested own n bytes None new = new ≡ others bytes
+Turn Is others nested own n bytes (Some x) new = (one : List ℕ) × (two : List ℕ) × IsElement Is nested (own (take x.1 bytes)) x.0 (take x.1 bytes) (take x.2 (drop x.1 bytes)) one
+    × AreElements Is others nested own n (drop x.2 (drop x.1 bytes)) two × (new ≡ one ++ two)
 
 -- the turn of the definition, which is this
-abbrev Turned : Writes → Others → Nested → ℕ → List ℕ → Option (ElementType × ℕ × ℕ) → List ℕ → Type 0
-Turned Is others nested n bytes f new = elim f [
+abbrev Turned : Writes → Others → Nested → (List ℕ → List ℕ) → ℕ → List ℕ → Option (ElementType × ℕ × ℕ) → List ℕ → Type 0
+Turned Is others nested own n bytes f new = elim f [
   | None ↦ new ≡ others bytes
   | Some x ↦
       let rest = drop x.1 bytes in
-      (one : List ℕ) × (two : List ℕ) × IsElement Is nested x.0 (take x.1 bytes) (take x.2 rest) one
-      × AreElements Is others nested n (drop x.2 rest) two × (new ≡ one ++ two)
+      let head = take x.1 bytes in
+      (one : List ℕ) × (two : List ℕ) × IsElement Is nested (own head) x.0 head (take x.2 rest) one
+      × AreElements Is others nested own n (drop x.2 rest) two × (new ≡ one ++ two)
 ]
 
-pub to_turn : (Is : Writes) (others : Others) (nested : Nested) (n b : ℕ) (bytes new : List ℕ) → AreElements Is others nested (suc n) (b ∷ bytes) new → Turn Is others nested n (b ∷ bytes) (front (b ∷ bytes)) new
+pub to_turn : (Is : Writes) (others : Others) (nested : Nested) (own : List ℕ → List ℕ) (n b : ℕ) (bytes new : List ℕ) → AreElements Is others nested own (suc n) (b ∷ bytes) new → Turn Is others nested own n (b ∷ bytes) (front (b ∷ bytes)) new
 unfolding AreElements
-to_turn Is others nested n b bytes new = elim (front (b ∷ bytes)) as (λ f. Turned Is others nested n (b ∷ bytes) f new → Turn Is others nested n (b ∷ bytes) f new) [ None ↦ λ h. h | Some x ↦ λ h. h ]
+to_turn Is others nested own n b bytes new = elim (front (b ∷ bytes)) as (λ f. Turned Is others nested own n (b ∷ bytes) f new → Turn Is others nested own n (b ∷ bytes) f new) [ None ↦ λ h. h | Some x ↦ λ h. h ]
 
-from_turn : (Is : Writes) (others : Others) (nested : Nested) (n b : ℕ) (bytes new : List ℕ) → Turn Is others nested n (b ∷ bytes) (front (b ∷ bytes)) new → AreElements Is others nested (suc n) (b ∷ bytes) new
+from_turn : (Is : Writes) (others : Others) (nested : Nested) (own : List ℕ → List ℕ) (n b : ℕ) (bytes new : List ℕ) → Turn Is others nested own n (b ∷ bytes) (front (b ∷ bytes)) new → AreElements Is others nested own (suc n) (b ∷ bytes) new
 unfolding AreElements
-from_turn Is others nested n b bytes new = elim (front (b ∷ bytes)) as (λ f. Turn Is others nested n (b ∷ bytes) f new → Turned Is others nested n (b ∷ bytes) f new) [ None ↦ λ h. h | Some x ↦ λ h. h ]
+from_turn Is others nested own n b bytes new = elim (front (b ∷ bytes)) as (λ f. Turn Is others nested own n (b ∷ bytes) f new → Turned Is others nested own n (b ∷ bytes) f new) [ None ↦ λ h. h | Some x ↦ λ h. h ]
 
-pub no_turn : (Is : Writes) (others : Others) (nested : Nested) (bytes new : List ℕ) → AreElements Is others nested zero bytes new → new ≡ bytes
+pub no_turn : (Is : Writes) (others : Others) (nested : Nested) (own : List ℕ → List ℕ) (bytes new : List ℕ) → AreElements Is others nested own zero bytes new → new ≡ bytes
 unfolding AreElements
-no_turn Is others nested bytes new h = h
+no_turn Is others nested own bytes new h = h
 
-pub none : (Is : Writes) (others : Others) (nested : Nested) (n : ℕ) → AreElements Is others nested n [] []
+pub none : (Is : Writes) (others : Others) (nested : Nested) (own : List ℕ → List ℕ) (n : ℕ) → AreElements Is others nested own n [] []
 unfolding AreElements
-none Is others nested zero = refl
-none Is others nested (suc n) = refl
+none Is others nested own zero = refl
+none Is others nested own (suc n) = refl
 
-pub none_only : (Is : Writes) (others : Others) (nested : Nested) (n : ℕ) (new : List ℕ) → AreElements Is others nested n [] new → new ≡ []
+pub none_only : (Is : Writes) (others : Others) (nested : Nested) (own : List ℕ → List ℕ) (n : ℕ) (new : List ℕ) → AreElements Is others nested own n [] new → new ≡ []
 unfolding AreElements
-none_only Is others nested zero new h = h
-none_only Is others nested (suc n) new h = h
+none_only Is others nested own zero new h = h
+none_only Is others nested own (suc n) new h = h
 
 -- any number of turns from the count of the bytes on is as good
-enough : (Is : Writes) (others : Others) (nested : Nested) (n m : ℕ) (bytes new : List ℕ) → length bytes ≤ n → length bytes ≤ m → AreElements Is others nested n bytes new → AreElements Is others nested m bytes new
-enough Is others nested n m [] new p q h = subst (λ (x : List ℕ). AreElements Is others nested m [] x) (sym (none_only Is others nested n new h)) (none Is others nested m)
-enough Is others nested zero m (b ∷ bytes) new p q h = absurd (omega arith)
-enough Is others nested (suc n) zero (b ∷ bytes) new p q h = absurd (omega arith)
-enough Is others nested (suc n) (suc m) (b ∷ bytes) new p q h =
-    let here : (f : Option (ElementType × ℕ × ℕ)) → front (b ∷ bytes) ≡ f → Turn Is others nested n (b ∷ bytes) f new → Turn Is others nested m (b ∷ bytes) f new = elim [
+enough : (Is : Writes) (others : Others) (nested : Nested) (own : List ℕ → List ℕ) (n m : ℕ) (bytes new : List ℕ) → length bytes ≤ n → length bytes ≤ m → AreElements Is others nested own n bytes new → AreElements Is others nested own m bytes new
+enough Is others nested own n m [] new p q h = subst (λ (x : List ℕ). AreElements Is others nested own m [] x) (sym (none_only Is others nested own n new h)) (none Is others nested own m)
+enough Is others nested own zero m (b ∷ bytes) new p q h = absurd (omega arith)
+enough Is others nested own (suc n) zero (b ∷ bytes) new p q h = absurd (omega arith)
+enough Is others nested own (suc n) (suc m) (b ∷ bytes) new p q h =
+    let here : (f : Option (ElementType × ℕ × ℕ)) → front (b ∷ bytes) ≡ f → Turn Is others nested own n (b ∷ bytes) f new → Turn Is others nested own m (b ∷ bytes) f new = elim [
       | None ↦ λ is h. h
       | Some x ↦ λ is h.
           let less = shorter b bytes x is in
-          (h.0, h.1, h.2, enough Is others nested n m (drop x.2 (drop x.1 (b ∷ bytes))) h.1 (omega (arith, less)) (omega (arith, less)) h.3, h.4)
+          (h.0, h.1, h.2, enough Is others nested own n m (drop x.2 (drop x.1 (b ∷ bytes))) h.1 (omega (arith, less)) (omega (arith, less)) h.3, h.4)
     ] in
-    from_turn Is others nested m b bytes new (here (front (b ∷ bytes)) refl (to_turn Is others nested n b bytes new h))
+    from_turn Is others nested own m b bytes new (here (front (b ∷ bytes)) refl (to_turn Is others nested own n b bytes new h))
 
 pub front_nil : front [] ≡ None
 unfolding front
 front_nil = refl
 
 -- the first element, and the others
-goes_on : (Is : Writes) (others : Others) (nested : Nested) (bytes : List ℕ) (x : ElementType × ℕ × ℕ) (one two : List ℕ) → Some x ≡ front bytes
-    → IsElement Is nested x.0 (take x.1 bytes) (take x.2 (drop x.1 bytes)) one
-    → AreElements Is others nested (length (drop x.2 (drop x.1 bytes))) (drop x.2 (drop x.1 bytes)) two
-    → AreElements Is others nested (length bytes) bytes (one ++ two)
-goes_on Is others nested [] x one two is e r = let e = is ∙ front_nil in absurd cc
-goes_on Is others nested (b ∷ bytes) x one two is e r =
+goes_on : (Is : Writes) (others : Others) (nested : Nested) (own : List ℕ → List ℕ) (bytes : List ℕ) (x : ElementType × ℕ × ℕ) (one two : List ℕ) → Some x ≡ front bytes
+    → IsElement Is nested (own (take x.1 bytes)) x.0 (take x.1 bytes) (take x.2 (drop x.1 bytes)) one
+    → AreElements Is others nested own (length (drop x.2 (drop x.1 bytes))) (drop x.2 (drop x.1 bytes)) two
+    → AreElements Is others nested own (length bytes) bytes (one ++ two)
+goes_on Is others nested own [] x one two is e r = let e = is ∙ front_nil in absurd cc
+goes_on Is others nested own (b ∷ bytes) x one two is e r =
     let less = shorter b bytes x (sym is) in
     let rest : List ℕ = drop x.2 (drop x.1 (b ∷ bytes)) in
-    from_turn Is others nested (length bytes) b bytes (one ++ two) (subst (λ (f : Option (ElementType × ℕ × ℕ)). Turn Is others nested (length bytes) (b ∷ bytes) f (one ++ two)) is
-    (one, two, e, enough Is others nested (length rest) (length bytes) rest two (omega arith) less r, refl))
+    from_turn Is others nested own (length bytes) b bytes (one ++ two) (subst (λ (f : Option (ElementType × ℕ × ℕ)). Turn Is others nested own (length bytes) (b ∷ bytes) f (one ++ two)) is
+    (one, two, e, enough Is others nested own (length rest) (length bytes) rest two (omega arith) less r, refl))
 
-ends : (Is : Writes) (others : Others) (nested : Nested) (bytes : List ℕ) → 0 < length bytes → None ≡ front bytes → AreElements Is others nested (length bytes) bytes (others bytes)
-ends Is others nested [] some is = absurd (omega arith)
-ends Is others nested (b ∷ bytes) some is = from_turn Is others nested (length bytes) b bytes (others (b ∷ bytes))
-    (subst (λ (f : Option (ElementType × ℕ × ℕ)). Turn Is others nested (length bytes) (b ∷ bytes) f (others (b ∷ bytes))) is refl)
+ends : (Is : Writes) (others : Others) (nested : Nested) (own : List ℕ → List ℕ) (bytes : List ℕ) → 0 < length bytes → None ≡ front bytes → AreElements Is others nested own (length bytes) bytes (others bytes)
+ends Is others nested own [] some is = absurd (omega arith)
+ends Is others nested own (b ∷ bytes) some is = from_turn Is others nested own (length bytes) b bytes (others (b ∷ bytes))
+    (subst (λ (f : Option (ElementType × ℕ × ℕ)). Turn Is others nested own (length bytes) (b ∷ bytes) f (others (b ∷ bytes))) is refl)
 
 -- ---- what was appended
 
@@ -115,37 +121,38 @@ pub headed : (Is : List ℕ → Type 0) (a b c head : List ℕ) → b ≡ a ++ h
 headed Is a b c head begun h = (head ++ h.0, (h.0, h.1, refl), h.2 ∙ ap (λ x. x ++ h.0) begun ∙ append_assoc a head h.0)
 
 -- what is still to come makes all
-abbrev pub Comes : Writes → Others → Nested → List ℕ → List ℕ → List ℕ → List ℕ → Type 0
-Comes Is others nested bytes rest old out = (more : List ℕ) → AreElements Is others nested (length rest) rest more → Adds (AreElements Is others nested (length bytes) bytes) old (out ++ more)
+abbrev pub Comes : Writes → Others → Nested → (List ℕ → List ℕ) → List ℕ → List ℕ → List ℕ → List ℕ → Type 0
+Comes Is others nested own bytes rest old out = (more : List ℕ) → AreElements Is others nested own (length rest) rest more → Adds (AreElements Is others nested own (length bytes) bytes) old (out ++ more)
 
-pub begins : (Is : Writes) (others : Others) (nested : Nested) (bytes old : List ℕ) → Comes Is others nested bytes bytes old old
-begins Is others nested bytes old = λ more h. (more, h, refl)
+pub begins : (Is : Writes) (others : Others) (nested : Nested) (own : List ℕ → List ℕ) (bytes old : List ℕ) → Comes Is others nested own bytes bytes old old
+begins Is others nested own bytes old = λ more h. (more, h, refl)
 
-pub stepped : (Is : Writes) (others : Others) (nested : Nested) (bytes old out now rest head more value left : List ℕ) (t : ElementType) (k n : ℕ)
-    → Comes Is others nested bytes rest old out → Some (t, k, n) ≡ front rest
-    → head ≡ take k rest → more ≡ drop k rest → value ≡ take n more → left ≡ drop n more → Adds (IsElement Is nested t head value) out now
-    → Comes Is others nested bytes left old now
-stepped Is others nested bytes old out now rest head more value left t k n comes is p q r s e = λ later h.
+pub stepped : (Is : Writes) (others : Others) (nested : Nested) (own : List ℕ → List ℕ) (bytes old out now rest head more value left path : List ℕ) (t : ElementType) (k n : ℕ)
+    → Comes Is others nested own bytes rest old out → Some (t, k, n) ≡ front rest
+    → head ≡ take k rest → more ≡ drop k rest → value ≡ take n more → left ≡ drop n more → path ≡ own head → Adds (IsElement Is nested path t head value) out now
+    → Comes Is others nested own bytes left old now
+stepped Is others nested own bytes old out now rest head more value left path t k n comes is p q r s w e = λ later h.
     let after : List ℕ = drop n (drop k rest) in
     let v : value ≡ take n (drop k rest) = r ∙ ap (take n) q in
     let l : left ≡ after = s ∙ ap (drop n) q in
-    let one : IsElement Is nested t (take k rest) (take n (drop k rest)) e.0 =
-    subst (λ (x : List ℕ). IsElement Is nested t x (take n (drop k rest)) e.0) p (subst (λ (x : List ℕ). IsElement Is nested t head x e.0) v e.1) in
-    let two : AreElements Is others nested (length after) after later = subst (λ (x : List ℕ). AreElements Is others nested (length x) x later) l h in
-    let whole = comes (e.0 ++ later) (goes_on Is others nested rest (t, k, n) e.0 later is one two) in
+    let one : IsElement Is nested (own (take k rest)) t (take k rest) (take n (drop k rest)) e.0 =
+    subst (λ (x : List ℕ). IsElement Is nested (own x) t x (take n (drop k rest)) e.0) p
+    (subst (λ (x : List ℕ). IsElement Is nested x t head (take n (drop k rest)) e.0) w (subst (λ (x : List ℕ). IsElement Is nested path t head x e.0) v e.1)) in
+    let two : AreElements Is others nested own (length after) after later = subst (λ (x : List ℕ). AreElements Is others nested own (length x) x later) l h in
+    let whole = comes (e.0 ++ later) (goes_on Is others nested own rest (t, k, n) e.0 later is one two) in
     (whole.0, whole.1, ap (λ x. x ++ later) e.2 ∙ append_assoc out e.0 later ∙ whole.2)
 
-pub all_written : (Is : Writes) (others : Others) (nested : Nested) (bytes old out rest : List ℕ) → Comes Is others nested bytes rest old out → true ≡ (length rest == 0)
-    → Adds (AreElements Is others nested (length bytes) bytes) old out
-all_written Is others nested bytes old out rest comes is =
+pub all_written : (Is : Writes) (others : Others) (nested : Nested) (own : List ℕ → List ℕ) (bytes old out rest : List ℕ) → Comes Is others nested own bytes rest old out → true ≡ (length rest == 0)
+    → Adds (AreElements Is others nested own (length bytes) bytes) old out
+all_written Is others nested own bytes old out rest comes is =
     let nil = nil_from_length rest (eqb-true (length rest) 0 (sym is)) in
-    let whole = comes [] (subst (λ (x : List ℕ). AreElements Is others nested (length x) x []) (sym nil) (none Is others nested 0)) in
+    let whole = comes [] (subst (λ (x : List ℕ). AreElements Is others nested own (length x) x []) (sym nil) (none Is others nested own 0)) in
     (whole.0, whole.1, sym (append-nil out) ∙ whole.2)
 
-pub others_written : (Is : Writes) (others : Others) (nested : Nested) (bytes old out now rest : List ℕ) → Comes Is others nested bytes rest old out → None ≡ front rest → 0 < length rest
-    → now ≡ out ++ others rest → Adds (AreElements Is others nested (length bytes) bytes) old now
-others_written Is others nested bytes old out now rest comes is some e =
-    let whole = comes (others rest) (ends Is others nested rest some is) in
+pub others_written : (Is : Writes) (others : Others) (nested : Nested) (own : List ℕ → List ℕ) (bytes old out now rest : List ℕ) → Comes Is others nested own bytes rest old out → None ≡ front rest → 0 < length rest
+    → now ≡ out ++ others rest → Adds (AreElements Is others nested own (length bytes) bytes) old now
+others_written Is others nested own bytes old out now rest comes is some e =
+    let whole = comes (others rest) (ends Is others nested own rest some is) in
     (whole.0, whole.1, e ∙ whole.2)
 
 -- ---- results
@@ -194,12 +201,12 @@ opened old one two three x y p q r = omega (
 pub three_parts : (old one two three x y : List ℕ) → one ≡ old ++ number 0 → two ≡ one ++ x → three ≡ two ++ y → three ≡ (old ++ number 0) ++ (x ++ y)
 three_parts old one two three x y p q r = rw (r, q, p) (append_assoc (old ++ number 0) x y)
 
-pub body_ok : (Is : Writes) (others : Others) (nested : Nested) (value old one two three out more inner last : List ℕ) (at : ℕ) → 5 ≤ length value
+pub body_ok : (Is : Writes) (others : Others) (nested : Nested) (own : List ℕ → List ℕ) (value old one two three out more inner last : List ℕ) (at : ℕ) → 5 ≤ length value
     → more ≡ drop 4 value → inner ≡ take (length value - 5) more → last ≡ drop (length value - 1) value → at ≡ length old
-    → one ≡ old ++ number 0 → Adds (AreElements Is others nested (length inner) inner) one two → three ≡ two ++ last
-    → out ≡ take at three ++ (number (length three - at) ++ drop (at + 4) three) → Adds (IsBody Is others nested value) old out
+    → one ≡ old ++ number 0 → Adds (AreElements Is others nested own (length inner) inner) one two → three ≡ two ++ last
+    → out ≡ take at three ++ (number (length three - at) ++ drop (at + 4) three) → Adds (IsBody Is others nested own value) old out
 unfolding IsBody
-body_ok Is others nested value old one two three out more inner last at some cut_more cut_inner cut_last here p q r is =
+body_ok Is others nested own value old one two three out more inner last at some cut_more cut_inner cut_last here p q r is =
     let new : List ℕ = q.0 in
     let ended : length (new ++ last) + 4 ≡ length new + 5 = omega (arith, length-append new last, ap (λ xs. length xs) cut_last, length-drop (length value - 1) value) in
     let whole : out ≡ old ++ (number (length new + 5) ++ (new ++ last)) =
@@ -207,7 +214,7 @@ body_ok Is others nested value old one two three out more inner last at some cut
     ∙ ap (λ n. old ++ (number n ++ (new ++ last))) ended in
     let same : inner ≡ take (length value - 5) (drop 4 value) = cut_inner ∙ ap (take (length value - 5)) cut_more in (
       number (length new + 5) ++ (new ++ drop (length value - 1) value),
-      (new, subst (λ (i : List ℕ). AreElements Is others nested (length i) i new) same q.1, refl),
+      (new, subst (λ (i : List ℕ). AreElements Is others nested own (length i) i new) same q.1, refl),
       subst (λ (l : List ℕ). out ≡ old ++ (number (length new + 5) ++ (new ++ l))) cut_last whole,
     )
 
@@ -232,43 +239,76 @@ to_scope document value new = elim (scope_at value) as (λ o. (elim o [
   | Some at ↦ (scope : List ℕ) × document (drop at value) scope × (new ≡ number (at + length scope) ++ (take (at - 4) (drop 4 value) ++ scope))
 ]) → ScopeTurn document value new o) [ None ↦ λ h. h | Some at ↦ λ h. h ]
 
-pub scoped_ok : (document : List ℕ → List ℕ → Type 0) (value old one two three out more code scope : List ℕ) (start at : ℕ)
+pub scoped_ok : (document : List ℕ → List ℕ → Type 0) (value old two three out scope : List ℕ) (start at : ℕ)
     → Some at ≡ scope_at value → 8 ≤ at → at + 5 ≤ length value
-    → more ≡ drop 4 value → code ≡ take (at - 4) more → scope ≡ drop at value
-    → start ≡ length old → one ≡ old ++ number 0 → two ≡ one ++ code → Adds (document scope) two three
+    → scope ≡ drop at value → start ≡ length old → two ≡ (old ++ number 0) ++ take (at - 4) (drop 4 value) → Adds (document scope) two three
     → out ≡ take start three ++ (number (length three - start) ++ drop (start + 4) three) → Adds (IsScoped document value) old out
-scoped_ok document value old one two three out more code scope start at gives eight fits cut_more cut_code cut_scope here p q r is =
+scoped_ok document value old two three out scope start at gives eight fits cut_scope here q r is =
     let new : List ℕ = r.0 in
-    let whole = is ∙ sealed old (code ++ new) three start (three_parts old one two three code new p q r.2) here in
-    let size : length code ≡ at - 4 = ap (λ xs. length xs) cut_code ∙ length-take-le (at - 4) more (omega (arith, ap (λ xs. length xs) cut_more, length-drop 4 value)) in
+    let code : List ℕ = take (at - 4) (drop 4 value) in
+    let whole = is ∙ sealed old (code ++ new) three start (r.2 ∙ ap (λ x. x ++ new) q ∙ append_assoc (old ++ number 0) code new) here in
+    let size : length code ≡ at - 4 = length-take-le (at - 4) (drop 4 value) (omega (arith, fits, length-drop 4 value)) in
     let total : length (code ++ new) + 4 ≡ at + length new = omega (arith, length-append code new, size) in
     let told : out ≡ old ++ (number (at + length new) ++ (code ++ new)) = whole ∙ ap (λ n. old ++ (number n ++ (code ++ new))) total in
-    let code_is : code ≡ take (at - 4) (drop 4 value) = cut_code ∙ ap (take (at - 4)) cut_more in
     let scope_is : document (drop at value) new = subst (λ (x : List ℕ). document x new) cut_scope r.1 in
     let written : List ℕ = number (at + length new) ++ (code ++ new) in (
       written,
       from_scope document value written (subst (λ (o : Option ℕ). ScopeTurn document value written o) gives
-          (new, scope_is, ap (λ (c : List ℕ). number (at + length new) ++ (c ++ new)) code_is)),
+          (new, scope_is, refl)),
       told,
     )
 
 -- ---- so many levels deep
 
-pub below : (Is : Writes) (others : Others) (room : ℕ) (value new : List ℕ) → 0 < room
-    → (IsBody Is others (IsNested Is others (room - 1)) value new → IsNested Is others room holders.Document value new)
-    × (IsBody Is others (IsNested Is others (room - 1)) value new → IsNested Is others room holders.Array value new)
-    × (IsScoped (IsNested Is others (room - 1) holders.Document) value new → IsNested Is others room holders.CodeScope value new)
+pub below : (Is : Writes) (others : Others) (room : ℕ) (path value new : List ℕ) → 0 < room
+    → (IsBody Is others (IsNested Is others (room - 1)) (path_of false path) value new → IsNested Is others room holders.Document path value new)
+    × (IsBody Is others (IsNested Is others (room - 1)) (path_of true path) value new → IsNested Is others room holders.Array path value new)
+    × (IsScoped (IsNested Is others (room - 1) holders.Document path) value new → IsNested Is others room holders.CodeScope path value new)
 unfolding IsNested
-below Is others zero value new some = absurd (omega arith)
-below Is others (suc room) value new some =
+below Is others zero path value new some = absurd (omega arith)
+below Is others (suc room) path value new some =
     let s : suc room - 1 ≡ room = omega arith in (
-      λ h. subst (λ (r : ℕ). IsBody Is others (IsNested Is others r) value new) s h,
-      λ h. subst (λ (r : ℕ). IsBody Is others (IsNested Is others r) value new) s h,
-      λ h. subst (λ (r : ℕ). IsScoped (IsNested Is others r holders.Document) value new) s h,
+      λ h. subst (λ (r : ℕ). IsBody Is others (IsNested Is others r) (path_of false path) value new) s h,
+      λ h. subst (λ (r : ℕ). IsBody Is others (IsNested Is others r) (path_of true path) value new) s h,
+      λ h. subst (λ (r : ℕ). IsScoped (IsNested Is others r holders.Document path) value new) s h,
     )
 
-pub nested_ok : {A B : Type 0} (r : Result A B) (Is : Writes) (others : Others) (room : ℕ) (holder h : Holder) (value a c : List ℕ) (P : List ℕ → Type 0)
-    → holder ≡ h → ((x : List ℕ) → P x → IsNested Is others room h value x) → OnOk r (Adds P a c) → OnOk r (Adds (IsNested Is others room holder value) a c)
-nested_ok (Err e) Is others room holder h value a c P is f ok = _
-nested_ok (Ok y) Is others room holder h value a c P is f ok =
-    (ok.0, subst (λ (k : Holder). IsNested Is others room k value ok.0) (sym is) (f ok.0 ok.1), ok.2)
+pub nested_ok : {A B : Type 0} (r : Result A B) (Is : Writes) (others : Others) (room : ℕ) (holder h : Holder) (path value a c : List ℕ) (P : List ℕ → Type 0)
+    → holder ≡ h → ((x : List ℕ) → P x → IsNested Is others room h path value x) → OnOk r (Adds P a c) → OnOk r (Adds (IsNested Is others room holder path value) a c)
+nested_ok (Err e) Is others room holder h path value a c P is f ok = _
+nested_ok (Ok y) Is others room holder h path value a c P is f ok =
+    (ok.0, subst (λ (k : Holder). IsNested Is others room k path value ok.0) (sym is) (f ok.0 ok.1), ok.2)
+
+-- ---- what is looked into
+
+pub part_of_element : (Is : Writes) (nested : Nested) (path : List ℕ) (type : ElementType) (part : Option Part) (head value new : List ℕ) → part ≡ part_of type → IsPart Is nested part path type head value new → IsElement Is nested path type head value new
+unfolding IsElement
+part_of_element Is nested path type part head value new is h = subst (λ (p : Option Part). IsPart Is nested p path type head value new) is h
+
+-- an element that is not looked into is appended as it is
+pub as_it_was : {A B : Type 0} (r : Result A B) (Is : Writes) (nested : Nested) (path : List ℕ) (type : ElementType) (head value a c : List ℕ) → None ≡ part_of type → OnOk r (c ≡ a ++ (head ++ value))
+    → OnOk r (Adds (IsElement Is nested path type head value) a c)
+as_it_was (Err e) Is nested path type head value a c is ok = _
+as_it_was (Ok x) Is nested path type head value a c is ok = (head ++ value, part_of_element Is nested path type None head value (head ++ value) is refl, ok)
+
+-- one that is looked into, by what of it is
+pub as_part : (Is : Writes) (nested : Nested) (path own : List ℕ) (type : ElementType) (part : Part) (head value a c : List ℕ) → Some part ≡ part_of type → path ≡ own
+    → Adds (IsPart Is nested (Some part) path type head value) a c → Adds (IsElement Is nested own type head value) a c
+as_part Is nested path own type part head value a c is here h =
+    (h.0, part_of_element Is nested own type (Some part) head value h.0 is (subst (λ (p : List ℕ). IsPart Is nested (Some part) p type head value h.0) here h.1), h.2)
+
+pub holds_least : (type : ElementType) (holder : Holder) → part_of type ≡ Some (parts.Values holder) → holder_least holder ≤ least type
+unfolding part_of least holder_least
+holds_least (Kept kinds.Doc) holders.Document is = omega arith
+holds_least (Kept kinds.Array) holders.Array is = omega arith
+holds_least (Kept kinds.CodeScope) holders.CodeScope is = omega arith
+holds_least type holder is = absurd cc
+
+-- the path is cut to what it was
+own_begins : (b : Bool) (old head : List ℕ) → StartsWith (path_of b old head) old
+own_begins true old head = take-length old
+own_begins false old head = take-append_seam old (name_in head)
+
+pub path_back : (b : Bool) (old head own after new : List ℕ) (size : ℕ) → own ≡ path_of b old head → size ≡ length old → StartsWith after own → new ≡ take size after → new ≡ old
+path_back b old head own after new size is here begun cut =
+    cut ∙ ap (λ n. take n after) here ∙ front_then old own after (subst (λ (p : List ℕ). StartsWith p old) (sym is) (own_begins b old head)) begun

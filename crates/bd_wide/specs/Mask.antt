@@ -2,7 +2,7 @@
 use Rattle.std.specs.Prelude.{◌≡◌, ℕ, ◌-◌, List, [], ◌∷◌, ◌++◌, length, take, drop, is_some, ◌==◌, ◌&&◌, if◌then◌else◌, codes}
 use Rattle.bd_raw.specs.declared.raw_parts.ElementType.{ElementType}
 use Rattle.bd_raw.specs.declared.raw_parts.ElementType.TheVariants.{Kept, Double, Decimal128}
-use Rattle.bd_wide.specs.Rewritten.{first_zero}
+use Rattle.bd_wide.specs.Rewritten.{Writes, first_zero}
 
 abbrev pub masked_element : ElementType → List ℕ → List ℕ → List ℕ
 masked_element Double head value = 18 ∷ (drop 1 head ++ value)
@@ -14,5 +14,5 @@ abbrev pub masked_others : List ℕ → List ℕ
 masked_others [] = []
 masked_others (b ∷ bytes) = (if b == 1 && is_some (first_zero bytes) then 18 else b) ∷ bytes
 
-abbrev pub IsMasked : ElementType → List ℕ → List ℕ → List ℕ → Type 0
-IsMasked type head value new = new ≡ masked_element type head value
+abbrev pub IsMasked : Writes
+IsMasked path type head value new = new ≡ masked_element type head value

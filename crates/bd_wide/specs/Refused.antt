@@ -1,14 +1,14 @@
 -- The first number of a document that is refused, from left to right, and where it stands.
-use Rattle.std.specs.Prelude.{◌≡◌, ℕ, zero, suc, ◌+◌, ◌-◌, List, [], ◌∷◌, ◌++◌, length, take, drop, Option, Some, None, option_map, Bool, true, false, nat_lt, if◌then◌else◌, codes}
+use Rattle.std.specs.Prelude.{◌≡◌, ℕ, zero, suc, ◌+◌, ◌-◌, List, [], ◌∷◌, ◌++◌, length, take, drop, Option, Some, None, option_map, true, false, nat_lt, if◌then◌else◌}
 use Rattle.std.specs.Io.{StartsWith}
-use Rattle.bd_value.specs.declared.node.Kind.TheVariants as kinds
 use Rattle.bd_raw.specs.declared.raw_parts.ElementType.{ElementType}
-use Rattle.bd_raw.specs.declared.raw_parts.ElementType.TheVariants.{Kept, Double, Decimal128}
 use Rattle.bd_raw.specs.declared.raw_parts.Holder.{Holder}
 use Rattle.bd_raw.specs.declared.raw_parts.Holder.TheVariants as holders
 use Rattle.bd_wide.specs.declared.find.Refusal.{Refusal}
 use Rattle.bd_wide.specs.declared.find.Found.{Found}
-use Rattle.bd_wide.specs.Rewritten.{front, scope_at}
+use Rattle.bd_wide.specs.declared.element.Part.{Part}
+use Rattle.bd_wide.specs.declared.element.Part.TheVariants as parts
+use Rattle.bd_wide.specs.Rewritten.{front, part_of, path_of, scope_at, separator}
 
 -- why a number is refused, if it is: by how many levels are left below it, its path, its type and its value
 abbrev pub Refuses : Type 0
@@ -22,16 +22,6 @@ pub record Refused : Type 0 where
 
 abbrev pub refused_at : ℕ → List ℕ → Option Refusal → Option Refused
 refused_at at path why = option_map (λ w. record { at = at; path = path; why = w }) why
-
--- ---- paths: the names from the top joined by dots; positions in arrays are left out
-
--- the name in the head of an element
-abbrev pub name_in : List ℕ → List ℕ
-name_in head = take (length head - 2) (drop 1 head)
-
--- the path of an element in an array with this path, or in a document whose names come after these bytes
-abbrev pub path_of : Bool → List ℕ → List ℕ → List ℕ
-path_of in_array path head = if in_array then path else path ++ name_in head
 
 -- ---- by recursion, as `IsRewritten`; the number is how many bytes stand before what is looked at
 
@@ -48,15 +38,15 @@ abbrev pub first_of_two : Option Refused → Option Refused → Option Refused
 first_of_two None next = next
 first_of_two (Some first) next = Some first
 
+-- by what of it is looked into
+abbrev pub refused_part : (List ℕ → ElementType → List ℕ → Option Refusal) → Nested → Option Part → Element
+refused_part refuses nested None type path at k value = None
+refused_part refuses nested (Some parts.Number) type path at k value = refused_at at path (refuses path type value)
+refused_part refuses nested (Some (parts.Values holder)) type path at k value =
+    nested holder (path ++ separator holder) (at + k) value
+
 unfoldable pub refused_element : (List ℕ → ElementType → List ℕ → Option Refusal) → Nested → Element
-refused_element refuses nested Double path at k value = refused_at at path (refuses path Double value)
-refused_element refuses nested Decimal128 path at k value = refused_at at path (refuses path Decimal128 value)
-refused_element refuses nested (Kept kinds.Int32) path at k value = refused_at at path (refuses path (Kept kinds.Int32) value)
-refused_element refuses nested (Kept kinds.Int64) path at k value = refused_at at path (refuses path (Kept kinds.Int64) value)
-refused_element refuses nested (Kept kinds.Doc) path at k value = nested holders.Document (path ++ codes ".") (at + k) value
-refused_element refuses nested (Kept kinds.Array) path at k value = nested holders.Array path (at + k) value
-refused_element refuses nested (Kept kinds.CodeScope) path at k value = nested holders.CodeScope (path ++ codes ".$scope.") (at + k) value
-refused_element refuses nested (Kept _) path at k value = None
+refused_element refuses nested type path at k value = refused_part refuses nested (part_of type) type path at k value
 
 unfoldable pub refused_elements : Element → (List ℕ → List ℕ) → ℕ → ℕ → List ℕ → Option Refused
 refused_elements element own zero at bytes = None

@@ -1,11 +1,10 @@
 -- Doubles and decimal128 as the documents of Extended JSON that hold their texts.
 use Rattle.std.specs.Prelude.{◌≡◌, ◌<◌, ◌≤◌, ◌⊎◌, ℕ, zero, Bool, true, false, List, ◌∷◌, ◌++◌, length, drop, codes, None, Some, IsSome}
 use Rattle.bd_value.specs.Limits.{longest_document}
-use Rattle.bd_raw.specs.declared.raw_parts.ElementType.{ElementType}
 use Rattle.bd_raw.specs.declared.raw_parts.ElementType.TheVariants.{Kept, Double, Decimal128}
 use Rattle.bd_raw.specs.{Spelling.framed, Spelling.string, Sizes.long_of}
 use Rattle.bd_wide_text.specs.{Double.IsDoubleText, Decimal128.decimal128_text}
-use Rattle.bd_wide.specs.{Refused.Refuses, Refused.first_refused, Rewritten.IsRewritten}
+use Rattle.bd_wide.specs.{Refused.Refuses, Refused.first_refused, Rewritten.IsRewritten, Rewritten.Writes}
 use Rattle.bd_wide.specs.declared.find.Refusal.TheVariants.{TooDeep}
 use Rattle.bd_wide.specs.declared.wrap.Number.{Number}
 use Rattle.bd_wide.specs.declared.wrap.Number.TheVariants as numbers
@@ -36,10 +35,10 @@ abbrev pub IsElementOf : List ℕ → Number → List ℕ → Type 0
 IsElementOf head number new = (document : List ℕ) × IsWrapper number document × (new ≡ 3 ∷ (drop 1 head ++ document))
 
 -- an element with a double or a decimal128 becomes such an element
-abbrev pub IsWrapped : ElementType → List ℕ → List ℕ → List ℕ → Type 0
-IsWrapped Double head value new = IsElementOf head (numbers.Double (long_of value)) new
-IsWrapped Decimal128 head value new = IsElementOf head (numbers.Decimal128 (long_of value) (long_of (drop 8 value))) new
-IsWrapped (Kept _) head value new = new ≡ head ++ value
+abbrev pub IsWrapped : Writes
+IsWrapped path Double head value new = IsElementOf head (numbers.Double (long_of value)) new
+IsWrapped path Decimal128 head value new = IsElementOf head (numbers.Decimal128 (long_of value) (long_of (drop 8 value))) new
+IsWrapped path (Kept _) head value new = new ≡ head ++ value
 
 -- what is wrapped needs a level more
 abbrev pub refuses_deepest : Refuses

@@ -1,17 +1,18 @@
 //! The first number of a document that is refused.
 
-ghost use Rattle.std.specs.Prelude.{◌≡◌, ◌≤◌, ◌<◌, ◌+◌, ◌^◌, ◌++◌, List, ℕ, length, Option, OnOk, IfOk, codes};
+ghost use Rattle.std.specs.Prelude.{◌≡◌, ◌≤◌, ◌<◌, ◌+◌, ◌^◌, ◌++◌, List, ℕ, length, Option, OnOk, IfOk, Some};
 ghost use Rattle.std.specs.Io.{StartsWith};
 ghost use Rattle.bd_raw.specs.declared.raw_parts.ElementType as element_type;
 ghost use Rattle.bd_raw.specs.declared.raw_parts.Holder.TheVariants as holders;
-ghost use Rattle.bd_wide.specs.Rewritten.{holder_least, least};
-ghost use Rattle.bd_wide.specs.Refused.{Finds, FindsPlaced, path_of, first_refused, refused_at, refused_body, refused_element, refused_elements, refused_nested, refused_scope};
+ghost use Rattle.bd_wide.specs.Rewritten.{holder_least, least, part_of, path_of};
+ghost use Rattle.bd_wide.specs.declared.element.Part as parts;
+ghost use Rattle.bd_wide.specs.Refused.{Finds, FindsPlaced, first_refused, refused_at, refused_body, refused_element, refused_elements, refused_part, refused_nested, refused_scope};
 ghost use Rattle.bd_wide.specs.declared.find.Refusal as refusal;
 
-use crate::element::front;
+use crate::element::{Part, enter, front, looked_into, separator};
 use crate::walk::scope_at;
 use bd_raw::{ElementType, Holder};
-use bd_value::{Kind, MOST_LEVELS, NoMemory};
+use bd_value::{MOST_LEVELS, NoMemory};
 
 /// Why a number is refused.
 #[derive(Clone, Copy, Debug, PartialEq, Eq)]
@@ -112,65 +113,44 @@ fn element<R: Refuser>(
         (refused_nested (R.refuses refuser.now) room) typed (path_of in_array path.old.items head.now)
         at (length head.now) value.now) path.old.items path.new.items) }
 {
+    let Some(part) = looked_into(typed) else {
+        return Ok(None);
+    };
     let before = path.len();
     enter(in_array, head, path)?;
-    let found = placed(refuser, room, at, typed, head.len(), value, path)?;
+    let found = entered(refuser, room, at, part, typed, head.len(), value, path)?;
     if found.is_none() {
         path.truncate(before);
     }
     Ok(found)
 }
 
-/// Makes the path that of an element.
-fn enter(in_array: bool, head: &[u8], path: &mut Vec<u8>) -> Result<(), NoMemory>
-    requires { 2 ≤ length head.now }
-    ensures { OnOk result (path.new.items ≡ path_of in_array path.old.items head.now) }
-{
-    if in_array {
-        return Ok(());
-    }
-    let (_, more) = head.split_at(1);
-    let (name, _) = more.split_at(head.len() - 2);
-    path.extend_from_slice(name)
-}
-
-/// Of an element whose path this is.
+/// Of an element that is looked into, and whose path this is.
 #[cycle(finding)]
-#[tactic(auto, using(bd_value::proofs::FrontLemmas::fronts), unfolding(crate::specs::Refused::refused_element, crate::specs::Rewritten::least))]
-fn placed<R: Refuser>(
+#[tactic(auto, using(bd_value::proofs::FrontLemmas::fronts))]
+fn entered<R: Refuser>(
     refuser: &R,
     room: u32,
     at: usize,
+    part: Part,
     typed: ElementType,
     size: usize,
     value: &[u8],
     path: &mut Vec<u8>,
 ) -> Result<Option<Found>, NoMemory>
+    requires part { part_of typed ≡ Some part }
     requires value { least typed ≤ length value.now }
     requires fits { at + size + length value.now < 2 ^ 64 }
-    ensures { IfOk result (FindsPlaced (refused_element (R.refuses refuser.now room)
-        (refused_nested (R.refuses refuser.now) room) typed path.old.items at size value.now)
+    ensures { IfOk result (FindsPlaced (refused_part (R.refuses refuser.now room)
+        (refused_nested (R.refuses refuser.now) room) (Some part) typed path.old.items at size value.now)
         path.old.items path.new.items) }
 {
-    let kind = match typed {
-        ElementType::Kept(kind) => kind,
-        ElementType::Double | ElementType::Decimal128 => {
-            return Ok(number(refuser, room, at, typed, value, path));
-        }
+    let holder = match part {
+        Part::Number => return Ok(number(refuser, room, at, typed, value, path)),
+        Part::Values(holder) => holder,
     };
-    match kind {
-        Kind::Int32 | Kind::Int64 => Ok(number(refuser, room, at, typed, value, path)),
-        Kind::Doc => {
-            path.extend_from_slice(b".")?;
-            nested(refuser, room, Holder::Document, at + size, value, path)
-        }
-        Kind::Array => nested(refuser, room, Holder::Array, at + size, value, path),
-        Kind::CodeScope => {
-            path.extend_from_slice(b".$scope.")?;
-            nested(refuser, room, Holder::CodeScope, at + size, value, path)
-        }
-        _ => Ok(None),
-    }
+    path.extend_from_slice(separator(holder))?;
+    nested(refuser, room, holder, at + size, value, path)
 }
 
 /// Of a number.

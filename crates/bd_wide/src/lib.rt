@@ -6,8 +6,9 @@
 //!
 //! ```
 //! let bytes = b"\x10\0\0\0\x01d\0\0\0\0\0\0\0\xf0\x3f\0";
+//! let mut path = Vec::new(alloc);
 //! let mut out = Vec::new(alloc);
-//! write_rewritten(&Mask, bytes, &mut out)?;
+//! write_rewritten(&Mask, bytes, &mut path, &mut out)?;
 //! // The same eight bytes, as an int64.
 //! assert!(rt; out.as_slice() == b"\x10\0\0\0\x12d\0\0\0\0\0\0\0\xf0\x3f\0".as_slice());
 //! ```
@@ -27,6 +28,7 @@ mod mask;
 mod walk;
 mod wrap;
 
+pub use element::Part;
 pub use find::{Found, Refusal, Refuser, find_refused};
 pub use laws::{mask_keeps_length, wrap_leaves_others};
 pub use mask::Mask;

@@ -1,6 +1,7 @@
 //! Bytes of the same length, in which each type is read.
 
-ghost use Rattle.std.specs.Prelude.{◌≡◌, ◌++◌, length, OnOk, OnErr};
+ghost use Rattle.std.specs.Prelude.{◌≡◌, ◌≤◌, ◌++◌, length, OnOk, OnErr};
+ghost use Rattle.bd_raw.specs.declared.raw_parts.ElementType.TheVariants.{Decimal128, Double};
 ghost use Rattle.std.specs.Io.{StartsWith};
 ghost use Rattle.bd_wide.specs.Mask.{IsMasked, masked_element, masked_others};
 ghost use Rattle.bd_wide.specs.Rewritten.{Adds};
@@ -20,33 +21,20 @@ impl NumberWriter for Mask {
     #[tactic(auto, using(bd_value::proofs::FrontLemmas::fronts), unfolding(crate::specs::Rewritten::least))]
     fn element(
         &self,
+        _path: &[u8],
         typed: ElementType,
         head: &[u8],
         value: &[u8],
         out: &mut Vec<u8>,
     ) -> Result<(), NoMemory> {
         match typed {
-            ElementType::Double => {
-                let (_, name) = head.split_at(1);
-                out.extend_from_slice(&[0x12])?;
-                out.extend_from_slice(name)?;
-                out.extend_from_slice(value)?;
-            }
-            ElementType::Decimal128 => {
-                let (_, more) = head.split_at(1);
-                let (name, _) = more.split_at(head.len() - 2);
-                let (_, last) = value.split_at(4);
-                out.extend_from_slice(&[0x07])?;
-                out.extend_from_slice(name)?;
-                out.extend_from_slice(b"####\0")?;
-                out.extend_from_slice(last)?;
-            }
+            ElementType::Double => put_int64(head, value, out),
+            ElementType::Decimal128 => put_object_id(head, value, out),
             ElementType::Kept(_) => {
                 out.extend_from_slice(head)?;
-                out.extend_from_slice(value)?;
+                out.extend_from_slice(value)
             }
         }
-        Ok(())
     }
 
     #[tactic(auto, using(bd_value::proofs::FrontLemmas::fronts), unfolding(crate::specs::Rewritten::least))]
@@ -57,4 +45,35 @@ impl NumberWriter for Mask {
         out.extend_from_slice(rest)?;
         Ok(())
     }
+}
+
+/// Appends a double as an int64 of the same eight bytes.
+#[tactic(auto, using(bd_value::proofs::FrontLemmas::fronts))]
+fn put_int64(head: &[u8], value: &[u8], out: &mut Vec<u8>) -> Result<(), NoMemory>
+    requires { 2 ≤ length head.now }
+    ensures ok { OnOk result
+        (out.new.items ≡ out.old.items ++ masked_element Double head.now value.now) }
+    ensures front { OnErr result (StartsWith out.new.items out.old.items) }
+{
+    let (_, name) = head.split_at(1);
+    out.extend_from_slice(&[0x12])?;
+    out.extend_from_slice(name)?;
+    out.extend_from_slice(value)
+}
+
+/// Appends a decimal128 as an ObjectId of its last twelve bytes.
+#[tactic(auto, using(bd_value::proofs::FrontLemmas::fronts))]
+fn put_object_id(head: &[u8], value: &[u8], out: &mut Vec<u8>) -> Result<(), NoMemory>
+    requires { (2 ≤ length head.now) × (4 ≤ length value.now) }
+    ensures ok { OnOk result
+        (out.new.items ≡ out.old.items ++ masked_element Decimal128 head.now value.now) }
+    ensures front { OnErr result (StartsWith out.new.items out.old.items) }
+{
+    let (_, more) = head.split_at(1);
+    let (name, _) = more.split_at(head.len() - 2);
+    let (_, last) = value.split_at(4);
+    out.extend_from_slice(&[0x07])?;
+    out.extend_from_slice(name)?;
+    out.extend_from_slice(b"####\0")?;
+    out.extend_from_slice(last)
 }

@@ -1,26 +1,28 @@
 //! A document with other numbers, from left to right.
 
-ghost use Rattle.std.specs.Prelude.{◌≡◌, ◌≤◌, ◌<◌, ◌+◌, ◌-◌, ◌++◌, List, ℕ, length, take, drop, vec_len, OnOk, OnErr, IfSome};
+ghost use Rattle.std.specs.Prelude.{◌≡◌, ◌≤◌, ◌<◌, ◌+◌, ◌-◌, ◌++◌, List, ℕ, length, take, drop, vec_len, OnOk, OnErr, IfSome, Some};
 ghost use Rattle.std.specs.Io.{StartsWith};
 ghost use Rattle.bd_raw.specs.Spelling.{number};
-ghost use Rattle.bd_wide.specs.Rewritten.{least, holder_least, Adds, IsElement, AreElements, IsBody, IsScoped, IsNested, IsRewritten, scope_at as scope_at_of};
+ghost use Rattle.bd_wide.specs.Rewritten.{least, holder_least, Adds, IsElement, IsPart, AreElements, IsBody, IsScoped, IsNested, IsRewritten, part_of, path_of, scope_at as scope_at_of};
+ghost use Rattle.bd_wide.specs.declared.element.Part as parts;
 ghost use Rattle.bd_raw.specs.declared.raw_parts.ElementType as element_type;
 ghost use Rattle.bd_raw.specs.declared.raw_parts.Holder.TheVariants as holders;
 
-use crate::element::front;
+use crate::element::{Part, enter, front, looked_into, separator};
 use bd_raw::{ElementType, Holder, raw_parts as raw};
-use bd_value::{Kind, MOST_LEVELS, NoMemory};
+use bd_value::{MOST_LEVELS, NoMemory};
 
 /// What is written of numbers.
 pub trait NumberWriter {
-    /// What may be written of an element that holds a number, by its type, its head and its value.
-    ghost is_written: { Self → element_type.ElementType → List ℕ → List ℕ → List ℕ → Type 0 };
+    /// What may be written of an element that holds a number, by its path, its type, its head and its value.
+    ghost is_written: { Self → List ℕ → element_type.ElementType → List ℕ → List ℕ → List ℕ → Type 0 };
     /// What is written of bytes from the first element on that can't be passed on.
     ghost others_of: { Self → List ℕ → List ℕ };
 
     /// Appends what is written of an element that holds a number.
     fn element(
         &self,
+        path: &[u8],
         typed: ElementType,
         head: &[u8],
         value: &[u8],
@@ -29,7 +31,7 @@ pub trait NumberWriter {
         requires head { 2 ≤ length head.now }
         requires value { least typed ≤ length value.now }
         ensures ok { OnOk result (Adds
-            (is_written self.now typed head.now value.now) out.old.items out.new.items) }
+            (is_written self.now path.now typed head.now value.now) out.old.items out.new.items) }
         ensures front { OnErr result (StartsWith out.new.items out.old.items) };
 
     /// Appends what is written of bytes from the first element on that can't be passed on.
@@ -39,21 +41,23 @@ pub trait NumberWriter {
         ensures front { OnErr result (StartsWith out.new.items out.old.items) };
 }
 
-/// Appends what is written of the document that all of the bytes are.
+/// Appends what is written of the document that all of the bytes are. `path` is a buffer.
 ///
 /// # Errors
 /// `NoMemory` leaves `out` as it was.
 pub fn write_rewritten<W: NumberWriter>(
     writer: &W,
     bytes: &[u8],
+    path: &mut Vec<u8>,
     out: &mut Vec<u8>,
 ) -> Result<(), NoMemory>
     ensures ok { OnOk result (Adds (IsRewritten (W.is_written writer.now)
         (W.others_of writer.now) bytes.now) out.old.items out.new.items) }
     ensures kept { OnErr result (out.new.items ≡ out.old.items) }
 {
+    path.clear();
     let before = out.len();
-    let written = whole(writer, bytes, out);
+    let written = whole(writer, bytes, path, out);
     if written.is_err() {
         out.truncate(before);
     }
@@ -61,7 +65,13 @@ pub fn write_rewritten<W: NumberWriter>(
 }
 
 #[tactic(auto, using(bd_value::proofs::FrontLemmas::fronts), unfolding(crate::specs::Rewritten::IsRewritten))]
-fn whole<W: NumberWriter>(writer: &W, bytes: &[u8], out: &mut Vec<u8>) -> Result<(), NoMemory>
+fn whole<W: NumberWriter>(
+    writer: &W,
+    bytes: &[u8],
+    path: &mut Vec<u8>,
+    out: &mut Vec<u8>,
+) -> Result<(), NoMemory>
+    requires { length path.old.items ≡ 0 }
     ensures ok { OnOk result (Adds (IsRewritten (W.is_written writer.now)
         (W.others_of writer.now) bytes.now) out.old.items out.new.items) }
     ensures front { OnErr result (StartsWith out.new.items out.old.items) }
@@ -70,7 +80,14 @@ fn whole<W: NumberWriter>(writer: &W, bytes: &[u8], out: &mut Vec<u8>) -> Result
         out.extend_from_slice(bytes)?;
         return Ok(());
     }
-    nested(writer, MOST_LEVELS as u32, Holder::Document, bytes, out)
+    nested(
+        writer,
+        MOST_LEVELS as u32,
+        Holder::Document,
+        bytes,
+        path,
+        out,
+    )
 }
 
 /// Appends elements, with so many levels left below them.
@@ -79,19 +96,22 @@ fn whole<W: NumberWriter>(writer: &W, bytes: &[u8], out: &mut Vec<u8>) -> Result
 fn elements<W: NumberWriter>(
     writer: &W,
     room: u32,
+    in_array: bool,
     bytes: &[u8],
+    path: &mut Vec<u8>,
     out: &mut Vec<u8>,
 ) -> Result<(), NoMemory>
     ensures ok { OnOk result (Adds (AreElements (W.is_written writer.now) (W.others_of writer.now)
         (IsNested (W.is_written writer.now) (W.others_of writer.now) room)
-        (length bytes.now) bytes.now) out.old.items out.new.items) }
+        (path_of in_array path.old.items) (length bytes.now) bytes.now) out.old.items out.new.items) }
+    ensures path { OnOk result (path.new.items ≡ path.old.items) }
     ensures front { OnErr result (StartsWith out.new.items out.old.items) }
 {
     let mut rest = bytes;
     while let Some((typed, k, n)) = front(rest) {
         let (head, more) = rest.split_at(k);
         let (value, after) = more.split_at(n);
-        element(writer, room, typed, head, value, out)?;
+        element(writer, room, in_array, typed, head, value, path, out)?;
         rest = after;
     }
     if rest.is_empty() {
@@ -102,47 +122,74 @@ fn elements<W: NumberWriter>(
 
 /// Appends an element, with so many levels left below it.
 #[cycle(walking)]
-#[tactic(auto, using(bd_value::proofs::FrontLemmas::fronts), unfolding(crate::specs::Rewritten::IsElement, crate::specs::Rewritten::least))]
+#[tactic(auto, using(bd_value::proofs::FrontLemmas::fronts))]
 fn element<W: NumberWriter>(
     writer: &W,
     room: u32,
+    in_array: bool,
     typed: ElementType,
     head: &[u8],
     value: &[u8],
+    path: &mut Vec<u8>,
     out: &mut Vec<u8>,
 ) -> Result<(), NoMemory>
     requires head { 2 ≤ length head.now }
     requires value { least typed ≤ length value.now }
     ensures ok { OnOk result (Adds (IsElement (W.is_written writer.now) (IsNested
-        (W.is_written writer.now)
-        (W.others_of writer.now) room) typed head.now value.now) out.old.items out.new.items) }
+        (W.is_written writer.now) (W.others_of writer.now) room)
+        (path_of in_array path.old.items head.now) typed head.now value.now) out.old.items out.new.items) }
+    ensures path { OnOk result (path.new.items ≡ path.old.items) }
     ensures front { OnErr result (StartsWith out.new.items out.old.items) }
 {
-    let kind = match typed {
-        ElementType::Kept(kind) => kind,
-        ElementType::Double | ElementType::Decimal128 => {
-            return writer.element(typed, head, value, out);
-        }
+    let Some(part) = looked_into(typed) else {
+        return as_it_is(head, value, out);
     };
-    match kind {
-        Kind::Int32 | Kind::Int64 => writer.element(typed, head, value, out),
-        Kind::Doc => {
-            out.extend_from_slice(head)?;
-            nested(writer, room, Holder::Document, value, out)
-        }
-        Kind::Array => {
-            out.extend_from_slice(head)?;
-            nested(writer, room, Holder::Array, value, out)
-        }
-        Kind::CodeScope => {
-            out.extend_from_slice(head)?;
-            nested(writer, room, Holder::CodeScope, value, out)
-        }
-        _ => {
-            out.extend_from_slice(head)?;
-            out.extend_from_slice(value)
-        }
-    }
+    let before = path.len();
+    enter(in_array, head, path)?;
+    entered(writer, room, part, typed, head, value, path, out)?;
+    path.truncate(before);
+    Ok(())
+}
+
+/// Appends an element that is not looked into.
+#[tactic(auto, using(bd_value::proofs::FrontLemmas::fronts))]
+fn as_it_is(head: &[u8], value: &[u8], out: &mut Vec<u8>) -> Result<(), NoMemory>
+    ensures ok { OnOk result (out.new.items ≡ out.old.items ++ (head.now ++ value.now)) }
+    ensures front { OnErr result (StartsWith out.new.items out.old.items) }
+{
+    out.extend_from_slice(head)?;
+    out.extend_from_slice(value)
+}
+
+/// Appends an element that is looked into, and whose path this is.
+#[cycle(walking)]
+#[tactic(auto, using(bd_value::proofs::FrontLemmas::fronts))]
+fn entered<W: NumberWriter>(
+    writer: &W,
+    room: u32,
+    part: Part,
+    typed: ElementType,
+    head: &[u8],
+    value: &[u8],
+    path: &mut Vec<u8>,
+    out: &mut Vec<u8>,
+) -> Result<(), NoMemory>
+    requires part { part_of typed ≡ Some part }
+    requires head { 2 ≤ length head.now }
+    requires value { least typed ≤ length value.now }
+    ensures ok { OnOk result (Adds (IsPart (W.is_written writer.now) (IsNested
+        (W.is_written writer.now) (W.others_of writer.now) room) (Some part)
+        path.old.items typed head.now value.now) out.old.items out.new.items) }
+    ensures path { OnOk result (StartsWith path.new.items path.old.items) }
+    ensures front { OnErr result (StartsWith out.new.items out.old.items) }
+{
+    let holder = match part {
+        Part::Number => return writer.element(path, typed, head, value, out),
+        Part::Values(holder) => holder,
+    };
+    path.extend_from_slice(separator(holder))?;
+    out.extend_from_slice(head)?;
+    nested(writer, room, holder, value, path, out)
 }
 
 /// Appends a value that holds values, with so many levels left for it.
@@ -153,11 +200,13 @@ fn nested<W: NumberWriter>(
     room: u32,
     holder: Holder,
     value: &[u8],
+    path: &mut Vec<u8>,
     out: &mut Vec<u8>,
 ) -> Result<(), NoMemory>
     requires { holder_least holder ≤ length value.now }
-    ensures ok { OnOk result (Adds (IsNested (W.is_written writer.now)
-        (W.others_of writer.now) room holder value.now) out.old.items out.new.items) }
+    ensures ok { OnOk result (Adds (IsNested (W.is_written writer.now) (W.others_of writer.now)
+        room holder path.old.items value.now) out.old.items out.new.items) }
+    ensures path { OnOk result (path.new.items ≡ path.old.items) }
     ensures front { OnErr result (StartsWith out.new.items out.old.items) }
 {
     if room == 0 {
@@ -165,9 +214,9 @@ fn nested<W: NumberWriter>(
         return Ok(());
     }
     match holder {
-        Holder::Document => body(writer, room - 1, value, out),
-        Holder::Array => body(writer, room - 1, value, out),
-        Holder::CodeScope => scoped(writer, room - 1, value, out),
+        Holder::Document => body(writer, room - 1, false, value, path, out),
+        Holder::Array => body(writer, room - 1, true, value, path, out),
+        Holder::CodeScope => scoped(writer, room - 1, value, path, out),
     }
 }
 
@@ -177,24 +226,37 @@ fn nested<W: NumberWriter>(
 fn body<W: NumberWriter>(
     writer: &W,
     room: u32,
+    in_array: bool,
     value: &[u8],
+    path: &mut Vec<u8>,
     out: &mut Vec<u8>,
 ) -> Result<(), NoMemory>
     requires { 5 ≤ length value.now }
     ensures ok { OnOk result (Adds (IsBody (W.is_written writer.now) (W.others_of writer.now)
-        (IsNested (W.is_written writer.now)
-        (W.others_of writer.now) room) value.now) out.old.items out.new.items) }
+        (IsNested (W.is_written writer.now) (W.others_of writer.now) room)
+        (path_of in_array path.old.items) value.now) out.old.items out.new.items) }
+    ensures path { OnOk result (path.new.items ≡ path.old.items) }
     ensures front { OnErr result (StartsWith out.new.items out.old.items) }
+{
+    let (inner, last) = inner_and_last(value);
+    let at = out.len();
+    write_number(0, out)?;
+    elements(writer, room, in_array, inner, path, out)?;
+    out.extend_from_slice(last)?;
+    seal(at, out);
+    Ok(())
+}
+
+/// The elements of a document or an array, and its last byte.
+fn inner_and_last(value: &[u8]) -> (&[u8], &[u8])
+    requires { 5 ≤ length value.now }
+    ensures inner { result.0.now ≡ take (length value.now - 5) (drop 4 value.now) }
+    ensures last { result.1.now ≡ drop (length value.now - 1) value.now }
 {
     let (_, more) = value.split_at(4);
     let (inner, _) = more.split_at(value.len() - 5);
     let (_, last) = value.split_at(value.len() - 1);
-    let at = out.len();
-    write_number(0, out)?;
-    elements(writer, room, inner, out)?;
-    out.extend_from_slice(last)?;
-    seal(at, out);
-    Ok(())
+    (inner, last)
 }
 
 /// Appends code with scope, with so many levels left for its scope.
@@ -204,26 +266,61 @@ fn scoped<W: NumberWriter>(
     writer: &W,
     room: u32,
     value: &[u8],
+    path: &mut Vec<u8>,
     out: &mut Vec<u8>,
 ) -> Result<(), NoMemory>
     requires { 14 ≤ length value.now }
     ensures ok { OnOk result (Adds (IsScoped (IsNested (W.is_written writer.now)
-        (W.others_of writer.now) room holders.Document) value.now) out.old.items out.new.items) }
+        (W.others_of writer.now) room holders.Document path.old.items) value.now) out.old.items out.new.items) }
+    ensures path { OnOk result (path.new.items ≡ path.old.items) }
     ensures front { OnErr result (StartsWith out.new.items out.old.items) }
 {
-    let Some(at) = scope_at(value) else {
-        out.extend_from_slice(value)?;
-        return Ok(());
-    };
-    let (_, more) = value.split_at(4);
-    let (code, _) = more.split_at(at - 4);
+    match scope_at(value) {
+        Some(at) => with_scope(writer, room, at, value, path, out),
+        None => {
+            out.extend_from_slice(value)?;
+            Ok(())
+        }
+    }
+}
+
+/// Appends code with scope whose scope begins at a place, with so many levels left for the scope.
+#[cycle(walking)]
+#[tactic(auto, using(bd_value::proofs::FrontLemmas::fronts))]
+fn with_scope<W: NumberWriter>(
+    writer: &W,
+    room: u32,
+    at: usize,
+    value: &[u8],
+    path: &mut Vec<u8>,
+    out: &mut Vec<u8>,
+) -> Result<(), NoMemory>
+    requires place { scope_at_of value.now ≡ Some at }
+    requires inside { (8 ≤ at) × (at + 5 ≤ length value.now) }
+    ensures ok { OnOk result (Adds (IsScoped (IsNested (W.is_written writer.now)
+        (W.others_of writer.now) room holders.Document path.old.items) value.now) out.old.items out.new.items) }
+    ensures path { OnOk result (path.new.items ≡ path.old.items) }
+    ensures front { OnErr result (StartsWith out.new.items out.old.items) }
+{
     let (_, scope) = value.split_at(at);
     let start = out.len();
-    write_number(0, out)?;
-    out.extend_from_slice(code)?;
-    nested(writer, room, Holder::Document, scope, out)?;
+    write_code(at, value, out)?;
+    nested(writer, room, Holder::Document, scope, path, out)?;
     seal(start, out);
     Ok(())
+}
+
+/// Appends a count of four bytes that is not known yet, and the code.
+#[tactic(auto, using(bd_value::proofs::FrontLemmas::fronts))]
+fn write_code(at: usize, value: &[u8], out: &mut Vec<u8>) -> Result<(), NoMemory>
+    requires { (8 ≤ at) × (at ≤ length value.now) }
+    ensures ok { OnOk result (out.new.items ≡ (out.old.items ++ number 0) ++ take (at - 4) (drop 4 value.now)) }
+    ensures front { OnErr result (StartsWith out.new.items out.old.items) }
+{
+    let (_, more) = value.split_at(4);
+    let (code, _) = more.split_at(at - 4);
+    write_number(0, out)?;
+    out.extend_from_slice(code)
 }
 
 /// Where the scope of code with scope begins; none where it does not end where the code with scope does.

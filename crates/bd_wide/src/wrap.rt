@@ -32,6 +32,7 @@ impl NumberWriter for Wrap {
     #[tactic(auto, using(bd_value::proofs::FrontLemmas::fronts), unfolding(crate::specs::Rewritten::least))]
     fn element(
         &self,
+        _path: &[u8],
         typed: ElementType,
         head: &[u8],
         value: &[u8],
@@ -89,7 +90,7 @@ pub fn write_wrapped(bytes: &[u8], path: &mut Vec<u8>, out: &mut Vec<u8>) -> Res
     path.clear();
     let before = out.len();
     if find_refused(&Deepest, bytes, path)?.is_none() {
-        write_rewritten(&Wrap, bytes, out)?;
+        write_rewritten(&Wrap, bytes, path, out)?;
         if out.len() - before <= LONGEST_DOCUMENT {
             return Ok(true);
         }

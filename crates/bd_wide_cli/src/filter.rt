@@ -32,7 +32,7 @@ pub(crate) fn write_filtered(
 {
     match filter {
         Filter::Mask => {
-            write_rewritten(&Mask, bytes, out)?;
+            write_rewritten(&Mask, bytes, path, out)?;
             Ok(true)
         }
         Filter::Wrap => write_wrapped(bytes, path, out),

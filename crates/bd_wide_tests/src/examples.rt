@@ -19,8 +19,9 @@ fn double_text(rt: HostRuntime) -> Result<(), Fail> {
 fn masked(rt: HostRuntime) -> Result<(), Fail> {
     let alloc = rt.alloc();
     let bytes = b"\x10\0\0\0\x01d\0\0\0\0\0\0\0\xf0\x3f\0";
+    let mut path = Vec::new(alloc);
     let mut out = Vec::new(alloc);
-    write_rewritten(&Mask, bytes, &mut out)?;
+    write_rewritten(&Mask, bytes, &mut path, &mut out)?;
     // The same eight bytes, as an int64.
     assert!(rt; out.as_slice() == b"\x10\0\0\0\x12d\0\0\0\0\0\0\0\xf0\x3f\0".as_slice());
     Ok(())

@@ -1,14 +1,21 @@
-use Rattle.std.proofs.Common.{◌≡◌, ◌-◌, length, arith, rules, sym, ap, ◌∙◌, length-drop, not}
-use Rattle.bd_wide.specs.Refused.{path_of, refused_element, refused_nested}
-use Rattle.bd_wide.specs.Rewritten.{holder_least, least}
+use Rattle.std.proofs.Common.{◌≡◌, ◌-◌, length, arith, rules, sym, ap, ◌∙◌, length-drop, not, refl, List, ℕ, Option, None, Some}
+use Rattle.bd_wide.specs.Refused.{Refused, refused_element, refused_nested, refused_part}
+use Rattle.bd_wide.specs.Rewritten.{holder_least, path_of}
+use Rattle.bd_wide.proofs.WalkLemmas as walks
 use Rattle.bd_wide.proofs.FindLemmas as finds
 use Rattle.bd_wide.proofs.find.+finding.Goals as goal
 
+pub element-returns-in_default : goal.element-returns-in_default
+element-returns-in_default g t c =
+    (finds.part_refused (g.R.Refuser.refuses c.args.refuser.now c.args.room) (refused_nested (g.R.Refuser.refuses c.args.refuser.now) c.args.room) None c.args.typed (path_of c.args.in_array c.args.path.now.items c.args.head.now) c.args.at (length c.args.head.now) c.args.value.now c.in_default.ensures, refl)
+
 pub element-returns-then-is_none : goal.element-returns-then-is_none
 element-returns-then-is_none g t c =
-    finds.restored (λ p. refused_element (g.R.Refuser.refuses c.args.refuser.now c.args.room) (refused_nested (g.R.Refuser.refuses c.args.refuser.now) c.args.room) c.args.typed p c.args.at (length c.args.head.now) c.args.value.now)
-    c.args.in_array c.args.path.now.items c.args.head.now c.enter.new.path.items c.placed.new.path.items c.truncate.new.self.items c.len-before.result c.in_ok-found.found c.in_ok-enter.ensures (search rules)
-    c.in_ok-found.ensures (c.is_none.ensures ∙ ap not c.if-is_none.true) c.truncate.ensures.items
+    let F : List ℕ → Option Refused = λ p. refused_part (g.R.Refuser.refuses c.args.refuser.now c.args.room) (refused_nested (g.R.Refuser.refuses c.args.refuser.now) c.args.room) (Some c.in-Some.part) c.args.typed p c.args.at (length c.args.head.now) c.args.value.now in
+    finds.finds_same c.in_ok-found.found _ _ c.args.path.now.items c.truncate.new.self.items
+    (finds.part_refused (g.R.Refuser.refuses c.args.refuser.now c.args.room) (refused_nested (g.R.Refuser.refuses c.args.refuser.now) c.args.room) (Some c.in-Some.part) c.args.typed (path_of c.args.in_array c.args.path.now.items c.args.head.now) c.args.at (length c.args.head.now) c.args.value.now c.in-Some.ensures)
+    (finds.restored F c.args.in_array c.args.path.now.items c.args.head.now c.enter.new.path.items c.entered.new.path.items c.truncate.new.self.items c.len-before.result c.in_ok-found.found c.in_ok-enter.ensures (search rules)
+    c.in_ok-found.ensures (c.is_none.ensures ∙ ap not c.if-is_none.true) c.truncate.ensures.items)
 
 pub elements-returns-then-is_some : goal.elements-returns-then-is_some
 elements-returns-then-is_some g t c =
@@ -55,26 +62,13 @@ nested-returns-in-CodeScope g t c =
     (ap (λ h. refused_nested (g.R.Refuser.refuses c.args.refuser.now) c.args.room h c.args.path.now.items c.args.at c.args.value.now) c.in-CodeScope.is
     ∙ (finds.deeper (g.R.Refuser.refuses c.args.refuser.now) c.args.room c.args.path.now.items c.args.at c.args.value.now (omega arith)).2) c.scoped.ensures
 
-pub placed-nested-requires : goal.placed-nested-requires
-unfolding holder_least least
-placed-nested-requires g t c κs within =
+pub entered-nested-requires : goal.entered-nested-requires
+entered-nested-requires g t c κs within =
     let e = c.decreases in
     let f = c.requires.fits in
-    (omega arith, (within, (rw (c.in-Kept.is, c.in-Doc.is) at c.requires.value, f)))
-
-pub placed-nested-requires-in-Array : goal.placed-nested-requires-in-Array
-unfolding holder_least least
-placed-nested-requires-in-Array g t c κs within =
-    let e = c.decreases in
-    let f = c.requires.fits in
-    (omega arith, (within, (rw (c.in-Kept.is, c.in-Array.is) at c.requires.value, f)))
-
-pub placed-nested-requires-in-CodeScope : goal.placed-nested-requires-in-CodeScope
-unfolding holder_least least
-placed-nested-requires-in-CodeScope g t c κs within =
-    let e = c.decreases in
-    let f = c.requires.fits in
-    (omega arith, (within, (rw (c.in-Kept.is, c.in-CodeScope.is) at c.requires.value, f)))
+    let least = walks.holds_least c.args.typed c.in-Values.holder (c.requires.part ∙ ap Some c.in-Values.is) in
+    let v = c.requires.value in
+    (omega arith, (within, (omega (arith, least, v), f)))
 
 pub scoped-nested-requires : goal.scoped-nested-requires
 unfolding holder_least

@@ -1,12 +1,13 @@
 use Rattle.std.proofs.Common.{◌≡◌, ◌+◌, ◌*◌, length}
-use Rattle.bd_wide.specs.Refused.{path_of, refused_element, refused_elements, refused_nested}
+use Rattle.bd_wide.specs.Rewritten.{path_of}
+use Rattle.bd_wide.specs.Refused.{refused_element, refused_elements, refused_nested}
 use Rattle.bd_wide.proofs.find.+finding.Given as goal
 
 abbrev pub decreases-nested : goal.decreases-nested
 decreases-nested g l = 5 * l.room
 
-abbrev pub decreases-placed : goal.decreases-placed
-decreases-placed g l = 5 * l.room + 1
+abbrev pub decreases-entered : goal.decreases-entered
+decreases-entered g l = 5 * l.room + 1
 
 abbrev pub decreases-element : goal.decreases-element
 decreases-element g l = 5 * l.room + 2

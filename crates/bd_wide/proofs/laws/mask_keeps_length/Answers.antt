@@ -21,7 +21,7 @@ others [] = refl
 others (b ∷ bytes) = refl
 
 keeps : Keeps IsMasked masked_others
-keeps = record { element = λ t head value new two some is. ap (λ xs. length xs) is ∙ each t head value two some; rest = others }
+keeps = record { element = λ path t head value new two some is. ap (λ xs. length xs) is ∙ each t head value two some; rest = others }
 
 pub returns : goal.returns
 returns c = rewritten_keeps IsMasked masked_others keeps

@@ -1,11 +1,11 @@
-use Rattle.std.proofs.Common.{◌≡◌, ◌++◌, List, ℕ, None, Some, refl}
+use Rattle.std.proofs.Common.{◌≡◌, ◌++◌, List, ℕ, None, refl}
 use Rattle.bd_raw.specs.declared.raw_parts.ElementType.{ElementType}
 use Rattle.bd_raw.specs.declared.raw_parts.ElementType.TheVariants.{Kept, Double, Decimal128}
 use Rattle.bd_wide.specs.Wrap.{IsWrapped, refuses_wide}
 use Rattle.bd_wide.proofs.SameLemmas.{Same, rewritten_same}
 use Rattle.bd_wide.proofs.laws.wrap_leaves_others.Goals as goal
 
-kept : (room : ℕ) (path : List ℕ) (t : ElementType) (head value new : List ℕ) → refuses_wide room path t value ≡ None → IsWrapped t head value new → new ≡ head ++ value
+kept : (room : ℕ) (path : List ℕ) (t : ElementType) (head value new : List ℕ) → refuses_wide room path t value ≡ None → IsWrapped path t head value new → new ≡ head ++ value
 kept room path Double head value new clear is = let f : ⊥ = cc in absurd f
 kept room path Decimal128 head value new clear is = let f : ⊥ = cc in absurd f
 kept room path (Kept k) head value new clear is = is

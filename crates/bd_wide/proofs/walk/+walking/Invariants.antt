@@ -1,28 +1,35 @@
-use Rattle.std.proofs.Common.{◌+◌, ◌*◌, length}
+use Rattle.std.proofs.Common.{◌≡◌, ◌+◌, ◌*◌, length}
 use Rattle.std.specs.Io.{StartsWith}
-use Rattle.bd_wide.specs.Rewritten.{IsNested}
+use Rattle.bd_wide.specs.Rewritten.{IsNested, path_of}
 use Rattle.bd_wide.proofs.WalkLemmas.{Comes}
 use Rattle.bd_wide.proofs.walk.+walking.Given as goal
 
 abbrev pub decreases-nested : goal.decreases-nested
-decreases-nested g l = 4 * l.room
+decreases-nested g l = 5 * l.room
+
+abbrev pub decreases-entered : goal.decreases-entered
+decreases-entered g l = 5 * l.room + 1
 
 abbrev pub decreases-element : goal.decreases-element
-decreases-element g l = 4 * l.room + 1
+decreases-element g l = 5 * l.room + 2
 
 abbrev pub decreases-elements : goal.decreases-elements
-decreases-elements g l = 4 * l.room + 2
+decreases-elements g l = 5 * l.room + 3
 
 abbrev pub decreases-body : goal.decreases-body
-decreases-body g l = 4 * l.room + 3
+decreases-body g l = 5 * l.room + 4
 
 abbrev pub decreases-scoped : goal.decreases-scoped
-decreases-scoped g l = 4 * l.room + 3
+decreases-scoped g l = 5 * l.room + 4
+
+abbrev pub decreases-with_scope : goal.decreases-with_scope
+decreases-with_scope g l = 5 * l.room + 1
 
 abbrev pub invariant-elements-loop-typed : goal.invariant-elements-loop-typed
 invariant-elements-loop-typed g l = record {
   comes : Comes (g.W.NumberWriter.is_written l.writer) (g.W.NumberWriter.others_of l.writer)
-      (IsNested (g.W.NumberWriter.is_written l.writer) (g.W.NumberWriter.others_of l.writer) l.room) l.bytes l.rest l.fn.out.items l.out.items;
+      (IsNested (g.W.NumberWriter.is_written l.writer) (g.W.NumberWriter.others_of l.writer) l.room) (path_of l.in_array l.fn.path.items) l.bytes l.rest l.fn.out.items l.out.items;
+  path_is : l.path.items ≡ l.fn.path.items;
   begun : StartsWith l.out.items l.fn.out.items;
 }
 
