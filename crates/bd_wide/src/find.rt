@@ -19,6 +19,10 @@ use bd_value::{MOST_LEVELS, NoMemory};
 pub enum Refusal {
     /// Nothing can stand in its place at a level more.
     TooDeep,
+    /// It, or it times a power of ten, is no whole number of 64 bits.
+    NotWhole,
+    /// No double equals it.
+    NoDouble,
 }
 
 /// A refused number.

@@ -1,8 +1,9 @@
 //! Laws of what is written of documents. The body of each is empty: its contract is the law.
 
-ghost use Rattle.std.specs.Prelude.{◌≡◌, ◌<◌, List, ℕ, None, length, slice_index};
+ghost use Rattle.std.specs.Prelude.{◌≡◌, ◌<◌, [], List, ℕ, None, length, slice_index};
 ghost use Rattle.bd_raw.specs.Sizes.{number_of};
 ghost use Rattle.bd_wide.specs.Mask.{IsMasked, masked_others};
+ghost use Rattle.bd_wide.specs.Order.{IsOrdered};
 ghost use Rattle.bd_wide.specs.Refused.{first_refused};
 ghost use Rattle.bd_wide.specs.Rewritten.{IsRewritten};
 ghost use Rattle.bd_wide.specs.Wrap.{IsWrapped, refuses_wide};
@@ -18,4 +19,11 @@ pub fn wrap_leaves_others()
     ensures { (bytes new : List ℕ) → ((i : ℕ) → slice_index bytes i < 256)
         → number_of bytes ≡ length bytes → first_refused refuses_wide bytes ≡ None
         → IsRewritten IsWrapped (λ others. others) bytes new → new ≡ bytes }
+{}
+
+/// So it does where no code is asked for, apart from the number of the document.
+pub fn order_leaves_others()
+    ensures { (bytes new : List ℕ) → ((i : ℕ) → slice_index bytes i < 256)
+        → number_of bytes ≡ length bytes → first_refused refuses_wide bytes ≡ None
+        → IsRewritten (IsOrdered []) (λ others. others) bytes new → new ≡ bytes }
 {}

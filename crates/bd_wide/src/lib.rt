@@ -17,20 +17,27 @@
 //! - `walk`: `write_rewritten`, the one walker, and `NumberWriter`, what it asks for each number.
 //! - `wrap`: `Wrap`, in which doubles and decimal128 are documents that hold their texts: `specs/Wrap.antt`.
 //! - `element`: the element at the front of bytes, of which only sizes are looked at.
+//! - `order`: `write_ordered`, a document whose numbers are whole numbers in the same order: `specs/Order.antt`.
+//! - `paths`: the paths whose numbers become codes: `specs/Paths.antt`.
 //! - `mask`: `Mask`, in which each element has a type that bsonfind reads, at the same place.
-//! - `laws`: that `mask` keeps the length, and that `wrap` leaves documents without doubles and decimal128 as they are.
+//! - `laws`: that `mask` keeps the length, and that `wrap` and `order` leave documents without doubles and decimal128 as they
+//!   are.
 #![tactic(auto)]
 
 mod element;
 mod find;
 mod laws;
 mod mask;
+mod order;
+mod paths;
 mod walk;
 mod wrap;
 
 pub use element::Part;
 pub use find::{Found, Refusal, Refuser, find_refused};
-pub use laws::{mask_keeps_length, wrap_leaves_others};
+pub use laws::{mask_keeps_length, order_leaves_others, wrap_leaves_others};
 pub use mask::Mask;
+pub use order::{Order, Outcome, Unfiltered, Unordered, write_ordered};
+pub use paths::{OrderPath, read_order};
 pub use walk::{NumberWriter, write_rewritten};
 pub use wrap::{Number, Wrap, write_wrapped};

@@ -101,7 +101,7 @@ pub fn write_wrapped(bytes: &[u8], path: &mut Vec<u8>, out: &mut Vec<u8>) -> Res
 }
 
 /// The number that the first eight bytes are.
-fn long(bytes: &[u8]) -> u64
+pub(crate) fn long(bytes: &[u8]) -> u64
     requires { 8 ≤ length bytes.now }
     ensures { result ≡ long_of bytes.now }
 {

@@ -1,0 +1,248 @@
+//! Numbers as whole numbers in the same order.
+
+ghost use Rattle.std.specs.Prelude.{◌≡◌, ◌≤◌, ◌+◌, ◌++◌, ◌∷◌, List, ℕ, length, take, drop, IfErr, OnErr, OnOk};
+ghost use Rattle.std.specs.Io.{StartsWith};
+ghost use Rattle.bd_raw.specs.Spelling.{long as long_bytes};
+ghost use Rattle.bd_wide.specs.Rewritten.{Adds, least};
+ghost use Rattle.bd_wide.specs.Order.{IsNumbered, IsOrdered, IsOrderedDocument, IsUnfiltered, IsUnordered, became, code_at, coded as coded_as, int64_element, number_at, numbered, outcome_at, refusal_in, refuses_unordered, whole_at};
+
+use crate::find::{Found, Refusal, Refuser, find_refused};
+use crate::paths::{OrderPath, asked};
+use crate::walk::{NumberWriter, seal, write_rewritten};
+use crate::wrap::long;
+use bd_raw::{ElementType, raw_parts as raw};
+use bd_value::{Kind, LONGEST_DOCUMENT, NoMemory};
+use bd_wide_number::{Number, code_of, whole_of};
+
+/// What becomes of a number.
+#[derive(Clone, Copy, Debug)]
+pub enum Outcome {
+    Itself,
+    Int64(i64),
+    /// It is refused.
+    Nothing(Refusal),
+}
+
+/// Numbers become their codes at some paths, and stay or become an int64 elsewhere.
+#[derive(Debug, Drop)]
+pub struct Order {
+    pub paths: Vec<OrderPath>,
+}
+
+/// Why a document is refused.
+#[derive(Clone, Copy, Debug)]
+pub enum Unordered {
+    /// A number of it is.
+    Number(Found),
+    /// It would be longer than 16,793,600 bytes.
+    TooLong,
+}
+
+/// Why nothing is written of a document.
+#[derive(Clone, Copy, Debug)]
+pub enum Unfiltered {
+    /// Memory ran out.
+    NoMemory,
+    Refused(Unordered),
+}
+
+impl NumberWriter for Order {
+    ghost is_written = { λ order. IsOrdered order.paths.items };
+
+    ghost others_of = { λ _ bytes. bytes };
+
+    #[tactic(auto, using(bd_value::proofs::FrontLemmas::fronts))]
+    fn element(
+        &self,
+        path: &[u8],
+        typed: ElementType,
+        head: &[u8],
+        value: &[u8],
+        out: &mut Vec<u8>,
+    ) -> Result<(), NoMemory> {
+        match becomes(&self.paths, path, typed, value) {
+            Outcome::Int64(z) => put_int64(head, z, out),
+            Outcome::Itself | Outcome::Nothing(_) => {
+                out.extend_from_slice(head)?;
+                out.extend_from_slice(value)
+            }
+        }
+    }
+
+    fn others(&self, bytes: &[u8], out: &mut Vec<u8>) -> Result<(), NoMemory> {
+        out.extend_from_slice(bytes)?;
+        Ok(())
+    }
+}
+
+impl Refuser for Order {
+    ghost refuses = { λ order. refuses_unordered order.paths.items };
+
+    fn refuse(&self, _room: u32, path: &[u8], typed: ElementType, value: &[u8]) -> Option<Refusal> {
+        match becomes(&self.paths, path, typed, value) {
+            Outcome::Nothing(why) => Some(why),
+            Outcome::Itself | Outcome::Int64(_) => None,
+        }
+    }
+}
+
+/// What becomes of a number at a path.
+fn becomes(paths: &[OrderPath], path: &[u8], typed: ElementType, value: &[u8]) -> Outcome
+    requires { least typed ≤ length value.now }
+    ensures { result ≡ outcome_at paths.now path.now typed value.now }
+{
+    let Some(number) = number_in(typed, value) else {
+        return Outcome::Itself;
+    };
+    match asked(paths, path) {
+        Some(power) => code(power, number),
+        None => whole(typed, number),
+    }
+}
+
+/// What becomes of a number that is asked for, with a power of ten or without.
+fn code(power: Option<u32>, number: Number) -> Outcome
+    ensures { result ≡ code_at power number }
+{
+    let why = match power {
+        None => Refusal::NoDouble,
+        Some(_) => Refusal::NotWhole,
+    };
+    coded(why, code_of(number, power))
+}
+
+/// What becomes of any other number.
+fn whole(typed: ElementType, number: Number) -> Outcome
+    ensures { result ≡ whole_at typed number }
+{
+    match typed {
+        ElementType::Kept(_) => Outcome::Itself,
+        ElementType::Double | ElementType::Decimal128 => {
+            coded(Refusal::NotWhole, whole_of(number))
+        }
+    }
+}
+
+/// An int64, or why there is none.
+fn coded(why: Refusal, code: Option<i64>) -> Outcome
+    ensures { result ≡ coded_as why code }
+{
+    match code {
+        Some(z) => Outcome::Int64(z),
+        None => Outcome::Nothing(why),
+    }
+}
+
+/// The number that a value is, if it is one.
+#[tactic(auto, unfolding(crate::specs::Order::number_at, crate::specs::Rewritten::least))]
+fn number_in(typed: ElementType, value: &[u8]) -> Option<Number>
+    requires { least typed ≤ length value.now }
+    ensures { result ≡ number_at typed value.now }
+{
+    let kind = match typed {
+        ElementType::Kept(kind) => kind,
+        ElementType::Double => return Some(Number::Double(long(value))),
+        ElementType::Decimal128 => {
+            let (_, upper) = value.split_at(8);
+            return Some(Number::Decimal128(long(value), long(upper)));
+        }
+    };
+    match kind {
+        Kind::Int32 => Some(Number::Whole(raw::number(value).cast_signed() as i64)),
+        Kind::Int64 => Some(Number::Whole(long(value).cast_signed())),
+        _ => None,
+    }
+}
+
+/// Appends an element with an int64, under the name of an element.
+#[tactic(auto, using(bd_value::proofs::FrontLemmas::fronts), unfolding(crate::specs::Order::int64_element))]
+fn put_int64(head: &[u8], z: i64, out: &mut Vec<u8>) -> Result<(), NoMemory>
+    requires { 2 ≤ length head.now }
+    ensures ok { OnOk result (out.new.items ≡ out.old.items ++ int64_element head.now z) }
+    ensures front { OnErr result (StartsWith out.new.items out.old.items) }
+{
+    let (_, name) = head.split_at(1);
+    out.extend_from_slice(&[0x12])?;
+    out.extend_from_slice(name)?;
+    write_long(z.cast_unsigned(), out)
+}
+
+/// Appends a number of eight bytes.
+#[tactic(auto, unfolding(bd_raw::specs::Spelling::long))]
+fn write_long(n: u64, out: &mut Vec<u8>) -> Result<(), NoMemory>
+    ensures ok { OnOk result (out.new.items ≡ out.old.items ++ long_bytes n) }
+    ensures kept { OnErr result (out.new.items ≡ out.old.items) }
+{
+    out.extend_from_slice(&n.to_le_bytes())
+}
+
+/// Appends a document whose numbers are ordered, with its number as one field more. `path` is a buffer, and gets the path of
+/// a number that is refused.
+///
+/// # Errors
+/// Each leaves `out` as it was.
+pub fn write_ordered(
+    order: &Order,
+    number: u64,
+    bytes: &[u8],
+    path: &mut Vec<u8>,
+    out: &mut Vec<u8>,
+) -> Result<(), Unfiltered>
+    requires { 5 ≤ length bytes.now }
+    ensures ok { OnOk result (Adds (IsOrderedDocument order.now.paths.items number bytes.now)
+        out.old.items out.new.items) }
+    ensures why { IfErr result (IsUnfiltered (IsUnordered order.now.paths.items number bytes.now path.new.items)) }
+    ensures kept { OnErr result (out.new.items ≡ out.old.items) }
+{
+    path.clear();
+    match find_refused(order, bytes, path) {
+        Ok(None) => {}
+        Ok(Some(found)) => return Err(Unfiltered::Refused(Unordered::Number(found))),
+        Err(_) => return Err(Unfiltered::NoMemory),
+    }
+    let before = out.len();
+    if write_numbered(order, number, bytes, path, out).is_err() {
+        out.truncate(before);
+        return Err(Unfiltered::NoMemory);
+    }
+    if out.len() - before > LONGEST_DOCUMENT {
+        out.truncate(before);
+        return Err(Unfiltered::Refused(Unordered::TooLong));
+    }
+    Ok(())
+}
+
+/// Appends the same, whatever its numbers and its length.
+fn write_numbered(
+    order: &Order,
+    number: u64,
+    bytes: &[u8],
+    path: &mut Vec<u8>,
+    out: &mut Vec<u8>,
+) -> Result<(), NoMemory>
+    requires { 5 ≤ length bytes.now }
+    ensures ok { OnOk result (Adds (IsNumbered order.now.paths.items number bytes.now)
+        out.old.items out.new.items) }
+    ensures front { OnErr result (StartsWith out.new.items out.old.items) }
+{
+    let at = out.len();
+    write_rewritten(order, bytes, path, out)?;
+    put_document_number(at, number, out)
+}
+
+/// Puts the number of a document into the document at a place, as one field more at its end.
+fn put_document_number(at: usize, n: u64, out: &mut Vec<u8>) -> Result<(), NoMemory>
+    requires { at + 5 ≤ length out.old.items }
+    ensures ok { OnOk result
+        (out.new.items ≡ take at out.old.items ++ numbered n (drop at out.old.items)) }
+    ensures front { OnErr result (StartsWith out.new.items (take at out.old.items)) }
+{
+    let Some(last) = out.pop() else {
+        unreachable!()
+    };
+    out.extend_from_slice(b"\x12~n\0")?;
+    write_long(n, out)?;
+    out.push(last)?;
+    seal(at, out);
+    Ok(())
+}
