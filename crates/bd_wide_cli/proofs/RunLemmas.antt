@@ -1,5 +1,5 @@
 -- How far a run has come, and how it ends.
-use Rattle.std.proofs.Common.{◌≡◌, ◌≤◌, ◌<◌, ◌⊎◌, ℕ, ◌+◌, Bool, true, false, cond, List, [], ◌++◌, length, take, refl, sym, ap, ◌∙◌, subst, inl, inr, arith, append_assoc, append-nil, Option, Result, Ok, Err, OnOk, IfErr, take_at}
+use Rattle.std.proofs.Common.{◌≡◌, ◌≤◌, ◌<◌, ◌⊎◌, ℕ, ◌+◌, Bool, true, false, cond, List, [], ◌++◌, length, take, refl, sym, ap, ◌∙◌, subst, inl, inr, arith, append_assoc, append-nil, length-append, Option, Result, Ok, Err, OnOk, IfErr, take_at}
 use Rattle.std.proofs.KnownBytes.{Consumes-nil, Consumes-trans}
 use Rattle.std.specs.Io.KnownBytes.{Consumes}
 use Rattle.std.specs.Int.{w32, from_le_bytes}
@@ -10,26 +10,28 @@ use Rattle.bd_wide_cli.specs.declared.frame.Next.{Next}
 use Rattle.bd_wide_cli.specs.declared.frame.Next.TheVariants as nexts
 use Rattle.bd_wide_cli.specs.declared.running.Stop.{Stop}
 use Rattle.bd_wide_cli.specs.declared.running.Stop.TheVariants as stops
-use Rattle.bd_wide_cli.specs.Filtered.{AreDocuments, none, more, BeginsWithNone, FiltersAll, FiltersPartly, IsBadLength, IsFrame, IsNext, IsWritten, CopiesRest, PassesOn, StopsCopying, StopsDocument, StopsPassing, WritesDocument}
+use Rattle.bd_wide_cli.specs.Filtered.{AreDocuments, none, more, ArePartlyFiltered, BeginsWithNone, Ends, FiltersAll, FiltersPartly, IsBadLength, IsFrame, IsNext, IsWritten, CopiesRest, PassesOn, StopsCopying, StopsDocument, StopsPassing, WritesDocument, refusal_text}
 use Rattle.bd_device.proofs.DevicesLemmas.{breaks_second, takes_both, takes_none}
 
-pub record Progress (filter : Filter) (file left : Reader) (old new : Writer) (kept : ℕ) : Type 0 where
+pub record Progress (filter : Filter) (file left : Reader) (old new : Writer) (number start kept : ℕ) : Type 0 where
   pub documents : List ℕ
   pub written : List ℕ
-  pub are : AreDocuments filter documents kept written
+  pub are : AreDocuments filter number documents kept written
+  pub before : length documents ≡ start
   pub gave : Consumes file.left left.left documents
   pub took : TakesText (between old new) written
 
-pub begins : (filter : Filter) (file : Reader) (out : Writer) → Progress filter file file out out 0
-begins filter file out = record { documents = []; written = []; are = none; gave = Consumes-nil file.left; took = takes_none out }
+pub begins : (filter : Filter) (file : Reader) (out : Writer) → Progress filter file file out out 0 0 0
+begins filter file out = record { documents = []; written = []; are = none; before = refl; gave = Consumes-nil file.left; took = takes_none out }
 
-pub goes_on : (filter : Filter) (file left later : Reader) (old new last : Writer) (kept : ℕ) (bytes : List ℕ) (filtered : Bool) → Progress filter file left old new kept
-    → Consumes left.left later.left bytes → IsFrame bytes → WritesDocument filter bytes (between new last) filtered
-    → Progress filter file later old last (cond filtered kept (kept + 1))
-goes_on filter file left later old new last kept bytes filtered p gave frame wrote = record {
+pub goes_on : (filter : Filter) (file left later : Reader) (old new last : Writer) (number start kept : ℕ) (bytes : List ℕ) (filtered : Bool) → Progress filter file left old new number start kept
+    → Consumes left.left later.left bytes → IsFrame bytes → WritesDocument filter number bytes (between new last) filtered
+    → Progress filter file later old last (number + 1) (start + length bytes) (cond filtered kept (kept + 1))
+goes_on filter file left later old new last number start kept bytes filtered p gave frame wrote = record {
   documents = p.documents ++ bytes;
   written = p.written ++ wrote.0;
-  are = more p.documents p.written bytes wrote.0 kept filtered p.are frame wrote.1;
+  are = more number p.documents p.written bytes wrote.0 kept filtered p.are frame wrote.1;
+  before = length-append p.documents bytes ∙ ap (λ n. n + length bytes) p.before;
   gave = Consumes-trans file.left left.left later.left p.documents bytes p.gave gave;
   took = takes_both old new last p.written wrote.0 p.took wrote.2;
 }
@@ -48,6 +50,7 @@ fronts_after old mid new first second a (front, rest, split, took) =
 pub written_after : (stop : Stop) (old mid new : Writer) (first second : List ℕ) → TakesText (between old mid) first → IsWritten stop (between mid new) second → IsWritten stop (between old new) (first ++ second)
 written_after stops.Unwritten old mid new first second a b = breaks_second old mid new first second a b
 written_after stops.NoMemory old mid new first second a b = fronts_after old mid new first second a b
+written_after (stops.Refused text) old mid new first second a b = absurd b
 written_after (stops.Unread f) old mid new first second a b = fronts_after old mid new first second a b
 
 -- ---- what begins with no document
@@ -101,61 +104,80 @@ breaks_on next bytes file old new is other broke =
 
 -- ---- the ends
 
-pub all_filtered : (filter : Filter) (file left mid last : Reader) (old new end : Writer) (kept : ℕ) (bytes : List ℕ) → Progress filter file left old new kept
+ends : (filter : Filter) (bytes new : List ℕ) (out : Over Writer) (stop : Stop) → ArePartlyFiltered filter bytes new → IsWritten stop out new → Ends filter bytes new out stop
+ends filter bytes new out stops.Unwritten are is = (are, is)
+ends filter bytes new out stops.NoMemory are is = (are, is)
+ends filter bytes new out (stops.Unread f) are is = (are, is)
+ends filter bytes new out (stops.Refused text) are is = absurd is
+
+pub all_filtered : (filter : Filter) (file left mid last : Reader) (old new end : Writer) (number start kept : ℕ) (bytes : List ℕ) → Progress filter file left old new number start kept
     → Consumes left.left mid.left bytes → PassesOn bytes (between mid last) (between new end) → FiltersAll filter (between file last) (between old end) kept
-all_filtered filter file left mid last old new end kept bytes p gave pass =
+all_filtered filter file left mid last old new end number start kept bytes p gave pass =
     let rest = bytes ++ pass.0 in (
       p.documents ++ rest,
       p.written ++ rest,
       Consumes-trans file.left left.left last.left p.documents rest p.gave (Consumes-trans left.left mid.left last.left bytes pass.0 gave pass.2),
       pass.3,
-      (p.documents, p.written, rest, p.are, pass.1, refl, refl),
+      (number, p.documents, p.written, rest, p.are, pass.1, refl, refl),
       takes_both old new end p.written rest p.took pass.4,
     )
 
-pub stops_passing : (filter : Filter) (file left mid last : Reader) (old new end : Writer) (kept : ℕ) (bytes : List ℕ) (stop : Stop) → Progress filter file left old new kept
+pub stops_passing : (filter : Filter) (file left mid last : Reader) (old new end : Writer) (number start kept : ℕ) (bytes : List ℕ) (stop : Stop) → Progress filter file left old new number start kept
     → Consumes left.left mid.left bytes → StopsPassing bytes (between mid last) (between new end) stop → FiltersPartly filter (between file last) (between old end) stop
-stops_passing filter file left mid last old new end kept bytes stop p gave pass =
+stops_passing filter file left mid last old new end number start kept bytes stop p gave pass =
     let rest = bytes ++ pass.0 in (
       p.documents ++ rest,
       p.written ++ rest,
       Consumes-trans file.left left.left last.left p.documents rest p.gave (Consumes-trans left.left mid.left last.left bytes pass.0 gave pass.2),
-      (p.documents, p.written, rest, kept, p.are, refl, inr (pass.1, refl)),
-      written_after stop old new end p.written rest p.took pass.3,
+      ends filter (p.documents ++ rest) (p.written ++ rest) (between old end) stop (number, p.documents, p.written, rest, kept, p.are, refl, inr (pass.1, refl))
+          (written_after stop old new end p.written rest p.took pass.3),
     )
 
-pub unread : (filter : Filter) (file left last : Reader) (old new : Writer) (kept : ℕ) (stop : Stop) → Progress filter file left old new kept
+pub unread : (filter : Filter) (file left last : Reader) (old new : Writer) (number start kept : ℕ) (stop : Stop) → Progress filter file left old new number start kept
     → (given : List ℕ) × Consumes left.left last.left given → IsWritten stop (between new new) [] → FiltersPartly filter (between file last) (between old new) stop
-unread filter file left last old new kept stop p gave wrote = (
+unread filter file left last old new number start kept stop p gave wrote = (
   p.documents ++ gave.0,
   p.written,
   Consumes-trans file.left left.left last.left p.documents gave.0 p.gave gave.1,
-  (p.documents, p.written, gave.0, kept, p.are, refl, inl refl),
-  subst (λ (x : List ℕ). IsWritten stop (between old new) x) (append-nil p.written) (written_after stop old new new p.written [] p.took wrote),
+  ends filter (p.documents ++ gave.0) p.written (between old new) stop (number, p.documents, p.written, gave.0, kept, p.are, refl, inl refl)
+      (subst (λ (x : List ℕ). IsWritten stop (between old new) x) (append-nil p.written) (written_after stop old new new p.written [] p.took wrote)),
 )
 
 pub nothing_written : (out : Writer) → TakesFront (between out out) []
 nothing_written out = is_front (between out out) [] (takes_none out)
 
-pub stops_document : (filter : Filter) (file left last : Reader) (old new end : Writer) (kept : ℕ) (bytes : List ℕ) (stop : Stop) → Progress filter file left old new kept
-    → Consumes left.left last.left bytes → IsFrame bytes → StopsDocument filter bytes (between new end) stop → FiltersPartly filter (between file last) (between old end) stop
-stops_document filter file left last old new end kept bytes stops.NoMemory p gave frame stop = (
+nothing_more_written : (old new end : Writer) (written : List ℕ) → TakesText (between old new) written → TakesText (between new end) [] → TakesText (between old end) written
+nothing_more_written old new end written took nothing = subst (λ (x : List ℕ). TakesText (between old end) x) (append-nil written) (takes_both old new end written [] took nothing)
+
+pub stops_document : (filter : Filter) (file left last : Reader) (old new end : Writer) (number start kept : ℕ) (bytes : List ℕ) (stop : Stop) → Progress filter file left old new number start kept
+    → Consumes left.left last.left bytes → IsFrame bytes → StopsDocument filter number start bytes (between new end) stop → FiltersPartly filter (between file last) (between old end) stop
+stops_document filter file left last old new end number start kept bytes stops.NoMemory p gave frame stop = (
   p.documents ++ bytes,
   p.written,
   Consumes-trans file.left left.left last.left p.documents bytes p.gave gave,
-  (p.documents, p.written, bytes, kept, p.are, refl, inl refl),
-  is_front (between old end) p.written (subst (λ (x : List ℕ). TakesText (between old end) x) (append-nil p.written) (takes_both old new end p.written [] p.took stop)),
+  ((number, p.documents, p.written, bytes, kept, p.are, refl, inl refl), is_front (between old end) p.written (nothing_more_written old new end p.written p.took stop)),
 )
-stops_document filter file left last old new end kept bytes stops.Unwritten p gave frame stop =
+stops_document filter file left last old new end number start kept bytes stops.Unwritten p gave frame stop =
     let documents = p.documents ++ bytes in
     let written = p.written ++ stop.0 in (
       documents,
       written,
       Consumes-trans file.left left.left last.left p.documents bytes p.gave gave,
-      (documents, written, [], cond stop.1 kept (kept + 1), more p.documents p.written bytes stop.0 kept stop.1 p.are frame stop.2, sym (append-nil documents), inl refl),
-      breaks_second old new end p.written stop.0 p.took stop.3,
+      (
+        (number + 1, documents, written, [], cond stop.1 kept (kept + 1), more number p.documents p.written bytes stop.0 kept stop.1 p.are frame stop.2, sym (append-nil documents), inl refl),
+        breaks_second old new end p.written stop.0 p.took stop.3,
+      ),
     )
-stops_document filter file left last old new end kept bytes (stops.Unread f) p gave frame stop = absurd stop
+stops_document filter file left last old new end number start kept bytes (stops.Unread f) p gave frame stop = absurd stop
+stops_document filter file left last old new end number start kept bytes (stops.Refused text) p gave frame (nothing, (path, why, is, told)) = (
+  p.documents ++ bytes,
+  p.written,
+  Consumes-trans file.left left.left last.left p.documents bytes p.gave gave,
+  (
+    (number, p.documents, kept, bytes, path, why, p.are, frame, refl, is, told ∙ ap (λ n. refusal_text number n path why) (sym p.before)),
+    nothing_more_written old new end p.written p.took nothing,
+  ),
+)
 
 -- ---- results
 

@@ -1,22 +1,35 @@
 -- What a filter writes of a dump.
-use Rattle.std.specs.Prelude.{◌≡◌, ◌<◌, ◌≤◌, ◌⊎◌, ℕ, ◌+◌, Bool, true, false, List, [], ◌++◌, length, if◌then◌else◌, Option}
+use Rattle.std.specs.Prelude.{◌≡◌, ◌<◌, ◌≤◌, ◌⊎◌, ℕ, ◌+◌, Bool, true, false, List, [], ◌++◌, length, codes, decimal, if◌then◌else◌, Option}
 use Rattle.std.specs.Io.KnownBytes.{Consumes, IsAtEnd}
 use Rattle.bd_value.specs.Limits.{longest_document}
 use Rattle.bd_raw.specs.Sizes.{number_of}
 use Rattle.bd_device.specs.Devices.{BreaksWithin, Over, Reader, TakesFront, TakesText, Writer}
-use Rattle.bd_wide.specs.{Mask.IsMasked, Mask.masked_others, Rewritten.IsRewritten, Wrap.IsWrappedDocument}
+use Rattle.bd_text.specs.Text.{quoted}
+use Rattle.bd_wide.specs.{Mask.IsMasked, Mask.masked_others, Order.IsOrderedDocument, Order.IsUnordered, Rewritten.IsRewritten, Wrap.IsWrappedDocument}
+use Rattle.bd_wide.specs.declared.find.{Found.Found, Refusal.Refusal}
+use Rattle.bd_wide.specs.declared.find.Refusal.TheVariants as refusals
+use Rattle.bd_wide.specs.declared.order.Unordered.{Unordered}
+use Rattle.bd_wide.specs.declared.order.Unordered.TheVariants as unordereds
 use Rattle.bd_wide_cli.specs.declared.filter.Filter.{Filter}
-use Rattle.bd_wide_cli.specs.declared.filter.Filter.TheVariants.{Mask, Wrap}
+use Rattle.bd_wide_cli.specs.declared.filter.Filter.TheVariants.{Mask, Wrap, Order}
 use Rattle.bd_wide_cli.specs.declared.frame.Next.{Next}
 use Rattle.bd_wide_cli.specs.declared.frame.Next.TheVariants as nexts
 use Rattle.bd_wide_cli.specs.declared.running.Stop.{Stop}
 use Rattle.bd_wide_cli.specs.declared.running.Stop.TheVariants as stops
 
--- what may be written of a document, which is filtered or stays as it is
-abbrev pub IsFiltered : Filter → List ℕ → Bool → List ℕ → Type 0
-IsFiltered Mask bytes true new = IsRewritten IsMasked masked_others bytes new
-IsFiltered Mask bytes false new = ⊥
-IsFiltered Wrap bytes filtered new = IsWrappedDocument bytes filtered new
+-- what may be written of a document with this number, which is filtered or stays as it is
+abbrev pub IsFiltered : Filter → ℕ → List ℕ → Bool → List ℕ → Type 0
+IsFiltered Mask n bytes true new = IsRewritten IsMasked masked_others bytes new
+IsFiltered Mask n bytes false new = ⊥
+IsFiltered Wrap n bytes filtered new = IsWrappedDocument bytes filtered new
+IsFiltered (Order order) n bytes true new = IsOrderedDocument order.paths.items n bytes new
+IsFiltered (Order order) n bytes false new = ⊥
+
+-- why nothing may be: `order` refuses a number, which has this path, or the length
+abbrev pub IsRefused : Filter → ℕ → List ℕ → List ℕ → Unordered → Type 0
+IsRefused Mask n bytes path why = ⊥
+IsRefused Wrap n bytes path why = ⊥
+IsRefused (Order order) n bytes path why = IsUnordered order.paths.items n bytes path why
 
 -- the bytes are one document, as far as its length says
 pub record IsFrame (bytes : List ℕ) : Type 0 where
@@ -32,23 +45,50 @@ IsBadLength bytes = (number_of bytes < 5) ⊎ (longest_document < number_of byte
 abbrev pub BeginsWithNone : List ℕ → Type 0
 BeginsWithNone bytes = (length bytes < 4) ⊎ IsBadLength bytes ⊎ (length bytes < number_of bytes)
 
--- documents in a row, how many of them stay as they are, and what is written of all
-pub data AreDocuments (filter : Filter) : List ℕ → ℕ → List ℕ → Type 0 where
-  none : AreDocuments filter [] 0 []
-  more : (documents written bytes new : List ℕ) (kept : ℕ) (filtered : Bool) → AreDocuments filter documents kept written
-      → IsFrame bytes → IsFiltered filter bytes filtered new
-      → AreDocuments filter (documents ++ bytes) (if filtered then kept else kept + 1) (written ++ new)
+-- so many documents in a row, how many of them stay as they are, and what is written of all; the first has the number 0
+pub data AreDocuments (filter : Filter) : ℕ → List ℕ → ℕ → List ℕ → Type 0 where
+  none : AreDocuments filter 0 [] 0 []
+  more : (n : ℕ) (documents written bytes new : List ℕ) (kept : ℕ) (filtered : Bool)
+      → AreDocuments filter n documents kept written → IsFrame bytes → IsFiltered filter n bytes filtered new
+      → AreDocuments filter (n + 1) (documents ++ bytes) (if filtered then kept else kept + 1) (written ++ new)
 
 -- a dump: its documents are filtered, and from the first bad length on all bytes stay as they are
 abbrev pub AreFiltered : Filter → List ℕ → ℕ → List ℕ → Type 0
-AreFiltered filter bytes kept new = (documents : List ℕ) × (written : List ℕ) × (rest : List ℕ)
-    × AreDocuments filter documents kept written × BeginsWithNone rest × (bytes ≡ documents ++ rest) × (new ≡ written ++ rest)
+AreFiltered filter bytes kept new = (n : ℕ) × (documents : List ℕ) × (written : List ℕ) × (rest : List ℕ)
+    × AreDocuments filter n documents kept written × BeginsWithNone rest × (bytes ≡ documents ++ rest) × (new ≡ written ++ rest)
 
 -- a prefix of a dump: its documents are filtered, and of what follows nothing is written unless it begins with none
 abbrev pub ArePartlyFiltered : Filter → List ℕ → List ℕ → Type 0
-ArePartlyFiltered filter bytes new = (documents : List ℕ) × (written : List ℕ) × (rest : List ℕ) × (kept : ℕ)
-    × AreDocuments filter documents kept written × (bytes ≡ documents ++ rest)
+ArePartlyFiltered filter bytes new = (n : ℕ) × (documents : List ℕ) × (written : List ℕ) × (rest : List ℕ) × (kept : ℕ)
+    × AreDocuments filter n documents kept written × (bytes ≡ documents ++ rest)
     × ((new ≡ written) ⊎ (BeginsWithNone rest × (new ≡ written ++ rest)))
+
+-- why a number is refused
+abbrev pub refusal_words : Refusal → List ℕ
+refusal_words refusals.TooDeep = codes "too deep"
+refusal_words refusals.NotWhole = codes "not a whole number of 64 bits"
+refusal_words refusals.NoDouble = codes "no double equals it"
+
+abbrev pub found_text : ℕ → List ℕ → Found → List ℕ
+found_text start path found = codes ", byte " ++ (decimal (start + found.at)
+    ++ (codes ", path " ++ (quoted path ++ (codes ": " ++ refusal_words found.why))))
+
+-- which document is refused, and why: by its number, by how many bytes stand before it, and by the path of a refused number
+abbrev pub refusal_text : ℕ → ℕ → List ℕ → Unordered → List ℕ
+refusal_text n start path unordereds.TooLong = codes "document " ++ (decimal n ++ codes ": document too long")
+refusal_text n start path (unordereds.Number found) = codes "document " ++ (decimal n ++ found_text start path found)
+
+-- the end of a run at such a document; or memory ran out
+abbrev pub TellsRefusal : ℕ → ℕ → List ℕ → Unordered → Stop → Type 0
+TellsRefusal n start path why (stops.Refused text) = text.items ≡ refusal_text n start path why
+TellsRefusal n start path why stops.NoMemory = Unit {0}
+TellsRefusal n start path why _ = ⊥
+
+-- of a dump that ends with the refused document all others are written, and the text tells of it
+abbrev pub IsRefusedDump : Filter → List ℕ → List ℕ → List ℕ → Type 0
+IsRefusedDump filter bytes new text = (n : ℕ) × (documents : List ℕ) × (kept : ℕ) × (last : List ℕ) × (path : List ℕ)
+    × (why : Unordered) × AreDocuments filter n documents kept new × IsFrame last × (bytes ≡ documents ++ last)
+    × IsRefused filter n last path why × (text ≡ refusal_text n (length documents) path why)
 
 -- what stands in the buffer: a document, four bytes that are no length of one, or what the device had left
 abbrev pub IsNext : Next → List ℕ → Option (List ℕ) → Type 0
@@ -63,27 +103,35 @@ abbrev pub FiltersAll : Filter → Over Reader → Over Writer → ℕ → Type 
 FiltersAll filter file out kept = (bytes : List ℕ) × (new : List ℕ) × Consumes file.before.left file.after.left bytes
     × IsAtEnd file.after.left × AreFiltered filter bytes kept new × TakesText out new
 
--- a prefix of it was read and filtered, and standard output has a prefix of that
+-- standard output has a prefix; a document is refused only where all before it were written
 abbrev pub IsWritten : Stop → Over Writer → List ℕ → Type 0
 IsWritten stops.Unwritten out new = BreaksWithin out new
+IsWritten (stops.Refused text) out new = ⊥
 IsWritten _ out new = TakesFront out new
+
+-- a prefix of it was read and filtered, and standard output has a prefix of that; up to a refused document it has all
+abbrev pub Ends : Filter → List ℕ → List ℕ → Over Writer → Stop → Type 0
+Ends filter bytes new out (stops.Refused text) = IsRefusedDump filter bytes new text.items × TakesText out new
+Ends filter bytes new out stop = ArePartlyFiltered filter bytes new × IsWritten stop out new
 
 abbrev pub FiltersPartly : Filter → Over Reader → Over Writer → Stop → Type 0
 FiltersPartly filter file out stop = (bytes : List ℕ) × (new : List ℕ) × Consumes file.before.left file.after.left bytes
-    × ArePartlyFiltered filter bytes new × IsWritten stop out new
+    × Ends filter bytes new out stop
 
 -- ---- its parts
 
--- a document was written, filtered or as it is
-abbrev pub WritesDocument : Filter → List ℕ → Over Writer → Bool → Type 0
-WritesDocument filter bytes out filtered = (new : List ℕ) × IsFiltered filter bytes filtered new × TakesText out new
+-- a document with this number was written, filtered or as it is
+abbrev pub WritesDocument : Filter → ℕ → List ℕ → Over Writer → Bool → Type 0
+WritesDocument filter n bytes out filtered = (new : List ℕ) × IsFiltered filter n bytes filtered new × TakesText out new
 
--- or memory ran out before anything was written, or a write failed
-abbrev pub StopsDocument : Filter → List ℕ → Over Writer → Stop → Type 0
-StopsDocument filter bytes out stops.NoMemory = TakesText out []
-StopsDocument filter bytes out stops.Unwritten =
-    (new : List ℕ) × (filtered : Bool) × IsFiltered filter bytes filtered new × BreaksWithin out new
-StopsDocument filter bytes out (stops.Unread fault) = ⊥
+-- or memory ran out before anything was written, or it is refused, or a write failed
+abbrev pub StopsDocument : Filter → ℕ → ℕ → List ℕ → Over Writer → Stop → Type 0
+StopsDocument filter n start bytes out stops.NoMemory = TakesText out []
+StopsDocument filter n start bytes out (stops.Refused text) = TakesText out []
+    × ((path : List ℕ) × (why : Unordered) × IsRefused filter n bytes path why × (text.items ≡ refusal_text n start path why))
+StopsDocument filter n start bytes out stops.Unwritten =
+    (new : List ℕ) × (filtered : Bool) × IsFiltered filter n bytes filtered new × BreaksWithin out new
+StopsDocument filter n start bytes out (stops.Unread fault) = ⊥
 
 -- all that the input still gave was written
 abbrev pub CopiesRest : Over Reader → Over Writer → Type 0

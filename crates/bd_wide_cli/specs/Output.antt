@@ -17,6 +17,7 @@ abbrev pub stop_words : Stop → List ℕ
 stop_words stops.NoMemory = codes "no memory"
 stop_words stops.Unwritten = codes "cannot write"
 stop_words (stops.Unread fault) = read_words fault
+stop_words (stops.Refused text) = text.items
 
 -- how many documents stay as they are, where some do
 abbrev pub kept_line : ℕ → List ℕ
@@ -34,7 +35,8 @@ FiltersInput filter file out err status =
     ⊎ ((stop : Stop) × FiltersPartly filter file out stop × TellsMessage err (error_line (stop_words stop)) Failed status)
 
 abbrev pub usage_text : List ℕ
-usage_text = codes "usage: bsonwide mask FILE\n       bsonwide wrap FILE\n"
+usage_text =
+    codes "usage: bsonwide mask FILE\n       bsonwide wrap FILE\n       bsonwide order FILE [PATH..]\n"
 
 -- Arguments that are no command: help is printed on standard output, and a refusal on standard error. Where a write
 -- fails the status is 1.

@@ -1,40 +1,55 @@
 //! What a filter writes of a document.
 
-ghost use Rattle.std.specs.Prelude.{◌≡◌, IfOk, OnErr};
+ghost use Rattle.std.specs.Prelude.{◌≡◌, ◌≤◌, length, IfErr, IfOk, OnErr};
 ghost use Rattle.bd_wide.specs.Rewritten.{Adds};
-ghost use Rattle.bd_wide_cli.specs.Filtered.{IsFiltered};
+ghost use Rattle.bd_wide.specs.Order.{IsUnfiltered};
+ghost use Rattle.bd_wide_cli.specs.Filtered.{IsFiltered, IsRefused};
 
-use bd_value::NoMemory;
-use bd_wide::{Mask, write_rewritten, write_wrapped};
+use bd_wide::{Mask, Order, Unfiltered, write_ordered, write_rewritten, write_wrapped};
 
 /// A command, by what it does to the documents of a dump.
-#[derive(Clone, Copy, Debug, PartialEq, Eq)]
+#[derive(Debug, Drop)]
 pub enum Filter {
     /// Each element has a type that `bsonfind` reads, at the same place.
     Mask,
     /// Doubles and decimal128 are documents that hold their texts.
     Wrap,
+    /// Numbers are whole numbers in the same order.
+    Order(Order),
 }
 
-/// Appends what is written of a document, and says whether it is filtered. `path` is a buffer.
+/// Appends what is written of a document with this number, and says whether it is filtered. `path` is a buffer, and gets the
+/// path of a number that is refused.
 ///
 /// # Errors
-/// `NoMemory` leaves `out` as it was.
+/// Each leaves `out` as it was.
 pub(crate) fn write_filtered(
-    filter: Filter,
+    filter: &Filter,
+    number: u64,
     bytes: &[u8],
     path: &mut Vec<u8>,
     out: &mut Vec<u8>,
-) -> Result<bool, NoMemory>
+) -> Result<bool, Unfiltered>
+    requires { 5 ≤ length bytes.now }
     ensures ok { IfOk result (λ filtered.
-        Adds (IsFiltered filter bytes.now filtered) out.old.items out.new.items) }
+        Adds (IsFiltered filter.now number bytes.now filtered) out.old.items out.new.items) }
+    ensures why { IfErr result (IsUnfiltered (IsRefused filter.now number bytes.now path.new.items)) }
     ensures kept { OnErr result (out.new.items ≡ out.old.items) }
 {
     match filter {
         Filter::Mask => {
-            write_rewritten(&Mask, bytes, path, out)?;
+            if write_rewritten(&Mask, bytes, path, out).is_err() {
+                return Err(Unfiltered::NoMemory);
+            }
             Ok(true)
         }
-        Filter::Wrap => write_wrapped(bytes, path, out),
+        Filter::Wrap => match write_wrapped(bytes, path, out) {
+            Ok(filtered) => Ok(filtered),
+            Err(_) => Err(Unfiltered::NoMemory),
+        },
+        Filter::Order(order) => match write_ordered(order, number, bytes, path, out) {
+            Ok(()) => Ok(true),
+            Err(why) => Err(why),
+        },
     }
 }

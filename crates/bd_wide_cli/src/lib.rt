@@ -10,7 +10,7 @@
 //! let mut out = MemoryOutput::new(&mut room, 100, None);
 //! let mut told = [0; 100];
 //! let mut err = MemoryOutput::new(&mut told, 100, None);
-//! let status = run(rt.alloc(), Filter::Mask, &mut input, &mut out, &mut err);
+//! let status = run(rt.alloc(), &Filter::Mask, &mut input, &mut out, &mut err);
 //! assert!(rt; status == Status::Done);
 //! assert!(rt; out.bytes() == b"\x05\0\0\0\0".as_slice());
 //! ```
@@ -18,12 +18,14 @@
 //! - `filter`: `Filter`, and what it writes of a document.
 //! - `frame`: the next document of a device, or what begins with none.
 //! - `running`: `run`, a whole run over devices.
+//! - `refusal`: what is told of a document that `order` refuses.
 //! - `output`: what is told on standard error, and `Status`.
 #![tactic(auto)]
 
 mod filter;
 mod frame;
 mod output;
+mod refusal;
 mod running;
 
 pub use filter::Filter;

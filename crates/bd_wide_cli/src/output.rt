@@ -29,13 +29,13 @@ pub const CANNOT_WRITE: &str = "cannot write";
 
 /// Writes the line of an error.
 #[tactic(auto, using(crate::proofs::OutputLemmas::taking))]
-pub fn write_error<E: Output>(message: &str, err: &mut E) -> Result<(), DeviceFault>
+pub fn write_error<E: Output>(message: &[u8], err: &mut E) -> Result<(), DeviceFault>
     ensures ok { OnOk result (TakesText (over E.state err.old err.new) (error_line message.now)) }
     ensures err { OnErr result (BreaksWithin (over E.state err.old err.new)
         (error_line message.now)) }
 {
     write_all(err, b"bsonwide: ")?;
-    write_all(err, message.as_bytes())?;
+    write_all(err, message)?;
     write_all(err, b"\n")
 }
 
@@ -51,14 +51,15 @@ pub fn status_of(written: Result<(), DeviceFault>, wanted: Status) -> Status
 }
 
 /// Tells why no more of an input was filtered.
-pub(crate) fn tell_stop<E: Output>(stop: Stop, err: &mut E) -> Status
+pub(crate) fn tell_stop<E: Output>(stop: &Stop, err: &mut E) -> Status
     ensures { TellsMessage (over E.state err.old err.new) (error_line
-        (stop_words stop)) Failed result }
+        (stop_words stop.now)) Failed result }
 {
     let words = match stop {
-        Stop::NoMemory => NO_MEMORY,
-        Stop::Unwritten => CANNOT_WRITE,
-        Stop::Unread(fault) => fault.words(),
+        Stop::NoMemory => NO_MEMORY.as_bytes(),
+        Stop::Unwritten => CANNOT_WRITE.as_bytes(),
+        Stop::Unread(fault) => fault.words().as_bytes(),
+        Stop::Refused(text) => text.as_slice(),
     };
     status_of(write_error(words, err), Status::Failed)
 }
@@ -98,6 +99,7 @@ fn write_count<E: Output>(count: u64, words: &str, err: &mut E) -> Result<(), De
 /// What a request for help and a refused line are answered with.
 pub const USAGE: &str = "usage: bsonwide mask FILE
        bsonwide wrap FILE
+       bsonwide order FILE [PATH..]
 ";
 
 /// Tells why words are no order, and gives the exit status. It takes no memory.
@@ -111,10 +113,10 @@ pub fn report<O: Output, E: Output>(fault: WordsFault, out: &mut O, err: &mut E)
     match fault {
         WordsFault::Help => match write_all(out, USAGE.as_bytes()) {
             Ok(()) => Status::Done,
-            Err(_) => tell_stop(Stop::Unwritten, err),
+            Err(_) => tell_stop(&Stop::Unwritten, err),
         },
         WordsFault::Usage => tell_usage(err),
-        WordsFault::NoMemory => tell_stop(Stop::NoMemory, err),
+        WordsFault::NoMemory => tell_stop(&Stop::NoMemory, err),
     }
 }
 

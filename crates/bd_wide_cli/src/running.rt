@@ -1,6 +1,6 @@
 //! A whole run over devices.
 
-ghost use Rattle.std.specs.Prelude.{◌≡◌, ◌≢◌, ◌≤◌, ◌+◌, IfOk, IfErr, OnOk, if◌then◌else◌};
+ghost use Rattle.std.specs.Prelude.{◌≡◌, ◌≢◌, ◌≤◌, ◌+◌, length, IfOk, IfErr, OnOk, if◌then◌else◌};
 ghost use Rattle.bd_value.specs.Limits.{longest_input};
 ghost use Rattle.bd_device.specs.Devices.{over};
 ghost use Rattle.bd_wide_cli.specs.Filtered.{CopiesRest, FiltersAll, FiltersPartly, IsNext, PassesOn, StopsCopying, StopsDocument, StopsPassing, WritesDocument};
@@ -9,12 +9,14 @@ ghost use Rattle.bd_wide_cli.specs.Output.{FiltersInput};
 use crate::filter::{Filter, write_filtered};
 use crate::frame::{Next, next_frame};
 use crate::output::{Status, tell_kept, tell_stop};
+use crate::refusal::{Place, refused};
 use bd_device::{Input, Limits, Output, ReadFault, write_all};
 use bd_value::{LONGEST_INPUT, MOST_READS};
+use bd_wide::Unfiltered;
 use std::alloc::Global;
 
 /// Why no more of an input was filtered.
-#[derive(Clone, Copy, Debug, PartialEq, Eq)]
+#[derive(Debug, Drop)]
 pub enum Stop {
     /// Memory ran out.
     NoMemory,
@@ -22,22 +24,24 @@ pub enum Stop {
     Unwritten,
     /// The input was not read to its end.
     Unread(ReadFault),
+    /// A document is refused, and this tells which and why.
+    Refused(Vec<u8>),
 }
 
 /// Filters an input document by document, and writes each before the next is read. The memory is that of one document.
 pub fn run<R: Input, O: Output, E: Output>(
     alloc: Global,
-    filter: Filter,
+    filter: &Filter,
     input: &mut R,
     out: &mut O,
     err: &mut E,
 ) -> Status
-    ensures { FiltersInput filter (over R.state input.old input.new) (over O.state out.old out.new)
+    ensures { FiltersInput filter.now (over R.state input.old input.new) (over O.state out.old out.new)
         (over E.state err.old err.new) result }
 {
     match filter_documents(alloc, filter, input, out) {
         Ok(kept) => tell_kept(kept, err),
-        Err(stop) => tell_stop(stop, err),
+        Err(stop) => tell_stop(&stop, err),
     }
 }
 
@@ -53,16 +57,18 @@ const BLOCK: usize = 65_536;
 /// Filters the documents of an input, and says how many of them stay as they are.
 fn filter_documents<R: Input, O: Output>(
     alloc: Global,
-    filter: Filter,
+    filter: &Filter,
     input: &mut R,
     out: &mut O,
 ) -> Result<u64, Stop>
     ensures all { IfOk result
-        (FiltersAll filter (over R.state input.old input.new) (over O.state out.old out.new)) }
+        (FiltersAll filter.now (over R.state input.old input.new) (over O.state out.old out.new)) }
     ensures partly { IfErr result
-        (FiltersPartly filter (over R.state input.old input.new) (over O.state out.old out.new)) }
+        (FiltersPartly filter.now (over R.state input.old input.new) (over O.state out.old out.new)) }
 {
     let mut left = LIMITS;
+    let mut number = 0;
+    let mut start = 0;
     let mut kept = 0;
     let mut buffer = Vec::new(alloc);
     let mut path = Vec::new(alloc);
@@ -76,7 +82,10 @@ fn filter_documents<R: Input, O: Output>(
             pass_on(next, &buffer, input, left, out)?;
             return Ok(kept);
         };
-        let filtered = write_document(filter, &buffer, &mut path, &mut written, out)?;
+        let place = Place { number, start };
+        let filtered = write_document(filter, place, &buffer, &mut path, &mut written, out)?;
+        number += 1;
+        start += buffer.len() as u64;
         kept = count_kept(kept, filtered);
     }
 }
@@ -91,18 +100,24 @@ fn count_kept(kept: u64, filtered: bool) -> u64
 
 /// Writes what is to be written of a document.
 fn write_document<O: Output>(
-    filter: Filter,
+    filter: &Filter,
+    place: Place,
     bytes: &[u8],
     path: &mut Vec<u8>,
     written: &mut Vec<u8>,
     out: &mut O,
 ) -> Result<bool, Stop>
-    ensures ok { IfOk result (WritesDocument filter bytes.now (over O.state out.old out.new)) }
-    ensures err { IfErr result (StopsDocument filter bytes.now (over O.state out.old out.new)) }
+    requires { 5 ≤ length bytes.now }
+    ensures ok { IfOk result
+        (WritesDocument filter.now place.number bytes.now (over O.state out.old out.new)) }
+    ensures err { IfErr result (StopsDocument filter.now place.number place.start bytes.now
+        (over O.state out.old out.new)) }
 {
     written.clear();
-    let Ok(filtered) = write_filtered(filter, bytes, path, written) else {
-        return Err(Stop::NoMemory);
+    let filtered = match write_filtered(filter, place.number, bytes, path, written) {
+        Ok(filtered) => filtered,
+        Err(Unfiltered::NoMemory) => return Err(Stop::NoMemory),
+        Err(Unfiltered::Refused(why)) => return Err(refused(place, path, why)),
     };
     if write_all(out, written).is_err() {
         return Err(Stop::Unwritten);

@@ -11,9 +11,9 @@ use Rattle.clap.specs.{Kinds.HasKind, Kinds.IsAmong, Kinds.Kinds, Kinds.check_ki
 use Rattle.clap.specs.{declared.parser.matches.SubCommand.SubCommand, declared.error.Error.Error, declared.parser.matches.ArgMatches.ArgMatches, Walk.Row, Walk.rows_of}
 use Rattle.clap.specs.{Walk.Text, Walk.answers_to, Walk.finished, Walk.first_of, Walk.nothing_held, Walk.rows_after, Walk.walk, Faults.check_fault, Faults.entered_fault}
 use Rattle.clap.specs.{Faults.fault_of, Faults.is_simple_and_free, Faults.level_fault, Takes.is_given, Takes.takes, declared.error.kind.ErrorKind.ErrorKind}
-use Rattle.clap.proofs.{WalkLemmas.first_value-rows, WalkLemmas.one_text-rows}
+use Rattle.clap.proofs.{WalkLemmas.first_value-rows, WalkLemmas.one_text-rows, WalkLemmas.raw_values-rows}
 use Rattle.bd_command_line.specs.CommandLine.{file_app, refusal_told}
-use Rattle.bd_wide_command_line.specs.CommandLine.{OrderView, mask, wrap, fault_for, line_app, order_of, ordered_by}
+use Rattle.bd_wide_command_line.specs.CommandLine.{OrderView, mask, wrap, order, fault_for, line_app, order_app, order_of, ordered_by, texts_in}
 use Rattle.bd_command_line.specs.declared.order.WordsFault.TheVariants.{NoMemory}
 use Rattle.bd_command_line.specs.declared.order.WordsFault.{WordsFault}
 use Rattle.bd_command_line.proofs.FaultLemmas.{SameTold, given_first, is_plain, level-sound, same-entered, same-fault}
@@ -58,18 +58,27 @@ some_mapped : {X Y : Type 0} (f : X → Y) (o : Option X) → is_some o ≡ true
 some_mapped f None e = let bad : ⊥ = cc in absurd bad
 some_mapped f (Some x) e = refl
 
--- a command that takes a file alone, as it is built
-abbrev pub file_shape : Text → Shape
-file_shape name = built_leaf (inherited (on_top with_leaf_noted (on_top marked_built line_app)).top (file_app name).top)
+-- a command, as it is built
+abbrev pub shape_in : App → Shape
+shape_in app = built_leaf (inherited (on_top with_leaf_noted (on_top marked_built line_app)).top app.top)
 
-file_orders : (name : Text) (order : Text → OrderView) → ((rows : List Row) → ordered_by name rows ≡ option_map order (first_of (codes "file") rows)) → HasOrders (file_shape name)
-file_orders name order is words e =
+-- a command that takes a file alone
+abbrev pub file_shape : Text → Shape
+file_shape name = shape_in (file_app name)
+
+file_orders : (name : Text) (says : Text → OrderView) → ((rows : List Row) → ordered_by name rows ≡ option_map says (first_of (codes "file") rows)) → HasOrders (file_shape name)
+file_orders name says is words e =
     let rows = rows_after (file_shape name).rules [] words in
-    ap is_some (is rows) ∙ some_mapped order (first_of (codes "file") rows) (file_there (file_shape name) words refl (λ rows c. file_given _ _ c) e)
+    ap is_some (is rows) ∙ some_mapped says (first_of (codes "file") rows) (file_there (file_shape name) words refl (λ rows c. file_given _ _ c) e)
+
+order_orders : HasOrders (shape_in order_app)
+order_orders words e =
+    let rows = rows_after (shape_in order_app).rules [] words in
+    some_mapped (λ file. order file (texts_in (codes "path") rows)) (first_of (codes "file") rows) (file_there (shape_in order_app) words refl (λ rows c. file_given _ _ c) e)
 
 commands_order : EachShape HasOrders (built line_app).subs
 unfolding EachShape
-commands_order = (file_orders (codes "mask") mask (λ rows. refl), (file_orders (codes "wrap") wrap (λ rows. refl), tt))
+commands_order = (file_orders (codes "mask") mask (λ rows. refl), (file_orders (codes "wrap") wrap (λ rows. refl), (order_orders, tt)))
 
 -- words that have no fault have an order
 pub order_there : (words : List Text) → fault_of line_app words ≡ [] → is_some (order_of words) ≡ true
@@ -129,7 +138,7 @@ pair_read (Some p) name rows n r =
     ap₂ (λ (a : Text) (b : List Row). Some (a, b)) (sym n') (sym r')
 
 -- what the getters read of the matches
-pub ruleset readings = (first_value-rows, one_text-rows)
+pub ruleset readings = (first_value-rows, one_text-rows, raw_values-rows)
 
 same_cond : {X : Type 0} (b : Bool) (x : X) → cond b x x ≡ x
 same_cond true x = refl

@@ -1,11 +1,11 @@
 //! Reads the words of a line, by `clap`: the line that it takes, and the order that a line is.
 
-ghost use Rattle.std.specs.Prelude.{◌≡◌, ◌⊎◌, map, true, false, IfErr, IfOk, IsSome, None, Some};
+ghost use Rattle.std.specs.Prelude.{◌≡◌, ◌⊎◌, map, string_bytes, true, false, IfErr, IfOk, IsSome, None, Some};
 ghost use Rattle.clap.specs.Words.{app_of, found_of, kind_of, rows_of, rule_of, takes};
 ghost use Rattle.clap.specs.declared.builder.command.Command.TheViews.{out-Command as fields_of};
 ghost use Rattle.bd_command_line.specs.CommandLine.{file_app, file_rule, refusal_told, with_file_commands, words_of};
 ghost use Rattle.bd_command_line.specs.declared.order.WordsFault.TheVariants.{NoMemory};
-ghost use Rattle.bd_wide_command_line.specs.CommandLine.{fault_for, line_app, meant, order_of, ordered_by, top_app};
+ghost use Rattle.bd_wide_command_line.specs.CommandLine.{fault_for, line_app, meant, order_app, order_of, ordered_by, paths_rule, texts_in, top_app};
 
 use bd_command_line::WordsFault;
 use clap::error::ErrorKind;
@@ -19,10 +19,12 @@ pub enum Order {
     Mask { file: String },
     /// Doubles and decimal128 as documents that hold their texts.
     Wrap { file: String },
+    /// Numbers as whole numbers in the same order; at these paths by their codes.
+    Order { file: String, paths: Vec<String> },
 }
 
-/// The order of a line: its words without the program's name. `mask FILE` and `wrap FILE` are taken. A file whose name
-/// looks like a flag stands after `--`.
+/// The order of a line: its words without the program's name. `mask FILE`, `wrap FILE` and `order FILE [PATH..]` are taken. A
+/// file or a path whose name looks like a flag stands after `--`.
 ///
 /// # Errors
 ///
@@ -71,8 +73,39 @@ fn order_named(alloc: Global, name: &str, matches: &ArgMatches<'_>) -> Result<Or
     match name {
         "mask" => Ok(Order::Mask { file }),
         "wrap" => Ok(Order::Wrap { file }),
+        "order" => {
+            let paths = texts_of(alloc, matches, "path")?;
+            Ok(Order::Order { file, paths })
+        }
         _ => unreachable!(),
     }
+}
+
+/// The texts of an argument, in their order; none where it is not given.
+#[tactic(auto, using(crate::proofs::LineLemmas::readings))]
+fn texts_of(alloc: Global, found: &ArgMatches<'_>, name: &str) -> Result<Vec<String>, WordsFault>
+    ensures texts { IfOk result (λ v. map string_bytes v.items ≡ texts_in name.now (rows_of (found_of found.now))) }
+    ensures fault { IfErr result (λ f. f ≡ NoMemory) }
+{
+    match found.get_strs(name) {
+        Some(texts) => copied(alloc, texts),
+        None => Ok(Vec::new(alloc)),
+    }
+}
+
+/// Texts of our own.
+fn copied(alloc: Global, texts: &[&str]) -> Result<Vec<String>, WordsFault>
+    ensures texts { IfOk result (λ v. map string_bytes v.items ≡ map (λ text. text.now) texts.now) }
+    ensures fault { IfErr result (λ f. f ≡ NoMemory) }
+{
+    let mut all = Vec::new(alloc);
+    for text in texts {
+        let text = String::from_str(alloc, text)?;
+        if all.push(text).is_err() {
+            return Err(WordsFault::NoMemory);
+        }
+    }
+    Ok(all)
 }
 
 /// A command that was put together, unless memory ran out.
@@ -82,7 +115,23 @@ type Made<'a> = Result<Command<'a>, AllocError>;
 fn line_command<'a>(alloc: Global) -> Made<'a>
     ensures { IfOk result (λ c. (app_of c ≡ line_app) × ((fields_of c).has_globals ≡ false)) }
 {
-    with_commands(alloc, top_command(alloc), &COMMANDS)
+    let order = order_command(alloc)?;
+    with_commands(alloc, top_command(alloc), &COMMANDS)?.subcommand(order)
+}
+
+/// The command that takes paths after its file.
+fn order_command<'a>(alloc: Global) -> Made<'a>
+    ensures { IfOk result (λ c. (app_of c ≡ order_app) × ((fields_of c).has_globals ≡ false)) }
+{
+    of_file(alloc, "order")?.arg(paths_argument(alloc))
+}
+
+fn paths_argument<'a>(alloc: Global) -> Arg<'a>
+    ensures { (rule_of result ≡ paths_rule) × (result.global ≡ false) }
+{
+    Arg::new(alloc, "path")
+        .num_args(1..)
+        .action(ArgAction::Append)
 }
 
 /// The program's line without its commands.
@@ -95,7 +144,7 @@ fn top_command<'a>(alloc: Global) -> Command<'a>
         .disable_help_subcommand(true)
 }
 
-/// The commands, each of which takes a file and nothing else.
+/// The commands that take a file and nothing else.
 const COMMANDS: [&str; 2] = ["mask", "wrap"];
 
 /// The line with these commands more.

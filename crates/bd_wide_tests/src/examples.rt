@@ -46,7 +46,7 @@ fn filtered(rt: HostRuntime) {
     let mut out = MemoryOutput::new(&mut room, 100, None);
     let mut told = [0; 100];
     let mut err = MemoryOutput::new(&mut told, 100, None);
-    let status = run(rt.alloc(), Filter::Mask, &mut input, &mut out, &mut err);
+    let status = run(rt.alloc(), &Filter::Mask, &mut input, &mut out, &mut err);
     assert!(rt; status == Status::Done);
     assert!(rt; out.bytes() == b"\x05\0\0\0\0".as_slice());
 }

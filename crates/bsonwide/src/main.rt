@@ -4,6 +4,7 @@
 use bd_command_line::WordsFault;
 use bd_device::{BufferedInput, SystemOutput, write_all};
 use bd_gathering::{Fate, GatheredOutput, Gathering, TiedError, TiedInput, hand_on};
+use bd_wide::read_order;
 use bd_wide_cli::{CANNOT_WRITE, Filter, Status, report};
 use bd_wide_command_line::{Order, parse_words};
 use std::cell::RefCell;
@@ -25,6 +26,18 @@ fn order(rt: &HostRuntime) -> Result<Order, WordsFault> {
     parse_words(rt.alloc(), &words)
 }
 
+/// What the process's words say is done, and to which file.
+fn filter(rt: &HostRuntime) -> Result<(Filter, String), WordsFault> {
+    match order(rt)? {
+        Order::Mask { file } => Ok((Filter::Mask, file)),
+        Order::Wrap { file } => Ok((Filter::Wrap, file)),
+        Order::Order { file, paths } => {
+            let order = read_order(rt.alloc(), &paths)?;
+            Ok((Filter::Order(order), file))
+        }
+    }
+}
+
 /// How many bytes the system is asked for at once. It answers with what there is.
 const BUFFER: usize = 65_536;
 
@@ -40,7 +53,12 @@ fn refuse(rt: &HostRuntime, fault: WordsFault, gathering: &Waiting) -> Status {
 }
 
 /// Filters the input that a file is.
-fn run<F: Read + Drop>(rt: &HostRuntime, filter: Filter, reader: F, gathering: &Waiting) -> Status {
+fn run<F: Read + Drop>(
+    rt: &HostRuntime,
+    filter: &Filter,
+    reader: F,
+    gathering: &Waiting,
+) -> Status {
     let alloc = rt.alloc();
     let file = TiedInput { reader, gathering };
     let Ok(file) = BufReader::with_capacity(alloc, BUFFER, file) else {
@@ -66,18 +84,17 @@ fn tell_error(rt: &HostRuntime, message: &str, file: &str) -> Status {
 
 /// Does what the process's words say.
 fn obey(rt: &HostRuntime, gathering: &Waiting) -> Status {
-    let (filter, file) = match order(rt) {
-        Ok(Order::Mask { file }) => (Filter::Mask, file),
-        Ok(Order::Wrap { file }) => (Filter::Wrap, file),
+    let (filter, file) = match filter(rt) {
+        Ok(both) => both,
         Err(fault) => return refuse(rt, fault, gathering),
     };
     if file.as_str() == "-" {
-        return run(rt, filter, rt.reader(), gathering);
+        return run(rt, &filter, rt.reader(), gathering);
     }
     let Ok(opened) = fs::open(rt, &file) else {
         return tell_error(rt, "cannot open ", &file);
     };
-    run(rt, filter, opened, gathering)
+    run(rt, &filter, opened, gathering)
 }
 
 /// Does what the process's words say, up to the last byte of standard output. A loss of which the run did not learn is told

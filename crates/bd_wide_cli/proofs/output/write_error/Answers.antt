@@ -13,7 +13,7 @@ returns-in_err-write_all-2-clause-err g c =
     let e = g.E.Output.state in
     on_err c.from_residual-in_err-write_all-2.result _ (breaks_second (e c.args.err.now) (e c.write_all.new.writer) (e c.write_all-2.new.writer) (codes "bsonwide: ") (c.args.message.now ++ 10 ∷ [])
     c.in_ok-write_all.ensures.written (breaks_first (e c.write_all.new.writer) (e c.write_all-2.new.writer) c.args.message.now (10 ∷ [])
-    (rw c.as_bytes.ensures.value at c.in_err-write_all-2.ensures.broken)))
+    c.in_err-write_all-2.ensures.broken))
 
 pub returns-clause-err : goal.returns-clause-err
 returns-clause-err g c =
@@ -21,4 +21,4 @@ returns-clause-err g c =
     on_err_map c.write_all-3.result _ _ c.write_all-3.ensures.broken (λ broke.
     breaks_second (e c.args.err.now) (e c.write_all.new.writer) (e c.write_all-3.new.writer) (codes "bsonwide: ") (c.args.message.now ++ 10 ∷ []) c.in_ok-write_all.ensures.written
     (breaks_second (e c.write_all.new.writer) (e c.write_all-2.new.writer) (e c.write_all-3.new.writer) c.args.message.now (10 ∷ [])
-    (rw c.as_bytes.ensures.value at c.in_ok-write_all-2.ensures.written) broke))
+    c.in_ok-write_all-2.ensures.written broke))

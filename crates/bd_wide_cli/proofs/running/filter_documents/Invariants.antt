@@ -1,11 +1,13 @@
-use Rattle.std.proofs.Common.{◌≤◌, ◌+◌}
+use Rattle.std.proofs.Common.{◌≡◌, ◌≤◌, ◌+◌}
 use Rattle.bd_value.specs.Limits.{longest_input}
 use Rattle.bd_wide_cli.proofs.RunLemmas.{Progress}
 use Rattle.bd_wide_cli.proofs.running.filter_documents.Given as goal
 
 abbrev pub invariant-loop-next : goal.invariant-loop-next
 invariant-loop-next g l = record {
-  so_far : Progress l.filter (g.R.Input.state l.fn.input) (g.R.Input.state l.input) (g.O.Output.state l.fn.out) (g.O.Output.state l.out) l.kept;
+  so_far : Progress l.filter (g.R.Input.state l.fn.input) (g.R.Input.state l.input) (g.O.Output.state l.fn.out) (g.O.Output.state l.out) l.number l.start l.kept;
+  left_is : l.start + l.left.bytes ≡ longest_input;
+  numbered : l.number + l.left.bytes ≤ longest_input;
   counted : l.kept + l.left.bytes ≤ longest_input;
 }
 
