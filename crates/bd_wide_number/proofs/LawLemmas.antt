@@ -1,50 +1,13 @@
 -- Codes are in the order of the numbers.
-use Rattle.std.proofs.Common.{◌≡◌, ◌⊎◌, ◌↔◌, ℕ, zero, suc, ◌+◌, ◌*◌, ◌/◌, ◌%◌, ◌^◌, ◌<◌, ◌≤◌, Bool, true, false, ℤ, pos, negsuc, neg_ℤ, ◌*ℤ◌, ◌<ℤ◌, Option, None, Some, refl, sym, ap, ◌∙◌, subst, arith, inl, inr, ⊎_elim, pow_pos, pow-suc, zero-mul}
-use Rattle.std.proofs.Math.Nat.{one-le-pow, pow-le-pow_right, mul-lt-mul_of_pos_right, mul-le-mul_right, lt_of_mul-lt-mul_right, eq_of_mul-eq-mul_right, eq-or-lt_of_le}
+use Rattle.std.proofs.Common.{◌≡◌, ◌⊎◌, ◌↔◌, ℕ, zero, suc, ◌+◌, ◌*◌, ◌%◌, ◌^◌, ◌<◌, ◌≤◌, Bool, true, false, ℤ, pos, negsuc, neg_ℤ, ◌*ℤ◌, ◌<ℤ◌, Option, None, Some, refl, sym, ap, ◌∙◌, subst, arith, inl, inr, ⊎_elim, zero-mul}
+use Rattle.std.proofs.Math.Nat.{one-le-pow, mul-lt-mul_of_pos_right, lt_of_mul-lt-mul_right, eq_of_mul-eq-mul_right}
 use Rattle.std.proofs.lemmas.Int.{ints}
 use Rattle.std.proofs.lemmas.Bool.{cases_lt, cases_order}
 use borrow.Author.Tests.{le-leb, lt-leb}
-use Rattle.bd_wide_number.specs.Value.{Value, nan, infinite, finite, one, least_double, magnitude, spelled, infinite_bits, has_sign, signed, double_value, IsLess, IsEqual}
+use Rattle.bd_wide_number.specs.Value.{Value, nan, infinite, finite, one, least_double, magnitude, infinite_bits, has_sign, signed, double_value, IsLess, IsEqual}
 use Rattle.bd_wide_number.specs.Code.{double_code, double_part, scaled_code, whole_part, number_code, code_value}
-use Rattle.bd_wide_number.proofs.CodeLemmas.{bits_code, double_gives, infinite_is, finite_is, least_pos, nan_code, nan_is, one_pos, small_magnitude, whole_gives, zero_double, zero_whole}
-
--- ---- magnitudes are in the order of the bits
-
--- what an exponent spells is below what the next one does
-top : (e f : ℕ) → f < 2 ^ 52 → spelled e f < 2 ^ 52 * 2 ^ e
-top zero f h = omega arith
-top (suc e) f h =
-    let more : (2 ^ 52 + f) * 2 ^ e < (2 ^ 52 + 2 ^ 52) * 2 ^ e = mul-lt-mul_of_pos_right (omega arith) (pow_pos e) in
-    let power : 2 ^ suc e ≡ 2 ^ e * 2 = pow-suc 2 e in
-    omega arith
-
-base : (e f : ℕ) → 2 ^ 52 * 2 ^ e ≤ spelled (suc e) f
-base e f = mul-le-mul_right (2 ^ e) (omega arith)
-
-next : (d e f k : ℕ) → d < e → f < 2 ^ 52 → spelled d f < spelled e k
-next d zero f k l h = absurd (omega arith)
-next d (suc e) f k l h =
-    let low = top d f h in
-    let high = base e k in
-    let powers : 2 ^ d ≤ 2 ^ e = pow-le-pow_right (omega arith) (omega arith) in
-    omega arith
-
-same : (e f k : ℕ) → f < k → spelled e f < spelled e k
-same zero f k l = l
-same (suc e) f k l = mul-lt-mul_of_pos_right (omega arith) (pow_pos e)
-
-parts : (d e f k : ℕ) → d ≤ e → (d ≡ e → f < k) → f < 2 ^ 52 → spelled d f < spelled e k
-parts d e f k l h m = elim (eq-or-lt_of_le l) [
-  | inl is ↦ subst (λ x. spelled d f < spelled x k) is (same d f k (h is))
-  | inr less ↦ next d e f k less m
-]
-
-rises : (b c : ℕ) → b < c → magnitude b < magnitude c
-unfolding magnitude
-rises b c l = parts (b / 2 ^ 52) (c / 2 ^ 52) (b % 2 ^ 52) (c % 2 ^ 52) (omega arith) (λ (e : b / 2 ^ 52 ≡ c / 2 ^ 52). omega arith) (omega arith)
-
-none_is : magnitude 0 ≡ 0
-none_is = small_magnitude 0 (omega arith)
+use Rattle.bd_wide_number.proofs.CodeLemmas.{bits_code, double_gives, infinite_is, finite_is, least_pos, nan_code, nan_is, one_pos, whole_gives, zero_double, zero_whole}
+use Rattle.bd_wide_number.proofs.ValueLemmas.{none_is, rises}
 
 -- ---- sizes and codes without their signs
 
@@ -346,6 +309,17 @@ unfolding number_code double_code
 code_stands s n c h =
     let g = double_gives s n c h in
     ap (λ (x : ℤ). code_value x *ℤ pos least_double) g.3 ∙ code_size s g.0 ∙ ap (signed s) g.2
+
+signed_times : (s : Bool) (x y : ℕ) → signed s x *ℤ pos y ≡ signed s (x * y)
+signed_times true x y = negative_times x y
+signed_times false x y = refl
+
+pub code_scaled : (k : ℕ) (negative : Bool) (size : ℕ) (c : ℤ) → number_code (Some k) (finite negative size) ≡ Some c
+    → c *ℤ pos one ≡ signed negative size *ℤ pos (10 ^ k)
+unfolding number_code scaled_code
+code_scaled k s n c h =
+    let g = whole_gives s (n * 10 ^ k) c h in
+    ap (λ (x : ℤ). x *ℤ pos one) g.3 ∙ signed_times s g.0 one ∙ ap (signed s) g.1 ∙ sym (signed_times s n (10 ^ k))
 
 pos_less : (m n : ℕ) → m < n → pos m <ℤ pos n
 pos_less m n l = omega (arith, ints)

@@ -1,3 +1,4 @@
 pub mod CodeLemmas
 pub mod LawLemmas
 pub mod OddLemmas
+pub mod ValueLemmas

@@ -7,7 +7,8 @@ use Rattle.bd_wide_number.specs.Value.{Value, nan, infinite, finite, one, least_
 
 -- with the sign, where it is within 64 bits
 abbrev pub within_64 : Bool → ℕ → Option ℤ
-within_64 negative n = if nat_le n (if negative then 2 ^ 63 else 2 ^ 63 - 1) then Some (signed negative n) else None
+within_64 negative n = if nat_le n (if negative then 2 ^ 63 else 2 ^ 63 - 1)
+    then Some (signed negative n) else None
 
 -- so many units as a whole number
 unfoldable pub whole_part : Bool → ℕ → Option ℤ
@@ -25,8 +26,9 @@ whole_code value = scaled_code 0 value
 
 -- ---- the bits of the double that is equal
 
--- Of a number that is so many times the least double, without the sign. Up to 53 bits they are the number itself, and of a
--- double twice as large they are 2 ^ 52 more. `exponents` is how many exponents there are.
+-- Of a number that is so many times the least double, without the sign. Up to 53 bits they are the
+-- number itself, and of a double twice as large they are 2 ^ 52 more. `exponents` is how many
+-- exponents there are.
 unfoldable pub bits_of : ℕ → ℕ → Option ℕ
 bits_of zero n = None
 bits_of (suc exponents) n = if nat_lt n (2 ^ 53) then Some n else (
@@ -37,7 +39,8 @@ unfoldable pub double_part : Bool → ℕ → Option ℤ
 double_part negative size = if size % least_double == 0
     then option_map (signed negative) (bits_of 2046 (size / least_double)) else None
 
--- its bits as a whole number, those without the sign and less than 0 where the sign is set; what is no number is least
+-- its bits as a whole number: without the sign, and less than 0 where the sign is set; what is no
+-- number is least
 unfoldable pub double_code : Value → Option ℤ
 double_code nan = Some (neg_ℤ (pos (2 ^ 63)))
 double_code (infinite negative) = Some (signed negative infinite_bits)
@@ -48,7 +51,7 @@ unfoldable pub number_code : Option ℕ → Value → Option ℤ
 number_code None value = double_code value
 number_code (Some k) value = scaled_code k value
 
--- the number that the bits of a double as a whole number stand for, as so many times the least double
+-- the number that a code by a double stands for, as so many times the least double
 abbrev pub code_value : ℤ → ℤ
 code_value (pos bits) = pos (magnitude bits)
 code_value (negsuc bits) = neg_ℤ (pos (magnitude (suc bits)))

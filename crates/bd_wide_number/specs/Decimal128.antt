@@ -12,4 +12,5 @@ coefficient_of low high = let all = high % 2 ^ 49 * 2 ^ 64 + low in
 
 -- the exponent of ten, and 6176
 abbrev pub biased_exponent : ℕ → ℕ
-biased_exponent high = (if nat_le 24 (five_bits high) then high / 2 ^ 47 else high / 2 ^ 49) % 2 ^ 14
+biased_exponent high =
+    (if nat_le 24 (five_bits high) then high / 2 ^ 47 else high / 2 ^ 49) % 2 ^ 14

@@ -5,8 +5,8 @@ use Rattle.bd_wide_number.specs.declared.number.Number.{Number}
 use Rattle.bd_wide_number.specs.declared.number.Number.TheVariants as numbers
 use Rattle.bd_wide_number.specs.Decimal128.{five_bits, coefficient_of, biased_exponent}
 
--- no number, infinite, or finite: whether it is negative, and its size in units of the least decimal128, which is
--- 10 ^ -6176; each double and each whole number is so many of these
+-- No number, infinite, or finite: whether it is negative, and its size in units of the least
+-- decimal128, which is 10 ^ -6176. Each double and each whole number is so many of these units.
 pub data Value : Type 0 where
   nan : Value
   infinite : Bool → Value
@@ -27,7 +27,8 @@ abbrev pub spelled : ℕ → ℕ → ℕ
 spelled zero fraction = fraction
 spelled (suc exponent) fraction = (2 ^ 52 + fraction) * 2 ^ exponent
 
--- how many times the least double, by the 63 bits without the sign: 11 of the exponent, then 52 of the fraction
+-- how many times the least double, by the 63 bits without the sign: 11 of the exponent, then 52 of
+-- the fraction
 unfoldable pub magnitude : ℕ → ℕ
 magnitude bits = spelled (bits / 2 ^ 52) (bits % 2 ^ 52)
 
@@ -42,7 +43,8 @@ has_sign bits = nat_le (2 ^ 63) bits
 unfoldable pub double_value : ℕ → Value
 double_value bits = let size = bits % 2 ^ 63 in
     if nat_lt infinite_bits size then nan else (
-    if size == infinite_bits then infinite (has_sign bits) else finite (has_sign bits) (magnitude size * least_double))
+    if size == infinite_bits then infinite (has_sign bits)
+    else finite (has_sign bits) (magnitude size * least_double))
 
 -- ---- the other kinds
 

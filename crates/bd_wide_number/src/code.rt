@@ -1,16 +1,16 @@
 //! The whole number that a number becomes.
 
-ghost use Rattle.std.specs.Prelude.{◌≡◌, ◌≢◌, ◌<◌, ◌≤◌, ℕ, ◌+◌, ◌-◌, ◌*◌, ◌/◌, ◌%◌, ◌^◌, Some, option_map, ℤ};
+ghost use Rattle.std.specs.Prelude.{◌≡◌, ◌<◌, ◌≤◌, ℕ, ◌+◌, ◌*◌, ◌^◌, Some};
 ghost use Rattle.bd_wide_number.specs.Code.{double_code as double_code_of, double_part as double_part_of, number_code, scaled_code as scaled_code_of, whole_code, whole_part as whole_part_of, within_64 as within_64_of};
-ghost use Rattle.bd_wide_number.specs.Value.{decimal128_value, double_value, infinite_bits, least_double, magnitude, one, signed as signed_of, value_of};
-ghost use Rattle.bd_wide_number.specs.Odd.{fives};
+ghost use Rattle.bd_wide_number.specs.Value.{decimal128_value, double_value, infinite_bits, magnitude, signed as signed_of, value_of};
 
 use crate::decimal128::{biased_exponent, coefficient, five_bits};
 use crate::number::Number;
 use crate::odd::odd_part;
 
-/// The code of a number at a path, where it has one: by a power of ten, the number times 10 ^ power; else the bits of the
-/// double that is equal, which of a negative one are those without the sign, and less than 0.
+/// The code of a number at a path, or none. By a power of ten it is the number times 10 ^ power, where that is a whole number
+/// of 64 bits. Else it is the bits of the double that is equal to the number, and of a negative one those without the sign,
+/// less than 0: so 0 and -0.0 have the code 0. What is no number has the least, -2 ^ 63.
 pub fn code_of(number: Number, power: Option<u32>) -> Option<i64>
     ensures { result ≡ number_code power (value_of number) }
 {
@@ -20,7 +20,7 @@ pub fn code_of(number: Number, power: Option<u32>) -> Option<i64>
     }
 }
 
-/// A number that is a whole one of 64 bits, as this.
+/// The number itself, where it is a whole number of 64 bits.
 pub fn whole_of(number: Number) -> Option<i64>
     ensures { result ≡ whole_code (value_of number) }
 {
@@ -33,12 +33,15 @@ const INFINITE: u64 = 0x7FF0_0000_0000_0000;
 /// The bits of -0.0, of which the sign alone is set.
 const SIGN: u64 = 0x8000_0000_0000_0000;
 
+/// 1 is 10 ^ 6176 units.
+const ONE: u64 = 6176;
+
 /// By the double that is equal.
 fn double_code(number: Number) -> Option<i64>
     ensures { result ≡ double_code_of (value_of number) }
 {
     match number {
-        Number::Whole(z) => double_part(z < 0, z.unsigned_abs() as u128, 6176),
+        Number::Whole(z) => double_part(z < 0, z.unsigned_abs() as u128, ONE),
         Number::Double(bits) => Some(code_of_double(bits)),
         Number::Decimal128(low, high) => decimal128_code(low, high),
     }
@@ -79,6 +82,9 @@ fn signed(negative: bool, n: u64) -> i64
     if negative { -(n as i64) } else { n as i64 }
 }
 
+/// The least number of more than 53 bits.
+const TOO_PRECISE: u64 = 0x0020_0000_0000_0000;
+
 /// Of a number times 10 ^ exponent units.
 fn double_part(negative: bool, number: u128, exponent: u64) -> Option<i64>
     requires number { number < 2 ^ 113 }
@@ -89,7 +95,7 @@ fn double_part(negative: bool, number: u128, exponent: u64) -> Option<i64>
         return Some(0);
     }
     let odd = odd_part(number, exponent, exponent)?;
-    if odd.odd >= 0x0020_0000_0000_0000 {
+    if odd.odd >= TOO_PRECISE {
         return None;
     }
     Some(signed(negative, double_bits(odd.odd, odd.twos)))
@@ -113,7 +119,7 @@ fn scaled_code(number: Number, power: u32) -> Option<i64>
 {
     let k = power as u64;
     match number {
-        Number::Whole(z) => whole_part(z < 0, z.unsigned_abs() as u128, 6176 + k, 6176 + k),
+        Number::Whole(z) => whole_part(z < 0, z.unsigned_abs() as u128, ONE + k, ONE + k),
         Number::Double(bits) => scaled_double(bits, k),
         Number::Decimal128(low, high) => {
             if five_bits(high) >= 30 {
@@ -138,16 +144,19 @@ fn scaled_double(bits: u64, power: u64) -> Option<i64>
     let fraction = size % 0x0010_0000_0000_0000;
     let negative = bits >= SIGN;
     if exponent == 0 {
-        return whole_part(negative, fraction as u128, 5102 + power, 6176 + power);
+        return whole_part(negative, fraction as u128, 5102 + power, ONE + power);
     }
     let number = 0x0010_0000_0000_0000 + fraction;
     whole_part(
         negative,
         number as u128,
         5101 + exponent + power,
-        6176 + power,
+        ONE + power,
     )
 }
+
+/// The most that an odd number of 64 bits is shifted.
+const MOST_SHIFT: u64 = 63;
 
 /// Of a number times 2 ^ twos and 5 ^ fives units.
 fn whole_part(negative: bool, number: u128, twos: u64, fives: u64) -> Option<i64>
@@ -159,11 +168,10 @@ fn whole_part(negative: bool, number: u128, twos: u64, fives: u64) -> Option<i64
         return Some(0);
     }
     let odd = odd_part(number, twos, fives)?;
-    if odd.twos < 6176 || odd.twos > 6239 {
+    if odd.twos < ONE || odd.twos - ONE > MOST_SHIFT {
         return None;
     }
-    let shift = (odd.twos - 6176) as u32;
-    within_64(negative, (odd.odd as u128) << shift)
+    within_64(negative, (odd.odd as u128) << (odd.twos - ONE))
 }
 
 /// With its sign, where it is within 64 bits.

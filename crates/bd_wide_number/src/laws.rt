@@ -2,7 +2,7 @@
 
 ghost use Rattle.std.specs.Prelude.{◌≡◌, ◌<◌, ◌≤◌, ◌↔◌, ◌%◌, ◌^◌, ℕ, Option, Some, None, Bool, ℤ, pos, neg_ℤ, ◌*ℤ◌, ◌<ℤ◌};
 ghost use Rattle.bd_wide_number.specs.Code.{code_value, number_code};
-ghost use Rattle.bd_wide_number.specs.Value.{IsEqual, IsLess, Value, double_value, finite, has_sign, infinite_bits, least_double, signed};
+ghost use Rattle.bd_wide_number.specs.Value.{IsEqual, IsLess, Value, double_value, finite, has_sign, infinite_bits, least_double, one, signed};
 
 /// Two codes, both by doubles or both by one power of ten, are in the order of the numbers.
 pub fn codes_rise()
@@ -14,7 +14,8 @@ pub fn codes_rise()
 
 /// Numbers that are equal have the same code, or none.
 pub fn equal_numbers_have_one_code()
-    ensures { (k : Option ℕ) (a b : Value) → IsEqual a b → number_code k a ≡ number_code k b }
+    ensures { (k : Option ℕ) (a b : Value) → IsEqual a b
+        → number_code k a ≡ number_code k b }
 {}
 
 /// Of a double the code is its bits, and a number has a code only where a double is equal.
@@ -27,9 +28,14 @@ pub fn code_is_of_the_equal_double()
         → (bits : ℕ) × (bits < 2 ^ 64) × IsEqual a (double_value bits) }
 {}
 
-/// A code by a double stands for the number, and codes rise with what they stand for.
+/// A code stands for the number: by a power of ten it is that many times it, and by a double it is its bits, which rise with
+/// what they stand for.
 pub fn codes_stand_for_numbers()
-    ensures stands { (negative : Bool) (size : ℕ) (c : ℤ) → number_code None (finite negative size) ≡ Some c
+    ensures stands { (negative : Bool) (size : ℕ) (c : ℤ)
+        → number_code None (finite negative size) ≡ Some c
         → code_value c *ℤ pos least_double ≡ signed negative size }
+    ensures scaled { (k : ℕ) (negative : Bool) (size : ℕ) (c : ℤ)
+        → number_code (Some k) (finite negative size) ≡ Some c
+        → c *ℤ pos one ≡ signed negative size *ℤ pos (10 ^ k) }
     ensures rise { (c d : ℤ) → c <ℤ d → code_value c <ℤ code_value d }
 {}

@@ -1,7 +1,7 @@
 //! The numbers of BSON.
 
 /// A number, as its bytes have it.
-#[derive(Clone, Copy, Debug, PartialEq, Eq)]
+#[derive(Clone, Copy)]
 pub enum Number {
     /// An int32 or an int64.
     Whole(i64),

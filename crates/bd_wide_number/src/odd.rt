@@ -1,6 +1,6 @@
 //! Numbers as an odd number times a power of two.
 
-ghost use Rattle.std.specs.Prelude.{◌≡◌, ◌≢◌, ◌<◌, ◌≤◌, ℕ, ◌+◌, ◌*◌, ◌%◌, ◌^◌, IfSome, IfNone};
+ghost use Rattle.std.specs.Prelude.{◌≡◌, ◌≢◌, ◌<◌, ◌≤◌, ℕ, ◌*◌, ◌^◌, IfSome, IfNone};
 ghost use Rattle.std.specs.Option.{SomeIff};
 ghost use Rattle.bd_wide_number.specs.Odd.{IsOddOf, IsWide, fives as fives_unit};
 
@@ -27,6 +27,9 @@ pub(crate) fn odd_part(number: u128, twos: u64, fives: u64) -> Option<Odd>
     stripped(number, twos, fives - 6176)
 }
 
+/// Above this 5 ^ n is above each number of 113 bits.
+const MOST_FIVES: u64 = 48;
+
 /// A number divided by 5 ^ n, where it can be.
 fn divided(number: u128, n: u64) -> Option<u128>
     requires { (0 < number) × (number < 2 ^ 113) }
@@ -34,7 +37,7 @@ fn divided(number: u128, n: u64) -> Option<u128>
     ensures near { IfSome result (λ q. (n ≤ 48) × (0 < q) × (q ≤ number)) }
     ensures not { IfNone result ((q : ℕ) → q * 5 ^ n ≢ number) }
 {
-    if n > 48 {
+    if n > MOST_FIVES {
         return None;
     }
     let power = 5u128.pow(n as u32);
@@ -60,13 +63,16 @@ fn stripped(number: u128, twos: u64, n: u64) -> Option<Odd>
     })
 }
 
+/// Above this 5 ^ n has more than 64 bits.
+const MOST_FIVES_OF_64: u64 = 27;
+
 /// A number times 5 ^ n, where that has 64 bits.
 fn multiplied(number: u128, n: u64) -> Option<u64>
     requires { 0 < number }
     ensures gives { SomeIff result (number * 5 ^ n < 2 ^ 64) (number * 5 ^ n) }
     ensures near { IfSome result (λ _. n ≤ 27) }
 {
-    if n > 27 || number > u64::MAX as u128 {
+    if n > MOST_FIVES_OF_64 || number > u64::MAX as u128 {
         return None;
     }
     let product = number * 5u128.pow(n as u32);

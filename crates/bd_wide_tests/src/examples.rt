@@ -1,10 +1,19 @@
-//! The examples of use in the roots of `bd_wide_text`, `bd_wide`, `bd_wide_command_line` and `bd_wide_cli`.
+//! The examples of use in the roots of `bd_wide_number`, `bd_wide_text`, `bd_wide`, `bd_wide_command_line` and `bd_wide_cli`.
 use bd_device::{MemoryInput, MemoryOutput};
 use bd_wide::{Mask, write_rewritten};
 use bd_wide_cli::{Filter, Status, run};
 use bd_wide_command_line::{Order, parse_words};
+use bd_wide_number::{Number, code_of, whole_of};
 use bd_wide_text::write_double;
 use std::test::Fail;
+
+#[test]
+fn code(rt: HostRuntime) {
+    let half = Number::Double(0x3fe0_0000_0000_0000);
+    assert!(rt; code_of(half, None) == Some(0x3fe0_0000_0000_0000));
+    assert!(rt; code_of(half, Some(1)) == Some(5));
+    assert!(rt; whole_of(half) == None);
+}
 
 #[test]
 fn double_text(rt: HostRuntime) -> Result<(), Fail> {

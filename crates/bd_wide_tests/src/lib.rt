@@ -1,5 +1,7 @@
-//! The examples of `bsonwide`'s crates, over their public calls.
+//! The examples of `bsonwide`'s crates, and rows of numbers, over their public calls.
 #![tactic(auto)]
 
 #[cfg(test)]
 mod examples;
+#[cfg(test)]
+mod numbers;

@@ -1,5 +1,5 @@
 use Rattle.std.proofs.Common.{arith, refl}
-use Rattle.bd_wide_number.proofs.CodeLemmas.{leading_bits, leading_high}
+use Rattle.bd_wide_number.proofs.ValueLemmas.{leading_bits, leading_high}
 use Rattle.bd_wide_number.proofs.code.double_bits.Goals as goal
 
 pub overflow_sub-shift : goal.overflow_sub-shift

@@ -10,10 +10,10 @@ pub returns-in_err-odd : goal.returns-in_err-odd
 returns-in_err-odd c = c.from_residual.ensures
     ∙ sym (double_wide c.args.negative c.args.number c.args.exponent c.in_err-odd.ensures.wide)
 
-pub returns-then-odd-ge9007199254740992 : goal.returns-then-odd-ge9007199254740992
-returns-then-odd-ge9007199254740992 c =
+pub returns-then-odd-ge-TOO_PRECISE : goal.returns-then-odd-ge-TOO_PRECISE
+returns-then-odd-ge-TOO_PRECISE c =
     let f = c.in_ok-odd.ensures.is in
-    sym (double_large c.args.negative c.args.number c.args.exponent f.0 c.in_ok-odd.odd f.1 f.2 c.if-odd-ge9007199254740992.true)
+    sym (double_large c.args.negative c.args.number c.args.exponent f.0 c.in_ok-odd.odd f.1 f.2 c.if-odd-ge-TOO_PRECISE.true)
 
 pub returns : goal.returns
 returns c =

@@ -3,7 +3,7 @@ use Rattle.std.proofs.lemmas.Nat.{shl_whole}
 use Rattle.bd_wide_number.specs.Code.{within_64}
 use Rattle.bd_wide_number.proofs.CodeLemmas.{whole_far, whole_found, whole_wide, zero_whole}
 use Rattle.bd_wide_number.proofs.code.whole_part.Goals as goal
-use Rattle.bd_wide_number.proofs.code.whole_part.Goals.{then-odd-lt6176-via-then-odd-lt6176, then-odd-lt6176-via-else-odd-lt6176+then-odd-gt6239}
+use Rattle.bd_wide_number.proofs.code.whole_part.Goals.{then-odd-lt-ONE-via-then-odd-lt-ONE, then-odd-lt-ONE-via-else-odd-lt-ONE+then-odd-gt-MOST_SHIFT}
 
 pub returns-then-number-eq0 : goal.returns-then-number-eq0
 returns-then-number-eq0 c = zero_whole c.args.negative (c.args.number * 2 ^ c.args.twos * 5 ^ c.args.fives)
@@ -14,13 +14,13 @@ pub returns-in_err-odd : goal.returns-in_err-odd
 returns-in_err-odd c = c.from_residual.ensures
     ∙ sym (whole_wide c.args.negative (c.args.number * 2 ^ c.args.twos * 5 ^ c.args.fives) c.in_err-odd.ensures.wide)
 
-pub returns-then-odd-lt6176 : goal.returns-then-odd-lt6176
-returns-then-odd-lt6176 c =
+pub returns-then-odd-lt-ONE : goal.returns-then-odd-lt-ONE
+returns-then-odd-lt-ONE c =
     let f = c.in_ok-odd.ensures.is in
     sym (whole_far c.args.negative (c.args.number * 2 ^ c.args.twos * 5 ^ c.args.fives) f.0 c.args.twos c.in_ok-odd.odd f.1 f.2
-    (elim c.then-odd-lt6176.branch [
-      | then-odd-lt6176-via-then-odd-lt6176 w ↦ inl w.if-odd-lt6176.true
-      | then-odd-lt6176-via-else-odd-lt6176+then-odd-gt6239 w ↦ inr w.if-odd-gt6239.true
+    (elim c.then-odd-lt-ONE.branch [
+      | then-odd-lt-ONE-via-then-odd-lt-ONE w ↦ inl w.if-odd-lt-ONE.true
+      | then-odd-lt-ONE-via-else-odd-lt-ONE+then-odd-gt-MOST_SHIFT w ↦ inr (omega (arith, w.if-odd-gt-MOST_SHIFT.true))
     ]))
 
 pub returns : goal.returns
