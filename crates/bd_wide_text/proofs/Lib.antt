@@ -1,3 +1,4 @@
+pub mod Decimal128Lemmas
 pub mod DoubleLemmas
 pub mod LayoutLemmas
 pub mod ReadBackLemmas

@@ -1,6 +1,7 @@
 -- The text of a decimal128: to-scientific-string of the decimal128 specification.
-use Rattle.std.specs.Prelude.{ℕ, ◌+◌, ◌-◌, ◌*◌, ◌/◌, ◌%◌, ◌^◌, ◌==◌, ◌||◌, List, ◌++◌, length, take, drop, nat_lt, nat_le, if◌then◌else◌, codes, decimal}
+use Rattle.std.specs.Prelude.{ℕ, ◌+◌, ◌-◌, ◌^◌, ◌==◌, ◌||◌, List, ◌++◌, length, take, drop, nat_lt, nat_le, if◌then◌else◌, codes, decimal}
 use Rattle.std.specs.Fmt.{sign_text}
+use Rattle.bd_wide_number.specs.Decimal128.{five_bits, coefficient_of, biased_exponent}
 use Rattle.bd_wide_text.specs.Layout.{mantissa, zeros}
 
 -- the power of ten of the first digit, which is 6177 below the sum of `biased` and the count of the digits
@@ -18,16 +19,10 @@ scientific_string digits biased =
     if nat_lt places (length digits) then take (length digits - places) digits ++ (codes "." ++ drop (length digits - places) digits)
     else codes "0." ++ (zeros (places - length digits) ++ digits)))
 
--- The five bits after the sign, by the upper half of the 128 bits: 31 for what is no number, and 30 for what is infinite.
-abbrev pub five_bits : ℕ → ℕ
-five_bits high = high / 2 ^ 58 % 32
-
--- Without the sign, by the two halves. From 24 on the coefficient is too large, and then it is 0, as is one above 34 digits.
+-- without the sign, by the two halves
 unfoldable pub decimal128_size : ℕ → ℕ → List ℕ
-decimal128_size low high = if five_bits high == 30 then codes "Infinity" else (
-    if nat_le 24 (five_bits high) then scientific_string (codes "0") (high / 2 ^ 47 % 2 ^ 14) else (
-    let coefficient = high % 2 ^ 49 * 2 ^ 64 + low in
-    scientific_string (decimal (if nat_lt coefficient (10 ^ 34) then coefficient else 0)) (high / 2 ^ 49 % 2 ^ 14)))
+decimal128_size low high = if five_bits high == 30 then codes "Infinity"
+    else scientific_string (decimal (coefficient_of low high)) (biased_exponent high)
 
 -- the first of the 128 bits is the sign
 unfoldable pub decimal128_text : ℕ → ℕ → List ℕ
