@@ -33,6 +33,8 @@ if cp crates/bsonfind/out/bsonfind bsonfind && cp crates/bsonwide/out/bsonwide b
 	add
 	tests/wide/wide.py bsonwide 2000 | tee "$log"
 	add
+	tests/wide/questions.py bsonfind 50 | tee "$log"
+	add
 	tests/wide/others.py | tee "$log"
 	add
 else

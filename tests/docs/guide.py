@@ -32,7 +32,7 @@ WORD = re.compile(r"(?<![\w./$*-])(?<!bsonfind )(?<!bsonwide )\w[\w./*-]*")
 FUNCTION = re.compile(r"(\w+)\(\) \{")
 # Programs that see a damaged file; cp, head and others take it as it is.
 JUDGES = re.compile(r"\b(?:bsonfind|bsonwide|python3|bash|node)\b")
-FAULT = re.compile(r"\b(?:bsonfind|bsonwide): |^\w+\.(?:py|sh|mjs): |, [1-9]\d* faulty$|, [1-9]\d* to bad\.|, [1-9]\d* bytes left out$", re.MULTILINE)
+FAULT = re.compile(r"\b(?:bsonfind|bsonwide): |^\w+\.(?:py|sh|mjs): |, [1-9]\d* faulty(?:, \d+ with doubles or decimal128)?$|, [1-9]\d* to bad\.|, [1-9]\d* bytes left out$", re.MULTILINE)
 # A program that a machine may not have, where a command begins with it or pipes to it.
 OPTIONAL = re.compile(r"(?:^|\| )(node|pv)\b")
 SCRIPTS = (".py", ".sh", ".mjs", ".jq")

@@ -87,6 +87,7 @@ REASONS = (
     "the field has NaN, which counts as the least number",
     "NaN is neither less nor greater than a number",
     "no codes hold all numbers of this field",
+    "so many numbers as names",
 )
 
 
