@@ -1,8 +1,8 @@
 -- What a renumbered request selects of renumbered documents.
 use Rattle.std.proofs.Common.{◌≡◌, ℕ, zero, suc, List, [], ◌∷◌, refl, ap, ap₂, ◌∙◌, Option, Some, None}
 use Rattle.std.specs.Prelude.{Bool, option_map, slice_get, slice_index_or}
-use Rattle.std.specs.List.{cons_option}
-use Rattle.std.proofs.lemmas.List.{length-map}
+use Rattle.std.specs.List.{AllByRecursion as Each, cons_option}
+use Rattle.std.proofs.lemmas.{List.length-map, List.Elements.recursion_from_All}
 use Rattle.bd_value.specs.Tree.{doc, Doc, field, fields_of}
 use Rattle.bd_path.specs.Sort.{sort_cmp}
 use Rattle.bd_path.specs.Reach.{Names}
@@ -15,7 +15,7 @@ use Rattle.bd_wide_order.specs.Renumber.{Codes, under, AreIncreasing, DocumentsA
 use Rattle.bd_wide_order.proofs.DoubleLemmas.{values_rise}
 use Rattle.bd_wide_order.proofs.MatchLemmas.{is_of_all, match_stays}
 use Rattle.bd_wide_order.proofs.PageLemmas.{one_answer}
-use Rattle.bd_wide_order.proofs.ReachLemmas.{Each, each_from, sorts_stay}
+use Rattle.bd_wide_order.proofs.ReachLemmas.{sorts_stay}
 
 module _ (c : Codes) where
   fields_stay : (d : Doc) → fields_of (renumber_document c d) ≡ renumber_fields c (fields_of d)
@@ -71,7 +71,7 @@ module _ (c : Codes) (up : AreIncreasing c) (r : Request) (asks : RequestAsksOf 
 
 pub answers_stay : (c : Codes) → AreIncreasing c → (r : Request) → RequestAsksOf c r → (ds : List Doc) → DocumentsAreOf c ds → (bytes new text : List ℕ)
     → HaveOneAnswer (query_to new (renumber_documents c ds) (renumber_request c text r)) (query_to bytes ds r)
-answers_stay c up r asks ds are bytes new text = requests_stay c up r asks ds (λ p. is_of c ds p (each_from (λ d. IsOf c (doc (fields_of d))) ds are)) bytes new text
+answers_stay c up r asks ds are bytes new text = requests_stay c up r asks ds (λ p. is_of c ds p (recursion_from_All (λ d. IsOf c (doc (fields_of d))) ds are)) bytes new text
 
 -- every number may occur
 pub values_stay : (has_bits : Names → Bool) (r : Request) → RequestAsksOf (values_at has_bits) r → (ds : List Doc) (bytes new text : List ℕ)

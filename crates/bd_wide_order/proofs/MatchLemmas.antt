@@ -1,8 +1,8 @@
 -- A renumbered filter matches a renumbered value where it matched the value.
 use Rattle.std.proofs.Common.{◌≡◌, ℕ, List, [], ◌∷◌, ◌++◌, map, length, refl, sym, ap, ap₂, ◌∙◌, Bool, cond, not, Some, None, ◌||◌, ◌&&◌}
 use Rattle.std.specs.Prelude.{ℤ, IsTrue, option_map, is_some, ◌==◌}
-use Rattle.std.proofs.lemmas.{List.length-map}
-use Rattle.std.specs.List.{list_any, list_all}
+use Rattle.std.proofs.lemmas.{List.length-map, List.Elements.recursion_from_All}
+use Rattle.std.specs.List.{AllByRecursion as Each, list_any, list_all}
 use Rattle.std.specs.Ordering.{is_eq}
 use Rattle.bd_value.specs.{Order.equal, Tree.elements_in}
 use Rattle.bd_value.specs.Tree.{Tree, leaf, int32, int64, doc, array, code_scope, Items, no_items, item, Fields, no_fields, field}
@@ -18,7 +18,7 @@ use Rattle.bd_wide_order.specs.Renumber.{Codes, under, scope_name, AreIncreasing
 use Rattle.bd_wide_order.specs.Renumber.{renumber_filter, renumber_filters, renumber_operator, renumber_operators}
 use Rattle.bd_wide_order.specs.Renumber.{TakeNumbersAlike, AsksOf, AllAskOf, OperatorAsksOf, OperatorsAskOf}
 use Rattle.bd_wide_order.proofs.OrderLemmas.{order_stays, classes_stay, equals_stay}
-use Rattle.bd_wide_order.proofs.ReachLemmas.{Each, EndIsOf, any_map, each_from, document_stays, ends_are_of, list_is_of, list_stays, reach_stays}
+use Rattle.bd_wide_order.proofs.ReachLemmas.{EndIsOf, any_map, document_stays, ends_are_of, list_is_of, list_stays, reach_stays}
 
 all_map : {A B : Type 0} (f : B → Bool) (e : A → Bool) (h : A → B) (Q : A → Type 0) → ((x : A) → Q x → f (h x) ≡ e x) → (xs : List A) → Each Q xs
     → list_all f (map h xs) ≡ list_all e xs
@@ -144,9 +144,9 @@ mutual
   holds_stays c up (compares o v) a es b =
       any_candidate_stays c (λ e. is_related o (renumber c v) (value_or_null e)) (λ e. is_related o v (value_or_null e))
       (λ e d. ap (is_related o (renumber c v)) (null_stays c e) ∙ related_stays c up o v (value_or_null e) a (null_is_of c e d)) es b
-  holds_stays c up (is_in vs) a es b = any_map (any_equal (map (re c) es)) (any_equal es) (renumber c) (IsOf c) (equal_stays c up es b) vs (each_from (IsOf c) vs a)
+  holds_stays c up (is_in vs) a es b = any_map (any_equal (map (re c) es)) (any_equal es) (renumber c) (IsOf c) (equal_stays c up es b) vs (recursion_from_All (IsOf c) vs a)
   holds_stays c up (has_all vs) a es b =
-      ap₂ ◌&&◌ (nonempty_stays c vs) (all_map (any_equal (map (re c) es)) (any_equal es) (renumber c) (IsOf c) (equal_stays c up es b) vs (each_from (IsOf c) vs a))
+      ap₂ ◌&&◌ (nonempty_stays c vs) (all_map (any_equal (map (re c) es)) (any_equal es) (renumber c) (IsOf c) (equal_stays c up es b) vs (recursion_from_All (IsOf c) vs a))
   holds_stays c up (has_type ks) a es b =
       any_candidate_stays c (is_value (is_of_type ks)) (is_value (is_of_type ks)) (value_stays c (is_of_type ks) (is_of_type ks) (λ t d. type_stays c ks a t)) es b
   holds_stays c up (has_size n) a es b = any_value_stays c (is_of_size n) (is_of_size n) (λ t d. size_stays c n t) es b
@@ -167,9 +167,9 @@ mutual
   accepts_stays : (c : Codes) → AreIncreasing c → (o : Operator) → OperatorAsksOf c o → (t : Tree) → IsOf c t → accepts (renumber_operator c o) (renumber c t) ≡ accepts o t
   accepts_stays c up (equals v) a t b = equals_stay c up t v b a
   accepts_stays c up (compares o v) a t b = related_stays c up o v t a b
-  accepts_stays c up (is_in vs) a t b = any_map (equal (renumber c t)) (equal t) (renumber c) (IsOf c) (λ v d. equals_stay c up t v b d) vs (each_from (IsOf c) vs a)
+  accepts_stays c up (is_in vs) a t b = any_map (equal (renumber c t)) (equal t) (renumber c) (IsOf c) (λ v d. equals_stay c up t v b d) vs (recursion_from_All (IsOf c) vs a)
   accepts_stays c up (has_all vs) a t b =
-      ap₂ ◌&&◌ (nonempty_stays c vs) (all_map (equal (renumber c t)) (equal t) (renumber c) (IsOf c) (λ v d. equals_stay c up t v b d) vs (each_from (IsOf c) vs a))
+      ap₂ ◌&&◌ (nonempty_stays c vs) (all_map (equal (renumber c t)) (equal t) (renumber c) (IsOf c) (λ v d. equals_stay c up t v b d) vs (recursion_from_All (IsOf c) vs a))
   accepts_stays c up (has_type ks) a t b = type_stays c ks a t
   accepts_stays c up (has_size n) a t b = size_stays c n t
   accepts_stays c up (exists y) a t b = refl

@@ -1,34 +1,26 @@
 -- What a path reaches in renumbered values, its keys, and its sort keys.
 use Rattle.std.proofs.Common.{◌≡◌, ℕ, zero, suc, List, [], ◌∷◌, ◌++◌, map, refl, sym, ap, ap₂, ◌∙◌, subst, Bool, true, false, cond, Option, Some, None, ◌||◌}
-use Rattle.std.specs.Prelude.{All, IsTrue, is_some, option_map, unwrap_or}
-use Rattle.std.specs.{List.list_any, Str.bytes_eq, Str.Parse.digits_value}
+use Rattle.std.specs.Prelude.{IsTrue, is_some, option_map, unwrap_or}
+use Rattle.std.specs.{List.AllByRecursion as Each, List.list_any, Str.bytes_eq, Str.Parse.digits_value}
 use Rattle.std.specs.Ordering.{is_lt, ordering_reverse, ordering_then}
-use Rattle.std.proofs.lemmas.{List.map-append, List.Elements.All-head, List.Elements.All-tail, Slice.Eq.bytes_eq-Decides}
+use Rattle.std.proofs.lemmas.{List.map-append, List.Elements.recursion_from_All, Slice.Eq.bytes_eq-Decides}
 use Rattle.bd_value.specs.{Order.equal}
 use Rattle.bd_value.specs.Tree.{Tree, leaf, null, undefined, doc, array, code_scope, Items, no_items, item, Fields, no_fields, field, list_of}
 use Rattle.bd_path.specs.Reach.{Names, Gathering, gathering, first_gathering, each_gathering, gathering_at, index_of, is_index, is_document, End, ends, reach}
 use Rattle.bd_path.specs.Key.{missing_key, or_else, end_keys, key_gathering, all_keys, with_key, with_keys, indexed_keys, keys}
 use Rattle.bd_path.specs.Sort.{dir_cmp, earlier_key, earliest_key, sort_key, SortPath, sort_cmp}
 use Rattle.bd_path.specs.{declared.sort.Dir.Dir, declared.sort.Dir.TheVariants.Up, declared.sort.Dir.TheVariants.Down}
-use Rattle.bd_wide_order.specs.Renumber.{Code, Codes, under, below, AreIncreasing, LeadTo, ReadsAlike, SortsReadAlike, IsOf, ItemsAreOf, FieldsAreOf, renumber, renumber_items, renumber_fields}
+use Rattle.bd_wide_order.specs.Renumber.{Codes, under, below, AreIncreasing, LeadTo, PassOverIndexes, ReadsAlike, SortsReadAlike, IsOf, ItemsAreOf, FieldsAreOf}
+use Rattle.bd_wide_order.specs.Renumber.{renumber, renumber_items, renumber_fields}
 use Rattle.bd_wide_order.proofs.OrderLemmas.{order_stays, equals_stay}
 
--- each element has a property
-abbrev pub Each : {A : Type 0} → (A → Type 0) → List A → Type 0
-Each Q [] = Unit {0}
-Each Q (x ∷ xs) = Q x × Each Q xs
-
-pub each_append : {A : Type 0} (Q : A → Type 0) (xs ys : List A) → Each Q xs → Each Q ys → Each Q (xs ++ ys)
+each_append : {A : Type 0} (Q : A → Type 0) (xs ys : List A) → Each Q xs → Each Q ys → Each Q (xs ++ ys)
 each_append Q [] ys p q = q
 each_append Q (x ∷ xs) ys p q = (p.0, each_append Q xs ys p.1 q)
 
 each_chosen : {A : Type 0} (Q : A → Type 0) (b : Bool) (xs ys : List A) → (b ≡ true → Each Q xs) → Each Q ys → Each Q (cond b xs ys)
 each_chosen Q true xs ys p q = p refl
 each_chosen Q false xs ys p q = q
-
-pub each_from : {A : Type 0} (Q : A → Type 0) (xs : List A) → All Q xs → Each Q xs
-each_from Q [] a = tt
-each_from Q (x ∷ xs) a = (All-head Q x xs a, each_from Q xs (All-tail Q x xs a))
 
 -- a test of what a list was mapped to, and of what it is
 pub any_map : {A B : Type 0} (f : B → Bool) (e : A → Bool) (h : A → B) (Q : A → Type 0) → ((x : A) → Q x → f (h x) ≡ e x) → (xs : List A) → Each Q xs
@@ -42,9 +34,12 @@ any_map f e h Q same (x ∷ xs) p = ap₂ ◌||◌ (same x p.0) (any_map f e h Q
 to_field : (c end : Codes) (n name : List ℕ) (rest : Names) → LeadTo (under name c) rest end → bytes_eq n name ≡ true → LeadTo (under n c) rest end
 to_field c end n name rest lead e = subst (λ x. LeadTo (under x c) rest end) (sym ((bytes_eq-Decides n name).0 e)) lead
 
-pub one_code : (code : Code) (path : Names) → ReadsAlike (λ names. code) path
-one_code code [] = refl
-one_code code (name ∷ rest) = (one_code code rest, λ e. one_code code rest)
+pub passing_over : (c : Codes) → PassOverIndexes c → (path : Names) → ReadsAlike c path
+passing_over c over [] = refl
+passing_over c over (name ∷ rest) = (
+  passing_over (λ names. c (name ∷ names)) (λ before. over (name ∷ before)) rest,
+  λ e. subst (LeadTo c rest) (λ i names. sym (over [] name (rest ++ names) e) i) (passing_over c over rest),
+)
 
 neither : (a b : Bool) → (a || b) ≡ false → (a ≡ false) × (b ≡ false)
 neither true b e = absurd cc
@@ -333,4 +328,4 @@ all_sorts_stay c up (s ∷ ss) leads a b p q = ap₂ ordering_then (sort_stays c
 
 pub sorts_stay : (c : Codes) → AreIncreasing c → (ss : List SortPath) → SortsReadAlike c ss → (a b : Tree) → IsOf c a → IsOf c b
     → sort_cmp ss (renumber c a) (renumber c b) ≡ sort_cmp ss a b
-sorts_stay c up ss leads a b p q = all_sorts_stay c up ss (each_from (λ s. ReadsAlike c s.path) ss leads) a b p q
+sorts_stay c up ss leads a b p q = all_sorts_stay c up ss (recursion_from_All (λ s. ReadsAlike c s.path) ss leads) a b p q

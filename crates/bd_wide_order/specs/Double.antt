@@ -1,7 +1,6 @@
 -- What the bits of a double stand for (IEEE 754, binary64), as whole numbers of its smallest unit, 2 ^ -1074.
 use Rattle.std.specs.Prelude.{ℕ, zero, suc, ◌+◌, ◌-◌, ◌*◌, ◌/◌, ◌%◌, ◌^◌, nat_lt, ℤ, pos, negsuc}
-use Rattle.std.specs.Prelude.{neg_ℤ, Bool, true}
-use Rattle.std.specs.Prelude.{if◌then◌else◌}
+use Rattle.std.specs.Prelude.{neg_ℤ, Bool, true, if◌then◌else◌}
 use Rattle.bd_path.specs.Reach.{Names}
 use Rattle.bd_wide_order.specs.Renumber.{Codes}
 
@@ -30,7 +29,7 @@ double_value = with_sign magnitude
 abbrev pub whole_value : ℤ → ℤ
 whole_value = with_sign (λ n. n * 2 ^ 1074)
 
--- Numbers that stand for their values: the bits of doubles at some paths, and at all others whole numbers.
+-- Numbers that become what they stand for: the bits of doubles at some paths, and whole numbers at all others.
 abbrev pub values_at : (Names → Bool) → Codes
 values_at has_bits path =
     record { becomes = if has_bits path then double_value else whole_value; occurs = λ n. true }

@@ -48,6 +48,11 @@ LeadTo c (name ∷ rest) end =
 abbrev pub ReadsAlike : Codes → Names → Type 0
 ReadsAlike c path = LeadTo c path (below path c)
 
+-- a name that is an index leads to no other codes
+abbrev pub PassOverIndexes : Codes → Type 0
+PassOverIndexes c = (before : Names) (name : List ℕ) (after : Names) → IsTrue (is_index name) →
+    c (before ++ name ∷ after) ≡ c (before ++ after)
+
 abbrev pub SortsReadAlike : Codes → List SortPath → Type 0
 SortsReadAlike c ss = All (λ s. ReadsAlike c s.path) ss
 

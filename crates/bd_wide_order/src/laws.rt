@@ -1,6 +1,6 @@
 //! Laws of other numbers in the same order. The body of each is empty: its contract is the law.
 
-ghost use Rattle.std.specs.Prelude.{Bool, List, false, Ok, ◌*◌, ◌<ℤ◌, ◌^◌, ◌≡◌, map, neg_ℤ, option_map, pos, ℕ, ℤ};
+ghost use Rattle.std.specs.Prelude.{Bool, List, Ok, false, ◌*◌, ◌<ℤ◌, ◌^◌, ◌≡◌, map, neg_ℤ, option_map, pos, ℕ, ℤ};
 ghost use Rattle.std.specs.List.{list_any};
 ghost use Rattle.bd_value.specs.Order.{cmp};
 ghost use Rattle.bd_value.specs.Tree.{Doc, Tree};
@@ -13,8 +13,8 @@ ghost use Rattle.bd_sort.specs.Selection.{query_to};
 ghost use Rattle.bd_wide_order.specs.Double.{double_value, signed_bits, values_at};
 ghost use Rattle.bd_wide_order.specs.Pages.{HaveOneAnswer};
 ghost use Rattle.bd_wide_order.specs.Query.{RequestAsksOf, renumber_query, renumber_request};
-ghost use Rattle.bd_wide_order.specs.Renumber.{AreIncreasing, AsksOf, Code, Codes, DocumentsAreOf, IsOf, ReadsAlike};
-ghost use Rattle.bd_wide_order.specs.Renumber.{SortsReadAlike, below, renumber, renumber_documents, renumber_filter};
+ghost use Rattle.bd_wide_order.specs.Renumber.{AreIncreasing, AsksOf, Codes, DocumentsAreOf, IsOf, PassOverIndexes};
+ghost use Rattle.bd_wide_order.specs.Renumber.{ReadsAlike, SortsReadAlike, below, renumber, renumber_documents, renumber_filter};
 
 /// Values are in the same order, a path reaches the same in them, they have the same keys, sorts order them alike, and a filter
 /// matches the same, if each of their numbers, and of the filter's, becomes another one, in the same order at each path.
@@ -34,12 +34,13 @@ pub fn numbers_matter_by_order()
         (t : Tree) → IsOf c t → matches (renumber_filter c f) (renumber c t) ≡ matches f t }
 {}
 
-/// A path reads alike if none of its names is an index, and any path does if all numbers have one code.
-#[tactic(auto, using(crate::proofs::ReachLemmas::one_code, crate::proofs::ReachLemmas::without_indexes))]
+/// A path reads alike if none of its names is an index, and each path does if no index leads to other codes: so if all numbers
+/// have one code.
+#[tactic(auto, using(crate::proofs::ReachLemmas::passing_over, crate::proofs::ReachLemmas::without_indexes))]
 pub fn paths_read_alike()
     ensures without_indexes { (c : Codes) (path : Names) → list_any is_index path ≡ false →
         ReadsAlike c path }
-    ensures one_code { (code : Code) (path : Names) → ReadsAlike (λ names. code) path }
+    ensures passing_over { (c : Codes) → PassOverIndexes c → (path : Names) → ReadsAlike c path }
 {}
 
 /// A query in which each value that it compares by is renumbered is the renumbered filter, or it is refused for the reason and at
@@ -83,8 +84,8 @@ pub fn doubles_rise_with_their_bits()
 /// Over documents with the bits of doubles at some paths, and whole numbers at all others, a request has the answer that it has by
 /// value: that of the request over the documents whose numbers are their values, in units of 2 ^ -1074.
 pub fn ordered_dumps_answer_by_value()
-    ensures { (has_bits : Names → Bool) (r : Request) → RequestAsksOf (values_at has_bits) r →
-        (ds : List Doc) (bytes new text : List ℕ) → let c = values_at has_bits in
+    ensures { (has_bits : Names → Bool) (r : Request) → let c = values_at has_bits in
+        RequestAsksOf c r → (ds : List Doc) (bytes new text : List ℕ) →
         HaveOneAnswer (query_to new (renumber_documents c ds) (renumber_request c text r))
         (query_to bytes ds r) }
 {}
