@@ -3,7 +3,7 @@
 
 usage: tests/rows/rows.py [--program PATH].. [FILE..]     The last line is 'N passed, M failed'.
 
-Without --program each row runs over ./bsonfind. A failure names its file and line. The kinds are the functions of KINDS.
+Without --program each row runs over ./bsonfind, and those of `order` over ./bsonwide. A failure names its file and line. The kinds are the functions of KINDS.
 A row is JSON whose names may stand twice and in any order that matters; where the form of a text matters it is a string.
 """
 
@@ -332,6 +332,25 @@ def run(program: Program, row: Members) -> int:
     return len(lines)
 
 
+@one_by_one
+def order(program: Program, row: Members) -> int:
+    """{"bytes":HEX,"paths":[PATH..],"output":HEX,"refused":"document 0, byte 4, path \"v\": no double equals it"}: what `bsonwide order`
+    writes of a dump, and why no more, if it refuses a document."""
+    filtering = Program(beside(program.path), program.room)
+    ran = filtering.run("order", "-", *row.get("paths"), given=bytes_of(row, "bytes"))
+    told = f"bsonwide: {row.get('refused')}\n" if "refused" in row else ""
+    output = bytes_of(row, "output").hex() if "output" in row else ""
+    want((ran.stdout.hex(), ran.stderr.decode(), ran.returncode), (output, told, int(told != "")), "order")
+    return 1
+
+
+def beside(path: Path) -> Path:
+    """The `bsonwide` that was built as this `bsonfind` was."""
+    if path.is_relative_to(ROOT):
+        return ROOT / str(path.relative_to(ROOT)).replace("bsonfind", "bsonwide")
+    return path.with_name(path.name.replace("bsonfind", "bsonwide"))
+
+
 def pages(row: Members, size: int, use: str, is_anew: bool, shown: list[str], tied: bytes, numbers: Iterator[int]) -> Iterator[tuple[str, str]]:
     """The commands that ask for an answer, so many documents at a time, and their replies."""
     query, answer, given, token, cursor = text_of(row.get("filter")), row.get("answer"), 0, None, 0
@@ -388,6 +407,7 @@ KINDS: dict[str, Callable[[Program, list[Row]], Came]] = {
     "cut": cut,
     "pack": pack,
     "run": run,
+    "order": order,
 }
 
 
