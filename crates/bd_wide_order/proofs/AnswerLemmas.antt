@@ -1,6 +1,6 @@
 -- What a renumbered request selects of renumbered documents.
 use Rattle.std.proofs.Common.{◌≡◌, ℕ, zero, suc, List, [], ◌∷◌, refl, ap, ap₂, ◌∙◌, Option, Some, None}
-use Rattle.std.specs.Prelude.{Bool, option_map, slice_get, slice_index_or}
+use Rattle.std.specs.Prelude.{option_map, slice_get, slice_index_or}
 use Rattle.std.specs.List.{AllByRecursion as Each, cons_option}
 use Rattle.std.proofs.lemmas.{List.length-map, List.Elements.recursion_from_All}
 use Rattle.bd_value.specs.Tree.{doc, Doc, field, fields_of}
@@ -10,9 +10,9 @@ use Rattle.bd_filter.specs.FilterMatch.{matches}
 use Rattle.bd_bson.specs.Collection.{document_at, documents_at}
 use Rattle.bd_request.specs.Request.{Request}
 use Rattle.bd_sort.specs.Selection.{hits_of, order_of_keys, query_to}
-use Rattle.bd_wide_order.specs.{Double.values_at, Pages.HaveOneAnswer, Query.RequestAsksOf, Query.renumber_request}
+use Rattle.bd_wide_order.specs.{Pages.HaveOneAnswer, Query.RequestAsksOf, Query.renumber_request, Values.values_at}
 use Rattle.bd_wide_order.specs.Renumber.{Codes, under, AreIncreasing, DocumentsAreOf, IsOf, renumber, renumber_fields, renumber_document, renumber_documents, renumber_filter}
-use Rattle.bd_wide_order.proofs.DoubleLemmas.{values_rise}
+use Rattle.bd_wide_order.proofs.ValueLemmas.{values_rise}
 use Rattle.bd_wide_order.proofs.MatchLemmas.{is_of_all, match_stays}
 use Rattle.bd_wide_order.proofs.PageLemmas.{one_answer}
 use Rattle.bd_wide_order.proofs.ReachLemmas.{sorts_stay}
@@ -74,7 +74,7 @@ pub answers_stay : (c : Codes) → AreIncreasing c → (r : Request) → Request
 answers_stay c up r asks ds are bytes new text = requests_stay c up r asks ds (λ p. is_of c ds p (recursion_from_All (λ d. IsOf c (doc (fields_of d))) ds are)) bytes new text
 
 -- every number may occur
-pub values_stay : (has_bits : Names → Bool) (r : Request) → RequestAsksOf (values_at has_bits) r → (ds : List Doc) (bytes new text : List ℕ)
-    → HaveOneAnswer (query_to new (renumber_documents (values_at has_bits) ds) (renumber_request (values_at has_bits) text r)) (query_to bytes ds r)
-values_stay has_bits r asks ds bytes new text =
-    requests_stay (values_at has_bits) (values_rise has_bits) r asks ds (λ p. is_of_all (values_at has_bits) (λ path n. refl) (document_at ds p)) bytes new text
+pub values_stay : (powers : Names → Option ℕ) (r : Request) → RequestAsksOf (values_at powers) r → (ds : List Doc) (bytes new text : List ℕ)
+    → HaveOneAnswer (query_to new (renumber_documents (values_at powers) ds) (renumber_request (values_at powers) text r)) (query_to bytes ds r)
+values_stay powers r asks ds bytes new text =
+    requests_stay (values_at powers) (values_rise powers) r asks ds (λ p. is_of_all (values_at powers) (λ path n. refl) (document_at ds p)) bytes new text

@@ -1,7 +1,7 @@
 pub mod AnswerLemmas
-pub mod DoubleLemmas
 pub mod MatchLemmas
 pub mod OrderLemmas
 pub mod PageLemmas
 pub mod QueryLemmas
 pub mod ReachLemmas
+pub mod ValueLemmas

@@ -1,4 +1,4 @@
-pub mod Double
 pub mod Pages
 pub mod Query
 pub mod Renumber
+pub mod Values

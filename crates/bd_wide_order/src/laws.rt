@@ -1,6 +1,7 @@
 //! Laws of other numbers in the same order. The body of each is empty: its contract is the law.
 
-ghost use Rattle.std.specs.Prelude.{Bool, List, Ok, false, ◌*◌, ◌<ℤ◌, ◌^◌, ◌≡◌, map, neg_ℤ, option_map, pos, ℕ, ℤ};
+ghost use Rattle.std.specs.Prelude.{Bool, IfSome, List, Ok, Option, Some, false, ◌%◌, ◌<◌, ◌^◌, ◌≡◌, ◌≤◌, map, option_map, ℕ, ℤ};
+ghost use Rattle.std.specs.Float.{Ieee.Exact.HasValue, Ieee.of_bits, binary64};
 ghost use Rattle.std.specs.List.{list_any};
 ghost use Rattle.bd_value.specs.Order.{cmp};
 ghost use Rattle.bd_value.specs.Tree.{Doc, Tree};
@@ -10,11 +11,13 @@ ghost use Rattle.bd_bson.specs.Collection.{documents_at};
 ghost use Rattle.bd_request.specs.Refused.{then_part};
 ghost use Rattle.bd_request.specs.Request.{Request, request_of, request_text};
 ghost use Rattle.bd_sort.specs.Selection.{query_to};
-ghost use Rattle.bd_wide_order.specs.Double.{double_value, signed_bits, values_at};
+ghost use Rattle.bd_wide_number.specs.Code.{number_code};
+ghost use Rattle.bd_wide_number.specs.Value.{finite, has_sign, infinite_bits, magnitude, signed};
 ghost use Rattle.bd_wide_order.specs.Pages.{HaveOneAnswer};
 ghost use Rattle.bd_wide_order.specs.Query.{RequestAsksOf, renumber_query, renumber_request};
 ghost use Rattle.bd_wide_order.specs.Renumber.{AreIncreasing, AsksOf, Codes, DocumentsAreOf, IsOf, PassOverIndexes};
 ghost use Rattle.bd_wide_order.specs.Renumber.{ReadsAlike, SortsReadAlike, below, renumber, renumber_documents, renumber_filter};
+ghost use Rattle.bd_wide_order.specs.Values.{code_worth, values_at};
 
 /// Values are in the same order, a path reaches the same in them, they have the same keys, sorts order them alike, and a filter
 /// matches the same, if each of their numbers, and of the filter's, becomes another one, in the same order at each path.
@@ -67,24 +70,21 @@ pub fn answers_stay()
         ≡ renumber_documents c (documents_at ds places) }
 {}
 
-/// The bits of doubles, as whole numbers below 0 if the sign is set, are in the order of the doubles.
-#[tactic(auto, using(crate::proofs::DoubleLemmas::doubles_rise), unfolding(crate::specs::Double::magnitude))]
-pub fn doubles_rise_with_their_bits()
-    ensures rises { (m n : ℤ) → m <ℤ n → double_value m <ℤ double_value n }
-    ensures one { double_value (signed_bits 4607182418800017408) ≡ pos (2 ^ 1074) }
-    ensures minus_one { double_value (signed_bits 13830554455654793216) ≡ neg_ℤ (pos (2 ^ 1074)) }
-    ensures minus_zero { double_value (signed_bits 9223372036854775808) ≡ pos 0 }
-    ensures tenth { double_value (signed_bits 4591870180066957722)
-        ≡ pos (3602879701896397 * 2 ^ 1019) }
-    ensures least { double_value (signed_bits 1) ≡ pos 1 }
-    ensures greatest { double_value (signed_bits 9218868437227405311)
-        ≡ pos (9007199254740991 * 2 ^ 2045) }
+/// A code is worth the number that it stands for, and the bits of a double are worth the double of IEEE 754 that they are.
+#[tactic(auto, using(crate::proofs::ValueLemmas::bits_worth, crate::proofs::ValueLemmas::code_worths))]
+pub fn codes_are_worth_their_numbers()
+    ensures codes { (power : Option ℕ) → IfSome power (λ k. k ≤ 6176) →
+        (negative : Bool) (size : ℕ) (code : ℤ) →
+        number_code power (finite negative size) ≡ Some code →
+        code_worth power code ≡ signed negative size }
+    ensures bits { (bits : ℕ) → bits % 2 ^ 63 < infinite_bits →
+        HasValue (of_bits binary64 bits) (has_sign bits) (magnitude (bits % 2 ^ 63)) (2 ^ 1074) }
 {}
 
-/// Over documents with the bits of doubles at some paths, and whole numbers at all others, a request has the answer that it has by
-/// value: that of the request over the documents whose numbers are their values, in units of 2 ^ -1074.
+/// Over documents with codes by doubles at some paths, and by a power of ten at each of the others, a request has the answer that
+/// it has by value: that of the request over the documents whose numbers are what the codes are worth.
 pub fn ordered_dumps_answer_by_value()
-    ensures { (has_bits : Names → Bool) (r : Request) → let c = values_at has_bits in
+    ensures { (powers : Names → Option ℕ) (r : Request) → let c = values_at powers in
         RequestAsksOf c r → (ds : List Doc) (bytes new text : List ℕ) →
         HaveOneAnswer (query_to new (renumber_documents c ds) (renumber_request c text r))
         (query_to bytes ds r) }

@@ -6,15 +6,15 @@
 //!
 //! - `specs/Renumber.antt`: values, documents and filters with other numbers.
 //! - `specs/Query.antt`: the documents of queries with other numbers, and requests.
-//! - `specs/Double.antt`: what whole numbers stand for that are the bits of doubles.
+//! - `specs/Values.antt`: what the codes of `bd_wide_number` are worth.
 //! - `specs/Pages.antt`: what a request gives, page by page.
-//! - `laws`: that order, keys, sorts, matches and answers stay; the law of doubles; which paths read alike; and that each query has
+//! - `laws`: that order, keys, sorts, matches and answers stay; the law of values; which paths read alike; and that each query has
 //!   a renumbered one.
 #![tactic(auto)]
 
 mod laws;
 
 pub use laws::{
-    answers_stay, doubles_rise_with_their_bits, numbers_matter_by_order,
+    answers_stay, codes_are_worth_their_numbers, numbers_matter_by_order,
     ordered_dumps_answer_by_value, paths_read_alike, queries_are_renumbered,
 };
