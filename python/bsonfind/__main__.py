@@ -25,7 +25,6 @@ from ._requests import Request
 from ._salvage import salvage
 from ._sources import try_program
 from ._unpack import unpack
-from ._unpacking import UnpackError
 
 GOOD, FAULTY, FAILED, INTERRUPTED = 0, 1, 2, 130
 _EPILOG = "COMMAND --help explains a command and its status. ARCHIVE::db.collection names a collection of an archive as a FILE."
@@ -292,8 +291,7 @@ def run_query(words: argparse.Namespace) -> int:
             names.add(name)
         if error:
             console.problem(f"{name}: {getattr(error, 'strerror', None) or error}")
-            is_fault = isinstance(error, UnpackError) or isinstance(error, DumpError) and error.fault
-            status = max(status, FAULTY if is_fault else FAILED)
+            status = max(status, FAULTY if isinstance(error, DumpError) and error.is_finding else FAILED)
     console.note(f"{documents} documents in {len(names)} of {len(dumps)} files")
     return status
 

@@ -13,13 +13,12 @@ from ._archive import Archive, Namespace
 from ._backups import Dump, Log, dumps_of, fault_of_listed, fault_of_metadata, is_oplog, namespace_of, read_log, text_lines
 from ._console import Console, Progress
 from ._dumps import File, name_in, name_of
-from ._errors import ArgumentError, BsonfindError
+from ._errors import ArgumentError, BsonfindError, DumpError
 from ._faults import NO_DAMAGE, Fault
 from ._processes import Group, processors
 from ._requests import whole
 from ._sources import Source, try_program
 from ._split import split
-from ._unpacking import UnpackError
 from ._wide import Checking
 
 # How many faults of a file are reported one by one.
@@ -261,7 +260,7 @@ class _Checker:
         if self.group.is_ended:
             raise error
         report.error = (error.strerror if isinstance(error, OSError) else None) or str(error)
-        report.is_fault = isinstance(error, UnpackError)
+        report.is_fault = isinstance(error, DumpError) and error.is_finding
 
     def _saying(self, report: Report) -> Callable[[str], None]:
         return _Saying(report.name, self._console).line

@@ -19,13 +19,19 @@ def check_file(name: str, program: str, console: Console) -> bool:
     path, faulty = _path_of(name), 0
     if not _can_open(path):
         _run_own("check", name, program)
-    checking = Checking(program, is_counting=False)
+    checking, is_sound = Checking(program, is_counting=False), True
     with Source(path) as source:
-        for fault in checking.faults(source):
-            faulty += 1
-            console.line(str(fault))
+        try:
+            for fault in checking.faults(source):
+                faulty += 1
+                console.line(str(fault))
+        except DumpError as error:
+            if not error.is_finding:
+                raise
+            console.problem(str(error))
+            is_sound = False
     console.note(f"{checking.documents} documents, {faulty} faulty")
-    return not faulty
+    return is_sound and not faulty
 
 
 def dump_file(name: str, program: str, console: Console) -> bool:
@@ -39,7 +45,7 @@ def dump_file(name: str, program: str, console: Console) -> bool:
         for _ in printing.lines(path):
             pass  # Each run prints by itself.
     except DumpError as error:
-        if not error.fault:
+        if not error.is_finding:
             raise
         console.problem(str(error))
         refused = True

@@ -53,6 +53,11 @@ class DumpError(BsonfindError):
         super().__init__(text, fault)
         self.text, self.fault = text, fault
 
+    @property
+    def is_finding(self) -> bool:
+        """Whether the dump was read and something in it is wrong; else it is missing, or was not read."""
+        return self.fault is not None
+
     def __str__(self) -> str:
         return self.text
 

@@ -46,7 +46,7 @@ class Finding:
                 return True
             self._print_by_copy(path, program, console, is_own)
         except DumpError as error:
-            if not error.fault:
+            if not error.is_finding:
                 raise
             console.problem(str(error))
             return False

@@ -16,6 +16,8 @@ _GZIP = 31
 class UnpackError(DumpError):
     """A compressed file or an archive that is damaged."""
 
+    is_finding = True
+
 
 def unpacked(pieces: Iterable[bytes]) -> Iterator[bytes]:
     """What the pieces of a file of gzip hold. All bytes before a fault are given, then it is raised."""

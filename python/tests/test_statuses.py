@@ -1,7 +1,6 @@
 """Tests of the statuses of the commands: 0 is good, 1 is a finding, 2 is what could not be done or seen."""
 
 import gzip
-import io
 import json
 import shutil
 import signal
@@ -24,32 +23,34 @@ from bsonfind.__main__ import main
 signal.signal(signal.SIGINT, signal.default_int_handler)
 sys.exit(main())
 """
-COMMANDS = ("audit", "salvage", "compare", "query", "ids")
+COMMANDS = ("check", "dump", "find", "audit", "salvage", "compare", "query", "ids")
+# Those that begin with the run that reads the dump; the others try the program before.
+ONE_RUN = COMMANDS[:3]
+# What they have where a dump has a fault: what judges it, or stops at it, has found something; what needs all of it could not be done.
+OF_A_FAULT = {**dict.fromkeys(COMMANDS, 1), "compare": 2, "ids": 2}
 
 
 class Statuses(Room):
     def words(self, command: str, dump: object) -> List[str]:
         """The words of a command over a dump."""
         return {
-            "audit": ["audit", str(dump)],
+            **{name: [name, str(dump)] for name in ("check", "dump", "find", "audit", "query")},
             "salvage": ["salvage", str(dump), "--good", str(self.room / "good"), "--bad", str(self.room / "bad")],
             "compare": ["compare", str(dump), str(PEOPLE)],
-            "query": ["query", str(dump)],
             "ids": ["ids", str(dump), "--ids", str(self.file(b"7\n", "ids"))],
         }[command]
 
     def status(self, *words: str) -> int:
         """The status of a command line, which runs in this process; there is always a line that says something."""
-        streams = [io.TextIOWrapper(io.BytesIO()) for _ in range(2)]
         handler = signal.getsignal(signal.SIGTERM)
-        try:
-            with redirect_stdout(streams[0]), redirect_stderr(streams[1]):
-                status = main(["--program", PROGRAM, *words])
-        finally:
-            signal.signal(signal.SIGTERM, handler)
-        for stream in streams:
-            stream.flush()
-        self.assertTrue(any(stream.buffer.getvalue() for stream in streams))
+        # Files, since some runs of the program print by themselves.
+        with open(self.room / "printed", "w") as printed, open(self.room / "told", "w") as told:
+            try:
+                with redirect_stdout(printed), redirect_stderr(told):
+                    status = main(["--program", PROGRAM, *words])
+            finally:
+                signal.signal(signal.SIGTERM, handler)
+        self.assertTrue((self.room / "printed").stat().st_size or (self.room / "told").stat().st_size)
         return status
 
     def want(self, dump: object, wanted: Dict[str, int], *options: str) -> None:
@@ -66,16 +67,15 @@ class Statuses(Room):
 
     def test_other_documents(self) -> None:
         """A dump that is sound, and has other documents than those that are asked for."""
-        self.want(self.file(packed(['{"_id":1}'])), {"audit": 0, "salvage": 0, "compare": 1, "query": 0, "ids": 1})
+        self.want(self.file(packed(['{"_id":1}'])), {**dict.fromkeys(COMMANDS, 0), "compare": 1, "ids": 1})
 
     def test_damaged_dumps(self) -> None:
-        """What judges dumps has found something; what must read all of a dump could not be done."""
         data = PEOPLE.read_bytes()
         small = gzip.compress(data)
         for name, bad in (("cut.bson", data[:-1]), ("cut.bson.gz", small[:-9]), ("no.bson.gz", data)):
-            self.want(self.file(bad, name), {"audit": 1, "salvage": 1, "compare": 2, "query": 1, "ids": 2})
+            self.want(self.file(bad, name), OF_A_FAULT)
         cut = self.file(archive([("club", "people", data)])[:-9], "archive")
-        self.want(f"{cut}::club.people", {"audit": 1, "salvage": 1, "compare": 2, "query": 1, "ids": 2})
+        self.want(f"{cut}::club.people", OF_A_FAULT)
 
     def test_dumps_that_are_not_seen(self) -> None:
         self.want(self.room / "missing.bson", dict.fromkeys(COMMANDS, 2))
@@ -99,15 +99,16 @@ class Statuses(Room):
         sources, dumps = (mock.patch(f"bsonfind.{it}.open", refusing, create=True) for it in ("_sources", "_dumps"))
         with sources, dumps:
             for command in COMMANDS:
-                with self.subTest(command):
-                    self.assertEqual(self.status(*self.words(command, closed)), 2)
+                if command != "find":  # The program itself opens the file.
+                    with self.subTest(command):
+                        self.assertEqual(self.status(*self.words(command, closed)), 2)
 
     def test_what_is_not_done(self) -> None:
         failed = dict.fromkeys(COMMANDS, 2)
         self.want(PEOPLE, failed, "--program", "no-such-program")
         self.want(PEOPLE, failed, "--no-such-option")
         with open("/dev/full", "wb") as full:
-            for command in COMMANDS:
+            for command in COMMANDS[1:]:  # A check of what is good prints nothing there.
                 self.assertEqual(run_package(*self.words(command, PEOPLE), stdout=full).returncode, 2)
 
     def test_faulty_and_not_seen(self) -> None:
@@ -138,7 +139,10 @@ class Statuses(Room):
         program, pids = self.stuck(), self.room / "pids"
         for command in COMMANDS:
             for number in (signal.SIGINT, signal.SIGTERM):
-                shutil.rmtree(self.room / "first", ignore_errors=True)
+                first = self.room / "first"
+                shutil.rmtree(first, ignore_errors=True)
+                if command in ONE_RUN:
+                    first.mkdir()
                 pids.write_text("")
                 words = [sys.executable, "-c", MAIN, "--program", program, *self.words(command, PEOPLE)]
                 run = subprocess.Popen(words, env=environment(), stdout=subprocess.DEVNULL, stderr=subprocess.DEVNULL)
