@@ -34,6 +34,7 @@ from ._errors import (
 )
 from ._faults import Fault
 from ._merge import Check, check_parts, count_parts, find_parts
+from ._ordered import prepare
 from ._parts import FileState, Part, plan
 from ._salvage import LeftOut, Salvaged, salvage
 from ._sessions import Cursor, Session
@@ -87,6 +88,7 @@ __all__ = [
     "find_one",
     "find_parts",
     "plan",
+    "prepare",
     "salvage",
     "unpack",
 ]

@@ -18,6 +18,7 @@ from ._console import CannotWrite, Console, Progress, print_text
 from ._errors import BsonfindError, DumpError
 from ._finding import Finding
 from ._ids import Ids, find_ids
+from ._ordered import prepare
 from ._outputs import Output, refuse_names
 from ._processes import processors
 from ._query import query_dumps
@@ -51,6 +52,7 @@ def parser() -> argparse.ArgumentParser:
         ("check", _add_check, "Prints each fault of dumps; doubles and decimal128 are none."),
         ("dump", _add_dump, "Prints the documents of dumps, one a line."),
         ("find", _add_find, "Prints the documents of a dump that match a query, sorted."),
+        ("prepare", _add_prepare, "Keeps a copy of a dump with doubles or decimal128, for many questions."),
         ("audit", _add_audit, "Checks many files, on all processors."),
         ("salvage", _add_salvage, "Copies each document of a damaged dump to one of two files."),
         ("unpack", _add_unpack, "Writes the collections of an archive of mongodump to files."),
@@ -108,7 +110,15 @@ def _add_find(command: argparse.ArgumentParser) -> None:
     for name, text in (("skip", "pass over so many documents"), ("limit", "print so many at most"), ("batch", "print the next so many")):
         command.add_argument(f"--{name}", type=int, metavar="N", help=text)
     command.add_argument("--bson", action="store_true", help="print the documents as they are, in BSON")
+    command.add_argument("--copy", metavar="COPY", help="ask by this copy, which prepare made")
     command.set_defaults(run=run_find)
+
+
+def _add_prepare(command: argparse.ArgumentParser) -> None:
+    command.epilog = "The status is 0 where the copy is there, 1 where the dump has a fault, and else 2."
+    command.add_argument("file", metavar="DUMP", help="a dump, or one by mongodump --gzip")
+    command.add_argument("copy", metavar="COPY", help="the file for the copy, as large as the dump; COPY.json stands beside it")
+    command.set_defaults(run=run_prepare)
 
 
 def _add_audit(command: argparse.ArgumentParser) -> None:
@@ -175,8 +185,22 @@ def run_each(words: argparse.Namespace, run: Callable[[str, str, Console], bool]
 def run_find(words: argparse.Namespace) -> int:
     """Asks a dump, and gives the status."""
     request = Request(words.query or "{}", words.sort or "{}", words.skip or 0, words.limit or 0)
-    finding = Finding(words.file, request, words.batch, words.index, words.after, words.bson)
+    finding = Finding(words.file, request, words.batch, words.index, words.after, words.bson, words.copy)
     return GOOD if finding.print(words.program, Console()) else FAULTY
+
+
+def run_prepare(words: argparse.Namespace) -> int:
+    """Keeps a copy, and gives the status."""
+    console = Console()
+    try:
+        paths = prepare(words.file, words.copy, program=words.program)
+    except DumpError as error:
+        if not error.fault:
+            raise
+        console.problem(f"{words.file}: {error}")
+        return FAULTY
+    console.note(f"{words.copy}: codes at {', '.join(paths) or 'no path'}")
+    return GOOD
 
 
 def run_audit(words: argparse.Namespace) -> int:

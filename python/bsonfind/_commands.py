@@ -16,11 +16,11 @@ from ._wide import Checking
 
 def check_file(name: str, program: str, console: Console) -> bool:
     """Prints the damage of a dump, as `check` does; gives whether there is none."""
-    path, faulty = _path_of(name), 0
-    if not _can_open(path):
+    faulty = 0
+    if not _can_open(name):
         _run_own("check", name, program)
     checking, is_sound = Checking(program, is_counting=False), True
-    with Source(path) as source:
+    with Source(name) as source:
         try:
             for fault in checking.faults(source):
                 faulty += 1
@@ -36,13 +36,12 @@ def check_file(name: str, program: str, console: Console) -> bool:
 
 def dump_file(name: str, program: str, console: Console) -> bool:
     """Prints the documents of a dump, as `dump` does; gives whether none is refused."""
-    path = _path_of(name)
-    if not _can_open(path):
+    if not _can_open(name):
         _run_own("dump", name, program)
     sys.stdout.flush()
     printing, refused = Printing(program, stdout=sys.stdout.fileno()), False
     try:
-        for _ in printing.lines(path):
+        for _ in printing.lines(name):
             pass  # Each run prints by itself.
     except DumpError as error:
         if not error.is_finding:
@@ -53,14 +52,11 @@ def dump_file(name: str, program: str, console: Console) -> bool:
     return not refused
 
 
-def _path_of(name: str) -> str:
-    """The path of a name; a hyphen is standard input."""
-    return "/dev/stdin" if name == "-" else name
-
-
-def _can_open(path: str) -> bool:
+def _can_open(name: str) -> bool:
+    if name == "-":
+        return True  # It is open.
     try:
-        with open(file_of(path), "rb", buffering=0):
+        with open(file_of(name), "rb", buffering=0):
             return True
     except OSError:
         return False

@@ -30,6 +30,7 @@ class Finding:
     index: str | None = None
     after: str | None = None
     is_bson: bool = False
+    copy: str | None = None
 
     def words(self) -> Sequence[str]:
         """The options of the program."""
@@ -40,7 +41,7 @@ class Finding:
         """Prints the documents as lines of JSON, or as they are; gives whether the dump has no fault."""
         path = "/dev/stdin" if self.name == "-" else self.name
         query = read_query(self.request.filter, paths_of(self.request))
-        is_own = not self.is_bson and not (query and query.is_wide) and can_be_read_again(path)
+        is_own = not (self.is_bson or self.copy) and not (query and query.is_wide) and can_be_read_again(path)
         try:
             if is_own and self._print_own(path, program):
                 return True
@@ -70,7 +71,7 @@ class Finding:
 
     def _print_by_copy(self, path: str, program: str, console: Console, is_known: bool) -> None:
         end = b"" if self.is_bson else b"\n"
-        how = {"size": self.batch, "index": self.index, "after": self.after}
+        how = {"copy": self.copy, "size": self.batch, "index": self.index, "after": self.after}
         lines, documents = AnyLines(path, self.request, program, is_bson=self.is_bson, is_known=is_known, **how), 0
         for batch in lines.batches():
             console.documents([line + end for line in batch])

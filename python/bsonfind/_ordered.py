@@ -11,6 +11,7 @@ import os
 import re
 import stat
 import tempfile
+import threading
 from array import array
 from contextlib import contextmanager
 from dataclasses import replace
@@ -20,10 +21,11 @@ from . import _framing, _steps
 from ._codes import CODE, MOST_LEVEL, Probe, Query, read_json, read_query, refused, word_of
 from ._connections import Connection
 from ._decoding import Decode, Texts, decoder
-from ._dumps import Dump, File, dump_of, file_of, is_packed, opened, unpacked
-from ._errors import CommandError, DumpError, ProgramError
+from ._dumps import Dump, File, dump_of, file_of, is_packed, name_of, opened, unpacked
+from ._errors import CancelledError, CommandError, DumpError, ProgramError
 from ._lines import Batches, Lines, lines_of
 from ._messages import error_of
+from ._outputs import Output, refuse_names
 from ._parts import FileState
 from ._processes import Group, Run
 from ._replies import documents_in
@@ -37,6 +39,8 @@ _REFUSED = re.compile(r'document (\d+), byte (\d+), path (".*"): (not a whole nu
 # The number of a document at the end of its line.
 _NUMBERED = re.compile(rb'"~n":\{"\$numberLong":"([0-9]+)"\}\}$')
 _PIECE = 1 << 20
+# The end of the name of a file that describes a copy.
+_ABOUT = ".json"
 
 
 class Original:
@@ -229,25 +233,32 @@ def places(query: Query | None, levels: dict[str, int]) -> Iterator[None]:
 class Questions:
     """The connections over a dump: over the dump itself, or over a copy for each set of paths of which requests need codes."""
 
-    def __init__(self, path: File, program: str, timeout: float | None = None, group: Group | None = None) -> None:
+    def __init__(self, path: File, program: str, timeout: float | None = None, copy: File | None = None) -> None:
         self._path, self._program, self._timeout = path, program, timeout
-        self.group = group or Group()
+        self.group, self._lock = Group(), threading.RLock()
         self._original = Original.of(path) if not can_be_read_again(path) else None
         self._copies: dict[frozenset[tuple[str, int]], Connection] = {}
         self._indexes: list[tuple[str, bool]] = []
+        # The probes of which it is known that no document matches, each with its connection.
+        self._without_nan: set[tuple[Connection, str]] = set()
         self._levels: dict[str, int] = {}
         self.own: Connection | None = None
         try:
-            self._open()
+            self._open(copy)
         except BaseException:
             self.close()
             raise
 
-    def _open(self) -> None:
-        """Opens the dump, or where the program refuses it for its numbers a copy."""
+    def _open(self, copy: File | None) -> None:
+        """Opens a copy that was kept, the dump, or where the program refuses this for its numbers another copy."""
+        if copy is not None:
+            self._levels = levels_of_copy(self._path, copy)
+            connection = Connection(dump_of(copy), self._program, self._timeout)
+            self._copies[frozenset(self._levels.items())] = connection
+            return
         dump = self._original.dump if self._original else dump_of(self._path)
         try:
-            self.own = Connection(dump, self._program, self._timeout, self.group)
+            self.own = Connection(dump, self._program, self._timeout)
         except DumpError as error:
             if not is_wide(error):
                 raise
@@ -261,9 +272,10 @@ class Questions:
     @property
     def original(self) -> Original:
         """The documents of the dump."""
-        if self._original is None:
-            self._original = Original.of(self._path)
-        return self._original
+        with self._lock:
+            if self._original is None:
+                self._original = Original.of(self._path)
+            return self._original
 
     def do(self, steps: Callable[..., Steps[T]], request: Request, *more: Any) -> T:
         """What steps of a request come to."""
@@ -275,13 +287,18 @@ class Questions:
         """What a request is asked by. Where neither it nor the dump has doubles or decimal128 that is the dump itself."""
         is_copied = is_bson or self.own is None
         query = read_query(request.filter, paths_of(request), is_copied)
+        if query is None and is_copied:
+            raise _unread(request, self._program)
         if query is None or not (is_copied or query.is_wide):
             return Asked(self.connections[0], request)
         if query.refusals:
             raise query.refusals[0]
         levels = dict(self._levels)
-        connection = self._connection_by(query, levels)
-        refuse_nan(connection, query.probes_at(levels))
+        with self._lock:
+            connection = self._connection_by(query, levels)
+        probes = [it for it in query.probes_at(levels) if (connection, it.text) not in self._without_nan]
+        refuse_nan(connection, probes)
+        self._without_nan.update((connection, it.text) for it in probes)
 
         def documents(text: bytes, size: int) -> list[bytes]:
             return self.original.given(documents_in(text, size), is_bson, self._program, self.group)
@@ -301,7 +318,7 @@ class Questions:
                 return known
             dump = Dump(path=f"/dev/fd/{file.fileno()}")
             try:
-                connection = Connection(dump, self._program, self._timeout, self.group)
+                connection = Connection(dump, self._program, self._timeout)
             except DumpError as error:
                 raise (self.original.fault(self._program, self.group) if error.fault else None) or error from None
         for path, sparse in self._indexes:
@@ -323,6 +340,7 @@ class Questions:
 
     def cancel(self) -> None:
         """Ends all at once. Any thread may call it."""
+        self.group.end(CancelledError("cancelled"))
         for connection in self.connections:
             connection.cancel()
 
@@ -338,6 +356,17 @@ class Questions:
 
     def __exit__(self, *_: object) -> None:
         self.close()
+
+
+def _unread(request: Request, program: str) -> CommandError:
+    """Why the text of a query says nothing of numbers: what the program refuses it for."""
+    try:
+        if not request.is_long:
+            with Run([program, "find", "-", *request.words()]) as run:
+                run.finish()
+    except CommandError as error:
+        return error
+    return refused("the text of the query is not read")
 
 
 def refuse_nan(connection: Connection, probes: Iterable[Probe]) -> None:
@@ -367,16 +396,17 @@ class AnyLines(Lines):
         *,
         is_bson: bool = False,
         is_known: bool = False,
+        copy: File | None = None,
         size: int | None = None,
         index: str | None = None,
         after: str | None = None,
         group: Group | None = None,
     ) -> None:
-        """Where it is known that the program refuses the dump for its numbers, it is not asked."""
+        """Where it is known that the program refuses the dump for its numbers, or a copy was kept, the dump is not asked."""
         self._path, self._original = (None, path) if isinstance(path, Original) else (path, None)
         dump = self._original.dump if self._path is None else dump_of(self._path)
         super().__init__(dump, request, program, size=size, index=index, after=after, group=group)
-        self._is_bson, self._is_copied = is_bson, is_bson or is_known
+        self._is_bson, self._is_copied, self._copy = is_bson, is_bson or is_known or copy is not None, copy
         self._probes: list[Probe] = []
 
     def batches(self) -> Batches:
@@ -395,7 +425,9 @@ class AnyLines(Lines):
                     if not is_wide(error):
                         raise
                     query = read_query(self._request.filter, paths, True)
-            yield from self._by_copy(query or Query(self._request.filter))
+            if query is None:
+                raise _unread(self._request, self._program)
+            yield from self._by_copy(query)
         finally:
             if self._original and self._path is not None:
                 self._original.close()
@@ -406,11 +438,16 @@ class AnyLines(Lines):
         if self._original is None:
             assert self._path is not None
             self._original = Original.of(self._path)
-        original, levels = self._original, {}
+        original, levels = self._original, {} if self._copy is None else levels_of_copy(self._path, self._copy)
+        known = dict(levels)
+        query.settle(levels)
         with temporary_file() as file:
-            write_copy(original, query, levels, self._program, self._group, file)
-            self._request = replace(self._request, filter=query.rewritten(levels))
-            self._dump, self._probes = Dump(path=f"/dev/fd/{file.fileno()}"), query.probes_at(levels)
+            if self._copy is not None and levels == known:
+                self._dump = dump_of(self._copy)
+            else:
+                write_copy(original, query, levels, self._program, self._group, file)
+                self._dump = Dump(path=f"/dev/fd/{file.fileno()}")
+            self._request, self._probes = replace(self._request, filter=query.rewritten(levels)), query.probes_at(levels)
             try:
                 with places(query, levels):
                     for lines in self._by_session():
@@ -420,6 +457,57 @@ class AnyLines(Lines):
 
     def _begin(self, connection: Connection) -> None:
         refuse_nan(connection, self._probes)
+
+
+def prepare(path: File, copy: File, *, program: str = "bsonfind") -> list[str]:
+    """Keeps a copy of a dump for many questions, with a file that describes it beside it; gives the paths of which it has codes.
+
+    A `Session` takes it as `copy`. The copy is for this package alone; it must not be restored.
+    """
+    names = [name_of(copy), f"{name_of(copy)}{_ABOUT}"]
+    refuse_names(name_of(path), *names)
+    before, levels = _state_of(path), {}
+    original = Original.of(path)
+    try:
+        damage = original.fault(program, None)
+        if damage:
+            raise damage
+        with Output(names[0]) as data, Output(names[1]) as about, temporary_file() as file:
+            write_copy(original, Query("{}"), levels, program, Group(), file)
+            file.seek(0)
+            while piece := file.read(_PIECE):
+                data.write(piece)
+            data.complete()
+            data.put_in_place()
+            if _state_of(path) != before:
+                raise DumpError("the file was written to meanwhile")
+            about.write(json.dumps({"dump": before, "copy": _state_of(names[0]), "levels": levels}).encode())
+            about.complete()
+            about.put_in_place()
+    finally:
+        original.close()
+    return [word_of(it, level) for it, level in sorted(levels.items())]
+
+
+def levels_of_copy(path: File | None, copy: File) -> dict[str, int]:
+    """The levels of a copy that was kept, which must be of this dump as it is now."""
+    assert path is not None
+    name = name_of(copy)
+    try:
+        with open(f"{name}{_ABOUT}", encoding="utf-8") as file:
+            about = json.load(file)
+        if about["dump"] == _state_of(path) and about["copy"] == _state_of(name):
+            return dict(about["levels"])
+    except (OSError, ValueError, KeyError, TypeError):
+        pass
+    raise DumpError(f"{name} is no copy of {name_of(path)} as it is now: prepare it again")
+
+
+def _state_of(path: File) -> list[int]:
+    """The size of a file and the time of its last change."""
+    with opened(path) as file:
+        state = FileState.of(file)
+    return [state.size, state.mtime_ns]
 
 
 def try_request(request: Request, program: str) -> bool:

@@ -27,9 +27,9 @@ class Printing:
         self.documents = 0
 
     def lines(self, path: str) -> Batches:
-        """The lines as they come. A fault is a `DumpError`, with its place in the dump."""
+        """The lines as they come, of `-` those of standard input. A fault is a `DumpError`, with its place in the dump."""
         with Source(path) as source:
-            if source.is_for_one_run():
+            if path != "-" and source.is_for_one_run():
                 yield from self._of_file(path)
             else:
                 yield from self._of_pieces(source.pieces())

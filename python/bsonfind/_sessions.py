@@ -26,8 +26,11 @@ class Session:
     `TimedOutError` then ends the session.
     """
 
-    def __init__(self, path: File, program: str = "bsonfind", *, timeout: float | None = None) -> None:
-        self._questions = Questions(path, program, timeout)
+    def __init__(
+        self, path: File, program: str = "bsonfind", *, timeout: float | None = None, copy: File | None = None
+    ) -> None:
+        """Opens a dump, of which a `copy` by `prepare` may be given."""
+        self._questions = Questions(path, program, timeout, copy)
 
     # fmt: off
     @overload

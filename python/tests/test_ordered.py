@@ -11,7 +11,7 @@ from decimal import Decimal
 from typing import List
 from unittest import mock
 
-from bsonfind import CommandError, DumpError, Session, count_documents, find, find_one
+from bsonfind import CommandError, DumpError, Session, count_documents, find, find_one, prepare
 
 from .support import DAMAGED, PATIENCE, PEOPLE, PROGRAM, Room, environment, run_package
 
@@ -224,6 +224,50 @@ class Finds(Goods):
             self.assertEqual(str(raised.exception), "the file was written to since it was opened")
 
 
+class Copies(Goods):
+    def test_copy_that_is_kept(self) -> None:
+        """It is written once, and taken for each question whose fractions are where the dump has some."""
+        self.script('echo bsonwide "$@" >>"$ROOM/starts"\nexec "$(dirname "$PROGRAM")/bsonwide" "$@"', "bsonwide")
+        program, copy = self.counting(), self.room / "copy.bson"
+        self.assertEqual(prepare(self.path, copy, program=program), ["cost*100", "price"])
+        (self.room / "starts").unlink()
+        fresh = find_last(self.path, {"price": {"$gt": 9.25}}, [("price", 1)])
+        with Session(self.path, program, copy=copy) as session:
+            found = session.find({"price": {"$gt": 9.25}}, sort=[("price", 1)], decode="bson")
+            self.assertEqual([GOODS.index(it) for it in found], [3, 0, 2])
+            self.assertEqual(found.token(), fresh)
+            self.assertEqual(session.count_documents({"cost": Decimal("19.99")}), 1)
+            self.assertEqual([it for it in self.starts() if it.startswith("bsonwide")], [])
+            self.assertEqual(session.count_documents({"_id": {"$lt": 1.5}}), 2)
+            self.assertEqual([it for it in self.starts() if it.startswith("bsonwide")], ["bsonwide order - _id cost*100 price"])
+
+    def test_copy_of_another_dump(self) -> None:
+        copy, text = self.room / "copy.bson", "is no copy of"
+        prepare(self.path, copy, program=PROGRAM)
+        for change in (
+            lambda: self.path.write_bytes(b"".join(GOODS[1:])),
+            lambda: (prepare(self.path, copy, program=PROGRAM), copy.write_bytes(GOODS[5])),
+            lambda: (prepare(self.path, copy, program=PROGRAM), (self.room / "copy.bson.json").write_text("{}")),
+            lambda: (self.room / "copy.bson.json").unlink(),
+        ):
+            change()
+            with self.assertRaisesRegex(DumpError, text):
+                Session(self.path, PROGRAM, copy=copy)
+
+    def test_what_is_not_prepared(self) -> None:
+        """Nothing is left of it, and what was there stays."""
+        copy = self.file(b"as it was", "copy.bson")
+        bad = self.file(b"".join(GOODS) + DAMAGED, "bad.bson")
+        mixed = self.file(document(double("m", 0.1), decimal("m", 1, -1)), "mixed.bson")
+        for path, text in ((bad, "bad boolean"), (mixed, "no codes hold all numbers of this field"), (self.room / "none.bson", "cannot open")):
+            with self.assertRaisesRegex(DumpError, text):
+                prepare(path, copy, program=PROGRAM)
+        with self.assertRaisesRegex(ValueError, "is the dump"):
+            prepare(self.path, self.path, program=PROGRAM)
+        self.assertEqual(copy.read_bytes(), b"as it was")
+        self.assertEqual(sorted(os.listdir(self.room)), ["bad.bson", "copy.bson", "dump.bson", "mixed.bson"])
+
+
 def find_last(path: object, filter: dict, sort: list) -> object:
     """The token after all of an answer."""
     answer = find(path, filter, sort=sort, program=PROGRAM)
@@ -258,6 +302,17 @@ class Commands(Goods):
             self.assertRegex(told, r"^2 documents, end, token \S{60}\n$")
         self.assertEqual(self.run_find(self.path, "--bson")[:2], (0, b"".join(GOODS)))
         self.assertEqual(self.run_find(self.path, "--query", '{"price":1.5}', "--batch", "0"), (0, b"", "0 documents, more\n"))
+
+    def test_prepare(self) -> None:
+        copy, query = str(self.room / "copy.bson"), '{"price":{"$gt":9.75}}'
+        run = run_package("prepare", str(self.path), copy)
+        self.assertEqual((run.returncode, run.stdout, run.stderr), (0, "", f"{copy}: codes at cost*100, price\n"))
+        self.assertEqual(self.run_find(self.path, "--query", query, "--copy", copy), self.run_find(self.path, "--query", query))
+        self.assertEqual(self.run_find(PEOPLE, "--copy", copy), (2, b"", f"bsonfind: {copy} is no copy of {PEOPLE} as it is now: prepare it again\n"))
+        bad = str(self.file(b"".join(GOODS) + DAMAGED, "bad.bson"))
+        run = run_package("prepare", bad, copy)
+        place = f'document 6, byte {len(b"".join(GOODS)) + 7}, path "d": bad boolean'
+        self.assertEqual((run.returncode, run.stderr), (1, f"bsonfind: {bad}: {place}\n"))
 
     def test_refusals(self) -> None:
         for words, told in (

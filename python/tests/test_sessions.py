@@ -38,7 +38,7 @@ class Sessions(Room):
         json_util.loads = lambda line: ("document", line)
         bson = types.ModuleType("bson")
         bson.json_util = json_util
-        with mock.patch.dict(sys.modules, {"xml": bson, "bson.json_util": json_util}):
+        with mock.patch.dict(sys.modules, {"bson": bson, "bson.json_util": json_util}):
             found = list(self.session.find(limit=3, decode="json_util"))
         self.assertEqual(found, [("document", line) for line in PEOPLE_LINES[:3]])
 
