@@ -5,6 +5,7 @@ An archive is read once, in memory of one piece of it. Nothing is looked at but 
 
 from __future__ import annotations
 
+import json
 import struct
 from itertools import chain
 from typing import Iterator, NamedTuple, Union
@@ -105,7 +106,8 @@ class Archive:
             if namespace in known:
                 raise _bad(start, f"{namespace} is listed twice")
             known.add(namespace)
-            self.listed.append(Listed(namespace, str(fields["metadata"]), str(fields["type"])))
+            metadata = str(fields["metadata"])
+            self.listed.append(Listed(namespace, metadata, str(fields["type"]) or _kind_of(metadata)))
             start = self._reader.offset
 
     def blocks(self, only: Namespace | None = None) -> Iterator[Documents | End]:
@@ -301,6 +303,15 @@ class _Reader:
 
 def _bad(at: int, text: str) -> UnpackError:
     return UnpackError(f"byte {at}: {text}")
+
+
+def _kind_of(metadata: str) -> str:
+    """Whether metadata is that of a view or a time series, which the list of an old mongodump does not say."""
+    try:
+        options = json.loads(metadata)["options"]
+        return "view" if "viewOn" in options else "timeseries" if "timeseries" in options else ""
+    except (ValueError, KeyError, TypeError, RecursionError):
+        return ""
 
 
 def _block(header: bytes, start: int) -> tuple[Namespace, int | None]:

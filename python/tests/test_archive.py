@@ -236,6 +236,18 @@ class Frames(unittest.TestCase):
         self.assertEqual((sum(size for size, _ in found), sum(ended for _, ended in found)), (length + len(small(1)), 2))
         self.assertLessEqual(max(size for size, _ in found), 100_003)
 
+    def test_views_in_the_list(self) -> None:
+        """They have no end; where the list has no types, as by an old mongodump, their metadata says what they are."""
+        view, series = '{"options":{"viewOn":"x"}}', '{"options":{"timeseries":{"timeField":"t"}}}'
+        buckets = end("a", "system.buckets.y", b"")
+        for kinds in (("view", "timeseries"), ("", "")):
+            lists = prelude(listed("a", "x", view, kinds[0]), listed("a", "y", series, kinds[1]))
+            self.assertEqual(Read(lists + buckets).error, "")
+            self.assertEqual(Read(lists).error, f"byte {len(lists)}: the archive ends before the end of a.y")
+        for metadata in ("", "{}", '{"options":{}}', '{"options":5}', "[1]", '{"options":null}', "[" * 100_000):
+            lists = prelude(listed("a", "x", metadata, ""))
+            self.assertEqual(Read(lists).error, f"byte {len(lists)}: the archive ends before the end of a.x")
+
     def test_names_that_are_none(self) -> None:
         """None of them is a directory beside the others, or above."""
         at = len(MAGIC + header())
