@@ -31,6 +31,7 @@ from bsonfind import (
 from .archives import END, MAGIC, METADATA, archive, block, block_header, crc64, documents_of, end, header, listed, prelude
 from .support import DOUBLE, PEOPLE, PEOPLE_LINES, PROGRAM, Room, environment, run_package, wait_for
 from .test_archive import PEOPLE_DATA, SHOP_DATA, small
+from .test_ordered import GOODS
 
 TWO = archive([("shop", "orders", SHOP_DATA), ("club", "people", PEOPLE_DATA)])
 
@@ -499,6 +500,19 @@ class Members(Room):
             run = run_package("salvage", path, *(it for pair in words.items() for it in pair))
             self.assertEqual((run.returncode, run.stderr), (2, f"bsonfind: {self.plain} is the dump\n"))
         self.assertEqual(self.plain.read_bytes(), TWO)
+
+    def test_doubles(self) -> None:
+        """What is given back are the documents of the archive, byte for byte."""
+        data = b"".join(GOODS)
+        path = f"{self.file(archive([('shop', 'goods', data)], each=1), 'goods')}::shop.goods"
+        query, wanted = {"price": {"$gt": {"$numberDouble": "9.25"}}}, [GOODS[3], GOODS[2], GOODS[0]]
+        self.assertEqual(list(find(path, query, sort={"price": -1}, decode="bson", program=PROGRAM)), wanted)
+        self.assertEqual(count_documents(path, query, program=PROGRAM), 3)
+        with Session(path, PROGRAM) as session:
+            self.assertEqual(list(session.find(query, sort={"price": -1}, decode="bson")), wanted)
+        good = self.room / "good"
+        done = salvage(path, good, self.room / "bad", program=PROGRAM)
+        self.assertEqual((done.is_good, good.read_bytes()), (True, data))
 
     def test_salvage_of_one_that_was_cut(self) -> None:
         """Each whole document before the cut is copied."""
