@@ -12,7 +12,7 @@ from typing import Any, Callable, Iterable, NamedTuple
 from ._archive import Archive, Namespace
 from ._backups import Dump, Log, dumps_of, fault_of_listed, fault_of_metadata, is_oplog, namespace_of, read_log, text_lines
 from ._console import Console, Progress
-from ._dumps import File, name_in, name_of
+from ._dumps import File, is_whole_archive, name_in, name_of
 from ._errors import ArgumentError, BsonfindError, DumpError
 from ._faults import NO_DAMAGE, Fault
 from ._processes import Group, processors
@@ -239,7 +239,7 @@ class _Checker:
             report.metadata = faults[0] if all(faults) else None
             try:
                 with Source(dump.name) as source, self._progress.over(source):
-                    if source.is_archive():
+                    if is_whole_archive(dump.name):
                         report.namespaces, report.metadata = [], None
                         reports = self._check_archive(source)
                     else:

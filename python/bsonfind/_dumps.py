@@ -9,12 +9,14 @@ import os
 from typing import BinaryIO, Iterable, Iterator, NamedTuple, Union
 
 from . import _unpacking
-from ._archive import Namespace, documents_of
+from ._archive import Namespace, documents_of, is_archive
 from ._errors import ArgumentError, DumpError
 
 File = Union[str, bytes, "os.PathLike[str]", "os.PathLike[bytes]"]
 
 _PIECE = 1 << 20
+# As many bytes as tell what a file is.
+_HEAD = 1 << 12
 # What stands between the name of an archive and that of a collection in it.
 INSIDE = "::"
 # Names that mean another file in another process.
@@ -47,6 +49,7 @@ def dump_of(path: File) -> Dump:
     The program takes names in UTF-8 alone, so a file with another name is opened here, and so is a descriptor of this process.
     """
     name = name_of(path)
+    refuse_archive(name)
     if is_packed(name):
         return Dump(pieces=unpacked(name))
     if name.startswith(_DESCRIPTORS):
@@ -78,6 +81,23 @@ def member_of(path: File) -> Member | None:
                 return Member(archive, Namespace(database, collection) if dot else Namespace("", inside))
             at = name.find(INSIDE, at + 1)
     return None
+
+
+def is_whole_archive(path: File) -> bool:
+    """Whether a regular file is an archive, by its first bytes. Of a pipe they would be lost."""
+    try:
+        if os.path.isfile(path):
+            with open(path, "rb", buffering=0) as file:
+                return is_archive(file.read(_HEAD))
+    except OSError:
+        pass  # Whoever reads it says what is wrong with it.
+    return False
+
+
+def refuse_archive(name: str) -> None:
+    """Refuses an archive where a dump is read."""
+    if is_whole_archive(name):
+        raise DumpError(f"an archive: name one of its collections, {name}{INSIDE}db.collection, or unpack it")
 
 
 def name_in(archive: str, namespace: Namespace) -> str:

@@ -8,7 +8,7 @@ import struct
 from dataclasses import dataclass, field
 from typing import BinaryIO, Iterable, Iterator, NamedTuple
 
-from ._dumps import File, is_packed, name_of, opened, unpacked
+from ._dumps import File, is_packed, name_of, opened, refuse_archive, unpacked
 from ._errors import DumpError, PartError
 from ._faults import Fault
 from ._framing import LONGEST, SHORTEST, walk
@@ -113,6 +113,7 @@ def plan(path: File, most: int = MOST) -> list[Part]:
     """
     whole("most", most, 1, LARGEST)
     name = name_of(path)
+    refuse_archive(name)
     parts, start, first, at, number = [], 0, 0, 0, 0
     with opened(name) as file:
         state = FileState.of(file)

@@ -7,15 +7,12 @@ import stat
 from typing import Any, BinaryIO, Iterable, Iterator, NamedTuple, Sequence
 
 from . import _framing
-from ._archive import is_archive
-from ._dumps import INSIDE, File, file_of, is_packed, member_of, name_of, unpacked_of
+from ._dumps import File, file_of, is_packed, name_of, refuse_archive, unpacked_of
 from ._errors import DumpError
 from ._faults import finish_check
 from ._processes import Run
 
 _PIECE = 1 << 18
-# As many bytes as tell what a file is.
-_HEAD = 1 << 12
 
 
 class Input(NamedTuple):
@@ -51,13 +48,9 @@ class Source:
         self._is_packed = is_packed(path)
         self._read = 0
 
-    def is_archive(self) -> bool:
-        """Whether it is a file of a whole archive. Of a pipe or a device this is not known."""
-        return self.size is not None and member_of(self.name) is None and is_archive(os.pread(self._file.fileno(), _HEAD, 0))
-
     def pieces(self) -> Iterator[bytes]:
         """All bytes of the dump, unpacked where it is packed. One that is damaged is an `UnpackError` after what comes before."""
-        self._refuse_archive()
+        refuse_archive(self.name)
         return unpacked_of(self.name, self.raw()) if self._is_packed else self.raw()
 
     def inputs(self, most: int | None = None) -> Iterator[Input]:
@@ -73,17 +66,12 @@ class Source:
             if errors:
                 raise errors[0]
         else:
-            self._refuse_archive()
+            refuse_archive(self.name)
             yield Input(0, 0, self._file, None)
 
     def is_for_one_run(self) -> bool:
-        """Whether a run reads the file by its name: one of this size, which is neither packed nor an archive."""
-        is_small = self.size is not None and self.size <= _framing.LARGEST_INPUT
-        return is_small and not self._is_packed and not self.is_archive()
-
-    def _refuse_archive(self) -> None:
-        if self.is_archive():
-            raise DumpError(f"an archive: name one of its collections, {self.name}{INSIDE}db.collection, or unpack it")
+        """Whether a run reads the file by its name: one of this size, which is not packed."""
+        return self.size is not None and self.size <= _framing.LARGEST_INPUT and not self._is_packed
 
     def position(self) -> int:
         """How many bytes of the file were read by now, by this process or by a run."""

@@ -538,10 +538,19 @@ class Members(Room):
             with self.assertRaises(DumpError) as caught:
                 count_documents(f"{self.plain}::{name}", program=PROGRAM)
             self.assertEqual(str(caught.exception), told)
-        for words in (["query"], ["compare", str(PEOPLE)]):
-            run = run_package(words[0], str(self.plain), *words[1:])
-            told = f"{self.plain}: an archive: name one of its collections, {self.plain}::db.collection, or unpack it"
-            self.assertEqual((run.returncode, f"bsonfind: {told}\n" in run.stderr), (2, True), run.stderr)
+
+    def test_whole_archives_where_a_dump_is_read(self) -> None:
+        """Are refused, each with what to do."""
+        good, bad = str(self.room / "good"), str(self.room / "bad")
+        for path in (self.plain, self.packed):
+            told = f"an archive: name one of its collections, {path}::db.collection, or unpack it"
+            for words in (["query"], ["compare", str(PEOPLE)], ["salvage", "--good", good, "--bad", bad], ["find"], ["dump"]):
+                run = run_package(words[0], str(path), *words[1:])
+                self.assertEqual((run.returncode, f"{told}\n" in run.stderr), (2, True), run.stderr)
+            for ask in (count_documents, lambda path, program: list(find(path, program=program)), Session, plan_and_count):
+                with self.assertRaises(DumpError) as caught:
+                    ask(path, program=PROGRAM)
+                self.assertEqual(str(caught.exception), told)
 
     def test_damage_is_an_error_of_the_question(self) -> None:
         """No answer is given of a collection that is not whole."""
