@@ -7,7 +7,7 @@ from typing import Any, Callable, Iterator, Literal, TypeVar, overload
 
 from . import _steps
 from ._decoding import Decode, Dicts, Texts, decoder
-from ._dumps import File
+from ._dumps import File, name_of
 from ._errors import CancelledError, CursorStateError
 from ._lines import Lines
 from ._ordered import AnyLines, Questions
@@ -128,7 +128,7 @@ def find(
     """
     request, group = Request.of(filter, sort, skip, limit), Group()
     size = None if batch_size is None else whole("batch_size", batch_size)
-    lines = AnyLines(path, request, program, is_bson=decode == "bson", size=size, index=index, after=after, group=group)
+    lines = AnyLines(name_of(path), request, program, is_bson=decode == "bson", size=size, index=index, after=after, group=group)
     return Answer(lines, group, decode, timeout)
 
 

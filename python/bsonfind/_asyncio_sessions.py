@@ -9,7 +9,7 @@ from collections import deque
 from typing import Any, AsyncIterator, Callable, Literal, TypeVar, overload
 
 from . import _steps
-from ._decoding import Decode, Dicts
+from ._decoding import Decode, Dicts, refuse_bson
 from ._dumps import File, dump_of
 from ._errors import BsonfindError, CancelledError, SessionEndedError, TimedOutError
 from ._messages import error_of
@@ -68,6 +68,7 @@ class AsyncSession:
         decode: Decode[Any] = "dict",
     ) -> AsyncCursor[Any]:
         """A cursor over an answer, or over what follows a token, for `async for`. It is opened by its first document."""
+        refuse_bson(decode)
         reading = Reading(Request.of(filter, sort, skip, limit), use_of(use, hint), batch_size, after, decode)
         return AsyncCursor(self._connection, reading)
 

@@ -23,7 +23,7 @@ def decoder(decode: Decode[Any]) -> Callable[[bytes], Any]:
     - `"plain"` gives a `dict` of plain values of Python: `int`, `str`, `bytes`, `datetime` and the like, see `plain_document`.
     - `"json_util"` gives what `bson.json_util.loads` of pymongo makes of the line.
     - `"bytes"` gives the line as it is, without its newline.
-    - `"bson"` gives in place of it the bytes of the document as they are in the dump.
+    - `"bson"` gives in place of it the bytes of the document as they are in the dump: of `find`, `find_one` and a `Session`.
     - A function is called with the line.
     """
     if callable(decode):
@@ -41,6 +41,12 @@ def decoder(decode: Decode[Any]) -> Callable[[bytes], Any]:
     if decode in ("bytes", "bson"):
         return bytes
     raise ArgumentError(f'decode is "dict", "plain", "json_util", "bytes", "bson" or a function, not {decode!r}')
+
+
+def refuse_bson(decode: Decode[Any]) -> None:
+    """Refuses what is asked for where documents come as lines alone."""
+    if decode == "bson":
+        raise ArgumentError('decode="bson" is for find, find_one and a Session; here documents come as lines')
 
 
 class Texts(Generic[T]):

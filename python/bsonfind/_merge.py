@@ -21,7 +21,7 @@ from typing import Any, Callable, Iterable, Iterator, Literal, NamedTuple, Seque
 
 from . import _steps
 from ._connections import Connection
-from ._decoding import Decode, Dicts, decoder
+from ._decoding import Decode, Dicts, decoder, refuse_bson
 from ._dumps import Dump
 from ._errors import ArgumentError, BsonfindError, DumpError, PartError, ProgramError
 from ._faults import Fault, faults_of, finish_check
@@ -80,6 +80,7 @@ def find_parts(
     Each part is asked for its own answer, what they gave is packed and joined, and asked again. A part that fails is a
     `PartError`, and at once ends the others that run in this process; so does a `timeout`, in seconds, for all of it.
     """
+    refuse_bson(decode)
     document_of = decoder(decode)
     request = Request.of(filter, sort, skip, limit)
     with _Asking(program, workers, map, timeout) as asking:

@@ -51,7 +51,7 @@ BAD: Dict[str, List[Any]] = {
     "sort": ["name", b"name", 5, [5], [("age",)], ["name"], {"age": object()}],
     "index": ["a\0b", "\ud800", ""],
     "after": [5, "a\0b", "token"],
-    "decode": ["bson", None, 5],
+    "decode": ["json", None, 5],
     "program": [5, None, "a\0b"],
     "timeout": [-1, "1", float("nan"), float("inf")],
     "use": [object(), "name", {"age": 1}],
@@ -151,6 +151,16 @@ class Refusals(Room):
         found = list(find(PEOPLE, old, sort=MappingProxyType({"age": -1}), decode="bytes", program=PROGRAM))
         self.assertEqual(found, list(find(PEOPLE, {"age": {"$gte": 90}}, sort=[("age", -1)], decode="bytes", program=PROGRAM)))
         self.assertEqual(len(found), 49)
+
+    def test_documents_as_they_are(self) -> None:
+        """These are not to be had where documents come as lines."""
+        with self.assertRaises(ArgumentError):
+            find_parts(plan(PEOPLE), decode="bson", program=PROGRAM)
+        session = AsyncSession(PEOPLE, PROGRAM)
+        with self.assertRaises(ArgumentError):
+            session.find(decode="bson")
+        with self.assertRaises(ArgumentError):
+            asyncio.run(session.find_one(decode="bson"))
 
     def test_without_pymongo(self) -> None:
         with mock.patch.dict(sys.modules, {"bson": None}), self.assertRaisesRegex(ArgumentError, "pymongo"):
