@@ -195,7 +195,7 @@ def run_prepare(words: argparse.Namespace) -> int:
     try:
         paths = prepare(words.file, words.copy, program=words.program)
     except DumpError as error:
-        if not error.fault:
+        if not error.is_finding:
             raise
         console.problem(f"{words.file}: {error}")
         return FAULTY

@@ -8,6 +8,7 @@ from itertools import islice
 from typing import Any, BinaryIO, Iterable, Iterator, NamedTuple, Sequence
 
 from . import _framing
+from ._dumps import name_of
 from ._errors import DumpError
 from ._faults import Fault, faults_of, finish_check, read_fault
 from ._processes import Group, Run
@@ -27,7 +28,7 @@ def is_wide(error: DumpError) -> bool:
 
 def filter_beside(program: str) -> str:
     """The filter that goes with a program: the one beside it, and else the one on `PATH`."""
-    found = shutil.which(program)
+    found = shutil.which(name_of(program))
     beside = os.path.join(os.path.dirname(found), "bsonwide") if found else ""
     return beside if beside and os.access(beside, os.X_OK) else "bsonwide"
 

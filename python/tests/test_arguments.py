@@ -27,6 +27,7 @@ from bsonfind import (
     find_one,
     find_parts,
     plan,
+    prepare,
     salvage,
     unpack,
 )
@@ -44,6 +45,7 @@ BAD: Dict[str, List[Any]] = {
     **dict.fromkeys(("batch_size", "jobs"), [-1, "1", 1.5, 1 << 63]),
     **dict.fromkeys(("workers", "most"), [0, *NUMBERS]),
     **dict.fromkeys(("say", "progress", "map"), [5]),
+    "copy": [5, "a\0b", "\ud800"],
     "max_faults": NUMBERS,
     "paths": [5, None, [], [5], "a\0b"],
     "expect": [5, "a\0b"],
@@ -84,6 +86,7 @@ class Refusals(Room):
         yield audit, lambda paths=PEOPLE, **it: audit(paths, **{**program, **it})
         files = {"path": PEOPLE, "good": self.room / "good", "bad": self.room / "bad"}
         yield salvage, lambda **it: salvage(**{**files, **program, **it})
+        yield prepare, lambda **it: prepare(**{"path": PEOPLE, "copy": self.room / "copy", **program, **it})
         yield unpack, lambda **it: unpack(**{"archive": ROOT / "examples/backup.archive", "directory": self.room / "out", **it})
         yield ObjectId, ObjectId
         yield Part, lambda **it: Part(**{"path": "a", "offset": 0, "length": 5, "first": 0, **it})

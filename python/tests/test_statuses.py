@@ -23,7 +23,7 @@ from bsonfind.__main__ import main
 signal.signal(signal.SIGINT, signal.default_int_handler)
 sys.exit(main())
 """
-COMMANDS = ("check", "dump", "find", "audit", "salvage", "compare", "query", "ids")
+COMMANDS = ("check", "dump", "find", "prepare", "audit", "salvage", "compare", "query", "ids")
 # Those that begin with the run that reads the dump; the others try the program before.
 ONE_RUN = COMMANDS[:3]
 # What they have where a dump has a fault: what judges it, or stops at it, has found something; what needs all of it could not be done.
@@ -35,6 +35,7 @@ class Statuses(Room):
         """The words of a command over a dump."""
         return {
             **{name: [name, str(dump)] for name in ("check", "dump", "find", "audit", "query")},
+            "prepare": ["prepare", str(dump), str(self.room / "copy")],
             "salvage": ["salvage", str(dump), "--good", str(self.room / "good"), "--bad", str(self.room / "bad")],
             "compare": ["compare", str(dump), str(PEOPLE)],
             "ids": ["ids", str(dump), "--ids", str(self.file(b"7\n", "ids"))],
@@ -108,7 +109,9 @@ class Statuses(Room):
         self.want(PEOPLE, failed, "--program", "no-such-program")
         self.want(PEOPLE, failed, "--no-such-option")
         with open("/dev/full", "wb") as full:
-            for command in COMMANDS[1:]:  # A check of what is good prints nothing there.
+            for command in COMMANDS:
+                if command in ("check", "prepare"):
+                    continue  # They print nothing there of what is good.
                 self.assertEqual(run_package(*self.words(command, PEOPLE), stdout=full).returncode, 2)
 
     def test_faulty_and_not_seen(self) -> None:
@@ -138,6 +141,8 @@ class Statuses(Room):
         """As the shell gives the status of a program that a signal ended."""
         program, pids = self.stuck(), self.room / "pids"
         for command in COMMANDS:
+            if command == "prepare":
+                continue  # It begins with a run of bsonwide.
             for number in (signal.SIGINT, signal.SIGTERM):
                 first = self.room / "first"
                 shutil.rmtree(first, ignore_errors=True)
