@@ -13,6 +13,7 @@ from unittest import mock
 
 from bsonfind import CommandError, DumpError, Session, count_documents, find, find_one, prepare
 
+from .archives import archive
 from .support import DAMAGED, PATIENCE, PEOPLE, PROGRAM, Room, environment, run_package
 
 
@@ -326,6 +327,21 @@ class Commands(Goods):
         bad = self.file(b"".join(GOODS) + DAMAGED, "bad.bson")
         told = f'bsonfind: document 6, byte {len(b"".join(GOODS)) + 7}, path "d": bad boolean\n'
         self.assertEqual(self.run_find(bad), (1, b"", told))
+
+    def test_collection_of_an_archive(self) -> None:
+        data = b"".join(GOODS)
+        path = self.file(archive([("club", "people", PEOPLE.read_bytes()), ("shop", "goods", data)]), "all.archive")
+        name = f"{path}::shop.goods"
+        self.assertEqual(self.run_find(name, "--query", '{"price":9.5}')[:2], (0, FIRST.encode() + b"\n"))
+        self.assertEqual(self.run_find(name, "--bson")[1], data)
+        for command, told in (("check", "6 documents, 0 faulty\n"), ("dump", "6 objects found\n")):
+            run = run_package(command, name)
+            self.assertEqual((run.returncode, run.stderr), (0, told))
+        with Session(name, PROGRAM) as session:
+            self.assertEqual(session.count_documents({"price": {"$gt": 9.25}}), 3)
+        run = run_package("dump", str(path))
+        self.assertEqual((run.returncode, run.stdout), (2, ""))
+        self.assertIn("an archive: name one of its collections", run.stderr)
 
     def test_query_of_many_files(self) -> None:
         """Of dumps with doubles and without, in parts of 100 bytes; one has its doubles late."""
