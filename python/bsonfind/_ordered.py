@@ -178,7 +178,11 @@ def write_copy(original: Original, query: Query, levels: dict[str, int], program
         with Run(words, stdin=original.rewound(), stdout=copy.fileno(), group=group) as run:
             if run.wait() == 0:
                 return
-            _raise_level(run, levels)
+            try:
+                _raise_level(run, levels)
+            except DumpError as error:
+                # A number in a damaged document has perhaps no name that can be asked for.
+                raise original.fault(program, group) or error from None
 
 
 def _raise_level(run: Run, levels: dict[str, int]) -> None:

@@ -161,10 +161,15 @@ class Finds(Goods):
 
     def test_damage(self) -> None:
         """A fault has its place in the dump, and not the one in the copy."""
-        for bad, place in ((DAMAGED, 'path "d": bad boolean'), (GOODS[0][:20], 'path "": bad length')):
+        nameless = document(b"\x01\xff\0" + struct.pack("<d", 1.5))
+        for bad, byte, place in (
+            (DAMAGED, 7, 'path "d": bad boolean'),
+            (GOODS[0][:20], 0, 'path "": bad length'),
+            (nameless, 5, 'path "": not UTF-8'),
+        ):
             data = b"".join(GOODS)
             path = self.file(data + bad, "bad.bson")
-            byte = len(data) + (7 if bad is DAMAGED else 0)
+            byte += len(data)
             for ask in (lambda: list(find(path, {"price": 9.5}, program=PROGRAM)), lambda: Session(path, PROGRAM), lambda: count_documents(path, program=PROGRAM)):
                 with self.assertRaises(DumpError) as raised:
                     ask()
