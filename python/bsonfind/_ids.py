@@ -4,6 +4,8 @@ from __future__ import annotations
 
 import json
 import re
+from decimal import Decimal
+from fractions import Fraction
 from typing import Any, Callable, Iterator
 
 from . import _steps
@@ -11,15 +13,18 @@ from ._connections import Connection
 from ._dumps import Dump, dump_of
 from ._errors import BsonfindError, CommandError, DumpError
 from ._fields import id_of
-from ._processes import Run
+from ._lines import Batches
+from ._ordered import Asked, Questions, can_be_read_again, originals, try_request
 from ._query import MOST_HELD, moved
 from ._requests import Request
-from ._sources import Input, Source
+from ._sources import Source
 from ._steps import Reading
+from ._wide import is_wide
 
 # So many ids are asked for at once: each document that is found is compared with half of them.
 _AT_ONCE = 1000
 _OID = re.compile(r"[0-9a-fA-F]{24}")
+_WHOLE = re.compile(r"-?[0-9]+")
 
 
 class IdError(BsonfindError):
@@ -40,7 +45,7 @@ class Ids:
                 text = f'{{"$oid":"{text.lower()}"}}' if _OID.fullmatch(text) else text
                 try:
                     self._lines.setdefault(_key(text), (line, number, text))
-                except (ValueError, RecursionError):
+                except (ValueError, ArithmeticError, RecursionError):
                     raise IdError(f"{name}: line {number}: neither JSON nor 24 hexadecimal digits") from None
 
     def __len__(self) -> int:
@@ -56,28 +61,24 @@ class Ids:
         """The lines of which no document was found."""
         return [line for key, (line, _, _) in self._lines.items() if key not in found]
 
-    def refuse_bad(self, program: str) -> None:
-        """Raises the first id that the program does not take, by its line."""
+    def refuse_bad(self, program: str) -> bool:
+        """Raises the first id that is not taken, by its line; gives whether there are doubles or decimal128."""
+        is_wide = False
         for texts in self.chunks():
             try:
-                _try(texts, program)
+                is_wide |= try_request(_request(texts), program)
             except CommandError:
                 self._refuse_first(texts, program)
                 raise
+        return is_wide
 
     def _refuse_first(self, texts: list[str], program: str) -> None:
         for text in texts:
             try:
-                _try([text], program)
+                try_request(_request([text]), program)
             except CommandError as error:
                 _, number, _ = self._lines[_key(text)]
                 raise IdError(f"{self._name}: line {number}: {error.text}") from None
-
-
-def _try(texts: list[str], program: str) -> None:
-    """Asks no documents for ids."""
-    with Run([program, "find", "-", *_request(texts).words()]) as run:
-        run.finish()
 
 
 def _request(texts: list[str]) -> Request:
@@ -85,44 +86,76 @@ def _request(texts: list[str]) -> Request:
 
 
 def _key(text: str) -> str:
-    """What ids that are equal have in common: an int32 and an int64 of one value are equal, and so are a text and a symbol."""
-    return json.dumps(json.loads(text, object_hook=_plain))
+    """What ids that are equal have in common: numbers of one value are equal, whatever their types, and so are a text and a symbol."""
+    return json.dumps(json.loads(text, object_hook=_plain, parse_int=_number, parse_float=_number))
 
 
 def _plain(value: dict[str, Any]) -> Any:
-    for name, plain in (("$numberInt", int), ("$numberLong", int), ("$symbol", str)):
-        if len(value) == 1 and name in value:
-            return plain(value[name])
+    if len(value) == 1:
+        ((name, inner),) = value.items()
+        if not isinstance(inner, str):
+            return value
+        if name == "$symbol":
+            return inner
+        if name in ("$numberInt", "$numberLong", "$numberDouble"):
+            return _number(inner)
+        if name == "$numberDecimal":
+            return _exact(Decimal(inner))
     return value
+
+
+def _number(text: str) -> Any:
+    """A whole number or a double, by its value."""
+    return _exact(Decimal(int(text) if _WHOLE.fullmatch(text) else float(text)))
+
+
+def _exact(value: Decimal) -> Any:
+    return ["number", str(Fraction(value) if value.is_finite() else value)]
 
 
 def find_ids(path: str, ids: Ids, program: str, take: Callable[[list[bytes]], None]) -> list[str]:
     """Passes the documents on that have one of the ids, and gives the lines of which there is none."""
-    ids.refuse_bad(program)
     found: set[str] = set()
     try:
-        with Source(path) as source:
-            for part in source.inputs(MOST_HELD):
-                dump = Dump(pieces=part.pieces) if part.pieces is not None else dump_of(path)
-                for lines in _find_part(dump, part, ids, program):
-                    found.update(_key((id_of(line) or b"null").decode()) for line in lines)
-                    take([line + b"\n" for line in lines])
+        for lines in _lines(path, ids, program, ids.refuse_bad(program)):
+            found.update(_key((id_of(line) or b"null").decode()) for line in lines)
+            take([line + b"\n" for line in lines])
     except DumpError as error:
         raise DumpError(f"{path}: {error}", error.fault) from None
     return ids.missing(found)
 
 
-def _find_part(dump: Dump, part: Input, ids: Ids, program: str) -> Iterator[list[bytes]]:
-    """The lines of the documents of one input, by an index on the ids."""
-    try:
-        with Connection(dump, program) as connection:
-            connection.do(_steps.create_index("_id", False))
-            for texts in ids.chunks():
-                reading = Reading(_request(texts), "auto", _steps.FIRST_BATCH, None, "bytes")
-                connection.do(reading.start())
-                while not reading.is_at_end:
-                    connection.do(reading.read_on())
-                    batch = reading.held.documents
-                    yield [batch.give() for _ in range(batch.left)]
-    except DumpError as error:
-        raise moved(error, part) from None
+def _lines(path: str, ids: Ids, program: str, is_copied: bool) -> Batches:
+    """The lines of all documents, of one input after the other; from the first on that needs a copy, by copies."""
+    copied_from = 0 if is_copied else None
+    with Source(path) as source:
+        for part in source.inputs(MOST_HELD) if copied_from is None else ():
+            dump = Dump(pieces=part.pieces) if part.pieces is not None else dump_of(path)
+            try:
+                with Connection(dump, program) as connection:
+                    connection.do(_steps.create_index("_id", False))
+                    for texts in ids.chunks():
+                        yield from _answer(Asked(connection, _request(texts)))
+            except DumpError as error:
+                if not is_wide(error) or not can_be_read_again(path):
+                    raise moved(error, part) from None
+                copied_from = part.offset
+                break
+    for part, original in originals(path, copied_from, MOST_HELD) if copied_from is not None else ():
+        try:
+            with Questions(original, program) as questions:
+                questions.create_index("_id", False)
+                for texts in ids.chunks():
+                    yield from _answer(questions.asked(_request(texts)))
+        except DumpError as error:
+            raise moved(error, part) from None
+
+
+def _answer(asked: Asked) -> Batches:
+    """The lines that answer a request."""
+    reading = Reading(asked.request, "auto", _steps.FIRST_BATCH, None, "bytes", asked.documents_of("bytes"))
+    asked.connection.do(reading.start())
+    while not reading.is_at_end:
+        asked.connection.do(reading.read_on())
+        batch = reading.held.documents
+        yield [batch.give() for _ in range(batch.left)]

@@ -30,7 +30,7 @@ from ._parts import FileState
 from ._processes import Group, Run
 from ._replies import documents_in
 from ._requests import Request
-from ._sources import Input
+from ._sources import Input, Source, up_to_error
 from ._steps import Steps
 from ._wide import Filtered, fault_of, faults_in, filter_beside, is_wide
 
@@ -237,10 +237,16 @@ def places(query: Query | None, levels: dict[str, int]) -> Iterator[None]:
 class Questions:
     """The connections over a dump: over the dump itself, or over a copy for each set of paths of which requests need codes."""
 
-    def __init__(self, path: File, program: str, timeout: float | None = None, copy: File | None = None) -> None:
-        self._path, self._program, self._timeout = path, program, timeout
+    def __init__(
+        self, path: File | Original, program: str, timeout: float | None = None, copy: File | None = None
+    ) -> None:
+        """A dump whose original is given is known to need a copy."""
+        self._program, self._timeout = program, timeout
         self.group, self._lock = Group(), threading.RLock()
-        self._original = Original.of(path) if not can_be_read_again(path) else None
+        self._path, self._original = ("", path) if isinstance(path, Original) else (path, None)
+        self._is_owner = self._original is None
+        if self._is_owner and not can_be_read_again(self._path):
+            self._original = Original.of(self._path)
         self._copies: dict[frozenset[tuple[str, int]], Connection] = {}
         self._indexes: list[tuple[str, bool]] = []
         # The probes of which it is known that no document matches, each with its connection.
@@ -259,6 +265,9 @@ class Questions:
             self._levels = levels_of_copy(self._path, copy)
             connection = Connection(dump_of(copy), self._program, self._timeout)
             self._copies[frozenset(self._levels.items())] = connection
+            return
+        if not self._is_owner:
+            self._connection_by(Query("{}"), self._levels)
             return
         dump = self._original.dump if self._original else dump_of(self._path)
         try:
@@ -352,7 +361,7 @@ class Questions:
         """Ends all connections."""
         for connection in self.connections:
             connection.close()
-        if self._original:
+        if self._original and self._is_owner:
             self._original.close()
 
     def __enter__(self) -> Questions:
@@ -512,6 +521,24 @@ def _state_of(path: File) -> list[int]:
     with opened(path) as file:
         state = FileState.of(file)
     return [state.size, state.mtime_ns]
+
+
+def originals(name: str, start: int, most: int) -> Iterator[tuple[Input, Original]]:
+    """The documents of a dump from a place on, in parts of at most so many bytes, each with its place."""
+    errors: list[Exception] = []
+    with Source(name) as source:
+        for offset, first, pieces in _framing.inputs(up_to_error(source.pieces(), errors), most):
+            if offset < start:
+                for _ in pieces:
+                    pass
+                continue
+            original = Original.of_pieces(pieces)
+            try:
+                yield Input(offset, first, None, None), original
+            finally:
+                original.close()
+    if errors:
+        raise errors[0]
 
 
 def try_request(request: Request, program: str) -> bool:

@@ -5,15 +5,14 @@ from __future__ import annotations
 from collections import deque
 from typing import Iterator, NamedTuple, Sequence
 
-from . import _framing
 from ._backups import Dump
 from ._errors import BsonfindError, DumpError
 from ._faults import Fault
 from ._lines import Batches, counted, lines_of
-from ._ordered import AnyLines, Original, can_be_read_again, try_request
+from ._ordered import AnyLines, can_be_read_again, originals, try_request
 from ._processes import Group
 from ._requests import Request
-from ._sources import Input, Source, up_to_error
+from ._sources import Input, Source
 from ._wide import is_wide
 
 # What one run holds in memory of a larger dump.
@@ -86,22 +85,11 @@ def _answer(dump: Dump, request: Request, program: str, group: Group, is_copied:
 
 def _by_copies(name: str, start: int, request: Request, program: str, group: Group) -> Batches:
     """The lines of the documents from a place on, some of which hold doubles or decimal128, in parts that are copied."""
-    errors: list[Exception] = []
-    with Source(name) as source:
-        for offset, first, pieces in _framing.inputs(up_to_error(source.pieces(), errors), MOST_HELD):
-            if offset < start:
-                for _ in pieces:
-                    pass
-                continue
-            original = Original.of_pieces(pieces)
-            try:
-                yield from AnyLines(original, request, program, is_known=True, group=group).batches()
-            except DumpError as error:
-                raise moved(error, Input(offset, first, None, None)) from None
-            finally:
-                original.close()
-    if errors:
-        raise errors[0]
+    for part, original in originals(name, start, MOST_HELD):
+        try:
+            yield from AnyLines(original, request, program, is_known=True, group=group).batches()
+        except DumpError as error:
+            raise moved(error, part) from None
 
 
 def moved(error: DumpError, part: Input) -> DumpError:

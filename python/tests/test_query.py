@@ -3,6 +3,7 @@
 import gzip
 import json
 import os
+import struct
 import threading
 from typing import List, Tuple
 from unittest import mock
@@ -12,7 +13,7 @@ from bsonfind._ids import Ids, find_ids
 from bsonfind._query import query_dumps
 from bsonfind._requests import Request
 
-from .support import DAMAGED, DOUBLE, PEOPLE, PEOPLE_LINES, PROGRAM, SHOP, SHOP_LINES, Room, packed, run_package
+from .support import DAMAGED, PEOPLE, PEOPLE_LINES, PROGRAM, SHOP, SHOP_LINES, Room, packed, run_package
 
 OLD = '{"age":{"$gte":90}}'
 OLD_LINES = [line.decode() for line in PEOPLE_LINES if int(json.loads(line)["age"]["$numberInt"]) >= 90]
@@ -138,13 +139,30 @@ class AsksForIds(Room):
                 self.assertEqual((missing, found), (["600"], [PEOPLE_LINES[number] + b"\n" for number in (7, 241, 480)]))
         writer.join()
 
+    def test_numbers_of_all_types(self) -> None:
+        """Numbers of one value are one id. A file and a compressed one, in parts of 20 bytes and whole."""
+        doubles = [b"\x01_id\0" + struct.pack("<d", it) for it in (1.0, -0.0, 0.5)]
+        decimals = [b"\x13_id\0" + (coefficient | power << 113).to_bytes(16, "little") for coefficient, power in ((250, 6174), (3, 6176))]
+        fields = [*doubles, *decimals, b"\x10_id\0\4\0\0\0"]
+        data = b"".join((len(it) + 5).to_bytes(4, "little") + it + b"\0" for it in fields)
+        lines = [f'{{"_id":{{"$number{kind}":"{text}"}}}}' for kind, text in (("Double", "1.0"), ("Double", "-0.0"), ("Double", "0.5"))]
+        lines += [f'{{"_id":{{"$number{kind}":"{text}"}}}}' for kind, text in (("Decimal", "2.50"), ("Decimal", "3"), ("Int", "4"))]
+        ids = ["1", "0", '{"$numberDecimal":"0.50"}', "2.5", '{"$numberLong":"3"}', "4.0", "7.5", "1e0"]
+        for path in (self.file(data), self.file(gzip.compress(data), "dump.bson.gz")):
+            found = self.ids(ids, status=1, told="missing: 7.5\n6 of 7 ids found\n", path=path)
+            self.assertEqual(sorted(found), sorted(lines))
+            with mock.patch("bsonfind._ids.MOST_HELD", 20):
+                found = []
+                self.assertEqual(find_ids(str(path), Ids(ids, "ids"), PROGRAM, found.extend), ["7.5"])
+            self.assertEqual([it.decode().strip() for it in found], lines)
+
     def test_bad_input(self) -> None:
         neither = "neither JSON nor 24 hexadecimal digits"
-        for line, problem in (("abc", neither), ("1.5", "not in the profile"), ("00", neither)):
+        for line, problem in (("abc", neither), ('{"$regularExpression":{"pattern":"a","options":""}}', "not in the profile"), ("00", neither)):
             self.ids(["1", "", line], status=2, told=f"bsonfind: {self.room}/ids: line 3: {problem}\n")
-        bad = self.file(PEOPLE.read_bytes() + DOUBLE, "bad.bson")
+        bad = self.file(PEOPLE.read_bytes() + DAMAGED, "bad.bson")
         half = self.file(gzip.compress(PEOPLE.read_bytes())[:-9], "half.bson.gz")
-        self.ids(["1"], status=2, told=f'bsonfind: {bad}: document 500, byte 92730, path "d": double\n', path=bad)
+        self.ids(["1"], status=2, told=f'bsonfind: {bad}: document 500, byte 92733, path "d": bad boolean\n', path=bad)
         self.ids(["1"], status=2, told="bsonfind: /missing: No such file or directory\n", path="/missing")
         run = run_package("ids", str(half), "--ids", str(self.list))
         self.assertEqual((run.returncode, "not a sound file of gzip: it ends too soon" in run.stderr), (2, True))
