@@ -6,16 +6,20 @@ import asyncio
 import contextlib
 import os
 from collections import deque
-from typing import Any, AsyncIterator, Callable, Literal, TypeVar, overload
+from dataclasses import replace
+from typing import Any, AsyncIterator, BinaryIO, Callable, ContextManager, Literal, NamedTuple, TypeVar, overload
 
 from . import _steps
-from ._decoding import Decode, Dicts, refuse_bson
-from ._dumps import File, dump_of
-from ._errors import BsonfindError, CancelledError, SessionEndedError, TimedOutError
+from ._codes import Query
+from ._decoding import Decode, Dicts, Texts, decoder
+from ._dumps import Dump, File, dump_of
+from ._errors import BsonfindError, CancelledError, DumpError, SessionEndedError, TimedOutError
 from ._messages import error_of
-from ._processes import Descriptor, Feeder, check_owner, file_for_messages, start_error
+from ._ordered import Original, can_be_read_again, places, query_of, refused_nan, temporary_file, write_copy
+from ._processes import Descriptor, Feeder, Group, check_owner, file_for_messages, start_error
 from ._requests import Filter, Request, Sort, seconds
 from ._steps import Command, Hint, Reading, Steps, Use, kill, use_of
+from ._wide import is_wide
 
 T = TypeVar("T")
 # How many bytes the pipe from the program may hold before they are read.
@@ -26,15 +30,16 @@ class AsyncSession:
     """A session whose calls are awaited: `async with AsyncSession("people.bson") as session`.
 
     Tasks may share a session, and a cursor belongs to one task at a time. A call that is cancelled in the middle of a reply
-    ends the session. Otherwise it is a `Session`: a dump that is refused is a `DumpError` at once, and so on.
+    ends the session. Otherwise it is a `Session`: a dump that is refused is a `DumpError` at once, and so on. A copy of a dump with
+    doubles is written by a thread, and so are documents in place of those of a copy. A pipe with such a dump is refused.
     """
 
     def __init__(self, path: File, program: str = "bsonfind", *, timeout: float | None = None) -> None:
-        self._connection = _Connection(path, program, timeout)
+        self._questions = _Questions(path, program, timeout)
 
     async def open(self) -> AsyncSession:
         """Starts the program, and waits until the dump is read."""
-        await self._connection.open()
+        await self._questions.open()
         return self
 
     # fmt: off
@@ -68,9 +73,8 @@ class AsyncSession:
         decode: Decode[Any] = "dict",
     ) -> AsyncCursor[Any]:
         """A cursor over an answer, or over what follows a token, for `async for`. It is opened by its first document."""
-        refuse_bson(decode)
-        reading = Reading(Request.of(filter, sort, skip, limit), use_of(use, hint), batch_size, after, decode)
-        return AsyncCursor(self._connection, reading)
+        request, how = Request.of(filter, sort, skip, limit), (use_of(use, hint), batch_size, after, decode)
+        return AsyncCursor(self._questions, request, how, Reading(request, *how))
 
     # fmt: off
     @overload
@@ -107,15 +111,15 @@ class AsyncSession:
 
     async def count_documents(self, filter: Filter | None = None) -> int:
         """How many documents match."""
-        return await self._connection.do(_steps.count(Request.of(filter)))
+        return await self._questions.do(_steps.count, Request.of(filter))
 
     async def create_index(self, path: str, sparse: bool = False) -> dict[str, Any]:
         """Makes an index on a path: how many `entries` it has, and whether a document has more than one (`multikey`)."""
-        return await self._connection.do(_steps.create_index(path, sparse))
+        return await self._questions.create_index(path, sparse)
 
     async def drop_index(self, path: str) -> None:
         """Drops the index on a path; cursors that were opened by it give the same."""
-        await self._connection.do(_steps.drop_index(path))
+        await self._questions.drop_index(path)
 
     async def explain(
         self,
@@ -128,15 +132,15 @@ class AsyncSession:
         hint: Hint | None = None,
     ) -> dict[str, Any]:
         """How an answer is found: the `plan`, the path of the `index`, and how many `entries`, `documents` and `matches`."""
-        return await self._connection.do(_steps.explain(Request.of(filter, sort, skip, limit), use_of(use, hint)))
+        return await self._questions.do(_steps.explain, Request.of(filter, sort, skip, limit), use_of(use, hint))
 
     def cancel(self) -> None:
         """Ends the session at once: a call that waits for a reply gets a `CancelledError` of this package."""
-        self._connection.stop(CancelledError("cancelled"))
+        self._questions.stop(CancelledError("cancelled"))
 
     async def close(self) -> None:
         """Ends the session."""
-        await self._connection.close()
+        await self._questions.close()
 
     async def __aenter__(self) -> AsyncSession:
         return await self.open()
@@ -148,35 +152,67 @@ class AsyncSession:
 class AsyncCursor(AsyncIterator[T]):
     """The documents of an answer, which are asked for a batch at a time. It keeps what it read as a `Cursor` does."""
 
-    def __init__(self, connection: _Connection, reading: Reading[T]) -> None:
-        self._connection, self._reading = connection, reading
+    def __init__(
+        self, questions: _Questions, request: Request, how: tuple[Use, int, str | None, Decode[T]], reading: Reading[T]
+    ) -> None:
+        self._questions, self._request, self._how, self._reading = questions, request, how, reading
+        # Known from the first document on.
+        self._asked: _Asked | None = None
+        # The documents that stand in place of those of a copy.
+        self._given: Texts[T] | None = None
         self._is_closed = False
 
     async def __anext__(self) -> T:
-        self._connection.check()
-        documents = self._reading.held.documents
+        self._questions.check()
+        connection = await self._open()
+        documents = await self._documents()
         while not documents.left and not self._reading.is_at_end and not self._is_closed:
-            self._connection.check_open()
-            await self._connection.do(self._reading.read_on())
-            documents = self._reading.held.documents
+            connection.check_open()
+            await connection.do(self._reading.read_on())
+            documents = await self._documents()
         if self._is_closed or not documents.left:
             raise StopAsyncIteration
         return documents.give()
 
+    async def _open(self) -> _Connection:
+        """The connection by which it is asked."""
+        if self._asked is None:
+            use, batch_size, after, decode = self._how
+            asked = await self._questions.asked(self._request, decode == "bson")
+            if asked.original:
+                self._reading = Reading(asked.request, use, batch_size, after, "bytes")
+                with asked.places():
+                    await asked.connection.do(self._reading.start())
+            self._asked = asked
+        return self._asked.connection
+
+    async def _documents(self) -> Any:
+        """The documents that were read; those of a copy are replaced by those of the dump."""
+        held = self._reading.held
+        original = self._asked.original if self._asked else None
+        if original is None or held.documents is self._given or not held.documents.left:
+            return held.documents
+        texts, decode = held.documents, self._how[3]
+        lines = await asyncio.get_running_loop().run_in_executor(None, original, texts.texts, decode == "bson")
+        self._given = Texts(lines, decoder(decode))
+        self._reading.held = held._replace(documents=self._given)
+        return self._given
+
     async def token(self) -> str | None:
         """The token that leads on to what follows the documents that were given; None where none was."""
-        return await self._connection.do(self._reading.token())
+        connection = await self._open()
+        return await connection.do(self._reading.token())
 
     async def close(self) -> None:
         """Closes the cursor: no document follows. Its token stays."""
-        self._connection.check()
+        self._questions.check()
         self._is_closed = True
         self._leave()
 
     def _leave(self) -> None:
         number, self._reading.number = self._reading.number, None
-        if number is not None:
-            self._connection.leave(number)
+        if number is not None and self._asked:
+            self._asked.connection.leave(number)
 
     async def __aenter__(self) -> AsyncCursor[T]:
         return self
@@ -188,11 +224,143 @@ class AsyncCursor(AsyncIterator[T]):
         self._leave()
 
 
+class _Asked(NamedTuple):
+    """What a request is asked by; without a copy it is asked as it is, and documents need no original."""
+
+    connection: _Connection
+    request: Request
+    original: Callable[[list[bytes], bool], list[bytes]] | None = None
+    query: Query | None = None
+    levels: dict[str, int] = {}
+
+    def places(self) -> ContextManager[None]:
+        """Has refusals name the place in the query as it was given."""
+        return places(self.query, self.levels)
+
+
+class _Questions:
+    """The connections over a dump, or over a copy for each set of paths of which requests need codes."""
+
+    def __init__(self, path: File, program: str, timeout: float | None) -> None:
+        self._path, self._program, self._timeout = path, program, timeout
+        self._own: _Connection | None = _Connection(dump_of(path), program, timeout)
+        self._first = self._own
+        self._copies: dict[frozenset[tuple[str, int]], _Connection] = {}
+        self._indexes: list[tuple[str, bool]] = []
+        self._levels: dict[str, int] = {}
+        self._original: Original | None = None
+        self._group = Group()
+
+    async def open(self) -> None:
+        """Opens the dump, or where the program refuses it for its numbers a copy; does nothing where that was done."""
+        if self._own is None:
+            return
+        self._lock = asyncio.Lock()
+        try:
+            await self._own.open()
+        except DumpError as error:
+            if not is_wide(error) or not can_be_read_again(self._path):
+                raise
+            self._own = None
+            try:
+                await self._connection_by(Query("{}"), self._levels)
+            except BaseException:
+                await self.close()
+                raise
+
+    def check(self) -> None:
+        """Refuses a call in another process than the one that opened the session."""
+        self._first.check()
+
+    @property
+    def _connections(self) -> list[_Connection]:
+        return [*([self._own] if self._own else []), *self._copies.values()]
+
+    async def do(self, steps: Callable[..., Steps[T]], request: Request, *more: Any) -> T:
+        """What steps of a request come to."""
+        asked = await self.asked(request)
+        with asked.places():
+            return await asked.connection.do(steps(asked.request, *more))
+
+    async def asked(self, request: Request, is_bson: bool = False) -> _Asked:
+        """What a request is asked by. Where neither it nor the dump has doubles or decimal128 that is the dump itself."""
+        self.check()
+        query = query_of(request, is_bson or self._own is None, self._program)
+        if query is None:
+            return _Asked(self._connections[0], request)
+        self._connections[0].check_open()
+        levels = dict(self._levels)
+        async with self._lock:
+            connection = await self._connection_by(query, levels)
+        for probe in query.probes_at(levels):
+            if await connection.do(_steps.count(Request(probe.text))):
+                raise refused_nan(probe)
+        assert self._original
+        original = self._original
+
+        def given(lines: list[bytes], is_bson: bool) -> list[bytes]:
+            return original.given(lines, is_bson, self._program, self._group)
+
+        return _Asked(connection, replace(request, filter=query.rewritten(levels)), given, query, levels)
+
+    async def _connection_by(self, query: Query, levels: dict[str, int]) -> _Connection:
+        """The connection over a copy for a query, which a thread writes."""
+        query.settle(levels)
+        key = frozenset(levels.items())
+        if key not in self._copies:
+            with temporary_file() as file:
+                await asyncio.get_running_loop().run_in_executor(None, self._write, query, levels, file)
+                key = frozenset(levels.items())
+                if key not in self._copies:
+                    connection = _Connection(Dump(path=f"/dev/fd/{file.fileno()}"), self._program, self._timeout)
+                    await self._open_copy(connection)
+                    self._copies[key] = connection
+        return self._copies[key]
+
+    def _write(self, query: Query, levels: dict[str, int], file: BinaryIO) -> None:
+        self._original = self._original or Original.of(self._path)
+        write_copy(self._original, query, levels, self._program, self._group, file)
+
+    async def _open_copy(self, connection: _Connection) -> None:
+        assert self._original
+        try:
+            await connection.open()
+        except DumpError as error:
+            raise (self._original.fault(self._program, self._group) if error.fault else None) or error from None
+        for path, sparse in self._indexes:
+            await connection.do(_steps.create_index(path, sparse))
+
+    async def create_index(self, path: str, sparse: bool) -> dict[str, Any]:
+        """Makes an index on a path, also for copies that come later."""
+        made = [await connection.do(_steps.create_index(path, sparse)) for connection in self._connections]
+        self._indexes.append((path, sparse))
+        return made[0]
+
+    async def drop_index(self, path: str) -> None:
+        """Drops the index on a path."""
+        for connection in self._connections:
+            await connection.do(_steps.drop_index(path))
+        self._indexes = [it for it in self._indexes if it[0] != path]
+
+    def stop(self, error: BsonfindError) -> None:
+        """Ends all at once."""
+        self._group.end(error)
+        for connection in self._connections:
+            connection.stop(error)
+
+    async def close(self) -> None:
+        """Ends all connections."""
+        for connection in self._connections or [self._first]:
+            await connection.close()
+        if self._original:
+            self._original.close()
+
+
 class _Connection:
     """A run of `serve` over a dump. Tasks may share it: a command has its reply before the next one is sent."""
 
-    def __init__(self, path: File, program: str, timeout: float | None) -> None:
-        self._dump, self._program, self._timeout = dump_of(path), program, seconds(timeout)
+    def __init__(self, dump: Dump, program: str, timeout: float | None) -> None:
+        self._dump, self._program, self._timeout = dump, program, seconds(timeout)
         self._owner = os.getpid()
         self._left: deque[int] = deque()
         self._files = contextlib.ExitStack()

@@ -23,7 +23,7 @@ def decoder(decode: Decode[Any]) -> Callable[[bytes], Any]:
     - `"plain"` gives a `dict` of plain values of Python: `int`, `str`, `bytes`, `datetime` and the like, see `plain_document`.
     - `"json_util"` gives what `bson.json_util.loads` of pymongo makes of the line.
     - `"bytes"` gives the line as it is, without its newline.
-    - `"bson"` gives in place of it the bytes of the document as they are in the dump: of `find`, `find_one` and a `Session`.
+    - `"bson"` gives in place of it the bytes of the document as they are in the dump; `find_parts` does not.
     - A function is called with the line.
     """
     if callable(decode):
@@ -46,7 +46,7 @@ def decoder(decode: Decode[Any]) -> Callable[[bytes], Any]:
 def refuse_bson(decode: Decode[Any]) -> None:
     """Refuses what is asked for where documents come as lines alone."""
     if decode == "bson":
-        raise ArgumentError('decode="bson" is for find, find_one and a Session; here documents come as lines')
+        raise ArgumentError('decode="bson" is for find, find_one and sessions; here documents come as lines')
 
 
 class Texts(Generic[T]):
@@ -55,6 +55,11 @@ class Texts(Generic[T]):
     def __init__(self, texts: list[bytes], document_of: Callable[[bytes], T]) -> None:
         self._texts, self._document_of = texts, document_of
         self.given, self.left = 0, len(texts)
+
+    @property
+    def texts(self) -> list[bytes]:
+        """All texts, also of documents that were given."""
+        return self._texts
 
     def give(self) -> T:
         """The next document."""

@@ -298,14 +298,9 @@ class Questions:
 
     def asked(self, request: Request, is_bson: bool = False) -> Asked:
         """What a request is asked by. Where neither it nor the dump has doubles or decimal128 that is the dump itself."""
-        is_copied = is_bson or self.own is None
-        query = read_query(request.filter, paths_of(request), is_copied)
-        if query is None and is_copied:
-            raise _unread(request, self._program)
-        if query is None or not (is_copied or query.is_wide):
+        query = query_of(request, is_bson or self.own is None, self._program)
+        if query is None:
             return Asked(self.connections[0], request)
-        if query.refusals:
-            raise query.refusals[0]
         levels = dict(self._levels)
         with self._lock:
             connection = self._connection_by(query, levels)
@@ -371,6 +366,18 @@ class Questions:
         self.close()
 
 
+def query_of(request: Request, is_copied: bool, program: str) -> Query | None:
+    """What a request says of numbers, None where it is asked of the dump itself. One that cannot be asked of a copy is raised."""
+    query = read_query(request.filter, paths_of(request), is_copied)
+    if query is None and is_copied:
+        raise _unread(request, program)
+    if query is None or not (is_copied or query.is_wide):
+        return None
+    if query.refusals:
+        raise query.refusals[0]
+    return query
+
+
 def _unread(request: Request, program: str) -> CommandError:
     """Why the text of a query says nothing of numbers: what the program refuses it for."""
     try:
@@ -386,7 +393,12 @@ def refuse_nan(connection: Connection, probes: Iterable[Probe]) -> None:
     """Refuses a query that says of a field which has NaN that it is less than a number."""
     for probe in probes:
         if connection.do(_steps.count(Request(probe.text))):
-            raise refused('the field has NaN, which counts as the least number: add "$ne":{"$numberDouble":"NaN"}', probe.place)
+            raise refused_nan(probe)
+
+
+def refused_nan(probe: Probe) -> CommandError:
+    """What is wrong with a comparison of a field that has NaN."""
+    return refused('the field has NaN, which counts as the least number: add "$ne":{"$numberDouble":"NaN"}', probe.place)
 
 
 def can_be_read_again(path: File) -> bool:

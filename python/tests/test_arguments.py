@@ -159,11 +159,6 @@ class Refusals(Room):
         """These are not to be had where documents come as lines."""
         with self.assertRaises(ArgumentError):
             find_parts(plan(PEOPLE), decode="bson", program=PROGRAM)
-        session = AsyncSession(PEOPLE, PROGRAM)
-        with self.assertRaises(ArgumentError):
-            session.find(decode="bson")
-        with self.assertRaises(ArgumentError):
-            asyncio.run(session.find_one(decode="bson"))
 
     def test_without_pymongo(self) -> None:
         with mock.patch.dict(sys.modules, {"bson": None}), self.assertRaisesRegex(ArgumentError, "pymongo"):

@@ -23,7 +23,7 @@ from bsonfind import (
 )
 from bsonfind import _steps
 
-from .support import DOUBLE, PEOPLE, PEOPLE_LINES, PROGRAM, SHOP, SHOP_LINES, Room, packed
+from .support import DAMAGED, PEOPLE, PEOPLE_LINES, PROGRAM, SHOP, SHOP_LINES, Room, packed
 
 OLD = {"age": {"$gte": 90}}
 STUCK = 'read line\necho \'{"ok":true}\'\necho $$ >>"$ROOM/pids"\nexec sleep 600'
@@ -85,8 +85,8 @@ class AsyncSessions(Room, unittest.IsolatedAsyncioTestCase):
 
     async def test_refusals(self) -> None:
         with self.assertRaises(DumpError) as raised:
-            await AsyncSession(self.file(DOUBLE), PROGRAM).open()
-        self.assertEqual(raised.exception.fault, (0, 4, "d", "double"))
+            await AsyncSession(self.file(DAMAGED), PROGRAM).open()
+        self.assertEqual(raised.exception.fault, (0, 7, "d", "bad boolean"))
         with self.assertRaisesRegex(DumpError, "cannot open "):
             await AsyncSession(self.room / "missing.bson", PROGRAM).open()
         with self.assertRaisesRegex(ProgramError, "cannot start no-such-program"):

@@ -1,5 +1,6 @@
 """Tests of questions about dumps with doubles and decimal128, from Python and by the commands `find` and `query`."""
 
+import asyncio
 import gzip
 import json
 import os
@@ -7,11 +8,12 @@ import struct
 import subprocess
 import sys
 import threading
+import unittest
 from decimal import Decimal
 from typing import List
 from unittest import mock
 
-from bsonfind import CommandError, DumpError, Session, count_documents, find, find_one, prepare
+from bsonfind import AsyncCursor, AsyncSession, CommandError, DumpError, Session, SessionEndedError, count_documents, find, find_one, prepare
 
 from .archives import archive
 from .support import DAMAGED, PATIENCE, PEOPLE, PROGRAM, Room, environment, run_package
@@ -230,6 +232,69 @@ class Finds(Goods):
             self.assertEqual(str(raised.exception), "the file was written to since it was opened")
 
 
+class AsyncFinds(Goods, unittest.IsolatedAsyncioTestCase):
+    async def test_answers(self) -> None:
+        """Those of a session, with the same tokens, by a scan and by an index; several cursors at once."""
+        cases = (
+            ({"price": {"$gt": 9.25}}, [("price", -1)], [3, 2, 0]),
+            ({"cost": Decimal("19")}, None, [1, 2]),
+            ({"_id": {"$gt": 3.5}}, None, [4, 5]),
+            ({"price.0": 1.5}, None, [3]),
+        )
+        async with AsyncSession(self.path, PROGRAM) as session:
+            for _ in range(2):
+                for filter, sort, wanted in cases:
+                    cursor = session.find(filter, sort=sort, batch_size=2, decode="bson")
+                    self.assertEqual([GOODS.index(it) async for it in cursor], wanted)
+                    self.assertEqual(await cursor.token(), find_last(self.path, filter, sort))
+                    self.assertEqual(await session.count_documents(filter), len(wanted))
+                await session.create_index("price")
+                self.assertEqual((await session.explain({"price": {"$gt": 9.25}}))["plan"], "index")
+                await session.drop_index("price")
+            line = await session.find_one({"price": 9.5}, decode="bytes")
+            self.assertEqual((line, await session.find_one({"price": 9.5}, decode="plain")), (FIRST.encode(), {"_id": 0, "price": 9.5, "cost": Decimal("19.99")}))
+            cursors = [session.find(filter, sort=sort, decode="bson") for filter, sort, _ in cases]
+            found = await asyncio.gather(*map(places_of, cursors))
+            self.assertEqual(found, [wanted for _, _, wanted in cases])
+
+    async def test_tokens_within_a_batch(self) -> None:
+        async with AsyncSession(self.path, PROGRAM) as session:
+            filter, sort = {"price": {"$gt": 9.25}}, [("price", -1)]
+            cursor = session.find(filter, sort=sort, decode="bson")
+            self.assertEqual(GOODS.index(await cursor.__anext__()), 3)
+            rest = session.find(filter, sort=sort, after=await cursor.token(), decode="bson")
+            self.assertEqual([GOODS.index(it) async for it in rest], [2, 0])
+            self.assertEqual([GOODS.index(it) async for it in cursor], [2, 0])
+
+    async def test_refusals(self) -> None:
+        """Also of a dump without doubles, and after the end of a session."""
+        async with AsyncSession(self.path, PROGRAM) as session:
+            with self.assertRaisesRegex(CommandError, "types of numbers"):
+                await session.count_documents({"price": {"$type": "double"}})
+            with self.assertRaises(CommandError) as raised:
+                await session.find_one({"a": 1.5, "b": {"$oid": "x"}})
+            self.assertEqual(raised.exception.args, ("json", 4, "bad wrapper", 13))
+            with self.assertRaisesRegex(CommandError, "not a sort"):
+                await session.find_one({"price": 1.5}, sort={"a": 2})
+        with self.assertRaises(SessionEndedError):
+            await session.count_documents({"price": 9.5})
+        bad = self.file(b"".join(GOODS) + DAMAGED, "bad.bson")
+        with self.assertRaisesRegex(DumpError, 'document 6, byte [0-9]+, path "d": bad boolean'):
+            await AsyncSession(bad, PROGRAM).open()
+        async with AsyncSession(PEOPLE, PROGRAM) as session:
+            self.assertEqual(await session.count_documents({"age": {"$gt": 98.5}}), 5)
+            self.assertEqual(await session.count_documents({"age": {"$gt": 98}}), 5)
+
+    async def test_call_that_is_cancelled(self) -> None:
+        """While documents of the dump are read in place of those of the copy: the next call gives them."""
+        async with AsyncSession(self.path, PROGRAM) as session:
+            cursor = session.find({"price": {"$gt": 9.25}}, decode="bson")
+            with mock.patch("bsonfind._ordered.Original.given", side_effect=asyncio.CancelledError):
+                with self.assertRaises(asyncio.CancelledError):
+                    await cursor.__anext__()
+            self.assertEqual([GOODS.index(it) async for it in cursor], [0, 2, 3])
+
+
 class Copies(Goods):
     def test_copy_that_is_kept(self) -> None:
         """It is written once, and taken for each question whose fractions are where the dump has some."""
@@ -272,6 +337,11 @@ class Copies(Goods):
             prepare(self.path, self.path, program=PROGRAM)
         self.assertEqual(copy.read_bytes(), b"as it was")
         self.assertEqual(sorted(os.listdir(self.room)), ["bad.bson", "copy.bson", "dump.bson", "mixed.bson"])
+
+
+async def places_of(cursor: AsyncCursor) -> List[int]:
+    """The ids of what a cursor gives."""
+    return [GOODS.index(it) async for it in cursor]
 
 
 def find_last(path: object, filter: dict, sort: list) -> object:
