@@ -21,7 +21,7 @@ from . import _framing, _steps
 from ._codes import CODE, MOST_LEVEL, Probe, Query, read_json, read_query, refused, word_of
 from ._connections import Connection
 from ._decoding import Decode, Texts, decoder
-from ._dumps import Dump, File, dump_of, file_of, is_packed, name_of, opened, unpacked
+from ._dumps import Dump, File, dump_of, file_of, is_packed, name_of, opened, refuse_archive, unpacked
 from ._errors import CancelledError, CommandError, DumpError, ProgramError
 from ._lines import Batches, Lines, lines_of
 from ._messages import error_of
@@ -491,6 +491,7 @@ def prepare(path: File, copy: File, *, program: str = "bsonfind") -> list[str]:
     """
     names = [name_of(copy), f"{name_of(copy)}{_ABOUT}"]
     refuse_names(name_of(path), *names)
+    refuse_archive(name_of(path))
     before, levels = _state_of(path), {}
     original = Original.of(path)
     try:

@@ -544,7 +544,8 @@ class Members(Room):
         good, bad = str(self.room / "good"), str(self.room / "bad")
         for path in (self.plain, self.packed):
             told = f"an archive: name one of its collections, {path}::db.collection, or unpack it"
-            for words in (["query"], ["compare", str(PEOPLE)], ["salvage", "--good", good, "--bad", bad], ["find"], ["dump"]):
+            outputs = ["salvage", "--good", good, "--bad", bad], ["prepare", good]
+            for words in (["query"], ["compare", str(PEOPLE)], ["find"], ["dump"], *outputs):
                 run = run_package(words[0], str(path), *words[1:])
                 self.assertEqual((run.returncode, f"{told}\n" in run.stderr), (2, True), run.stderr)
             for ask in (count_documents, lambda path, program: list(find(path, program=program)), Session, plan_and_count):
