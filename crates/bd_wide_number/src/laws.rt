@@ -1,6 +1,6 @@
 //! Laws of codes. The body of each is empty: its contract is the law.
 
-ghost use Rattle.std.specs.Prelude.{◌≡◌, ◌<◌, ◌≤◌, ◌↔◌, ◌%◌, ◌^◌, ℕ, Option, Some, None, Bool, ℤ, pos, neg_ℤ, ◌*ℤ◌, ◌<ℤ◌};
+ghost use Rattle.std.specs.Prelude.{◌≡◌, ◌<◌, ◌≤◌, ◌↔◌, ◌*◌, ◌%◌, ◌^◌, ℕ, Option, Some, None, Bool, ℤ, pos, neg_ℤ, ◌*ℤ◌, ◌<ℤ◌};
 ghost use Rattle.bd_wide_number.specs.Code.{code_value, number_code};
 ghost use Rattle.bd_wide_number.specs.Value.{IsEqual, IsLess, Value, double_value, finite, has_sign, infinite_bits, least_double, one, signed};
 
@@ -38,4 +38,15 @@ pub fn codes_stand_for_numbers()
         → number_code (Some k) (finite negative size) ≡ Some c
         → c *ℤ pos one ≡ signed negative size *ℤ pos (10 ^ k) }
     ensures rise { (c d : ℤ) → c <ℤ d → code_value c <ℤ code_value d }
+{}
+
+/// What the bits of 1, -1, 0.1, the least and the greatest double stand for, in units of 2 ^ -1074.
+#[tactic(auto, unfolding(crate::specs::Value::magnitude))]
+pub fn samples_of_doubles()
+    ensures one { code_value (pos 4607182418800017408) ≡ pos (2 ^ 1074) }
+    ensures minus_one { code_value (neg_ℤ (pos 4607182418800017408)) ≡ neg_ℤ (pos (2 ^ 1074)) }
+    ensures tenth { code_value (pos 4591870180066957722) ≡ pos (3602879701896397 * 2 ^ 1019) }
+    ensures least { code_value (pos 1) ≡ pos 1 }
+    ensures greatest { code_value (pos 9218868437227405311)
+        ≡ pos (9007199254740991 * 2 ^ 2045) }
 {}

@@ -28,5 +28,6 @@ pub use code::{code_of, whole_of};
 pub use decimal128::{biased_exponent, coefficient, five_bits};
 pub use laws::{
     code_is_of_the_equal_double, codes_rise, codes_stand_for_numbers, equal_numbers_have_one_code,
+    samples_of_doubles,
 };
 pub use number::Number;
