@@ -59,7 +59,7 @@ pub to_turn : (Is : Writes) (others : Others) (nested : Nested) (own : List ℕ 
 unfolding AreElements
 to_turn Is others nested own n b bytes new = elim (front (b ∷ bytes)) as (λ f. Turned Is others nested own n (b ∷ bytes) f new → Turn Is others nested own n (b ∷ bytes) f new) [ None ↦ λ h. h | Some x ↦ λ h. h ]
 
-from_turn : (Is : Writes) (others : Others) (nested : Nested) (own : List ℕ → List ℕ) (n b : ℕ) (bytes new : List ℕ) → Turn Is others nested own n (b ∷ bytes) (front (b ∷ bytes)) new → AreElements Is others nested own (suc n) (b ∷ bytes) new
+pub from_turn : (Is : Writes) (others : Others) (nested : Nested) (own : List ℕ → List ℕ) (n b : ℕ) (bytes new : List ℕ) → Turn Is others nested own n (b ∷ bytes) (front (b ∷ bytes)) new → AreElements Is others nested own (suc n) (b ∷ bytes) new
 unfolding AreElements
 from_turn Is others nested own n b bytes new = elim (front (b ∷ bytes)) as (λ f. Turn Is others nested own n (b ∷ bytes) f new → Turned Is others nested own n (b ∷ bytes) f new) [ None ↦ λ h. h | Some x ↦ λ h. h ]
 
@@ -225,7 +225,7 @@ abbrev pub ScopeTurn : (List ℕ → List ℕ → Type 0) → List ℕ → List 
 ScopeTurn document value new None = new ≡ value
 ScopeTurn document value new (Some at) = (scope : List ℕ) × document (drop at value) scope × (new ≡ number (at + length scope) ++ (take (at - 4) (drop 4 value) ++ scope))
 
-from_scope : (document : List ℕ → List ℕ → Type 0) (value new : List ℕ) → ScopeTurn document value new (scope_at value) → IsScoped document value new
+pub from_scope : (document : List ℕ → List ℕ → Type 0) (value new : List ℕ) → ScopeTurn document value new (scope_at value) → IsScoped document value new
 unfolding IsScoped
 from_scope document value new = elim (scope_at value) as (λ o. ScopeTurn document value new o → (elim o [
   | None ↦ new ≡ value
@@ -292,10 +292,9 @@ as_it_was (Err e) Is nested path type head value a c is ok = _
 as_it_was (Ok x) Is nested path type head value a c is ok = (head ++ value, part_of_element Is nested path type None head value (head ++ value) is refl, ok)
 
 -- one that is looked into, by what of it is
-pub as_part : (Is : Writes) (nested : Nested) (path own : List ℕ) (type : ElementType) (part : Part) (head value a c : List ℕ) → Some part ≡ part_of type → path ≡ own
-    → Adds (IsPart Is nested (Some part) path type head value) a c → Adds (IsElement Is nested own type head value) a c
-as_part Is nested path own type part head value a c is here h =
-    (h.0, part_of_element Is nested own type (Some part) head value h.0 is (subst (λ (p : List ℕ). IsPart Is nested (Some part) p type head value h.0) here h.1), h.2)
+pub as_part : (Is : Writes) (nested : Nested) (path : List ℕ) (type : ElementType) (part : Part) (head value a c : List ℕ) → Some part ≡ part_of type
+    → Adds (IsPart Is nested (Some part) path type head value) a c → Adds (IsElement Is nested path type head value) a c
+as_part Is nested path type part head value a c is h = (h.0, part_of_element Is nested path type (Some part) head value h.0 is h.1, h.2)
 
 pub holds_least : (type : ElementType) (holder : Holder) → part_of type ≡ Some (parts.Values holder) → holder_least holder ≤ least type
 unfolding part_of least holder_least
@@ -305,10 +304,12 @@ holds_least (Kept kinds.CodeScope) holders.CodeScope is = omega arith
 holds_least type holder is = absurd cc
 
 -- the path is cut to what it was
-own_begins : (b : Bool) (old head : List ℕ) → StartsWith (path_of b old head) old
+pub own_begins : (b : Bool) (old head : List ℕ) → StartsWith (path_of b old head) old
 own_begins true old head = take-length old
 own_begins false old head = take-append_seam old (name_in head)
 
+pub path_cut : (old own after new : List ℕ) (size : ℕ) → StartsWith own old → size ≡ length old → StartsWith after own → new ≡ take size after → new ≡ old
+path_cut old own after new size begins here begun cut = cut ∙ ap (λ n. take n after) here ∙ front_then old own after begins begun
+
 pub path_back : (b : Bool) (old head own after new : List ℕ) (size : ℕ) → own ≡ path_of b old head → size ≡ length old → StartsWith after own → new ≡ take size after → new ≡ old
-path_back b old head own after new size is here begun cut =
-    cut ∙ ap (λ n. take n after) here ∙ front_then old own after (subst (λ (p : List ℕ). StartsWith p old) (sym is) (own_begins b old head)) begun
+path_back b old head own after new size is here begun cut = path_cut old own after new size (subst (λ (p : List ℕ). StartsWith p old) (sym is) (own_begins b old head)) here begun cut

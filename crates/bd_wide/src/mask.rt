@@ -18,6 +18,10 @@ impl NumberWriter for Mask {
 
     ghost others_of = { λ _. masked_others };
 
+    fn ignores_paths(&self) -> bool {
+        true
+    }
+
     #[tactic(auto, using(bd_value::proofs::FrontLemmas::fronts), unfolding(crate::specs::Rewritten::least))]
     fn element(
         &self,

@@ -51,6 +51,10 @@ impl NumberWriter for Order {
 
     ghost others_of = { λ _ bytes. bytes };
 
+    fn ignores_paths(&self) -> bool {
+        false
+    }
+
     #[tactic(auto, using(bd_value::proofs::FrontLemmas::fronts))]
     fn element(
         &self,

@@ -1,9 +1,9 @@
 //! A document with other numbers, from left to right.
 
-ghost use Rattle.std.specs.Prelude.{◌≡◌, ◌≤◌, ◌<◌, ◌+◌, ◌-◌, ◌++◌, List, ℕ, length, take, drop, vec_len, OnOk, OnErr, IfSome, Some};
+ghost use Rattle.std.specs.Prelude.{◌≡◌, ◌≤◌, ◌<◌, ◌+◌, ◌-◌, ◌++◌, List, ℕ, length, take, drop, vec_len, OnOk, OnErr, IfSome, IsTrue, Some};
 ghost use Rattle.std.specs.Io.{StartsWith};
 ghost use Rattle.bd_raw.specs.Spelling.{number};
-ghost use Rattle.bd_wide.specs.Rewritten.{least, holder_least, Adds, IsElement, IsPart, AreElements, IsBody, IsScoped, IsNested, IsRewritten, part_of, path_of, scope_at as scope_at_of};
+ghost use Rattle.bd_wide.specs.Rewritten.{least, holder_least, Adds, IgnoresPaths, ServesAs, IsElement, IsPart, AreElements, IsBody, IsScoped, IsNested, IsRewritten, part_of, path_of, separator as separator_of, scope_at as scope_at_of};
 ghost use Rattle.bd_wide.specs.declared.element.Part as parts;
 ghost use Rattle.bd_raw.specs.declared.raw_parts.ElementType as element_type;
 ghost use Rattle.bd_raw.specs.declared.raw_parts.Holder.TheVariants as holders;
@@ -18,6 +18,10 @@ pub trait NumberWriter {
     ghost is_written: { Self → List ℕ → element_type.ElementType → List ℕ → List ℕ → List ℕ → Type 0 };
     /// What is written of bytes from the first element on that can't be passed on.
     ghost others_of: { Self → List ℕ → List ℕ };
+
+    /// Whether what may be written of a number is the same at every path. If so, `element` may be given any path.
+    fn ignores_paths(&self) -> bool
+        ensures { IsTrue result → IgnoresPaths (is_written self.now) };
 
     /// Appends what is written of an element that holds a number.
     fn element(
@@ -145,10 +149,44 @@ fn element<W: NumberWriter>(
         return as_it_is(head, value, out);
     };
     let before = path.len();
-    enter(in_array, head, path)?;
+    enter_element(writer, in_array, head, path)?;
     entered(writer, room, part, typed, head, value, path, out)?;
     path.truncate(before);
     Ok(())
+}
+
+/// Makes the path that of an element, unless the writer ignores paths.
+fn enter_element<W: NumberWriter>(
+    writer: &W,
+    in_array: bool,
+    head: &[u8],
+    path: &mut Vec<u8>,
+) -> Result<(), NoMemory>
+    requires { 2 ≤ length head.now }
+    ensures serves { OnOk result (ServesAs (W.is_written writer.now)
+        path.new.items (path_of in_array path.old.items head.now)) }
+    ensures begins { OnOk result (StartsWith path.new.items path.old.items) }
+{
+    if writer.ignores_paths() {
+        return Ok(());
+    }
+    enter(in_array, head, path)
+}
+
+/// Makes the path that before the names in a value, unless the writer ignores paths.
+fn enter_value<W: NumberWriter>(
+    writer: &W,
+    holder: Holder,
+    path: &mut Vec<u8>,
+) -> Result<(), NoMemory>
+    ensures serves { OnOk result (ServesAs (W.is_written writer.now)
+        path.new.items (path.old.items ++ separator_of holder)) }
+    ensures begins { OnOk result (StartsWith path.new.items path.old.items) }
+{
+    if writer.ignores_paths() {
+        return Ok(());
+    }
+    path.extend_from_slice(separator(holder))
 }
 
 /// Appends an element that is not looked into.
@@ -187,7 +225,7 @@ fn entered<W: NumberWriter>(
         Part::Number => return writer.element(path, typed, head, value, out),
         Part::Values(holder) => holder,
     };
-    path.extend_from_slice(separator(holder))?;
+    enter_value(writer, holder, path)?;
     out.extend_from_slice(head)?;
     nested(writer, room, holder, value, path, out)
 }

@@ -29,6 +29,10 @@ impl NumberWriter for Wrap {
 
     ghost others_of = { λ _ bytes. bytes };
 
+    fn ignores_paths(&self) -> bool {
+        true
+    }
+
     #[tactic(auto, using(bd_value::proofs::FrontLemmas::fronts), unfolding(crate::specs::Rewritten::least))]
     fn element(
         &self,

@@ -5,6 +5,7 @@ use Rattle.bd_raw.specs.declared.raw_parts.Holder.TheVariants as holders
 use Rattle.std.proofs.Common.{length-drop}
 use Rattle.std.proofs.lemmas.Bool.Decides.{nat_tests}
 use Rattle.bd_value.proofs.FrontLemmas.{front_more}
+use Rattle.bd_wide.proofs.PathLemmas as paths
 use Rattle.bd_wide.proofs.WalkLemmas as walks
 use Rattle.bd_wide.proofs.walk.+walking.Goals as goal
 
@@ -35,13 +36,20 @@ element-returns-in_default-clause-ok g t c =
 
 pub element-returns-clause-ok : goal.element-returns-clause-ok
 element-returns-clause-ok g t c =
-    walks.as_part (g.W.NumberWriter.is_written c.args.writer.now) (IsNested (g.W.NumberWriter.is_written c.args.writer.now) (g.W.NumberWriter.others_of c.args.writer.now) c.args.room) c.enter.new.path.items (path_of c.args.in_array c.args.path.now.items c.args.head.now) c.args.typed _ c.args.head.now c.args.value.now c.args.out.now.items c.entered.new.out.items
-    c.in-Some.ensures c.in_ok-enter.ensures c.in_ok-entered.ensures.ok
+    let own = path_of c.args.in_array c.args.path.now.items c.args.head.now in
+    walks.as_part (g.W.NumberWriter.is_written c.args.writer.now) (IsNested (g.W.NumberWriter.is_written c.args.writer.now) (g.W.NumberWriter.others_of c.args.writer.now) c.args.room) own c.args.typed _ c.args.head.now c.args.value.now c.args.out.now.items c.entered.new.out.items c.in-Some.ensures
+    (paths.part_added (g.W.NumberWriter.is_written c.args.writer.now) (g.W.NumberWriter.others_of c.args.writer.now) c.args.room (Some c.in-Some.part) c.enter_element.new.path.items own c.args.typed c.args.head.now c.args.value.now c.args.out.now.items c.entered.new.out.items
+    c.in_ok-enter_element.ensures.serves c.in_ok-entered.ensures.ok)
 
 pub element-returns-clause-path : goal.element-returns-clause-path
 element-returns-clause-path g t c =
-    walks.path_back c.args.in_array c.args.path.now.items c.args.head.now c.enter.new.path.items c.entered.new.path.items c.truncate.new.self.items c.len-before.result
-    c.in_ok-enter.ensures (search rules) c.in_ok-entered.ensures.path c.truncate.ensures.items
+    walks.path_cut c.args.path.now.items c.enter_element.new.path.items c.entered.new.path.items c.truncate.new.self.items c.len-before.result
+    c.in_ok-enter_element.ensures.begins (search rules) c.in_ok-entered.ensures.path c.truncate.ensures.items
+
+pub entered-returns-clause-ok : goal.entered-returns-clause-ok
+entered-returns-clause-ok g t c =
+    paths.values_added c.nested.result (g.W.NumberWriter.is_written c.args.writer.now) (g.W.NumberWriter.others_of c.args.writer.now) c.args.room c.args.part c.in-Values.holder c.enter_value.new.path.items c.args.path.now.items c.args.typed c.args.head.now c.args.value.now c.args.out.now.items c.extend_from_slice.new.self.items c.nested.new.out.items
+    c.in-Values.is c.in_ok-enter_value.ensures.serves c.in_ok-extend_from_slice.ensures.items c.nested.ensures.ok
 
 pub elements-loop-typed-preserved : goal.elements-loop-typed-preserved
 elements-loop-typed-preserved g t c =
