@@ -14,7 +14,7 @@ from ._dumps import Dump, dump_of
 from ._errors import BsonfindError, CommandError, DumpError
 from ._fields import id_of
 from ._lines import Batches
-from ._ordered import Asked, Questions, can_be_read_again, originals, try_request
+from ._ordered import Asked, Questions, can_be_read_again, compares_wide, originals, try_request
 from ._query import MOST_HELD, moved
 from ._requests import Request
 from ._sources import Source
@@ -63,14 +63,13 @@ class Ids:
 
     def refuse_bad(self, program: str) -> bool:
         """Raises the first id that is not taken, by its line; gives whether there are doubles or decimal128."""
-        is_wide = False
         for texts in self.chunks():
             try:
-                is_wide |= try_request(_request(texts), program)
+                try_request(_request(texts), program)
             except CommandError:
                 self._refuse_first(texts, program)
                 raise
-        return is_wide
+        return any(compares_wide(_request(texts)) for texts in self.chunks())
 
     def _refuse_first(self, texts: list[str], program: str) -> None:
         for text in texts:

@@ -26,12 +26,13 @@ from ._dumps import Dump
 from ._errors import ArgumentError, BsonfindError, DumpError, PartError, ProgramError
 from ._faults import Fault, faults_of, finish_check
 from ._lines import Lines
+from ._ordered import AnyLines, Original, Questions, compares_wide, try_request
 from ._parts import Part
 from ._plain import plain_pieces
 from ._processes import Group, Run
 from ._requests import Filter, Request, Sort, seconds, whole
 from ._sources import Input
-from ._wide import WIDE, Filtered
+from ._wide import WIDE, Filtered, is_wide
 
 T = TypeVar("T")
 Map = Callable[[Callable[[Part], Any], Sequence[Part]], Iterable[Any]]
@@ -86,8 +87,7 @@ def find_parts(
     with _Asking(program, workers, map, timeout) as asking:
         asking.try_request(request)
         packed = asking.each(parts, partial(_packed_answer, request.of_part(), program))
-        joined = Lines(Dump(pieces=packed), request, program, group=asking.group)
-        lines = [line for batch in joined.batches() for line in batch]
+        lines = _joined_answer(packed, request, program, asking.group)
     return [document_of(line) for line in lines]
 
 
@@ -137,7 +137,7 @@ class _Asking:
 
     def try_request(self, request: Request) -> None:
         """Asks no documents, so that a refused request or a missing program is reported before any part is asked."""
-        list(Lines(Dump(path=os.devnull), request, self._program, group=self.group).batches())
+        try_request(request, self._program, self.group)
 
     def each(self, parts: Sequence[Part], ask: Callable[[Group, Part], T]) -> list[T]:
         """What each part gives, in their order. Where one fails, or the caller is interrupted, all runs of this process end."""
@@ -197,7 +197,37 @@ def _part_error(part: Part, error: BsonfindError | OSError) -> PartError:
 
 
 def _packed_answer(request: Request, program: str, group: Group, part: Part) -> bytes:
-    """The documents of a part that are found, as a dump."""
+    """The documents of a part that are found, as a dump. Those of a part with doubles or decimal128 are found by a copy."""
+    if not compares_wide(request):
+        try:
+            return _packed_lines(request, program, group, part)
+        except DumpError as error:
+            if not is_wide(error):
+                raise
+    original = Original.of_pieces(part.pieces())
+    try:
+        found = AnyLines(original, request, program, is_bson=True, group=group)
+        return b"".join(document for batch in found.batches() for document in batch)
+    finally:
+        original.close()
+
+
+def _joined_answer(packed: list[bytes], request: Request, program: str, group: Group) -> list[bytes]:
+    """The lines of the answer over what the parts gave."""
+    if not compares_wide(request):
+        try:
+            return [line for batch in Lines(Dump(pieces=packed), request, program, group=group).batches() for line in batch]
+        except DumpError as error:
+            if not is_wide(error):
+                raise
+    original = Original.of_pieces(packed)
+    try:
+        return [line for batch in AnyLines(original, request, program, is_known=True, group=group).batches() for line in batch]
+    finally:
+        original.close()
+
+
+def _packed_lines(request: Request, program: str, group: Group, part: Part) -> bytes:
     dump = Dump(pieces=plain_pieces(part))
     if request.is_long:
         batches = Lines(dump, request, program, group=group).batches()
@@ -226,8 +256,19 @@ def _finish(found: Run, packed: Run) -> None:
 
 
 def _count(request: Request, program: str, group: Group, part: Part) -> int:
-    with Connection(Dump(pieces=part.pieces()), program, group=group) as connection:
-        return connection.do(_steps.count(request))
+    if not compares_wide(request):
+        try:
+            with Connection(Dump(pieces=part.pieces()), program, group=group) as connection:
+                return connection.do(_steps.count(request))
+        except DumpError as error:
+            if not is_wide(error):
+                raise
+    original = Original.of_pieces(part.pieces())
+    try:
+        with Questions(original, program, group=group) as questions:
+            return questions.do(_steps.count, request)
+    finally:
+        original.close()
 
 
 def _check(program: str, group: Group, part: Part) -> Check:

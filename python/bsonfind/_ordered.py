@@ -238,11 +238,16 @@ class Questions:
     """The connections over a dump: over the dump itself, or over a copy for each set of paths of which requests need codes."""
 
     def __init__(
-        self, path: File | Original, program: str, timeout: float | None = None, copy: File | None = None
+        self,
+        path: File | Original,
+        program: str,
+        timeout: float | None = None,
+        copy: File | None = None,
+        group: Group | None = None,
     ) -> None:
-        """A dump whose original is given is known to need a copy."""
-        self._program, self._timeout = program, timeout
-        self.group, self._lock = Group(), threading.RLock()
+        """A dump whose original is given is known to need a copy. With a timeout each connection has a group of its own."""
+        self._program, self._timeout, self._shared = program, timeout, group
+        self.group, self._lock = group or Group(), threading.RLock()
         self._path, self._original = ("", path) if isinstance(path, Original) else (path, None)
         self._is_owner = self._original is None
         if self._is_owner and not can_be_read_again(self._path):
@@ -326,7 +331,7 @@ class Questions:
                 return known
             dump = Dump(path=f"/dev/fd/{file.fileno()}")
             try:
-                connection = Connection(dump, self._program, self._timeout)
+                connection = Connection(dump, self._program, self._timeout, self._shared)
             except DumpError as error:
                 raise (self.original.fault(self._program, self.group) if error.fault else None) or error from None
         for path, sparse in self._indexes:
@@ -554,15 +559,18 @@ def originals(name: str, start: int, most: int) -> Iterator[tuple[Input, Origina
         raise errors[0]
 
 
-def try_request(request: Request, program: str) -> bool:
-    """Asks no documents, so that a refused request is raised; gives whether it compares by doubles or decimal128."""
-    query = read_query(request.filter, paths_of(request))
+def compares_wide(request: Request) -> bool:
+    """Whether a request compares by doubles or decimal128."""
+    query = read_query(request.filter)
+    return query is not None and query.is_wide
+
+
+def try_request(request: Request, program: str, group: Group | None = None) -> None:
+    """Asks no documents, so that a refused request is raised."""
+    query = query_of(request, False, program)
     levels: dict[str, int] = {}
-    if query and query.is_wide:
-        if query.refusals:
-            raise query.refusals[0]
+    if query:
         query.settle(levels)
         request = replace(request, filter=query.rewritten(levels))
-    with places(query, levels), Run([program, "find", "-", *request.words()]) as run:
-        run.finish()
-    return query is not None and query.is_wide
+    with places(query, levels):
+        list(Lines(Dump(path=os.devnull), request, program, group=group).batches())

@@ -9,7 +9,7 @@ from ._backups import Dump
 from ._errors import BsonfindError, DumpError
 from ._faults import Fault
 from ._lines import Batches, counted, lines_of
-from ._ordered import AnyLines, can_be_read_again, originals, try_request
+from ._ordered import AnyLines, can_be_read_again, compares_wide, originals, try_request
 from ._processes import Group
 from ._requests import Request
 from ._sources import Input, Source
@@ -29,7 +29,8 @@ class Found(NamedTuple):
 
 def query_dumps(dumps: Sequence[Dump], request: Request, jobs: int, program: str) -> Iterator[Found]:
     """The documents of dumps that match, in the order of the dumps; so many are asked at once. A refused request is raised."""
-    is_copied = try_request(request, program)
+    try_request(request, program)
+    is_copied = compares_wide(request)
     group = Group()
     ahead: deque[Iterator[Found]] = deque()
     try:

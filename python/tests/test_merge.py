@@ -141,15 +141,15 @@ class Parts(Room):
 class BadInput(Room):
     def test_part_with_a_fault(self) -> None:
         data = PEOPLE.read_bytes()
-        parts = plan(self.file(data[:39978] + DOUBLE + data[39978:]), 10_000)
+        parts = plan(self.file(data[:39978] + DAMAGED + data[39978:]), 10_000)
         for ask in (find_parts, count_parts):
             with ThreadPoolExecutor(2) as pool, self.assertRaises(PartError) as raised:
                 ask(parts, OLD, map=pool.map, program=PROGRAM)
             error = raised.exception
-            self.assertEqual(error.fault, (220, 39982, "d", "double"))
+            self.assertEqual(error.fault, (220, 39985, "d", "bad boolean"))
             self.assertIn(error.part, parts)
             self.assertLessEqual(error.part.offset, 39978)
-            self.assertIn('document 220, byte 39982, path "d": double', str(error))
+            self.assertIn('document 220, byte 39985, path "d": bad boolean', str(error))
             self.assertEqual(str(pickle.loads(pickle.dumps(error))), str(error))
 
     def test_file_that_shrank(self) -> None:
@@ -179,7 +179,7 @@ class BadInput(Room):
 
     def test_request_that_is_refused_once(self) -> None:
         parts, program = plan(PEOPLE, 10_000), self.counting()
-        for number, (query, sort) in enumerate((({"a": {"$above": 1}}, None), ({"a": 1.5}, None), ({}, {"a": 2})), 1):
+        for number, (query, sort) in enumerate((({"a": {"$above": 1}}, None), ({"a": {"$size": 1.5}}, None), ({}, {"a": 2})), 1):
             with self.assertRaises(CommandError):
                 find_parts(parts, query, sort=sort, map=self.not_asked, program=program)
             self.assertEqual(len(self.starts()), number)

@@ -13,7 +13,22 @@ from decimal import Decimal
 from typing import List
 from unittest import mock
 
-from bsonfind import AsyncCursor, AsyncSession, CommandError, DumpError, Session, SessionEndedError, count_documents, find, find_one, prepare
+from bsonfind import (
+    AsyncCursor,
+    AsyncSession,
+    CommandError,
+    DumpError,
+    PartError,
+    Session,
+    SessionEndedError,
+    count_documents,
+    count_parts,
+    find,
+    find_one,
+    find_parts,
+    plan,
+    prepare,
+)
 
 from .archives import archive
 from .support import DAMAGED, PATIENCE, PEOPLE, PROGRAM, Room, environment, run_package
@@ -293,6 +308,32 @@ class AsyncFinds(Goods, unittest.IsolatedAsyncioTestCase):
                 with self.assertRaises(asyncio.CancelledError):
                     await cursor.__anext__()
             self.assertEqual([GOODS.index(it) async for it in cursor], [0, 2, 3])
+
+
+class Parts(Goods):
+    def test_parts(self) -> None:
+        """Of dumps with doubles in some parts alone; the answer is that of `find` over the whole, and the count too."""
+        path = self.file(b"".join(GOODS) + PEOPLE.read_bytes() + b"".join(GOODS), "parts.bson")
+        parts = plan(path, 2000)
+        for filter, sort in (
+            ({"price": {"$gt": 9.25}}, [("price", -1)]),
+            ({"cost": Decimal("19")}, None),
+            ({"_id": {"$lt": 3}}, [("_id", -1), ("price", 1)]),
+            ({"age": {"$gte": 98.5}}, [("name", 1)]),
+            ({"age": 99}, None),
+            ({"none": 1.5}, None),
+        ):
+            for more in ({}, {"skip": 1, "limit": 2}):
+                whole = list(find(path, filter, sort=sort, decode="bytes", program=PROGRAM, **more))
+                self.assertEqual(find_parts(parts, filter, sort=sort, decode="bytes", workers=4, program=PROGRAM, **more), whole)
+            self.assertEqual(count_parts(parts, filter, workers=4, program=PROGRAM), count_documents(path, filter, program=PROGRAM))
+        with self.assertRaisesRegex(CommandError, "types of numbers"):
+            count_parts(parts, {"a": 1.5, "price": {"$type": "double"}}, program=PROGRAM)
+        bad = self.file(b"".join(GOODS) + DAMAGED, "bad.bson")
+        for ask in (find_parts, count_parts):
+            with self.assertRaises(PartError) as raised:
+                ask(plan(bad, 100), {"price": 9.5}, program=PROGRAM)
+            self.assertEqual(raised.exception.fault, (6, len(b"".join(GOODS)) + 7, "d", "bad boolean"))
 
 
 class Copies(Goods):

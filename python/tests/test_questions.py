@@ -28,7 +28,7 @@ from bsonfind import (
 )
 
 from .bson import document, field, int32, text
-from .support import DOUBLE, PATIENCE, PEOPLE, PEOPLE_LINES, PROGRAM, SHOP, SHOP_LINES, Room, environment
+from .support import DAMAGED, PATIENCE, PEOPLE, PEOPLE_LINES, PROGRAM, SHOP, SHOP_LINES, Room, environment
 
 OLD = {"age": {"$gte": 90}}
 OLD_LINES = [line for line in PEOPLE_LINES if int(json.loads(line)["age"]["$numberInt"]) >= 90]
@@ -216,8 +216,8 @@ class LongFilters(Room):
             self.assertEqual(raised.exception.args, ("json", 5, "not in the profile", at))
         for ask in (find_parts, count_parts):
             with self.assertRaises(PartError) as failed:
-                ask(plan(self.file(DOUBLE)), {"a": long}, program=PROGRAM)
-            self.assertEqual(failed.exception.fault, (0, 4, "d", "double"))
+                ask(plan(self.file(DAMAGED)), {"a": long}, program=PROGRAM)
+            self.assertEqual(failed.exception.fault, (0, 7, "d", "bad boolean"))
 
 
 class Parts(Room):

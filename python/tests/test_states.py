@@ -376,13 +376,13 @@ class Failing(Room):
         program = self.script(
             '[ "$1" = pack ] && exec "$PROGRAM" "$@"\n'
             '[ "$(dd bs=1 count=1 2>/dev/null | od -An -tu1 | tr -d " ")" = 16 ] || exec sleep 600\n'
-            'echo "bsonfind: document 0, byte 4, path \\"d\\": double" >&2\nexit 1'
+            'echo "bsonfind: document 0, byte 4, path \\"d\\": bad boolean" >&2\nexit 1'
         )
         parts = plan(PEOPLE, 40_000) + plan(self.file(DOUBLE))
         begun = time.monotonic()
         with mock.patch("bsonfind._merge._Asking.try_request"), self.assertRaises(PartError) as raised:
             find_parts(parts, workers=4, program=program)
-        self.assertEqual((raised.exception.part, raised.exception.fault), (parts[-1], (0, 4, "d", "double")))
+        self.assertEqual((raised.exception.part, raised.exception.fault), (parts[-1], (0, 4, "d", "bad boolean")))
         self.assertLess(time.monotonic() - begun, 30)
 
 
