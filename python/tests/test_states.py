@@ -194,7 +194,7 @@ class Interrupts(Room):
 
     def test_in_the_middle_of_an_answer(self) -> None:
         answer = find(PEOPLE, decode="bytes", program=PROGRAM)
-        with mock.patch("bsonfind._answers.counted", side_effect=KeyboardInterrupt), self.assertRaises(KeyboardInterrupt):
+        with mock.patch("bsonfind._lines.counted", side_effect=KeyboardInterrupt), self.assertRaises(KeyboardInterrupt):
             list(answer)
         with self.assertRaises(CursorStateError):
             next(answer)
