@@ -21,7 +21,7 @@ from . import _framing, _steps
 from ._codes import CODE, MOST_LEVEL, Probe, Query, read_json, read_query, refused, word_of
 from ._connections import Connection
 from ._decoding import Decode, Texts, decoder
-from ._dumps import Dump, File, dump_of, file_of, is_packed, name_of, opened, refuse_archive, unpacked
+from ._dumps import Dump, File, dump_of, file_of, is_packed, name_of, opened, pieces_of, refuse_archive, unpacked
 from ._errors import CancelledError, CommandError, DumpError, ProgramError
 from ._lines import Batches, Lines, lines_of
 from ._messages import error_of
@@ -64,17 +64,7 @@ class Original:
     @classmethod
     def of_pieces(cls, pieces: Iterable[bytes]) -> Original:
         """Those of some bytes."""
-        file = temporary_file()
-        try:
-            for piece in pieces:
-                try:
-                    file.write(piece)
-                except OSError as error:
-                    raise _no_room() from error
-        except BaseException:
-            file.close()
-            raise
-        return cls(file)
+        return Spool(pieces).original()
 
     @property
     def dump(self) -> Dump:
@@ -133,6 +123,42 @@ class Original:
     def close(self) -> None:
         """Closes the file."""
         self._file.close()
+
+
+class Spool:
+    """Bytes that can be read once, which are kept in a file without a name as they pass."""
+
+    def __init__(self, pieces: Iterable[bytes]) -> None:
+        self._file = temporary_file()
+        self.pieces = self._kept(pieces)
+
+    @classmethod
+    def of(cls, path: File) -> Spool:
+        """Those of a pipe, which is opened once they are asked for."""
+        return cls(unpacked(path) if is_packed(path) else _pieces_of(path))
+
+    def _kept(self, pieces: Iterable[bytes]) -> Iterator[bytes]:
+        for piece in pieces:
+            try:
+                self._file.write(piece)
+            except OSError as error:
+                raise _no_room() from error
+            yield piece
+
+    def original(self) -> Original:
+        """The documents, once all is read."""
+        try:
+            for _ in self.pieces:
+                pass
+        except BaseException:
+            self._file.close()
+            raise
+        return Original(self._file)
+
+
+def _pieces_of(path: File) -> Iterator[bytes]:
+    with opened(path) as file:
+        yield from pieces_of(file, path)
 
 
 def temporary_file() -> BinaryIO:
@@ -250,8 +276,6 @@ class Questions:
         self.group, self._lock = group or Group(), threading.RLock()
         self._path, self._original = ("", path) if isinstance(path, Original) else (path, None)
         self._is_owner = self._original is None
-        if self._is_owner and not can_be_read_again(self._path):
-            self._original = Original.of(self._path)
         self._copies: dict[frozenset[tuple[str, int]], Connection] = {}
         self._indexes: list[tuple[str, bool]] = []
         # The probes of which it is known that no document matches, each with its connection.
@@ -274,12 +298,15 @@ class Questions:
         if not self._is_owner:
             self._connection_by(Query("{}"), self._levels)
             return
-        dump = self._original.dump if self._original else dump_of(self._path)
+        spool = None if can_be_read_again(self._path) else Spool.of(self._path)
+        dump = Dump(pieces=spool.pieces) if spool else dump_of(self._path)
         try:
             self.own = Connection(dump, self._program, self._timeout)
+            self._original = spool and spool.original()
         except DumpError as error:
             if not is_wide(error):
                 raise
+            self._original = spool and spool.original()
             self._connection_by(Query("{}"), self._levels)
 
     @property
@@ -444,9 +471,9 @@ class AnyLines(Lines):
         paths = paths_of(self._request)
         query = read_query(self._request.filter, paths, self._is_copied)
         try:
-            if self._path is not None and not can_be_read_again(self._path):
-                self._original = Original.of(self._path)
-                self._dump = self._original.dump
+            spool = Spool.of(self._path) if self._path is not None and not can_be_read_again(self._path) else None
+            if spool:
+                self._dump = Dump(pieces=spool.pieces)
             if not self._is_copied and not (query and query.is_wide):
                 try:
                     yield from super().batches()
@@ -457,6 +484,7 @@ class AnyLines(Lines):
                     query = read_query(self._request.filter, paths, True)
             if query is None:
                 raise _unread(self._request, self._program)
+            self._original = self._original or (spool and spool.original())
             yield from self._by_copy(query)
         finally:
             if self._original and self._path is not None:
