@@ -14,6 +14,8 @@ from typing import Callable, Iterable, List
 ROOT = Path(__file__).resolve().parents[2]
 PACKAGE = ROOT / "python"
 PROGRAM = os.environ.get("BSONFIND") or shutil.which("bsonfind") or str(ROOT / "bsonfind")
+# The filter stands beside the program, and a script in place of the program finds it on PATH.
+os.environ["PATH"] = os.pathsep.join([os.path.dirname(os.path.abspath(PROGRAM)), os.environ.get("PATH", os.defpath)])
 PEOPLE = ROOT / "examples/people.bson"
 SHOP = ROOT / "examples/shop.bson"
 # The documents of the examples, as another program wrote them.
