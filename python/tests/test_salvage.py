@@ -266,6 +266,7 @@ class Salvages(Room):
         with open(path, "r+b") as file:
             file.truncate(600_000_000)
         program = self.script('ulimit -S -v unlimited\nexec "$PROGRAM" "$@"')
+        self.script('ulimit -S -v unlimited\nexec "${PROGRAM%/*}/bsonwide" "$@"', "bsonwide")
         words = ["-m", "bsonfind", "--program", program, "salvage", str(path), "--good", "/dev/null", "--bad", "/dev/null"]
         limited = ["sh", "-c", 'ulimit -S -v 262144; exec "$@"', "sh", sys.executable, *words]
         run = subprocess.run(limited, env=environment(), stdout=subprocess.PIPE, text=True)
