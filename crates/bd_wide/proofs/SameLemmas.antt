@@ -163,7 +163,7 @@ body_same Is others refuses same f g below room own at value new some counts fit
     h.2 ∙ (λ t. number (size t) ++ (body t ++ last)) ∙ ap₂ (λ (a c : List ℕ). a ++ (inner ++ c)) (number_back value (omega (arith, some)) fits) (sym end)
     ∙ ap (λ l. take 4 value ++ l) (take-append-drop (length value - 5) rest) ∙ take-append-drop 4 value
 
-scope_count : (count size n at : ℕ) (b : Bool) → (count == 0 || nat_lt size (8 + count + 5) || not (n == size - (8 + count))) ≡ b → (if b then None else Some (8 + count)) ≡ Some at → (n ≡ size - at) × (8 + count ≡ at)
+pub scope_count : (count size n at : ℕ) (b : Bool) → (count == 0 || nat_lt size (8 + count + 5) || not (n == size - (8 + count))) ≡ b → (if b then None else Some (8 + count)) ≡ Some at → (n ≡ size - at) × (8 + count ≡ at)
 scope_count count size n at true is h = absurd cc
 scope_count count size n at false is h =
     let e : 8 + count ≡ at = cc in

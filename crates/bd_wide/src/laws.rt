@@ -2,6 +2,8 @@
 
 ghost use Rattle.std.specs.Prelude.{◌≡◌, ◌<◌, [], List, ℕ, None, length, slice_index};
 ghost use Rattle.bd_raw.specs.Sizes.{number_of};
+ghost use Rattle.bd_raw.specs.Spelling.{IsDocument};
+ghost use Rattle.bd_value.specs.Tree.{Doc};
 ghost use Rattle.bd_wide.specs.Mask.{IsMasked, masked_others};
 ghost use Rattle.bd_wide.specs.Order.{IsOrdered};
 ghost use Rattle.bd_wide.specs.Refused.{first_refused};
@@ -25,5 +27,16 @@ pub fn wrap_leaves_others()
 pub fn order_leaves_others()
     ensures { (bytes new : List ℕ) → ((i : ℕ) → slice_index bytes i < 256)
         → number_of bytes ≡ length bytes → first_refused refuses_wide bytes ≡ None
+        → IsRewritten (IsOrdered []) (λ others. others) bytes new → new ≡ bytes }
+{}
+
+/// A document that bsonfind reads stays as it is: masked, wrapped, and, apart from its number,
+/// ordered where no code is asked for.
+pub fn read_documents_stay()
+    ensures masked { (d : Doc) (bytes new : List ℕ) → IsDocument d bytes
+        → IsRewritten IsMasked masked_others bytes new → new ≡ bytes }
+    ensures wrapped { (d : Doc) (bytes new : List ℕ) → IsDocument d bytes
+        → IsRewritten IsWrapped (λ others. others) bytes new → new ≡ bytes }
+    ensures ordered { (d : Doc) (bytes new : List ℕ) → IsDocument d bytes
         → IsRewritten (IsOrdered []) (λ others. others) bytes new → new ≡ bytes }
 {}

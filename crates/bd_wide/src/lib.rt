@@ -35,7 +35,7 @@ mod wrap;
 
 pub use element::Part;
 pub use find::{Found, Refusal, Refuser, find_refused};
-pub use laws::{mask_keeps_length, order_leaves_others, wrap_leaves_others};
+pub use laws::{mask_keeps_length, order_leaves_others, read_documents_stay, wrap_leaves_others};
 pub use mask::Mask;
 pub use order::{Order, Outcome, Unfiltered, Unordered, write_ordered};
 pub use paths::{OrderPath, read_order};
