@@ -13,9 +13,9 @@ from . import _steps
 from ._codes import Query
 from ._decoding import Decode, Dicts, Texts, decoder
 from ._dumps import Dump, File, dump_of
-from ._errors import BsonfindError, CancelledError, DumpError, SessionEndedError, TimedOutError
+from ._errors import BsonfindError, CancelledError, CommandError, DumpError, SessionEndedError, TimedOutError
 from ._messages import error_of
-from ._ordered import Original, can_be_read_again, places, query_of, refused_nan, temporary_file, write_copy
+from ._ordered import Original, can_be_read_again, places, query_of, refused_by, temporary_file, write_copy
 from ._processes import Descriptor, Feeder, Group, check_owner, file_for_messages, start_error
 from ._requests import Filter, Request, Sort, seconds
 from ._steps import Command, Hint, Reading, Steps, Use, kill, use_of
@@ -292,16 +292,23 @@ class _Questions:
         levels = dict(self._levels)
         async with self._lock:
             connection = await self._connection_by(query, levels)
+        rewritten = replace(request, filter=query.rewritten(levels))
         for probe in query.probes_at(levels):
-            if await connection.do(_steps.count(Request(probe.text))):
-                raise refused_nan(probe)
+            try:
+                is_found = await connection.do(_steps.count(Request(probe.text))) > 0
+            except CommandError:
+                # The query has this fault too, and perhaps one before it, which is told.
+                await connection.do(_steps.count(rewritten))
+                raise
+            if is_found:
+                raise refused_by(probe)
         assert self._original
         original = self._original
 
         def given(lines: list[bytes], is_bson: bool) -> list[bytes]:
             return original.given(lines, is_bson, self._program, self._group)
 
-        return _Asked(connection, replace(request, filter=query.rewritten(levels)), given, query, levels)
+        return _Asked(connection, rewritten, given, query, levels)
 
     async def _connection_by(self, query: Query, levels: dict[str, int]) -> _Connection:
         """The connection over a copy for a query, which a thread writes."""

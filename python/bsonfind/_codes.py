@@ -43,8 +43,11 @@ _MAY_BE_WIDE = re.compile(r"\$numberD|[0-9][.eE]")
 _LIKE_A_FACTOR = re.compile(r"\*10{0,18}$")
 # Of one path with many numeric names there are more readings than are asked for.
 _MOST_READINGS = 64
-# How many names below the readings of a path are looked at, and how many paths have codes at most.
-_MOST_BELOW, _MOST_PATHS = 4, 1000
+# Why a query is refused for what is in the dump.
+_HAS_NAN = 'the field has NaN, which counts as the least number: add "$ne":{"$numberDouble":"NaN"}'
+_TOO_DEEP = "the dump has more numbers as names below one another than can be asked for"
+# How many more numbers as names than in a path of a query paths with codes may have, and how many paths have codes at most.
+_MOST_MORE, _MOST_PATHS = 4, 1000
 
 
 def refused(text: str, place: Sequence[str] = ()) -> CommandError:
@@ -214,7 +217,7 @@ def readings(names: Sequence[str]) -> tuple[str, ...]:
     found = [(names[0],)]
     for name in names[1:]:
         longer = [(*it, name) for it in found]
-        found = [*longer, *found] if name.isascii() and name.isdigit() else longer
+        found = [*longer, *found] if _is_number(name) else longer
         if len(found) > _MOST_READINGS:
             raise refused("a path with so many numbers as names cannot be asked for", [".".join(names)])
     return tuple(dict.fromkeys(".".join(it) for it in found))
@@ -230,11 +233,13 @@ class Operand:
 
 
 class Probe(NamedTuple):
-    """A filter that matches the documents which have NaN at some paths, and the names to what it is for."""
+    """A filter that matches the documents for which a query is refused, and why; with the names to what it is for in the query."""
 
-    paths: tuple[str, ...]
     text: str
-    place: tuple[str, ...]
+    why: str
+    place: tuple[str, ...] = ()
+    # Where paths are given, the filter is asked if one of them has codes.
+    paths: tuple[str, ...] = ()
 
 
 @dataclass
@@ -242,12 +247,14 @@ class Query:
     """What a request says of numbers: those that it compares by, and the paths that are read in several ways.
 
     `probes` are for where it says that values are less than another one: NaN has the least code, and a server does not find it.
+    `deep` are paths with so many numbers as names that nothing below them has codes.
     """
 
     text: str
     operands: list[Operand] = field(default_factory=list)
     groups: list[tuple[str, ...]] = field(default_factory=list)
     probes: list[Probe] = field(default_factory=list)
+    deep: set[str] = field(default_factory=set)
     # Types of numbers and paths that cannot be asked for, once numbers were rewritten.
     refusals: list[CommandError] = field(default_factory=list)
 
@@ -259,10 +266,11 @@ class Query:
     def settle(self, levels: dict[str, int]) -> None:
         """Adds the paths of which the query needs codes, and raises levels where its numbers have none by them."""
         before = None
-        while before != levels:
-            before = dict(levels)
+        self.deep.clear()
+        while before != (levels, self.deep):
+            before = dict(levels), set(self.deep)
             for group in self.groups:
-                _make_alike(group, levels)
+                _make_alike(group, levels, self.deep)
             for operand in self.operands:
                 _settle_operand(operand, levels)
 
@@ -288,8 +296,9 @@ class Query:
         return len(self.text[: at + place - moved].encode())
 
     def probes_at(self, levels: dict[str, int]) -> list[Probe]:
-        """The probes of paths at which there may be NaN."""
-        return [it for it in self.probes if any(levels.get(path) == CODE for path in it.paths)]
+        """The filters that must match no document: of paths at which there may be NaN, and of numbers as names too deep for codes."""
+        nan = [it for it in self.probes if any(levels.get(path) == CODE for path in it.paths)]
+        return [*nan, *(Probe(json.dumps({it: {"$exists": True}}), _TOO_DEEP) for it in sorted(self.deep))]
 
     def _edits(self, levels: dict[str, int]) -> list[tuple[Number, str]]:
         edits = []
@@ -300,20 +309,37 @@ class Query:
         return edits
 
 
-def _make_alike(group: tuple[str, ...], levels: dict[str, int]) -> None:
+def _make_alike(group: tuple[str, ...], levels: dict[str, int], deep: set[str]) -> None:
     """Gives all readings of a path, and what is below them, the same levels.
 
-    A reading may be below another one, so that this has no end by itself: it ends some names below the longest reading.
+    A reading may be below another one, so that this has no end by itself. It ends at paths with some more numbers as names; those
+    at which it ends become deep.
     """
-    longest = max(it.count(".") for it in group) + _MOST_BELOW
+    most = max(map(_numbers_in, group)) + _MOST_MORE
     for path in group:
-        for known in [it for it in levels if it == path or it.startswith(f"{path}.")]:
+        for known in [it for it in (*levels, *deep) if it == path or it.startswith(f"{path}.")]:
             for other in group:
                 name = other + known[len(path) :]
-                if name.count(".") <= longest:
+                if known in levels and (name in levels or _numbers_in(name) <= most):
                     levels[name] = max(levels.get(name, CODE), levels[known])
-    if len(levels) > _MOST_PATHS:
+                elif name not in levels and _numbers_in(name) > most:
+                    deep.add(_to_number(name, most + 1))
+    if len(levels) + len(deep) > _MOST_PATHS:
         raise refused("a query with so many numbers as names cannot be asked")
+
+
+def _is_number(name: str) -> bool:
+    return name.isascii() and name.isdigit()
+
+
+def _numbers_in(path: str) -> int:
+    return sum(map(_is_number, path.split(".")))
+
+
+def _to_number(path: str, count: int) -> str:
+    """The names of a path as far as its last number of so many."""
+    names = path.split(".")
+    return ".".join(names[: [at for at, name in enumerate(names) if _is_number(name)][count - 1] + 1])
 
 
 def _settle_operand(operand: Operand, levels: dict[str, int]) -> None:
@@ -424,7 +450,7 @@ class _Reader:
                 self._query.refusals.append(refused("NaN is neither less nor greater than a number: ask for it by $eq", place))
         elif name in ("$lt", "$lte") and not is_without:
             probe = around(f'{{"$eq":{{"$numberLong":"{_NAN_CODE}"}}}}')
-            self._query.probes.append(Probe(readings(names), probe, place))
+            self._query.probes.append(Probe(probe, _HAS_NAN, place, readings(names)))
 
     def _is_nan(self, node: Node) -> bool:
         number = number_of(node, self._query.text)

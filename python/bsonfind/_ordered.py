@@ -279,7 +279,7 @@ class Questions:
         self._copies: dict[frozenset[tuple[str, int]], Connection] = {}
         self._indexes: list[tuple[str, bool]] = []
         # The probes of which it is known that no document matches, each with its connection.
-        self._without_nan: set[tuple[Connection, str]] = set()
+        self._without_matches: set[tuple[Connection, str]] = set()
         self._levels: dict[str, int] = {}
         self.own: Connection | None = None
         try:
@@ -336,14 +336,15 @@ class Questions:
         levels = dict(self._levels)
         with self._lock:
             connection = self._connection_by(query, levels)
-        probes = [it for it in query.probes_at(levels) if (connection, it.text) not in self._without_nan]
-        refuse_nan(connection, probes)
-        self._without_nan.update((connection, it.text) for it in probes)
+        probes = [it for it in query.probes_at(levels) if (connection, it.text) not in self._without_matches]
+        rewritten = replace(request, filter=query.rewritten(levels))
+        refuse_matches(connection, probes, rewritten)
+        self._without_matches.update((connection, it.text) for it in probes)
 
         def documents(text: bytes, size: int) -> list[bytes]:
             return self.original.given(documents_in(text, size), is_bson, self._program, self.group)
 
-        return Asked(connection, replace(request, filter=query.rewritten(levels)), query, levels, documents)
+        return Asked(connection, rewritten, query, levels, documents)
 
     def _connection_by(self, query: Query, levels: dict[str, int]) -> Connection:
         """The connection over a copy for a query."""
@@ -421,16 +422,22 @@ def _unread(request: Request, program: str) -> CommandError:
     return refused("the text of the query is not read")
 
 
-def refuse_nan(connection: Connection, probes: Iterable[Probe]) -> None:
-    """Refuses a query that says of a field which has NaN that it is less than a number."""
+def refuse_matches(connection: Connection, probes: Iterable[Probe], request: Request) -> None:
+    """Refuses a request for documents that are in the dump."""
     for probe in probes:
-        if connection.do(_steps.count(Request(probe.text))):
-            raise refused_nan(probe)
+        try:
+            is_found = connection.do(_steps.count(Request(probe.text))) > 0
+        except CommandError:
+            # The query that the probe was made of has this fault too, and perhaps one before it, which is told.
+            connection.do(_steps.count(request))
+            raise
+        if is_found:
+            raise refused_by(probe)
 
 
-def refused_nan(probe: Probe) -> CommandError:
-    """What is wrong with a comparison of a field that has NaN."""
-    return refused('the field has NaN, which counts as the least number: add "$ne":{"$numberDouble":"NaN"}', probe.place)
+def refused_by(probe: Probe) -> CommandError:
+    """Why a query is refused whose probe matches a document."""
+    return refused(probe.why, probe.place)
 
 
 def can_be_read_again(path: File) -> bool:
@@ -514,7 +521,7 @@ class AnyLines(Lines):
                 raise (original.fault(self._program, self._group) if error.fault else None) or error from None
 
     def _begin(self, connection: Connection) -> None:
-        refuse_nan(connection, self._probes)
+        refuse_matches(connection, self._probes, self._request)
 
 
 def prepare(path: File, copy: File, *, program: str = "bsonfind") -> list[str]:

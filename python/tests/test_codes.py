@@ -109,6 +109,11 @@ class Queries(unittest.TestCase):
         levels = {"a": 0, "a.b": 0}
         query_of('{"a.0.b":1}').settle(levels)
         self.assertLessEqual({"a.b", "a.0.b"}, {*levels})
+        query, levels = query_of('{"a.0":1}'), {"a.b": 0}
+        query.settle(levels)
+        self.assertEqual({*levels}, {"a" + ".0" * count + ".b" for count in range(6)})
+        self.assertEqual(query.deep, {"a" + ".0" * 6})
+        self.assertEqual([it.text for it in query.probes_at(levels)], ['{"a.0.0.0.0.0.0": {"$exists": true}}'])
         with self.assertRaises(CommandError):
             readings(["a", *map(str, range(7))])
 

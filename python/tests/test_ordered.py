@@ -219,6 +219,22 @@ class Finds(Goods):
         self.assertIn("no codes hold all numbers of this field", str(raised.exception))
         self.assertRegex(str(raised.exception), rf'^document (0, byte 4|1, byte {byte}), path "m"')
 
+    def test_numbers_as_names_below_one_another(self) -> None:
+        """Codes go down some numbers as names; a dump that has still more is refused."""
+
+        def nested(depth: int) -> bytes:
+            value = double("0", 1.5)
+            for _ in range(depth - 1):
+                value = b"\x030\0" + document(value)
+            return document(whole("_id", depth), b"\x03a\0" + document(value))
+
+        query = {"a.0": {"$gte": {"0": {"0": {"0": {"0": 1.25}}}}}}
+        path = self.file(nested(5) + nested(2) + document(whole("_id", 9), array("a", double("0", 1.5))), "five.bson")
+        self.assertEqual([it["_id"] for it in find(path, query, decode="plain", program=PROGRAM)], [5])
+        path = self.file(nested(5) + nested(6), "six.bson")
+        with self.assertRaisesRegex(CommandError, "more numbers as names below one another than can be asked for"):
+            list(find(path, query, program=PROGRAM))
+
     def test_nan(self) -> None:
         """As a server has it: first in a sort, equal to itself, and neither less nor greater than a number."""
         numbers = [3.5, float("nan"), -1.0, float("-inf")]
