@@ -13,6 +13,7 @@ import struct
 from dataclasses import dataclass, field
 from decimal import Decimal, InvalidOperation
 from fractions import Fraction
+from itertools import takewhile
 from json.decoder import scanstring
 from typing import Callable, Iterable, NamedTuple, Sequence, Union
 
@@ -298,7 +299,9 @@ class Query:
     def probes_at(self, levels: dict[str, int]) -> list[Probe]:
         """The filters that must match no document: of paths at which there may be NaN, and of numbers as names too deep for codes."""
         nan = [it for it in self.probes if any(levels.get(path) == CODE for path in it.paths)]
-        return [*nan, *(Probe(json.dumps({it: {"$exists": True}}), _TOO_DEEP) for it in sorted(self.deep))]
+        # A path of a query has no empty name: then it is asked for what is above that.
+        deep = sorted({".".join(takewhile(bool, it.split("."))) for it in self.deep})
+        return [*nan, *(Probe(json.dumps({it: {"$exists": True}}), _TOO_DEEP) for it in deep)]
 
     def _edits(self, levels: dict[str, int]) -> list[tuple[Number, str]]:
         edits = []

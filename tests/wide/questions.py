@@ -88,6 +88,7 @@ REASONS = (
     "NaN is neither less nor greater than a number",
     "no codes hold all numbers of this field",
     "so many numbers as names",
+    "more numbers as names below one another",
 )
 
 
