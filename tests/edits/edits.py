@@ -7,7 +7,8 @@ usage: tests/edits.sh [CRATE..] [--jobs N]   tries all edits, or those of the na
        tests/edits.sh --round K              tries one round, another for each K, within some minutes, for a run after the gate
        tests/edits.sh --self-test            tries edits that must not count as refused
 
-In tests/edits/CRATE.edits an edit is a line '# NAME' and the lines of a file of must-fail; a blank line ends it.
+In tests/edits/CRATE.edits an edit is a line '# NAME' and the lines of a file of must-fail; a blank line ends it. A line
+'open: GOAL..' names the goals that its body makes false, which someone has read.
 
 A round is a copy of a crate with one edit a function, and one check of it. An edit counts as refused where the line of
 its own function says that its proof fails for a reason of its own. Where it says that a callee is not proved, the edit
@@ -15,7 +16,8 @@ is tried in a later round without that callee's; and each edit that no round ref
 
 An edit is not judged where all that failed is a proof that lacks a name or a case, with the goals beside it for which no
 proof is written, or a `search` that gave up at a limit: a proof may be there that nobody wrote. Such an edit counts neither
-as passed nor as failed. To have it judged, change a value and keep the names, or write the proof that its body would need.
+as passed nor as failed. To have it judged, change a value and keep the names, or write the proof that its body would need; or read
+the goals that `search` left: where all are false, and no others are left, a line 'open:' in the edit makes it refused.
 """
 
 import argparse
@@ -58,6 +60,8 @@ BY_NAME = re.compile(rf"(note: )?(\./)?proofs/(.*({MISSING}|{CITING})|(.*\n)+ +{
 # What it says of a goal: some values make it false, or nothing is known.
 IS_FALSE = re.compile(r"allow values at which this goal is false|and the goal fails, at ")
 GAVE_UP = "`search` gave up at one of its limits"
+# What a function's line says of the goals for which it has no proof.
+LEFT = re.compile(r"`search` did not prove ((?:`[^`]*`(?:, | and )?)+)")
 PLACE = re.compile(r"(?:note: )?(?:\./)?(\S+?):(\d+):\d+:")
 REFUSED, NOT_REFUSED, BAD_EDIT, NOT_TRIED = "refused", "NOT REFUSED", "BAD EDIT", "not tried"
 NO_PROOF_WRITTEN = "not judged, since a proof lacks a name or a case"
@@ -167,6 +171,8 @@ class Edit:
     def __init__(self, crate: Crate, name: str, lines: str) -> None:
         self.crate, self.label = crate, f"{crate.name}/{name}"
         self.texts, self.why = rt.edited(lines, crate.folder)
+        # The goals that are false with it, as someone has read.
+        self.false = {goal for it in re.findall(r"(?m)^open: (.*)$", lines) for goal in it.split()}
         self.changes: list[tuple[str, int, int, str]] = []
         # Those that it changes, with the others of their cycles. An edit that changes what is in none is tried alone.
         self.functions: list[Function] = []
@@ -321,7 +327,8 @@ class Trial:
             if why := not_covered(said):
                 self.tell(edit, BAD_EDIT, check.seconds, why)
             elif is_refused(edit, said, check.lines):
-                self.tell(edit, outcome_of([*filter(edit.owns_place, messages_of(check.lines))]), check.seconds)
+                outcome = outcome_of([*filter(edit.owns_place, messages_of(check.lines))])
+                self.tell(edit, read_outcome(outcome, edit.false, said), check.seconds)
             else:
                 (blocked if said else alone).append(edit)
         return (blocked, alone) if len(blocked) < len(edits) else ([], edits)
@@ -337,7 +344,8 @@ class Trial:
         elif check.unread:
             outcome, why = BAD_EDIT, check.unread[0]
         elif check.is_refusal():
-            outcome, why = outcome_of(messages_of(check.lines)), "tried alone"
+            said = [it for it in check.lines if re.match(r"fn \S+: (?!proved$|assumed$)", it)]
+            outcome, why = read_outcome(outcome_of(messages_of(check.lines)), edit.false, said), "tried alone"
         elif check.status == 0:
             outcome, why = NOT_REFUSED, "the crate is proved with it"
         else:
@@ -384,6 +392,12 @@ def outcome_of(messages: list[str]) -> str:
     if by_name:
         return NO_PROOF_WRITTEN
     return SEARCH_GAVE_UP if any(GAVE_UP in it for it in messages) else REFUSED
+
+
+def read_outcome(outcome: str, false: set[str], said: list[str]) -> str:
+    """Return the outcome of an edit where someone has read which goals are false: it is refused where `search` left these alone."""
+    left = {goal for line in said for it in LEFT.findall(line) for goal in re.findall(r"`([^`]*)`", it)}
+    return REFUSED if outcome == SEARCH_GAVE_UP and left and left == false else outcome
 
 
 def messages_of(lines: list[str]) -> list[str]:
@@ -491,8 +505,13 @@ SAID = [
 ]
 
 
+# What someone has read to be false, what a function's line says of its goals, and whether an edit is then refused.
+LEFT_OPEN = "fn a: no proof: expected answers in ./proofs/a/Answers.antt; `search` did not prove `returns`, `returns-in-Ok`"
+READ = [({"returns", "returns-in-Ok"}, True), ({"returns"}, False), ({"returns", "returns-in-Ok", "other"}, False), (set(), False)]
+
+
 def self_test(crates: list[Crate]) -> int:
-    """Try the edits of SELF_TEST and judge what is told in MESSAGES and SAID."""
+    """Try the edits of SELF_TEST and judge what is told in MESSAGES, READ and SAID."""
     crate = next(it for it in crates if it.name == "bd_value")
     edits = [Edit(crate, name, f"file: {path}\nold: {old}\nnew: {new}\n") for name, (path, old, new, _) in SELF_TEST.items()]
     is_one_round = len(rounds_of(edits)) == 1
@@ -500,6 +519,7 @@ def self_test(crates: list[Crate]) -> int:
     trial.run(edits, 1)
     wrong = [it for it, wanted in SELF_TEST.items() if trial.outcomes[f"{crate.name}/{it}"] != wanted[-1]]
     wrong += [" ".join(lines) for lines, wanted in MESSAGES if outcome_of(messages_of(lines)) != wanted]
+    wrong += [str(it) for it, wanted in READ if (read_outcome(SEARCH_GAVE_UP, it, [LEFT_OPEN]) == REFUSED) != wanted]
     wrong += [line for line, wanted in SAID if is_refused(None, [line], []) != wanted]
     print(f"self-test: {'FAILED: ' + ' '.join(wrong) if wrong or not is_one_round else 'ok'}")
     return 1 if wrong or not is_one_round else 0
