@@ -285,12 +285,6 @@ pub part_of_element : (Is : Writes) (nested : Nested) (path : List ℕ) (type : 
 unfolding IsElement
 part_of_element Is nested path type part head value new is h = subst (λ (p : Option Part). IsPart Is nested p path type head value new) is h
 
--- an element that is not looked into is appended as it is
-pub as_it_was : {A B : Type 0} (r : Result A B) (Is : Writes) (nested : Nested) (path : List ℕ) (type : ElementType) (head value a c : List ℕ) → None ≡ part_of type → OnOk r (c ≡ a ++ (head ++ value))
-    → OnOk r (Adds (IsElement Is nested path type head value) a c)
-as_it_was (Err e) Is nested path type head value a c is ok = _
-as_it_was (Ok x) Is nested path type head value a c is ok = (head ++ value, part_of_element Is nested path type None head value (head ++ value) is refl, ok)
-
 -- one that is looked into, by what of it is
 pub as_part : (Is : Writes) (nested : Nested) (path : List ℕ) (type : ElementType) (part : Part) (head value a c : List ℕ) → Some part ≡ part_of type
     → Adds (IsPart Is nested (Some part) path type head value) a c → Adds (IsElement Is nested path type head value) a c

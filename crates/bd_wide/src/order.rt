@@ -55,6 +55,10 @@ impl NumberWriter for Order {
         false
     }
 
+    fn leaves(&self, _typed: ElementType) -> bool {
+        false
+    }
+
     #[tactic(auto, using(bd_value::proofs::FrontLemmas::fronts))]
     fn element(
         &self,

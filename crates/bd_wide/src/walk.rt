@@ -1,9 +1,9 @@
 //! A document with other numbers, from left to right.
 
-ghost use Rattle.std.specs.Prelude.{◌≡◌, ◌≤◌, ◌<◌, ◌+◌, ◌-◌, ◌++◌, List, ℕ, length, take, drop, vec_len, OnOk, OnErr, IfSome, IsTrue, Some};
+ghost use Rattle.std.specs.Prelude.{◌≡◌, ◌≤◌, ◌<◌, ◌+◌, ◌-◌, ◌++◌, List, ℕ, length, take, drop, vec_len, OnOk, OnErr, IfSome, IsTrue, None, Some};
 ghost use Rattle.std.specs.Io.{StartsWith};
 ghost use Rattle.bd_raw.specs.Spelling.{number};
-ghost use Rattle.bd_wide.specs.Rewritten.{least, holder_least, Adds, IgnoresPaths, ServesAs, IsElement, IsPart, AreElements, IsBody, IsScoped, IsNested, IsRewritten, part_of, path_of, separator as separator_of, scope_at as scope_at_of};
+ghost use Rattle.bd_wide.specs.Rewritten.{least, holder_least, Adds, IgnoresPaths, Leaves, ServesAs, Stays, IsElement, IsPart, AreElements, IsBody, IsScoped, IsNested, IsRewritten, part_of, path_of, separator as separator_of, scope_at as scope_at_of};
 ghost use Rattle.bd_wide.specs.declared.element.Part as parts;
 ghost use Rattle.bd_raw.specs.declared.raw_parts.ElementType as element_type;
 ghost use Rattle.bd_raw.specs.declared.raw_parts.Holder.TheVariants as holders;
@@ -22,6 +22,10 @@ pub trait NumberWriter {
     /// Whether what may be written of a number is the same at every path. If so, `element` may be given any path.
     fn ignores_paths(&self) -> bool
         ensures { IsTrue result → IgnoresPaths (is_written self.now) };
+
+    /// Whether each element with a number of this type may stay as it is.
+    fn leaves(&self, typed: ElementType) -> bool
+        ensures { IsTrue result → Leaves (is_written self.now) typed };
 
     /// Appends what is written of an element that holds a number.
     fn element(
@@ -111,32 +115,67 @@ fn elements<W: NumberWriter>(
     ensures path { OnOk result (path.new.items ≡ path.old.items) }
     ensures front { OnErr result (StartsWith out.new.items out.old.items) }
 {
+    let mut run = bytes;
     let mut rest = bytes;
     while let Some((typed, k, n)) = front(rest) {
         let (head, more) = rest.split_at(k);
         let (value, after) = more.split_at(n);
-        element(writer, room, in_array, typed, head, value, path, out)?;
+        if let Some(part) = changed(writer, typed) {
+            put_run(run, rest, out)?;
+            element(writer, room, in_array, part, typed, head, value, path, out)?;
+            run = after;
+        }
         rest = after;
     }
+    put_run(run, rest, out)?;
     if rest.is_empty() {
         return Ok(());
     }
     writer.others(rest, out)
 }
 
-/// Appends an element, with so many levels left below it.
+/// What of an element of this type is looked into; none where it may stay as it is.
+fn changed<W: NumberWriter>(writer: &W, typed: ElementType) -> Option<Part>
+    ensures part { IfSome result (λ part. part_of typed ≡ Some part) }
+    ensures stays { result ≡ None → Stays (W.is_written writer.now) typed }
+{
+    match looked_into(typed) {
+        Some(Part::Number) if writer.leaves(typed) => None,
+        part => part,
+    }
+}
+
+/// Appends the bytes of a run that end where the rest begins.
+#[tactic(auto, using(bd_value::proofs::FrontLemmas::fronts, crate::proofs::RunLemmas::nothing_before))]
+fn put_run(run: &[u8], rest: &[u8], out: &mut Vec<u8>) -> Result<(), NoMemory>
+    requires { length rest.now ≤ length run.now }
+    ensures ok { OnOk result (out.new.items ≡ out.old.items ++
+        take (length run.now - length rest.now) run.now) }
+    ensures front { OnErr result (StartsWith out.new.items out.old.items) }
+{
+    let count = run.len() - rest.len();
+    if count == 0 {
+        return Ok(());
+    }
+    let (same, _) = run.split_at(count);
+    out.extend_from_slice(same)
+}
+
+/// Appends an element that is looked into, with so many levels left below it.
 #[cycle(walking)]
 #[tactic(auto, using(bd_value::proofs::FrontLemmas::fronts))]
 fn element<W: NumberWriter>(
     writer: &W,
     room: u32,
     in_array: bool,
+    part: Part,
     typed: ElementType,
     head: &[u8],
     value: &[u8],
     path: &mut Vec<u8>,
     out: &mut Vec<u8>,
 ) -> Result<(), NoMemory>
+    requires part { part_of typed ≡ Some part }
     requires head { 2 ≤ length head.now }
     requires value { least typed ≤ length value.now }
     ensures ok { OnOk result (Adds (IsElement (W.is_written writer.now) (IsNested
@@ -145,9 +184,6 @@ fn element<W: NumberWriter>(
     ensures path { OnOk result (path.new.items ≡ path.old.items) }
     ensures front { OnErr result (StartsWith out.new.items out.old.items) }
 {
-    let Some(part) = looked_into(typed) else {
-        return as_it_is(head, value, out);
-    };
     let before = path.len();
     enter_element(writer, in_array, head, path)?;
     entered(writer, room, part, typed, head, value, path, out)?;
@@ -187,16 +223,6 @@ fn enter_value<W: NumberWriter>(
         return Ok(());
     }
     path.extend_from_slice(separator(holder))
-}
-
-/// Appends an element that is not looked into.
-#[tactic(auto, using(bd_value::proofs::FrontLemmas::fronts))]
-fn as_it_is(head: &[u8], value: &[u8], out: &mut Vec<u8>) -> Result<(), NoMemory>
-    ensures ok { OnOk result (out.new.items ≡ out.old.items ++ (head.now ++ value.now)) }
-    ensures front { OnErr result (StartsWith out.new.items out.old.items) }
-{
-    out.extend_from_slice(head)?;
-    out.extend_from_slice(value)
 }
 
 /// Appends an element that is looked into, and whose path this is.

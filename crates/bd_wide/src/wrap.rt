@@ -33,6 +33,10 @@ impl NumberWriter for Wrap {
         true
     }
 
+    fn leaves(&self, typed: ElementType) -> bool {
+        matches!(typed, ElementType::Kept(_))
+    }
+
     #[tactic(auto, using(bd_value::proofs::FrontLemmas::fronts), unfolding(crate::specs::Rewritten::least))]
     fn element(
         &self,

@@ -1,6 +1,7 @@
-use Rattle.std.proofs.Common.{◌≡◌, ◌+◌, ◌*◌, length}
+use Rattle.std.proofs.Common.{◌≡◌, ◌+◌, ◌*◌, ◌++◌, length}
 use Rattle.std.specs.Io.{StartsWith}
 use Rattle.bd_wide.specs.Rewritten.{IsNested, path_of}
+use Rattle.bd_wide.proofs.RunLemmas.{before}
 use Rattle.bd_wide.proofs.WalkLemmas.{Comes}
 use Rattle.bd_wide.proofs.walk.+walking.Given as goal
 
@@ -28,7 +29,8 @@ decreases-with_scope g l = 5 * l.room + 1
 abbrev pub invariant-elements-loop-typed : goal.invariant-elements-loop-typed
 invariant-elements-loop-typed g l = record {
   comes : Comes (g.W.NumberWriter.is_written l.writer) (g.W.NumberWriter.others_of l.writer)
-      (IsNested (g.W.NumberWriter.is_written l.writer) (g.W.NumberWriter.others_of l.writer) l.room) (path_of l.in_array l.fn.path.items) l.bytes l.rest l.fn.out.items l.out.items;
+      (IsNested (g.W.NumberWriter.is_written l.writer) (g.W.NumberWriter.others_of l.writer) l.room) (path_of l.in_array l.fn.path.items) l.bytes l.rest l.fn.out.items (l.out.items ++ before l.run l.rest);
+  run_is : l.run ≡ before l.run l.rest ++ l.rest;
   path_is : l.path.items ≡ l.fn.path.items;
   begun : StartsWith l.out.items l.fn.out.items;
 }

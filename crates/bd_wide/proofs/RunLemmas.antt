@@ -1,0 +1,62 @@
+-- Runs of elements that stay as they are, whose bytes are written at once.
+use Rattle.std.proofs.Common.{◌≡◌, inl, inr, ℕ, ◌-◌, List, [], ◌++◌, length, take, drop, Some, None, refl, sym, ap, ◌∙◌, arith, append_assoc, append-nil, length-append, take_at, subst}
+use Rattle.std.proofs.lemmas.List.{take-append-drop}
+use Rattle.bd_raw.specs.declared.raw_parts.ElementType.{ElementType}
+use Rattle.bd_wide.specs.declared.element.Part.TheVariants as parts
+use Rattle.bd_wide.specs.Rewritten.{Writes, Others, Nested, Stays, front, IsElement}
+use Rattle.bd_wide.proofs.WalkLemmas.{Comes, stepped, part_of_element}
+
+-- the bytes of a run before the rest
+abbrev pub before : List ℕ → List ℕ → List ℕ
+before run rest = take (length run - length rest) run
+
+before_itself : (bytes : List ℕ) → before bytes bytes ≡ []
+before_itself bytes = let none : length bytes - length bytes ≡ 0 = omega arith in ap (λ n. take n bytes) none
+
+pub run_begins : (bytes : List ℕ) → bytes ≡ before bytes bytes ++ bytes
+run_begins bytes = ap (λ x. x ++ bytes) (sym (before_itself bytes))
+
+pub nothing_before : (run rest out : List ℕ) → length run - length rest ≡ 0 → out ≡ out ++ take (length run - length rest) run
+nothing_before run rest out none = sym (append-nil out) ∙ ap (λ n. out ++ take n run) (sym none)
+
+-- a run begins where all before it is written
+pub comes_anew : (Is : Writes) (others : Others) (nested : Nested) (own : List ℕ → List ℕ) (bytes rest old out : List ℕ)
+    → Comes Is others nested own bytes rest old out → Comes Is others nested own bytes rest old (out ++ before rest rest)
+comes_anew Is others nested own bytes rest old out comes =
+    subst (λ x. Comes Is others nested own bytes rest old x) (sym (append-nil out) ∙ ap (λ x. out ++ x) (sym (before_itself rest))) comes
+
+pub comes_flushed : (Is : Writes) (others : Others) (nested : Nested) (own : List ℕ → List ℕ) (bytes rest old out now run : List ℕ)
+    → Comes Is others nested own bytes rest old (out ++ before run rest) → now ≡ out ++ before run rest → Comes Is others nested own bytes rest old now
+comes_flushed Is others nested own bytes rest old out now run comes is = subst (λ x. Comes Is others nested own bytes rest old x) (sym is) comes
+
+-- an element that stays is one more of the run
+stays_as_it_is : (Is : Writes) (nested : Nested) (path : List ℕ) (t : ElementType) (head value : List ℕ) → Stays Is t → IsElement Is nested path t head value (head ++ value)
+stays_as_it_is Is nested path t head value (inl none) = part_of_element Is nested path t None head value (head ++ value) (sym none) refl
+stays_as_it_is Is nested path t head value (inr number) = part_of_element Is nested path t (Some parts.Number) head value (head ++ value) (sym number.0) (number.1 path head value)
+
+element_parts : (rest : List ℕ) (k n : ℕ) → rest ≡ (take k rest ++ take n (drop k rest)) ++ drop n (drop k rest)
+element_parts rest k n = sym (append_assoc (take k rest) (take n (drop k rest)) (drop n (drop k rest)) ∙ ap (λ x. take k rest ++ x) (take-append-drop n (drop k rest)) ∙ take-append-drop k rest)
+
+longer_run : (run rest one left : List ℕ) → run ≡ before run rest ++ rest → rest ≡ one ++ left → run ≡ (before run rest ++ one) ++ left
+longer_run run rest one left whole is = whole ∙ ap (λ x. before run rest ++ x) is ∙ sym (append_assoc (before run rest) one left)
+
+before_cut : (run all left : List ℕ) → run ≡ all ++ left → before run left ≡ all
+before_cut run all left is =
+    let size : length run - length left ≡ length all = omega (arith, ap (λ xs. length xs) is, length-append all left) in
+    ap (λ x. take (length run - length left) x) is ∙ take_at all left (length run - length left) (sym size)
+
+pub run_goes_on : (Is : Writes) (others : Others) (nested : Nested) (own : List ℕ → List ℕ) (bytes old out run rest head more value left : List ℕ) (t : ElementType) (k n : ℕ)
+    → Comes Is others nested own bytes rest old (out ++ before run rest) → run ≡ before run rest ++ rest → Some (t, k, n) ≡ front rest → Stays Is t
+    → head ≡ take k rest → more ≡ drop k rest → value ≡ take n more → left ≡ drop n more
+    → Comes Is others nested own bytes left old (out ++ before run left) × (run ≡ before run left ++ left)
+run_goes_on Is others nested own bytes old out run rest head more value left t k n comes whole is stays p q r s =
+    let one : List ℕ = take k rest ++ take n (drop k rest) in
+    let after : List ℕ = drop n (drop k rest) in
+    let all : run ≡ (before run rest ++ one) ++ after = longer_run run rest one after whole (element_parts rest k n) in
+    let cut : before run after ≡ before run rest ++ one = before_cut run (before run rest ++ one) after all in
+    let next = stepped Is others nested own bytes old (out ++ before run rest) ((out ++ before run rest) ++ one) rest (take k rest) (drop k rest) (take n (drop k rest)) after (own (take k rest)) t k n
+    comes is refl refl refl refl refl (one, stays_as_it_is Is nested (own (take k rest)) t (take k rest) (take n (drop k rest)) stays, refl) in
+    let same : after ≡ left = sym (s ∙ ap (drop n) q) in
+    let written : (out ++ before run rest) ++ one ≡ out ++ before run after = append_assoc out (before run rest) one ∙ ap (λ x. out ++ x) (sym cut) in
+    subst (λ (l : List ℕ). Comes Is others nested own bytes l old (out ++ before run l) × (run ≡ before run l ++ l)) same
+    (subst (λ (x : List ℕ). Comes Is others nested own bytes after old x) written next, all ∙ ap (λ x. x ++ after) (sym cut))
