@@ -177,11 +177,11 @@ scope_counts value at h =
     ap (λ k. number_of (drop k value)) (sym c.1) ∙ c.0 ∙ sym (length-drop at value)
 
 -- what is refused in a scope, by where it begins
-abbrev ScopeFound : (ℕ → List ℕ → Option Refused) → ℕ → List ℕ → Option ℕ → Option Refused
+abbrev pub ScopeFound : (ℕ → List ℕ → Option Refused) → ℕ → List ℕ → Option ℕ → Option Refused
 ScopeFound g at value None = None
 ScopeFound g at value (Some k) = g (at + k) (drop k value)
 
-scope_found : (g : ℕ → List ℕ → Option Refused) (at : ℕ) (value : List ℕ) → refused_scope g at value ≡ ScopeFound g at value (scope_at value)
+pub scope_found : (g : ℕ → List ℕ → Option Refused) (at : ℕ) (value : List ℕ) → refused_scope g at value ≡ ScopeFound g at value (scope_at value)
 unfolding refused_scope
 scope_found g at value = elim (scope_at value) as (λ o. (elim o [ None ↦ None | Some k ↦ g (at + k) (drop k value) ]) ≡ ScopeFound g at value o) [ None ↦ refl | Some k ↦ refl ]
 

@@ -1,16 +1,17 @@
 //! Doubles and decimal128 as the documents of Extended JSON that hold their texts.
 
-ghost use Rattle.std.specs.Prelude.{◌≡◌, ◌≤◌, ◌++◌, ◌∷◌, [], List, ℕ, length, IfOk, OnErr, OnOk};
+ghost use Rattle.std.specs.Prelude.{◌≡◌, ◌≤◌, ◌++◌, ◌∷◌, [], List, ℕ, length, IfOk, IsSome, IsTrue, None, false, OnErr, OnOk};
 ghost use Rattle.std.specs.Io.{StartsWith};
 ghost use Rattle.bd_raw.specs.Sizes.{long_of};
 ghost use Rattle.bd_raw.specs.Spelling.{string};
+ghost use Rattle.bd_wide.specs.Refused.{first_refused};
 ghost use Rattle.bd_wide.specs.Rewritten.{Adds};
 ghost use Rattle.bd_wide.specs.Wrap.{IsElementOf, IsNumberText, IsStringOf, IsWrapped, IsWrappedDocument, IsWrapper, refuses_deepest, wrapper_name};
 
 use crate::find::{Refusal, Refuser, find_refused};
 use crate::walk::{NumberWriter, put_number, seal, write_number, write_rewritten};
 use bd_raw::ElementType;
-use bd_value::{LONGEST_DOCUMENT, NoMemory};
+use bd_value::{LONGEST_DOCUMENT, MOST_LEVELS, NoMemory};
 use bd_wide_text::{write_decimal128, write_double};
 
 /// What is wrapped, by its bits.
@@ -95,9 +96,8 @@ pub fn write_wrapped(bytes: &[u8], path: &mut Vec<u8>, out: &mut Vec<u8>) -> Res
         Adds (IsWrappedDocument bytes.now wrapped) out.old.items out.new.items) }
     ensures kept { OnErr result (out.new.items ≡ out.old.items) }
 {
-    path.clear();
     let before = out.len();
-    if find_refused(&Deepest, bytes, path)?.is_none() {
+    if !has_too_deep(bytes, path)? {
         write_rewritten(&Wrap, bytes, path, out)?;
         if out.len() - before <= LONGEST_DOCUMENT {
             return Ok(true);
@@ -106,6 +106,24 @@ pub fn write_wrapped(bytes: &[u8], path: &mut Vec<u8>, out: &mut Vec<u8>) -> Res
     }
     out.extend_from_slice(bytes)?;
     Ok(false)
+}
+
+/// A document of no more bytes has no number that is too deep: each level has at least seven.
+const LONGEST_SHALLOW: usize = 7 * MOST_LEVELS;
+
+/// Whether a number stands where no document can, since it would be too deep. `path` is a buffer.
+#[tactic(auto, using(crate::proofs::DepthLemmas::few_bytes_clear))]
+fn has_too_deep(bytes: &[u8], path: &mut Vec<u8>) -> Result<bool, NoMemory>
+    ensures some { IfOk result (λ deep.
+        IsTrue deep → IsSome (first_refused refuses_deepest bytes.now)) }
+    ensures none { IfOk result (λ deep.
+        deep ≡ false → first_refused refuses_deepest bytes.now ≡ None) }
+{
+    if bytes.len() <= LONGEST_SHALLOW {
+        return Ok(false);
+    }
+    path.clear();
+    Ok(find_refused(&Deepest, bytes, path)?.is_some())
 }
 
 /// The number that the first eight bytes are.
