@@ -1,9 +1,9 @@
 -- Runs of elements that stay as they are, whose bytes are written at once.
-use Rattle.std.proofs.Common.{◌≡◌, inl, inr, ℕ, ◌-◌, List, [], ◌++◌, length, take, drop, Some, None, refl, sym, ap, ◌∙◌, arith, append_assoc, append-nil, length-append, take_at, subst}
+use Rattle.std.proofs.Common.{◌≡◌, ◌≤◌, ◌+◌, ap₂, zero, suc, inl, inr, ℕ, ◌-◌, List, [], ◌∷◌, ◌++◌, length, take, drop, Some, None, refl, sym, ap, ◌∙◌, arith, append_assoc, append-nil, length-append, take_at, subst}
 use Rattle.std.proofs.lemmas.List.{take-append-drop}
 use Rattle.bd_raw.specs.declared.raw_parts.ElementType.{ElementType}
 use Rattle.bd_wide.specs.declared.element.Part.TheVariants as parts
-use Rattle.bd_wide.specs.Rewritten.{Writes, Others, Nested, Stays, front, IsElement}
+use Rattle.bd_wide.specs.Rewritten.{Writes, Others, Nested, Retypes, Stays, front, part_of, IsElement}
 use Rattle.bd_wide.proofs.WalkLemmas.{Comes, stepped, part_of_element}
 
 -- the bytes of a run before the rest
@@ -60,3 +60,27 @@ run_goes_on Is others nested own bytes old out run rest head more value left t k
     let written : (out ++ before run rest) ++ one ≡ out ++ before run after = append_assoc out (before run rest) one ∙ ap (λ x. out ++ x) (sym cut) in
     subst (λ (l : List ℕ). Comes Is others nested own bytes l old (out ++ before run l) × (run ≡ before run l ++ l)) same
     (subst (λ (x : List ℕ). Comes Is others nested own bytes after old x) written next, all ∙ ap (λ x. x ++ after) (sym cut))
+
+-- one that gets another type ends the run before its type, and begins one after it
+after_type : (k : ℕ) (rest : List ℕ) → 1 ≤ k → k ≤ length rest → drop 1 rest ≡ drop 1 (take k rest) ++ drop k rest
+after_type k [] some fits = absurd (omega (arith, some, fits))
+after_type zero (b ∷ bytes) some fits = absurd (omega (arith, some))
+after_type (suc k) (b ∷ bytes) some fits = sym (take-append-drop k bytes)
+
+pub run_retyped : (Is : Writes) (others : Others) (nested : Nested) (own : List ℕ → List ℕ) (bytes old begun now run rest more left : List ℕ) (t : ElementType) (k n byte : ℕ)
+    → Comes Is others nested own bytes rest old begun → Some (t, k, n) ≡ front rest → (part_of t ≡ Some parts.Number) × Retypes Is t byte → 2 ≤ k → k + n ≤ length rest
+    → more ≡ drop k rest → left ≡ drop n more → run ≡ drop 1 rest → now ≡ begun ++ (byte ∷ [])
+    → Comes Is others nested own bytes left old (now ++ before run left) × (run ≡ before run left ++ left)
+run_retyped Is others nested own bytes old begun now run rest more left t k n byte comes is number two fits q s cut added =
+    let head : List ℕ = take k rest in
+    let value : List ℕ = take n (drop k rest) in
+    let after : List ℕ = drop n (drop k rest) in
+    let tail : List ℕ = drop 1 head ++ value in
+    let same : left ≡ after = s ∙ ap (drop n) q in
+    let all : run ≡ tail ++ left = cut ∙ after_type k rest (omega (arith, two)) (omega (arith, fits))
+    ∙ ap (λ x. drop 1 head ++ x) (sym (take-append-drop n (drop k rest))) ∙ sym (append_assoc (drop 1 head) value after) ∙ ap (λ x. tail ++ x) (sym same) in
+    let here : before run left ≡ tail = before_cut run tail left all in
+    let element : IsElement Is nested (own head) t head value (byte ∷ tail) = part_of_element Is nested (own head) t (Some parts.Number) head value (byte ∷ tail) (sym number.0) (number.1 (own head) head value) in
+    let next = stepped Is others nested own bytes old begun (begun ++ (byte ∷ tail)) rest head (drop k rest) value left (own head) t k n comes is refl refl refl same refl (byte ∷ tail, element, refl) in
+    let written : begun ++ (byte ∷ tail) ≡ now ++ before run left = sym (ap₂ (λ (x y : List ℕ). x ++ y) added here ∙ append_assoc begun (byte ∷ []) tail) in
+    (subst (λ (x : List ℕ). Comes Is others nested own bytes left old x) written next, all ∙ ap (λ x. x ++ left) (sym here))

@@ -26,6 +26,13 @@ impl NumberWriter for Mask {
         matches!(typed, ElementType::Kept(_))
     }
 
+    fn retyped(&self, typed: ElementType) -> Option<u8> {
+        match typed {
+            ElementType::Double => Some(0x12),
+            _ => None,
+        }
+    }
+
     #[tactic(auto, using(bd_value::proofs::FrontLemmas::fronts), unfolding(crate::specs::Rewritten::least))]
     fn element(
         &self,

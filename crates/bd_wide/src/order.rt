@@ -59,6 +59,10 @@ impl NumberWriter for Order {
         false
     }
 
+    fn retyped(&self, _typed: ElementType) -> Option<u8> {
+        None
+    }
+
     #[tactic(auto, using(bd_value::proofs::FrontLemmas::fronts))]
     fn element(
         &self,

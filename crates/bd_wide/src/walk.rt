@@ -1,14 +1,14 @@
 //! A document with other numbers, from left to right.
 
-ghost use Rattle.std.specs.Prelude.{◌≡◌, ◌≤◌, ◌<◌, ◌+◌, ◌-◌, ◌++◌, List, ℕ, length, take, drop, vec_len, OnOk, OnErr, IfSome, IsTrue, None, Some};
+ghost use Rattle.std.specs.Prelude.{◌≡◌, ◌≤◌, ◌<◌, ◌+◌, ◌-◌, ◌++◌, List, ℕ, length, take, drop, vec_len, OnOk, OnErr, IfSome, IsTrue, Some};
 ghost use Rattle.std.specs.Io.{StartsWith};
 ghost use Rattle.bd_raw.specs.Spelling.{number};
-ghost use Rattle.bd_wide.specs.Rewritten.{least, holder_least, Adds, IgnoresPaths, Leaves, ServesAs, Stays, IsElement, IsPart, AreElements, IsBody, IsScoped, IsNested, IsRewritten, part_of, path_of, separator as separator_of, scope_at as scope_at_of};
-ghost use Rattle.bd_wide.specs.declared.element.Part as parts;
+ghost use Rattle.bd_wide.specs.Rewritten.{least, holder_least, Adds, IgnoresPaths, Allows, Leaves, Retypes, ServesAs, IsElement, IsPart, AreElements, IsBody, IsScoped, IsNested, IsRewritten, part_of, path_of, separator as separator_of, scope_at as scope_at_of};
+ghost use Rattle.bd_wide.specs.declared.element.Part.TheVariants as parts;
 ghost use Rattle.bd_raw.specs.declared.raw_parts.ElementType as element_type;
 ghost use Rattle.bd_raw.specs.declared.raw_parts.Holder.TheVariants as holders;
 
-use crate::element::{Part, enter, front, looked_into, separator};
+use crate::element::{Change, Part, enter, front, looked_into, separator};
 use bd_raw::{ElementType, Holder, raw_parts as raw};
 use bd_value::{MOST_LEVELS, NoMemory};
 
@@ -26,6 +26,10 @@ pub trait NumberWriter {
     /// Whether each element with a number of this type may stay as it is.
     fn leaves(&self, typed: ElementType) -> bool
         ensures { IsTrue result → Leaves (is_written self.now) typed };
+
+    /// The type that each element with a number of this type may get, if it may otherwise stay as it is.
+    fn retyped(&self, typed: ElementType) -> Option<u8>
+        ensures { IfSome result (λ byte. Retypes (is_written self.now) typed byte) };
 
     /// Appends what is written of an element that holds a number.
     fn element(
@@ -120,10 +124,19 @@ fn elements<W: NumberWriter>(
     while let Some((typed, k, n)) = front(rest) {
         let (head, more) = rest.split_at(k);
         let (value, after) = more.split_at(n);
-        if let Some(part) = changed(writer, typed) {
-            put_run(run, rest, out)?;
-            element(writer, room, in_array, part, typed, head, value, path, out)?;
-            run = after;
+        match change(writer, typed) {
+            Change::Nothing => {}
+            Change::Type(byte) => {
+                put_run(run, rest, out)?;
+                out.push(byte)?;
+                let (_, named) = rest.split_at(1);
+                run = named;
+            }
+            Change::Part(part) => {
+                put_run(run, rest, out)?;
+                element(writer, room, in_array, part, typed, head, value, path, out)?;
+                run = after;
+            }
         }
         rest = after;
     }
@@ -134,14 +147,28 @@ fn elements<W: NumberWriter>(
     writer.others(rest, out)
 }
 
-/// What of an element of this type is looked into; none where it may stay as it is.
-fn changed<W: NumberWriter>(writer: &W, typed: ElementType) -> Option<Part>
-    ensures part { IfSome result (λ part. part_of typed ≡ Some part) }
-    ensures stays { result ≡ None → Stays (W.is_written writer.now) typed }
+/// What of an element of this type changes.
+fn change<W: NumberWriter>(writer: &W, typed: ElementType) -> Change
+    ensures { Allows (W.is_written writer.now) typed result }
 {
     match looked_into(typed) {
-        Some(Part::Number) if writer.leaves(typed) => None,
-        part => part,
+        None => Change::Nothing,
+        Some(Part::Number) => number_change(writer, typed),
+        Some(part) => Change::Part(part),
+    }
+}
+
+/// What of an element with a number of this type changes.
+fn number_change<W: NumberWriter>(writer: &W, typed: ElementType) -> Change
+    requires { part_of typed ≡ Some parts.Number }
+    ensures { Allows (W.is_written writer.now) typed result }
+{
+    if writer.leaves(typed) {
+        return Change::Nothing;
+    }
+    match writer.retyped(typed) {
+        Some(byte) => Change::Type(byte),
+        None => Change::Part(Part::Number),
     }
 }
 

@@ -38,6 +38,10 @@ impl NumberWriter for Wrap {
         matches!(typed, ElementType::Kept(_))
     }
 
+    fn retyped(&self, _typed: ElementType) -> Option<u8> {
+        None
+    }
+
     #[tactic(auto, using(bd_value::proofs::FrontLemmas::fronts), unfolding(crate::specs::Rewritten::least))]
     fn element(
         &self,

@@ -1,4 +1,4 @@
-use Rattle.std.proofs.Common.{◌≡◌, ◌<◌, ◌-◌, ◌∙◌, length, arith, rules, ap, sym, drop, ◌++◌, Some, refl, true, false, List, ℕ}
+use Rattle.std.proofs.Common.{◌≡◌, ◌<◌, ◌-◌, ◌∙◌, length, arith, rules, ap, sym, drop, ◌++◌, Some, refl, true, false, List, ℕ, [], ◌∷◌}
 use Rattle.bd_raw.specs.Spelling.{number}
 use Rattle.bd_wide.specs.Rewritten.{holder_least, path_of, IsBody, IsScoped, IsNested}
 use Rattle.bd_raw.specs.declared.raw_parts.Holder.TheVariants as holders
@@ -47,43 +47,61 @@ entered-returns-clause-ok g t c =
     paths.values_added c.nested.result (g.W.NumberWriter.is_written c.args.writer.now) (g.W.NumberWriter.others_of c.args.writer.now) c.args.room c.args.part c.in-Values.holder c.enter_value.new.path.items c.args.path.now.items c.args.typed c.args.head.now c.args.value.now c.args.out.now.items c.extend_from_slice.new.self.items c.nested.new.out.items
     c.in-Values.is c.in_ok-enter_value.ensures.serves c.in_ok-extend_from_slice.ensures.items c.nested.ensures.ok
 
-pub elements-loop-typed-preserved-in_ok-element : goal.elements-loop-typed-preserved-in_ok-element
-elements-loop-typed-preserved-in_ok-element g t c =
+pub elements-loop-typed-preserved-in-Nothing : goal.elements-loop-typed-preserved-in-Nothing
+elements-loop-typed-preserved-in-Nothing g t c =
     let l = c.loop-typed in
     let s = c.in-Some in
-    let head : List ℕ = c.split_at.result.0.now in
-    let after : List ℕ = c.split_at-in-Some.result.1.now in
+    let on = runs.run_goes_on (g.W.NumberWriter.is_written c.args.writer.now) (g.W.NumberWriter.others_of c.args.writer.now) (IsNested (g.W.NumberWriter.is_written c.args.writer.now) (g.W.NumberWriter.others_of c.args.writer.now) c.args.room) (path_of c.args.in_array c.args.path.now.items) c.args.bytes.now c.args.out.now.items l.out.items l.run.now l.rest.now c.split_at.result.0.now c.split_at.result.1.now
+    c.split_at-in-Some.result.0.now c.split_at-in-Some.result.1.now s.typed s.k s.n l.invariant.comes l.invariant.run_is s.ensures.gives c.in-Nothing.ensures
+    c.split_at.ensures.front c.split_at.ensures.back c.split_at-in-Some.ensures.front c.split_at-in-Some.ensures.back in
+    record { comes = on.0; run_is = on.1; path_is = l.invariant.path_is; begun = l.invariant.begun }
+
+pub elements-loop-typed-preserved-in_ok-push-in-Type : goal.elements-loop-typed-preserved-in_ok-push-in-Type
+elements-loop-typed-preserved-in_ok-push-in-Type g t c =
+    let l = c.loop-typed in
+    let s = c.in-Some in
     let begun = c.put_run.new.out.items in
-    let written = c.element.new.out.items in
+    let now = c.push.new.self.items in
+    let pushed : now ≡ begun ++ (c.in-Type.byte ∷ []) = search rules in
+    let on = runs.run_retyped (g.W.NumberWriter.is_written c.args.writer.now) (g.W.NumberWriter.others_of c.args.writer.now) (IsNested (g.W.NumberWriter.is_written c.args.writer.now) (g.W.NumberWriter.others_of c.args.writer.now) c.args.room) (path_of c.args.in_array c.args.path.now.items) c.args.bytes.now c.args.out.now.items begun now c.split_at-in-Type.result.1.now l.rest.now c.split_at.result.1.now
+    c.split_at-in-Some.result.1.now s.typed s.k s.n c.in-Type.byte
+    (runs.comes_flushed (g.W.NumberWriter.is_written c.args.writer.now) (g.W.NumberWriter.others_of c.args.writer.now) (IsNested (g.W.NumberWriter.is_written c.args.writer.now) (g.W.NumberWriter.others_of c.args.writer.now) c.args.room) (path_of c.args.in_array c.args.path.now.items) c.args.bytes.now l.rest.now c.args.out.now.items l.out.items begun l.run.now l.invariant.comes c.in_ok-put_run-in-Type.ensures.ok) s.ensures.gives c.in-Type.ensures
+    s.ensures.inside.0 s.ensures.inside.1 c.split_at.ensures.back c.split_at-in-Some.ensures.back c.split_at-in-Type.ensures.back pushed in
     record {
-      comes = runs.comes_anew (g.W.NumberWriter.is_written c.args.writer.now) (g.W.NumberWriter.others_of c.args.writer.now) (IsNested (g.W.NumberWriter.is_written c.args.writer.now) (g.W.NumberWriter.others_of c.args.writer.now) c.args.room) (path_of c.args.in_array c.args.path.now.items) c.args.bytes.now after c.args.out.now.items written
-          (walks.stepped (g.W.NumberWriter.is_written c.args.writer.now) (g.W.NumberWriter.others_of c.args.writer.now) (IsNested (g.W.NumberWriter.is_written c.args.writer.now) (g.W.NumberWriter.others_of c.args.writer.now) c.args.room) (path_of c.args.in_array c.args.path.now.items) c.args.bytes.now c.args.out.now.items begun written l.rest.now head c.split_at.result.1.now
-          c.split_at-in-Some.result.0.now after (path_of c.args.in_array l.path.items head) s.typed s.k s.n
-          (runs.comes_flushed (g.W.NumberWriter.is_written c.args.writer.now) (g.W.NumberWriter.others_of c.args.writer.now) (IsNested (g.W.NumberWriter.is_written c.args.writer.now) (g.W.NumberWriter.others_of c.args.writer.now) c.args.room) (path_of c.args.in_array c.args.path.now.items) c.args.bytes.now l.rest.now c.args.out.now.items l.out.items begun l.run.now l.invariant.comes c.in_ok-put_run.ensures.ok) s.ensures.gives
-          c.split_at.ensures.front c.split_at.ensures.back c.split_at-in-Some.ensures.front c.split_at-in-Some.ensures.back
-          (ap (λ p. path_of c.args.in_array p head) l.invariant.path_is) c.in_ok-element.ensures.ok);
-      run_is = runs.run_begins after;
-      path_is = c.in_ok-element.ensures.path ∙ l.invariant.path_is;
-      begun =
-          let added = c.in_ok-element.ensures.ok in
-          front_more c.args.out.now.items begun added.0 written (front_more c.args.out.now.items l.out.items (runs.before l.run.now l.rest.now) begun l.invariant.begun c.in_ok-put_run.ensures.ok) added.2;
+      comes = on.0;
+      run_is = on.1;
+      path_is = l.invariant.path_is;
+      begun = front_more c.args.out.now.items begun (c.in-Type.byte ∷ []) now (front_more c.args.out.now.items l.out.items (runs.before l.run.now l.rest.now) begun l.invariant.begun c.in_ok-put_run-in-Type.ensures.ok) pushed;
     }
 
 pub elements-loop-typed-preserved : goal.elements-loop-typed-preserved
 elements-loop-typed-preserved g t c =
     let l = c.loop-typed in
     let s = c.in-Some in
-    let on = runs.run_goes_on (g.W.NumberWriter.is_written c.args.writer.now) (g.W.NumberWriter.others_of c.args.writer.now) (IsNested (g.W.NumberWriter.is_written c.args.writer.now) (g.W.NumberWriter.others_of c.args.writer.now) c.args.room) (path_of c.args.in_array c.args.path.now.items) c.args.bytes.now c.args.out.now.items l.out.items l.run.now l.rest.now c.split_at.result.0.now c.split_at.result.1.now
-    c.split_at-in-Some.result.0.now c.split_at-in-Some.result.1.now s.typed s.k s.n l.invariant.comes l.invariant.run_is s.ensures.gives (c.in_default-changed.ensures.stays refl)
-    c.split_at.ensures.front c.split_at.ensures.back c.split_at-in-Some.ensures.front c.split_at-in-Some.ensures.back in
-    record { comes = on.0; run_is = on.1; path_is = l.invariant.path_is; begun = l.invariant.begun }
+    let head : List ℕ = c.split_at.result.0.now in
+    let after : List ℕ = c.split_at-in-Some.result.1.now in
+    let begun = c.put_run-in-Part.new.out.items in
+    let written = c.element.new.out.items in
+    record {
+      comes = runs.comes_anew (g.W.NumberWriter.is_written c.args.writer.now) (g.W.NumberWriter.others_of c.args.writer.now) (IsNested (g.W.NumberWriter.is_written c.args.writer.now) (g.W.NumberWriter.others_of c.args.writer.now) c.args.room) (path_of c.args.in_array c.args.path.now.items) c.args.bytes.now after c.args.out.now.items written
+          (walks.stepped (g.W.NumberWriter.is_written c.args.writer.now) (g.W.NumberWriter.others_of c.args.writer.now) (IsNested (g.W.NumberWriter.is_written c.args.writer.now) (g.W.NumberWriter.others_of c.args.writer.now) c.args.room) (path_of c.args.in_array c.args.path.now.items) c.args.bytes.now c.args.out.now.items begun written l.rest.now head c.split_at.result.1.now
+          c.split_at-in-Some.result.0.now after (path_of c.args.in_array l.path.items head) s.typed s.k s.n
+          (runs.comes_flushed (g.W.NumberWriter.is_written c.args.writer.now) (g.W.NumberWriter.others_of c.args.writer.now) (IsNested (g.W.NumberWriter.is_written c.args.writer.now) (g.W.NumberWriter.others_of c.args.writer.now) c.args.room) (path_of c.args.in_array c.args.path.now.items) c.args.bytes.now l.rest.now c.args.out.now.items l.out.items begun l.run.now l.invariant.comes c.in_ok-put_run-in-Part.ensures.ok) s.ensures.gives
+          c.split_at.ensures.front c.split_at.ensures.back c.split_at-in-Some.ensures.front c.split_at-in-Some.ensures.back
+          (ap (λ p. path_of c.args.in_array p head) l.invariant.path_is) c.in_ok-element-in-Part.ensures.ok);
+      run_is = runs.run_begins after;
+      path_is = c.in_ok-element-in-Part.ensures.path ∙ l.invariant.path_is;
+      begun =
+          let added = c.in_ok-element-in-Part.ensures.ok in
+          front_more c.args.out.now.items begun added.0 written (front_more c.args.out.now.items l.out.items (runs.before l.run.now l.rest.now) begun l.invariant.begun c.in_ok-put_run-in-Part.ensures.ok) added.2;
+    }
 
 pub elements-returns-then-is_empty-clause-ok : goal.elements-returns-then-is_empty-clause-ok
 elements-returns-then-is_empty-clause-ok g t c =
     let l = c.loop-typed in
     let out = c.put_run-2.new.out.items in
     walks.all_written (g.W.NumberWriter.is_written c.args.writer.now) (g.W.NumberWriter.others_of c.args.writer.now) (IsNested (g.W.NumberWriter.is_written c.args.writer.now) (g.W.NumberWriter.others_of c.args.writer.now) c.args.room) (path_of c.args.in_array c.args.path.now.items) c.args.bytes.now c.args.out.now.items out l.rest.now
-    (runs.comes_flushed (g.W.NumberWriter.is_written c.args.writer.now) (g.W.NumberWriter.others_of c.args.writer.now) (IsNested (g.W.NumberWriter.is_written c.args.writer.now) (g.W.NumberWriter.others_of c.args.writer.now) c.args.room) (path_of c.args.in_array c.args.path.now.items) c.args.bytes.now l.rest.now c.args.out.now.items l.out.items out l.run.now l.invariant.comes c.in_ok-put_run-2.ensures.ok) c.if-is_empty.ensures
+    (runs.comes_flushed (g.W.NumberWriter.is_written c.args.writer.now) (g.W.NumberWriter.others_of c.args.writer.now) (IsNested (g.W.NumberWriter.is_written c.args.writer.now) (g.W.NumberWriter.others_of c.args.writer.now) c.args.room) (path_of c.args.in_array c.args.path.now.items) c.args.bytes.now l.rest.now c.args.out.now.items l.out.items out l.run.now l.invariant.comes c.in_ok-put_run.ensures.ok) c.if-is_empty.ensures
 
 pub elements-returns-clause-ok : goal.elements-returns-clause-ok
 elements-returns-clause-ok g t c =
@@ -92,7 +110,7 @@ elements-returns-clause-ok g t c =
     let some : 0 < length l.rest.now = grind (arith, nat_tests, c.if-is_empty.ensures) in
     walks.ok_on c.others.result _ _ c.others.ensures.ok
     (walks.others_written (g.W.NumberWriter.is_written c.args.writer.now) (g.W.NumberWriter.others_of c.args.writer.now) (IsNested (g.W.NumberWriter.is_written c.args.writer.now) (g.W.NumberWriter.others_of c.args.writer.now) c.args.room) (path_of c.args.in_array c.args.path.now.items) c.args.bytes.now c.args.out.now.items out c.others.new.out.items l.rest.now
-    (runs.comes_flushed (g.W.NumberWriter.is_written c.args.writer.now) (g.W.NumberWriter.others_of c.args.writer.now) (IsNested (g.W.NumberWriter.is_written c.args.writer.now) (g.W.NumberWriter.others_of c.args.writer.now) c.args.room) (path_of c.args.in_array c.args.path.now.items) c.args.bytes.now l.rest.now c.args.out.now.items l.out.items out l.run.now l.invariant.comes c.in_ok-put_run-2.ensures.ok) c.in_default.ensures.gives some)
+    (runs.comes_flushed (g.W.NumberWriter.is_written c.args.writer.now) (g.W.NumberWriter.others_of c.args.writer.now) (IsNested (g.W.NumberWriter.is_written c.args.writer.now) (g.W.NumberWriter.others_of c.args.writer.now) c.args.room) (path_of c.args.in_array c.args.path.now.items) c.args.bytes.now l.rest.now c.args.out.now.items l.out.items out l.run.now l.invariant.comes c.in_ok-put_run.ensures.ok) c.in_default.ensures.gives some)
 
 pub entered-nested-requires : goal.entered-nested-requires
 entered-nested-requires g t c κs within =
