@@ -6,7 +6,7 @@ import json
 from typing import Any, Callable, Generic, Literal, TypeVar, Union
 
 from ._errors import ArgumentError
-from ._replies import documents_in
+from ._replies import documents_in, junk
 from ._values import plain_document
 
 T = TypeVar("T")
@@ -29,9 +29,9 @@ def decoder(decode: Decode[Any]) -> Callable[[bytes], Any]:
     if callable(decode):
         return decode
     if decode == "dict":
-        return json.loads
+        return _parsed
     if decode == "plain":
-        return lambda line: plain_document(json.loads(line))
+        return lambda line: plain_document(_parsed(line))
     if decode == "json_util":
         try:
             from bson import json_util
@@ -41,6 +41,17 @@ def decoder(decode: Decode[Any]) -> Callable[[bytes], Any]:
     if decode in ("bytes", "bson"):
         return bytes
     raise ArgumentError(f'decode is "dict", "plain", "json_util", "bytes", "bson" or a function, not {decode!r}')
+
+
+def _parsed(line: bytes) -> dict[str, Any]:
+    """The document of a line; of what is none the program is no bsonfind."""
+    try:
+        document = json.loads(line)
+    except ValueError:
+        document = None
+    if not isinstance(document, dict):
+        raise junk(line)
+    return document
 
 
 def refuse_bson(decode: Decode[Any]) -> None:
@@ -86,7 +97,10 @@ class Parsed:
 
     def give(self) -> Any:
         """The next document."""
-        document, end = _scan(self._text, self._at)
+        try:
+            document, end = _scan(self._text, self._at)
+        except ValueError:
+            raise junk(self._text[self._at :]) from None
         document = self._finish(document)
         self._at, self.given, self.left = end + 1, self.given + 1, end < len(self._text)
         return document

@@ -24,13 +24,32 @@ class Batch(NamedTuple):
     token: str | None
 
 
-def read_reply(line: bytes) -> dict[str, Any]:
-    """The fields of a reply that has no documents, with its numbers as `int`; a refusal is raised."""
-    reply = json.loads(line, object_hook=_number)
-    if not reply.pop("ok"):
+def read_reply(line: bytes, *names: str) -> dict[str, Any]:
+    """The fields of a reply that has no documents, these among them, with its numbers as `int`; a refusal is raised."""
+    reply = _object(line, "ok")
+    is_done = reply.pop("ok")
+    if not reply.keys() >= set(names if is_done else ("layer", "number", "text")):
+        raise junk(line)
+    if not is_done:
         place = reply.get("place", reply.get("at"))
         raise CommandError(reply["layer"], reply["number"], reply["text"], place)
     return reply
+
+
+def _object(line: bytes, *names: str) -> dict[str, Any]:
+    """What a line has that the program prints, with these names; of another program that is an error."""
+    try:
+        found = json.loads(line, object_hook=_number)
+    except ValueError:
+        found = None
+    if not isinstance(found, dict) or not found.keys() >= set(names):
+        raise junk(line)
+    return found
+
+
+def junk(text: bytes | str) -> ProgramError:
+    """The error of a text that the program never prints."""
+    return ProgramError(f"the program is not bsonfind: it printed {text[:60]!r}")
 
 
 def read_batch(line: bytes) -> Batch:
@@ -38,8 +57,8 @@ def read_batch(line: bytes) -> Batch:
     if not line.startswith(_DOCUMENTS):
         raise ProgramError(f"no batch but {read_reply(line)}")
     # Neither `end` nor a token has a bracket.
-    end = line.rindex(_AFTER_DOCUMENTS)
-    rest = json.loads(b'{"end":' + line[end + len(_AFTER_DOCUMENTS) :])
+    end = line.rfind(_AFTER_DOCUMENTS)
+    rest = _object(b'{"end":' + line[end + len(_AFTER_DOCUMENTS) :], "end", "token")
     return Batch(line[len(_DOCUMENTS) : end], rest["end"], rest["token"])
 
 

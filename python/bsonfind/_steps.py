@@ -50,10 +50,10 @@ class Command(NamedTuple):
 Steps = Generator[Command, Any, T]
 
 
-def ask(command: Command) -> Steps[dict[str, Any]]:
-    """The fields of a reply. A refused byte of the line is that of the text of a field, as of an option of `find`."""
+def ask(command: Command, *names: str) -> Steps[dict[str, Any]]:
+    """The fields of a reply, these among them. A refused byte of the line is that of the text of a field, as of an option of `find`."""
     try:
-        return read_reply((yield command))
+        return read_reply((yield command), *names)
     except CommandError as error:
         if error.layer == "json" and isinstance(error.place, int):
             start = max((it for it in command.starts if it <= error.place), default=0)
@@ -92,7 +92,7 @@ def drop_index(path: str) -> Steps[None]:
 
 def explain(request: Request, use: Use) -> Steps[dict[str, Any]]:
     """How an answer is found."""
-    return (yield from ask(Command.of(("explain", request.filter), *request.fields(), ("use", text_of(use)))))
+    return (yield from ask(Command.of(("explain", request.filter), *request.fields(), ("use", text_of(use))), "matches"))
 
 
 def count(request: Request) -> Steps[int]:
@@ -178,7 +178,7 @@ class Reading(Generic[T]):
             first = [("find", self._request.filter)]
         else:
             first = [("resume", text_of(after)), ("filter", self._request.filter)]
-        return (yield from ask(Command.of(*first, *self._request.fields(), ("use", self._use))))["cursor"]
+        return (yield from ask(Command.of(*first, *self._request.fields(), ("use", self._use)), "cursor"))["cursor"]
 
     def token(self) -> Steps[str | None]:
         """The token that leads on to what follows the documents that were given; None where none was.

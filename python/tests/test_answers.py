@@ -3,7 +3,7 @@
 import json
 import os
 
-from bsonfind import CommandError, DumpError, ProgramError, find
+from bsonfind import CommandError, DumpError, ProgramError, find, find_one
 
 from .support import DAMAGED, PEOPLE, PEOPLE_LINES, PROGRAM, Room
 
@@ -68,6 +68,15 @@ class Answers(Room):
         with self.assertRaises(ProgramError) as raised:
             list(find(PEOPLE, program=self.script("printf '{\"a\":1}\\n{\"a\"'\nkill -9 $$")))
         self.assertEqual(str(raised.exception), "ended by signal 9")
+
+    def test_programs_that_are_not_bsonfind(self) -> None:
+        """What they print is no document."""
+        for text in ("hello", "5", '{"a":', "[]", "\\377"):
+            program = self.script(f"printf '%b\\n' '{text}'")
+            for decode in ("dict", "plain"):
+                with self.subTest(text), self.assertRaises(ProgramError) as raised:
+                    find_one(PEOPLE, decode=decode, program=program)
+                self.assertIn("not bsonfind", str(raised.exception))
 
     def test_answer_that_is_left(self) -> None:
         program = self.script('echo $$ >"$ROOM/pid"\nprintf \'{"a":1}\\n\'\nexec sleep 600')
