@@ -176,10 +176,19 @@ def _add_ids(command: argparse.ArgumentParser) -> None:
     command.set_defaults(run=run_ids)
 
 
-def run_each(words: argparse.Namespace, run: Callable[[str, str, Console], bool]) -> int:
-    """Runs a command over one dump after the other, and gives the status."""
-    console = Console()
-    return GOOD if all([run(name, words.program, console) for name in words.files]) else FAULTY
+def run_each(words: argparse.Namespace, run: Callable[[str, str, Console, str], bool]) -> int:
+    """Runs a command over one dump after the other, and gives the status. Of several each line that it says begins with the name."""
+    console, status = Console(), GOOD
+    for name in words.files:
+        front = f"{name}: " if len(words.files) > 1 else ""
+        try:
+            status = max(status, GOOD if run(name, words.program, console, front) else FAULTY)
+        except DumpError as error:
+            if not front:
+                raise
+            console.problem(f"{front}{error}")
+            status = FAILED
+    return status
 
 
 def run_find(words: argparse.Namespace) -> int:
@@ -306,7 +315,7 @@ def run_query(words: argparse.Namespace) -> int:
     """Asks many dumps, and gives the status."""
     _refuse_below("--jobs", words.jobs, 1)
     console, dumps = Console(), _dumps_in(words)
-    documents, status, names = 0, GOOD, set()
+    documents, failed, status, names = 0, 0, GOOD, set()
     for name, lines, error in query_dumps(dumps, Request(words.query), words.jobs, words.program):
         if lines:
             front = os.fsencode(name) + b"\t"
@@ -315,8 +324,9 @@ def run_query(words: argparse.Namespace) -> int:
             names.add(name)
         if error:
             console.problem(f"{name}: {getattr(error, 'strerror', None) or error}")
+            failed += 1
             status = max(status, FAULTY if isinstance(error, DumpError) and error.is_finding else FAILED)
-    console.note(f"{documents} documents in {len(names)} of {len(dumps)} files")
+    console.note(f"{documents} documents in {len(names)} of {len(dumps)} files" + (f", {failed} not asked in full" if failed else ""))
     return status
 
 

@@ -14,29 +14,29 @@ from ._sources import Source
 from ._wide import Checking
 
 
-def check_file(name: str, program: str, console: Console) -> bool:
-    """Prints the damage of a dump, as `check` does; gives whether there is none."""
+def check_file(name: str, program: str, console: Console, front: str = "") -> bool:
+    """Prints the damage of a dump, as `check` does, each line after a text; gives whether there is none."""
     faulty = 0
-    if not _can_open(name):
+    if not (front or _can_open(name)):
         _run_own("check", name, program)
     checking, is_sound = Checking(program, is_counting=False), True
     with Source(name) as source:
         try:
             for fault in checking.faults(source):
                 faulty += 1
-                console.line(str(fault))
+                console.line(f"{front}{fault}")
         except DumpError as error:
             if not error.is_finding:
                 raise
-            console.problem(str(error))
+            console.problem(f"{front}{error}")
             is_sound = False
-    console.note(f"{checking.documents} documents, {faulty} faulty")
+    console.note(f"{front}{checking.documents} documents, {faulty} faulty")
     return is_sound and not faulty
 
 
-def dump_file(name: str, program: str, console: Console) -> bool:
-    """Prints the documents of a dump, as `dump` does; gives whether none is refused."""
-    if not _can_open(name):
+def dump_file(name: str, program: str, console: Console, front: str = "") -> bool:
+    """Prints the documents of a dump, as `dump` does, and what it says after a text; gives whether no document is refused."""
+    if not (front or _can_open(name)):
         _run_own("dump", name, program)
     sys.stdout.flush()
     printing, refused = Printing(program, stdout=sys.stdout.fileno()), False
@@ -46,9 +46,9 @@ def dump_file(name: str, program: str, console: Console) -> bool:
     except DumpError as error:
         if not error.is_finding:
             raise
-        console.problem(str(error))
+        console.problem(f"{front}{error}")
         refused = True
-    console.note(f"{printing.documents} objects found")
+    console.note(f"{front}{printing.documents} objects found")
     return not refused
 
 

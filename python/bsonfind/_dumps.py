@@ -47,8 +47,11 @@ def dump_of(path: File) -> Dump:
     """The dump of a file.
 
     The program takes names in UTF-8 alone, so a file with another name is opened here, and so is a descriptor of this process.
+    A directory and an archive are a `DumpError`.
     """
     name = name_of(path)
+    if os.path.isdir(name):
+        raise DumpError(f"cannot read {name}: it is a directory")
     refuse_archive(name)
     if is_packed(name):
         return Dump(pieces=unpacked(name))

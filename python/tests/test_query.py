@@ -47,8 +47,8 @@ class Queries(Room):
         wanted = [f"{PEOPLE}\t{line}" for line in OLD_LINES]
         fault = f'bsonfind: {bad}: document 500, byte 92733, path "d": bad boolean\n'
         for words, status, told in (
-            ([bad, PEOPLE], 1, f"{fault}49 documents in 1 of 2 files\n"),
-            ([missing, PEOPLE, bad], 2, f"bsonfind: {missing}: No such file or directory\n{fault}49 documents in 1 of 3 files\n"),
+            ([bad, PEOPLE], 1, f"{fault}49 documents in 1 of 2 files, 1 not asked in full\n"),
+            ([missing, PEOPLE, bad], 2, f"bsonfind: {missing}: No such file or directory\n{fault}49 documents in 1 of 3 files, 2 not asked in full\n"),
         ):
             self.assertEqual(self.query(*map(str, words), "--query", OLD, status=status, told=told), wanted)
         self.query(str(PEOPLE), "--query", '{"$a":1}', status=2, told='bsonfind: filter: place "$a": unknown operator\n')

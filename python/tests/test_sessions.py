@@ -186,12 +186,21 @@ class Endings(Room):
     def test_directory(self) -> None:
         with self.assertRaises(DumpError) as raised:
             Session(self.room, PROGRAM)
-        self.assertEqual(raised.exception.text, "cannot read")
+        self.assertEqual(raised.exception.text, f"cannot read {self.room}: it is a directory")
 
     def test_program_that_is_not_there(self) -> None:
         with self.assertRaises(ProgramError) as raised:
             Session(PEOPLE, "no-such-program")
         self.assertEqual(str(raised.exception), "cannot start no-such-program: No such file or directory")
+
+    def test_programs_that_are_not_bsonfind(self) -> None:
+        """What they print is no reply, or none that this command has."""
+        for text in ("hello", "5", '{"ok":1', "[]", '{"a":true}', '{"ok":false}', '{"ok":true}', "\\000\\001\\377"):
+            program = self.script(f"""while read -r line; do printf '%b\\n' '{text}'; done""")
+            for ask in (Session.find_one, Session.count_documents):
+                with self.subTest(text), self.assertRaises(ProgramError) as raised, Session(PEOPLE, program) as session:
+                    ask(session, {})
+                self.assertIn("not bsonfind", str(raised.exception))
 
     def test_name_with_a_hyphen(self) -> None:
         self.file(PEOPLE.read_bytes(), "-")

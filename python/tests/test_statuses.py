@@ -14,7 +14,7 @@ from bsonfind import audit
 from bsonfind.__main__ import main
 
 from .archives import archive
-from .support import DOUBLE, PEOPLE, PROGRAM, Room, environment, packed, run_package, wait_for
+from .support import DAMAGED, DOUBLE, PEOPLE, PEOPLE_LINES, PROGRAM, SHOP, SHOP_LINES, Room, environment, packed, run_package, wait_for
 
 # The package as a shell starts it, also where this process was started with interrupts ignored.
 MAIN = """
@@ -119,6 +119,25 @@ class Statuses(Room):
         bad, missing = self.file(PEOPLE.read_bytes() + DOUBLE), str(self.room / "missing.bson")
         for command in ("audit", "query"):
             self.assertEqual(self.status(command, str(bad), missing, str(PEOPLE)), 2)
+
+    def test_one_file_after_the_other(self) -> None:
+        """Of several files each line has the name of its file, and one that is not there does not end the run."""
+        bad, missing = self.file(PEOPLE.read_bytes() + DAMAGED), self.room / "missing.bson"
+        fault = f'{bad}: document 500, byte 92733, path "d": bad boolean\n'
+        absent = f"bsonfind: {missing}: No such file or directory\n"
+        run = run_package("check", str(missing), str(bad), str(PEOPLE))
+        told = f"{absent}{bad}: 501 documents, 1 faulty\n{PEOPLE}: 500 documents, 0 faulty\n"
+        self.assertEqual((run.returncode, run.stdout, run.stderr), (2, fault, told))
+        run = run_package("dump", str(bad), str(missing), str(SHOP))
+        told = f"bsonfind: {fault}{bad}: 500 objects found\n{absent}{SHOP}: 400 objects found\n"
+        self.assertEqual((run.returncode, run.stdout.encode().splitlines(), run.stderr), (2, PEOPLE_LINES + SHOP_LINES, told))
+        self.assertEqual(self.status("check", str(PEOPLE), str(bad)), 1)
+        self.assertEqual(self.status("check", str(PEOPLE), str(SHOP)), 0)
+
+    def test_directories_in_place_of_dumps(self) -> None:
+        told = f"bsonfind: cannot read {self.room}: it is a directory\n"
+        for command in ("check", "dump", "find"):
+            self.assertEqual(run_package(command, str(self.room)).stderr, told)
 
     def test_audits_of_directories(self) -> None:
         """A finding is 1: metadata alone, or none. What was not seen is 2: it may be good or not."""
