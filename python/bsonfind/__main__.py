@@ -88,7 +88,7 @@ def _add_check(command: argparse.ArgumentParser) -> None:
 
 
 def _add_dump(command: argparse.ArgumentParser) -> None:
-    command.epilog = "The status is 0 where all is printed, 1 where a document has a fault, and else 2."
+    command.epilog = "The status is 0 where all is printed, 1 where a document has a fault, else 2. Unless it is 0, delete what it wrote."
     _add_dumps(command)
     command.set_defaults(run=lambda words: run_each(words, dump_file))
 
@@ -98,13 +98,13 @@ def _add_dumps(command: argparse.ArgumentParser) -> None:
 
 
 def _add_find(command: argparse.ArgumentParser) -> None:
-    command.epilog = "The status is 0 where the dump was asked, 1 where it is refused for a fault, and else 2."
+    command.epilog = "The status is 0 where the dump was asked, 1 where it has a fault, else 2. Unless it is 0, delete what it wrote."
     command.add_argument("file", metavar="FILE", help="a dump, one by mongodump --gzip, or - for standard input")
     for name, metavar, text in (
         ("query", "Q", "a query, in which numbers may have fractions"),
         ("sort", "S", "the fields by which documents are sorted"),
         ("index", "PATH", "find documents by an index on this path"),
-        ("after", "TOKEN", "resume after the documents that were printed with this token"),
+        ("after", "TOKEN", "resume after the documents that were printed with this token; one of --bson is for --bson"),
     ):
         command.add_argument(f"--{name}", metavar=metavar, help=text)
     for name, text in (("skip", "pass over so many documents"), ("limit", "print so many at most"), ("batch", "print the next so many")):
@@ -122,7 +122,7 @@ def _add_prepare(command: argparse.ArgumentParser) -> None:
 
 
 def _add_audit(command: argparse.ArgumentParser) -> None:
-    command.epilog = "The status is 0 where all is good, 1 where something is faulty or missing, 2 where something was not read."
+    command.epilog = "The status is 0 where all is good, 1 where something is faulty, cut or missing, 2 where another file was not read."
     _add_files(command)
     command.add_argument("--expect", metavar="LOG", help="compare the counts with those in a log of mongodump")
     command.add_argument("--json", action="store_true", help="print one line of JSON, and nothing else")
@@ -137,7 +137,7 @@ def _add_files(command: argparse.ArgumentParser) -> None:
 
 
 def _add_salvage(command: argparse.ArgumentParser) -> None:
-    command.epilog = "The status is 0 where all is good, 1 where something is faulty or left out, and else 2."
+    command.epilog = "The status is 0 where all is good, 1 where something is faulty or left out, else 2. Keep FILE: G and B lack what is left out."
     command.add_argument("file", metavar="FILE", help="a damaged dump, or one by mongodump --gzip")
     command.add_argument("--good", required=True, metavar="G", help="the file for documents without a fault")
     command.add_argument("--bad", required=True, metavar="B", help="the file for other documents whose length is known")
