@@ -120,9 +120,11 @@ def dumps_below(directory: str) -> Iterator[Dump]:
                 yield Dump(entry.path, is_below=True, error=None if is_file else "not a regular file")
             elif _HALF.search(entry.name):
                 yield Dump(entry.path, error="not whole: unpack left it so", is_fault=True)
-            elif _METADATA.search(entry.name) and _METADATA.sub("", entry.name) not in stems and not _is_view(entry.path):
-                name = f"{_METADATA.sub('', entry.path)}.bson"
-                yield Dump(name, error=f"missing: only {entry.name} is there", is_fault=True)
+            elif _METADATA.search(entry.name) and _METADATA.sub("", entry.name) not in stems:
+                stem = _stem_wanted(entry.path)
+                if stem is not None and stem not in stems:
+                    name = os.path.join(directory, f"{stem}.bson")
+                    yield Dump(name, error=f"missing: only {entry.name} is there", is_fault=True)
         except OSError as error:
             yield Dump(entry.path, error=error.strerror)
 
@@ -220,11 +222,21 @@ def fault_of_listed(listed: Listed) -> str | None:
     return None if isinstance(metadata, dict) else "not a document"
 
 
-def _is_view(metadata: str) -> bool:
-    """Whether metadata is that of a view or a time series, of which mongodump writes no dump of this name."""
-    found, _ = _read(metadata)
-    kind, options = (found or {}).get("type"), (found or {}).get("options")
-    return kind in ("view", "timeseries") or isinstance(options, dict) and bool({"viewOn", "timeseries"} & {*options})
+def _stem_wanted(path: str) -> str | None:
+    """The name without an ending of the dump whose metadata is in this file, None of a view, which has none.
+
+    That of a time series is the dump of its buckets.
+    """
+    found, _ = _read(path)
+    stem, metadata = _METADATA.sub("", os.path.basename(path)), found or {}
+    kind, options = metadata.get("type"), metadata.get("options")
+    keys = {*options} if isinstance(options, dict) else set()
+    if kind == "view" or "viewOn" in keys:
+        return None
+    if (kind != "timeseries" and "timeseries" not in keys) or stem.startswith("system.buckets."):
+        return stem
+    collection = metadata.get("collectionName")
+    return stem_of(Namespace("", f"system.buckets.{collection if isinstance(collection, str) else unquote(stem)}"))
 
 
 def _metadata_names(name: str) -> list[str]:

@@ -1,6 +1,8 @@
 """Tests of the command `audit`."""
 
+import base64
 import gzip
+import hashlib
 import json
 import os
 import socket
@@ -313,19 +315,45 @@ class Audits(Room):
         self.assertIn(f"{self.backup}/club/{long}.bson: 500 documents in place of 501", lines)
 
     def test_metadata_without_a_dump(self) -> None:
-        """The dump is missing, but for a view and a time series, which have none of their name."""
+        """The dump is missing, but for a view, which has none; that of a time series is the one of its buckets."""
+        series = '{"type":"timeseries","options":{"timeseries":{"timeField":"t"}}}'
         for name, metadata in (
             ("view", '{"type":"view","options":{"viewOn":"people","pipeline":[]}}'),
             ("old_view", '{"options":{"viewOn":"people","pipeline":[]},"indexes":[]}'),
-            ("series", '{"type":"timeseries","options":{"timeseries":{"timeField":"t"}}}'),
+            ("series", series),
         ):
             self.file(metadata.encode(), f"backup/club/{name}.metadata.json")
+        packed = self.file(gzip.compress(DOUBLE), "backup/club/system.buckets.series.bson.gz")
         self.audit(self.backup, status=0)
+        packed.unlink()
+        buckets = self.file(DOUBLE, "backup/club/system.buckets.series.bson")
+        self.audit(self.backup, status=0)
+        buckets.unlink()
         self.file(b'{"type":"collection"}', "backup/club/lost.metadata.json")
         self.file(gzip.compress(b"{}"), "backup/shop/gone.metadata.json.gz")
+        self.file(gzip.compress(series.encode()), "backup/shop/w%2F1.metadata.json.gz")
+        self.file(b'{"options":{"timeseries":{}}}', "backup/shop/system.buckets.old.metadata.json")
         lines = self.audit(self.backup, status=1)
-        self.assertIn(f"{self.backup}/club/lost.bson: missing: only lost.metadata.json is there", lines)
-        self.assertIn(f"{self.backup}/shop/gone.bson: missing: only gone.metadata.json.gz is there", lines)
+        for name, metadata in (
+            ("club/lost.bson", "lost.metadata.json"),
+            ("club/system.buckets.series.bson", "series.metadata.json"),
+            ("shop/gone.bson", "gone.metadata.json.gz"),
+            ("shop/system.buckets.w%2F1.bson", "w%2F1.metadata.json.gz"),
+            ("shop/system.buckets.old.bson", "system.buckets.old.metadata.json"),
+        ):
+            self.assertIn(f"{self.backup}/{name}: missing: only {metadata} is there", lines)
+
+    def test_missing_time_series_with_a_long_name(self) -> None:
+        """mongodump shortens the name of the file of its buckets by another hash; the metadata has the whole name."""
+        name = "n" * 230
+        metadata = json.dumps({"collectionName": name, "type": "timeseries"}).encode()
+        self.file(metadata, f"backup/club/{name}.metadata.json")
+        digest = base64.urlsafe_b64encode(hashlib.sha1(f"system.buckets.{name}".encode()).digest()).decode().rstrip("=")
+        stem = f"backup/club/system.buckets.{'n' * 193}%24{digest}"
+        buckets = self.file(DOUBLE, f"{stem}.bson")
+        self.audit(self.backup, status=0)
+        buckets.unlink()
+        self.assertIn(f"{self.room}/{stem}.bson: missing: only {name}.metadata.json is there", self.audit(self.backup, status=1))
 
     def test_function(self) -> None:
         """It takes one name, or several; the reports are in their order."""
