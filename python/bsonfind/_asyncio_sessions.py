@@ -15,7 +15,7 @@ from ._decoding import Decode, Dicts, Texts, decoder
 from ._dumps import Dump, File, dump_of
 from ._errors import BsonfindError, CancelledError, CommandError, DumpError, SessionEndedError, TimedOutError
 from ._messages import error_of
-from ._ordered import Original, can_be_read_again, places, query_of, refused_by, temporary_file, write_copy
+from ._ordered import Codes, Original, can_be_read_again, places, query_of, refused_by, temporary_file, write_copy
 from ._processes import Descriptor, Feeder, Group, check_owner, file_for_messages, start_error
 from ._requests import Filter, Request, Sort, seconds
 from ._steps import Command, Hint, Reading, Steps, Use, kill, use_of
@@ -245,9 +245,9 @@ class _Questions:
         self._path, self._program, self._timeout = path, program, timeout
         self._own: _Connection | None = _Connection(dump_of(path), program, timeout)
         self._first = self._own
-        self._copies: dict[frozenset[tuple[str, int]], _Connection] = {}
+        self._copies: dict[frozenset[object], _Connection] = {}
         self._indexes: list[tuple[str, bool]] = []
-        self._levels: dict[str, int] = {}
+        self._codes = Codes()
         self._original: Original | None = None
         self._group = Group()
 
@@ -263,7 +263,7 @@ class _Questions:
                 raise
             self._own = None
             try:
-                await self._connection_by(Query("{}"), self._levels)
+                await self._connection_by(Query("{}"), self._codes)
             except BaseException:
                 await self.close()
                 raise
@@ -289,9 +289,10 @@ class _Questions:
         if query is None:
             return _Asked(self._connections[0], request)
         self._connections[0].check_open()
-        levels = dict(self._levels)
+        codes = self._codes.copy()
         async with self._lock:
-            connection = await self._connection_by(query, levels)
+            connection = await self._connection_by(query, codes)
+        levels = codes.levels
         rewritten = replace(request, filter=query.rewritten(levels))
         for probe in query.probes_at(levels):
             try:
@@ -310,23 +311,21 @@ class _Questions:
 
         return _Asked(connection, rewritten, given, query, levels)
 
-    async def _connection_by(self, query: Query, levels: dict[str, int]) -> _Connection:
+    async def _connection_by(self, query: Query, codes: Codes) -> _Connection:
         """The connection over a copy for a query, which a thread writes."""
-        query.settle(levels)
-        key = frozenset(levels.items())
-        if key not in self._copies:
+        codes.settle(query)
+        if codes.key not in self._copies:
             with temporary_file() as file:
-                await asyncio.get_running_loop().run_in_executor(None, self._write, query, levels, file)
-                key = frozenset(levels.items())
-                if key not in self._copies:
+                await asyncio.get_running_loop().run_in_executor(None, self._write, query, codes, file)
+                if codes.key not in self._copies:
                     connection = _Connection(Dump(path=f"/dev/fd/{file.fileno()}"), self._program, self._timeout)
                     await self._open_copy(connection)
-                    self._copies[key] = connection
-        return self._copies[key]
+                    self._copies[codes.key] = connection
+        return self._copies[codes.key]
 
-    def _write(self, query: Query, levels: dict[str, int], file: BinaryIO) -> None:
+    def _write(self, query: Query, codes: Codes, file: BinaryIO) -> None:
         self._original = self._original or Original.of(self._path)
-        write_copy(self._original, query, levels, self._program, self._group, file)
+        write_copy(self._original, query, codes, self._program, self._group, file)
 
     async def _open_copy(self, connection: _Connection) -> None:
         assert self._original
@@ -338,7 +337,8 @@ class _Questions:
             await connection.do(_steps.create_index(path, sparse))
 
     async def create_index(self, path: str, sparse: bool) -> dict[str, Any]:
-        """Makes an index on a path, also for copies that come later."""
+        """Makes an index on a path, also for copies that come later. One that would reach hidden numbers is refused."""
+        self._codes.refuse_index(path)
         made = [await connection.do(_steps.create_index(path, sparse)) for connection in self._connections]
         self._indexes.append((path, sparse))
         return made[0]

@@ -258,11 +258,22 @@ class Query:
     deep: set[str] = field(default_factory=set)
     # Types of numbers and paths that cannot be asked for, once numbers were rewritten.
     refusals: list[CommandError] = field(default_factory=list)
+    # All readings of all paths, and the paths of indexes, of which no number is rewritten.
+    paths: set[str] = field(default_factory=set)
+    indexes: list[str] = field(default_factory=list)
 
     @property
     def is_wide(self) -> bool:
         """Whether it compares by a number that the program does not take."""
         return any(not it.number.is_plain for it in self.operands)
+
+    def reaches(self, path: str) -> bool:
+        """Whether a value that it speaks of may be a number at this path, or hold one.
+
+        A path that goes on below a number reaches none: a number has no fields, and neither has what stands for it.
+        """
+        indexed = {name for it in self.indexes for name in readings(it.split("."))}
+        return any(path == it or path.startswith(f"{it}.") for it in self.paths | indexed)
 
     def settle(self, levels: dict[str, int]) -> None:
         """Adds the paths of which the query needs codes, and raises levels where its numbers have none by them."""
@@ -395,6 +406,7 @@ class _Reader:
         if names[0] == "~n":
             self._query.refusals.append(refused("a path through the field ~n, which is written beside numbers", place))
         found = readings(names)
+        self._query.paths.update(found)
         if len(found) > 1 and found not in self._query.groups:
             self._query.groups.append(found)
 

@@ -2,6 +2,10 @@
 
 A copy has the documents of the dump in the same order, each with its number as its last field. What is given back are the
 documents of the dump. A copy is a file without a name, as large as the dump, in the directory for temporary files.
+
+Where no codes hold all numbers of a path, these numbers are hidden from a copy, as `_hiding` says, and a question that may reach
+one of them is refused. The values that any other question compares hold none of them, so they are the same in the copy. What a
+path leads through is the same too: numbers have no fields or elements, and neither has what stands in their places.
 """
 
 from __future__ import annotations
@@ -14,7 +18,7 @@ import tempfile
 import threading
 from array import array
 from contextlib import contextmanager
-from dataclasses import replace
+from dataclasses import asdict, dataclass, field, replace
 from typing import Any, BinaryIO, Callable, ContextManager, Iterable, Iterator, NamedTuple, Sequence, TypeVar
 
 from . import _framing, _steps
@@ -23,6 +27,7 @@ from ._connections import Connection
 from ._decoding import Decode, Texts, decoder
 from ._dumps import Dump, File, dump_of, file_of, is_packed, name_of, opened, pieces_of, refuse_archive, unpacked
 from ._errors import CancelledError, CommandError, DumpError, ProgramError
+from ._hiding import hide
 from ._lines import Batches, Lines, lines_of
 from ._messages import error_of
 from ._outputs import Output, refuse_names
@@ -41,6 +46,9 @@ _NUMBERED = re.compile(rb'"~n":\{"\$numberLong":"([0-9]+)"\}\}$')
 _PIECE = 1 << 20
 # The end of the name of a file that describes a copy.
 _ABOUT = ".json"
+_NO_CODES = "no codes hold all numbers of this field: ask by other fields, or search the lines of dump"
+# At how many paths numbers are hidden at most, since each is found by some twenty runs.
+_MOST_HIDDEN = 100
 
 
 class Original:
@@ -192,40 +200,101 @@ def paths_of(request: Request) -> list[str]:
         return []
 
 
-def write_copy(original: Original, query: Query, levels: dict[str, int], program: str, group: Group, copy: BinaryIO) -> None:
-    """Writes a copy of a dump; the levels become those of all paths that need codes, which are found by asking for a copy."""
-    while True:
-        query.settle(levels)
-        words = [word_of(path, level) for path, level in sorted(levels.items())]
-        # An argument that begins with a hyphen would be an option.
-        words = [filter_beside(program), "order", *(["--"] if any(it.startswith("-") for it in words) else []), "-", *words]
-        copy.seek(0)
-        copy.truncate()
-        with Run(words, stdin=original.rewound(), stdout=copy.fileno(), group=group) as run:
-            if run.wait() == 0:
-                return
-            try:
-                _raise_level(run, levels)
-            except DumpError as error:
-                # A number in a damaged document has perhaps no name that can be asked for.
-                raise original.fault(program, group) or error from None
+@dataclass
+class Codes:
+    """What a copy has of numbers: the level of each path that needs codes, and why those that are hidden have none, by their paths."""
+
+    levels: dict[str, int] = field(default_factory=dict)
+    hidden: dict[str, str] = field(default_factory=dict)
+
+    def copy(self) -> Codes:
+        """The same, for a question that may need more."""
+        return Codes(dict(self.levels), dict(self.hidden))
+
+    @property
+    def key(self) -> frozenset[object]:
+        """What tells one copy of a dump from another."""
+        return frozenset([*self.levels.items(), *self.hidden])
+
+    def refuse_index(self, path: str) -> None:
+        """Refuses an index that would have hidden numbers."""
+        self.settle(Query("{}", indexes=[path]))
+
+    def settle(self, query: Query) -> None:
+        """Adds what a query needs; one that may reach hidden numbers is refused."""
+        for path, told in self.hidden.items():
+            if query.reaches(path):
+                raise DumpError(told)
+        query.settle(self.levels)
+
+    def raise_level(self, told: str, query: Query) -> bool:
+        """Takes up the path that a run refuses, and says whether it is hidden now; raises why there is no copy for another reason."""
+        line = told.rpartition("bsonwide: ")[2]
+        found = _REFUSED.fullmatch(line)
+        if line == "cannot write":
+            raise _no_room()
+        if not found:
+            raise DumpError(line) if line.startswith("document ") else error_of(1, f"bsonfind: {line}")
+        document, byte, text, reason = found.groups()
+        path = json.loads(text)
+        level = self.levels.get(path)
+        if path not in self.hidden and level != MOST_LEVEL:
+            self.levels[path] = CODE if level is None else level + 1
+            return False
+        reason = f"document {document}, byte {byte}, path {text}: {reason}; {_NO_CODES}"
+        if path in self.hidden or query.reaches(path) or len(self.hidden) == _MOST_HIDDEN:
+            raise DumpError(reason)
+        self.hidden[path] = reason
+        del self.levels[path]
+        return True
 
 
-def _raise_level(run: Run, levels: dict[str, int]) -> None:
-    """Takes up the path that a run refuses; raises why there is no copy, where it is for another reason."""
-    told = run.messages().strip()
-    line = told.rpartition("bsonwide: ")[2]
-    found = _REFUSED.fullmatch(line)
-    if line == "cannot write":
-        raise _no_room()
-    if not found:
-        raise DumpError(line) if line.startswith("document ") else error_of(1, f"bsonfind: {line}")
-    document, byte, text, reason = found.groups()
-    path = json.loads(text)
-    level = levels.get(path)
-    if level == MOST_LEVEL:
-        raise DumpError(f"document {document}, byte {byte}, path {text}: {reason}; no codes hold all numbers of this field")
-    levels[path] = CODE if level is None else level + 1
+def write_copy(original: Original, query: Query, codes: Codes, program: str, group: Group, copy: BinaryIO) -> None:
+    """Writes a copy of a dump; the codes become those of all paths that need some, which are found by asking for a copy."""
+    hidden, is_hidden = None, False
+    try:
+        while True:
+            _settle(original, query, codes, program, group)
+            if codes.hidden and not is_hidden:
+                hidden, is_hidden = hidden or temporary_file(), True
+                _hide(original, codes, hidden)
+            words = [word_of(path, level) for path, level in sorted(codes.levels.items())]
+            # An argument that begins with a hyphen would be an option.
+            words = [filter_beside(program), "order", *(["--"] if any(it.startswith("-") for it in words) else []), "-", *words]
+            for file in (copy, *([hidden] if hidden else [])):
+                file.seek(0)
+            copy.truncate()
+            with Run(words, stdin=hidden or original.rewound(), stdout=copy.fileno(), group=group) as run:
+                if run.wait() == 0:
+                    return
+                try:
+                    is_hidden = not codes.raise_level(run.messages().strip(), query) and is_hidden
+                except DumpError as error:
+                    # A number in a damaged document has perhaps no name that can be asked for.
+                    raise original.fault(program, group) or error from None
+    finally:
+        if hidden:
+            hidden.close()
+
+
+def _hide(original: Original, codes: Codes, out: BinaryIO) -> None:
+    out.seek(0)
+    try:
+        hide(original.rewound(), codes.hidden, out)
+    except OSError as error:
+        raise _no_room() from error
+
+
+def _settle(original: Original, query: Query, codes: Codes, program: str, group: Group) -> None:
+    """Adds what a query needs. Where its numbers have no codes, that may be since those of the dump have none either."""
+    try:
+        codes.settle(query)
+    except CommandError:
+        known = Codes()
+        with temporary_file() as file:
+            write_copy(original, Query("{}"), known, program, group, file)
+        known.settle(query)
+        raise
 
 
 class Asked(NamedTuple):
@@ -276,11 +345,11 @@ class Questions:
         self.group, self._lock = group or Group(), threading.RLock()
         self._path, self._original = ("", path) if isinstance(path, Original) else (path, None)
         self._is_owner = self._original is None
-        self._copies: dict[frozenset[tuple[str, int]], Connection] = {}
+        self._copies: dict[frozenset[object], Connection] = {}
         self._indexes: list[tuple[str, bool]] = []
         # The probes of which it is known that no document matches, each with its connection.
         self._without_matches: set[tuple[Connection, str]] = set()
-        self._levels: dict[str, int] = {}
+        self._codes = Codes()
         self.own: Connection | None = None
         try:
             self._open(copy)
@@ -291,12 +360,11 @@ class Questions:
     def _open(self, copy: File | None) -> None:
         """Opens a copy that was kept, the dump, or where the program refuses this for its numbers another copy."""
         if copy is not None:
-            self._levels = levels_of_copy(self._path, copy)
-            connection = Connection(dump_of(copy), self._program, self._timeout)
-            self._copies[frozenset(self._levels.items())] = connection
+            self._codes = codes_of_copy(self._path, copy)
+            self._copies[self._codes.key] = Connection(dump_of(copy), self._program, self._timeout)
             return
         if not self._is_owner:
-            self._connection_by(Query("{}"), self._levels)
+            self._connection_by(Query("{}"), self._codes)
             return
         spool = None if can_be_read_again(self._path) else Spool.of(self._path)
         dump = Dump(pieces=spool.pieces) if spool else dump_of(self._path)
@@ -307,7 +375,7 @@ class Questions:
             if not is_wide(error):
                 raise
             self._original = spool and spool.original()
-            self._connection_by(Query("{}"), self._levels)
+            self._connection_by(Query("{}"), self._codes)
 
     @property
     def connections(self) -> list[Connection]:
@@ -333,9 +401,10 @@ class Questions:
         query = query_of(request, is_bson or self.own is None, self._program)
         if query is None:
             return Asked(self.connections[0], request)
-        levels = dict(self._levels)
+        codes = self._codes.copy()
         with self._lock:
-            connection = self._connection_by(query, levels)
+            connection = self._connection_by(query, codes)
+        levels = codes.levels
         probes = [it for it in query.probes_at(levels) if (connection, it.text) not in self._without_matches]
         rewritten = replace(request, filter=query.rewritten(levels))
         refuse_matches(connection, probes, rewritten)
@@ -346,15 +415,15 @@ class Questions:
 
         return Asked(connection, rewritten, query, levels, documents)
 
-    def _connection_by(self, query: Query, levels: dict[str, int]) -> Connection:
+    def _connection_by(self, query: Query, codes: Codes) -> Connection:
         """The connection over a copy for a query."""
-        query.settle(levels)
-        known = self._copies.get(frozenset(levels.items()))
+        codes.settle(query)
+        known = self._copies.get(codes.key)
         if known:
             return known
         with temporary_file() as file:
-            write_copy(self.original, query, levels, self._program, self.group, file)
-            known = self._copies.get(frozenset(levels.items()))
+            write_copy(self.original, query, codes, self._program, self.group, file)
+            known = self._copies.get(codes.key)
             if known:
                 return known
             dump = Dump(path=f"/dev/fd/{file.fileno()}")
@@ -364,11 +433,12 @@ class Questions:
                 raise (self.original.fault(self._program, self.group) if error.fault else None) or error from None
         for path, sparse in self._indexes:
             connection.do(_steps.create_index(path, sparse))
-        self._copies[frozenset(levels.items())] = connection
+        self._copies[codes.key] = connection
         return connection
 
     def create_index(self, path: str, sparse: bool) -> dict[str, Any]:
-        """Makes an index on a path, also for copies that come later."""
+        """Makes an index on a path, also for copies that come later. One that would reach hidden numbers is refused."""
+        self._codes.refuse_index(path)
         made = [connection.do(_steps.create_index(path, sparse)) for connection in self.connections]
         self._indexes.append((path, sparse))
         return made[0]
@@ -503,15 +573,20 @@ class AnyLines(Lines):
         if self._original is None:
             assert self._path is not None
             self._original = Original.of(self._path)
-        original, levels = self._original, {} if self._copy is None else levels_of_copy(self._path, self._copy)
-        known = dict(levels)
-        query.settle(levels)
+        original = self._original
+        if self._index is not None:
+            query.indexes.append(self._index)
+        codes = Codes() if self._copy is None else codes_of_copy(self._path, self._copy)
+        known = codes.key
         with temporary_file() as file:
-            if self._copy is not None and levels == known:
+            if self._copy is not None:
+                codes.settle(query)
+            if self._copy is not None and codes.key == known:
                 self._dump = dump_of(self._copy)
             else:
-                write_copy(original, query, levels, self._program, self._group, file)
+                write_copy(original, query, codes, self._program, self._group, file)
                 self._dump = Dump(path=f"/dev/fd/{file.fileno()}")
+            levels = codes.levels
             self._request, self._probes = replace(self._request, filter=query.rewritten(levels)), query.probes_at(levels)
             try:
                 with places(query, levels):
@@ -532,14 +607,14 @@ def prepare(path: File, copy: File, *, program: str = "bsonfind") -> list[str]:
     names = [name_of(copy), f"{name_of(copy)}{_ABOUT}"]
     refuse_names(name_of(path), *names)
     refuse_archive(name_of(path))
-    before, levels = _state_of(path), {}
+    before, codes = _state_of(path), Codes()
     original = Original.of(path)
     try:
         damage = original.fault(program, None)
         if damage:
             raise damage
         with Output(names[0]) as data, Output(names[1]) as about, temporary_file() as file:
-            write_copy(original, Query("{}"), levels, program, Group(), file)
+            write_copy(original, Query("{}"), codes, program, Group(), file)
             file.seek(0)
             while piece := file.read(_PIECE):
                 data.write(piece)
@@ -547,23 +622,23 @@ def prepare(path: File, copy: File, *, program: str = "bsonfind") -> list[str]:
             data.put_in_place()
             if _state_of(path) != before:
                 raise DumpError("the file was written to meanwhile")
-            about.write(json.dumps({"dump": before, "copy": _state_of(names[0]), "levels": levels}).encode())
+            about.write(json.dumps({"dump": before, "copy": _state_of(names[0]), **asdict(codes)}).encode())
             about.complete()
             about.put_in_place()
     finally:
         original.close()
-    return [word_of(it, level) for it, level in sorted(levels.items())]
+    return [word_of(it, level) for it, level in sorted(codes.levels.items())]
 
 
-def levels_of_copy(path: File | None, copy: File) -> dict[str, int]:
-    """The levels of a copy that was kept, which must be of this dump as it is now."""
+def codes_of_copy(path: File | None, copy: File) -> Codes:
+    """The codes of a copy that was kept, which must be of this dump as it is now."""
     assert path is not None
     name = name_of(copy)
     try:
         with open(f"{name}{_ABOUT}", encoding="utf-8") as file:
             about = json.load(file)
         if about["dump"] == _state_of(path) and about["copy"] == _state_of(name):
-            return dict(about["levels"])
+            return Codes(dict(about["levels"]), dict(about["hidden"]))
     except (OSError, ValueError, KeyError, TypeError):
         pass
     raise DumpError(f"{name} is no copy of {name_of(path)} as it is now: prepare it again")

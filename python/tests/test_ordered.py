@@ -30,6 +30,8 @@ from bsonfind import (
     prepare,
 )
 
+from bsonfind._hiding import hide
+
 from .archives import archive
 from .support import DAMAGED, PATIENCE, PEOPLE, PROGRAM, Room, environment, run_package
 
@@ -212,12 +214,6 @@ class Finds(Goods):
                 session.find({"a": 1.5, "é": {"$oid": "x"}})
             self.assertEqual(raised.exception.args, ("json", 4, "bad wrapper", 18))
             self.assertEqual(session.count_documents({"price": 9.5}), 1)
-        mixed = document(double("m", 0.1)) + document(whole("n", 1), decimal("m", 1, -1))
-        with self.assertRaises(DumpError) as raised:
-            list(find(self.file(mixed, "mixed.bson"), program=PROGRAM))
-        byte = len(document(double("m", 0.1))) + 4 + 7
-        self.assertIn("no codes hold all numbers of this field", str(raised.exception))
-        self.assertRegex(str(raised.exception), rf'^document (0, byte 4|1, byte {byte}), path "m"')
 
     def test_numbers_as_names_below_one_another(self) -> None:
         """Codes go down some numbers as names; a dump that has still more is refused."""
@@ -261,6 +257,191 @@ class Finds(Goods):
             with self.assertRaises(DumpError) as raised:
                 session.find_one({"price": 9.5})
             self.assertEqual(str(raised.exception), "the file was written to since it was opened")
+
+
+def embedded(name: str, *fields: bytes) -> bytes:
+    """A document in a document."""
+    return b"\x03" + name.encode() + b"\0" + document(*fields)
+
+
+def scoped(name: str, *fields: bytes) -> bytes:
+    """Code with these fields as its scope."""
+    value = (2).to_bytes(4, "little") + b"f\0" + document(*fields)
+    return b"\x0f" + name.encode() + b"\0" + (len(value) + 4).to_bytes(4, "little") + value
+
+
+# Prices which no codes hold: doubles and decimal128 with fractions, at the top, in a document, in arrays and in a scope.
+MIXED = [
+    document(
+        whole("_id", it),
+        double("weight", it / 2),
+        double("price", it / 10) if it % 2 else decimal("price", it * 10 + 3, -1),
+        embedded("in", whole("x", -it), double("price", 0.1), *([] if it == 3 else [decimal("price", 19, -1)])),
+        array("list", array("0", decimal("0", 1, -1), double("1", 0.1)), whole("1", it), embedded("2", whole("y", it))),
+        scoped("code", double("s", 0.1)) if it % 2 else scoped("code", decimal("s", 1, -1)),
+    )
+    for it in range(6)
+]
+_NO_CODES = r"no codes hold all numbers of this field: ask by other fields, or search the lines of dump$"
+
+
+class Hidden(Room):
+    """Questions of a dump in which fields have numbers without codes."""
+
+    def setUp(self) -> None:
+        super().setUp()
+        self.path = self.file(b"".join(MIXED))
+
+    def test_what_is_answered(self) -> None:
+        """All that has nothing to do with these fields, to the byte, also by an index; paths below a number reach nothing."""
+        cases = (
+            ({}, None, [0, 1, 2, 3, 4, 5]),
+            ({"_id": {"$gte": 3}}, None, [3, 4, 5]),
+            ({"_id": {"$gte": 3.5}}, {"weight": -1}, [5, 4]),
+            ({"weight": {"$lt": 1.5}}, [("_id", -1)], [2, 1, 0]),
+            ({"in.x": {"$lte": -4}}, {"in.x": 1}, [5, 4]),
+            ({"list.y": 3}, None, [3]),
+            ({"list.2.y": {"$in": [1, 2.0]}}, {"_id": -1}, [2, 1]),
+            ({"price.x": {"$exists": True}}, None, []),
+            ({"price.0.x": None, "in.price.x": None, "_id": 2}, {"code.$scope.s.t": 1}, [2]),
+            ({"prices": None, "pric": None, "in.pric": None, "_id": {"$lt": 1}}, None, [0]),
+        )
+        copy = self.room / "copy"
+        self.assertEqual(prepare(self.path, copy, program=PROGRAM), ["weight"])
+        with Session(self.path, PROGRAM) as session, Session(self.path, PROGRAM, copy=copy) as kept:
+            session.create_index("weight")
+            for filter, sort, wanted in cases:
+                found = find(self.path, filter, sort=sort, decode="bson", program=PROGRAM)
+                self.assertEqual([MIXED.index(it) for it in found], wanted, filter)
+                for asked in (session, kept):
+                    read = asked.find(filter, sort=sort, decode="bson", batch_size=2)
+                    self.assertEqual([MIXED.index(it) for it in read], wanted, filter)
+                    self.assertEqual(read.token(), found.token)
+                self.assertEqual(session.find_one(filter, sort=sort, use={"index": "weight"}, decode="bson"), MIXED[wanted[0]] if wanted else None)
+            line = session.find_one({"_id": 3}, decode="bytes").decode()
+            self.assertIn('"price":{"$numberDouble":"0.3"}', line)
+        parts = plan(self.path, 400)
+        self.assertGreater(len(parts), 2)
+        lines = list(find(self.path, {"weight": {"$gt": 0.5}}, sort={"weight": -1}, decode="bytes", program=PROGRAM))
+        self.assertEqual(find_parts(parts, {"weight": {"$gt": 0.5}}, sort={"weight": -1}, decode="bytes", program=PROGRAM), lines)
+
+    def test_what_is_refused(self) -> None:
+        """All that may reach one of these numbers, by the first of them; a path with a number is a position or a field."""
+        price, inner = r'document [01], byte \d+, path "price": ', r'document 0, byte \d+, path "in.price": '
+        deep, scope = r'document 0, byte \d+, path "list": ', r'document [01], byte \d+, path "code.\$scope.s": '
+        cases = (
+            ({"price": {"$lt": 20}}, None, price),
+            ({"price": {"$lt": 20.0}}, None, price),
+            ({"price": {"$lt": Decimal("20")}}, None, price),
+            ({"price": {"$exists": True}}, None, price),
+            ({"price": {"$type": "number"}}, None, price),
+            ({"price": {"$size": 2}}, None, price),
+            ({"price": None}, None, price),
+            ({"$or": [{"_id": 1}, {"$nor": [{"price": "x"}]}]}, None, price),
+            ({"_id": 1}, {"price": 1}, price),
+            ({"price.0": 1}, None, price),
+            ({"in": {"x": 1}}, None, inner),
+            ({"in": {"$exists": False}}, None, inner),
+            ({"in": {"$elemMatch": {"x": 1}}}, None, inner),
+            ({"in.price": 7}, None, inner),
+            ({}, {"in": -1}, inner),
+            ({"list": 1}, None, deep),
+            ({"list.1": 1}, None, deep),
+            ({"list.0.1": 1}, None, deep),
+            ({"code": {"$exists": True}}, None, scope),
+            ({"code.$scope": None}, None, scope),
+        )
+        copy = self.room / "copy"
+        prepare(self.path, copy, program=PROGRAM)
+        with Session(self.path, PROGRAM) as session, Session(self.path, PROGRAM, copy=copy) as kept:
+            for filter, sort, place in cases:
+                for ask in (
+                    lambda: list(find(self.path, filter, sort=sort, program=PROGRAM)),
+                    lambda: list(session.find(filter, sort=sort)),
+                    lambda: kept.explain(filter, sort=sort),
+                ):
+                    with self.assertRaisesRegex(DumpError, f"^{place}.*{_NO_CODES}", msg=(filter, sort)):
+                        ask()
+            for path in ("price", "in", "price.0", "in.0.price"):
+                with self.assertRaisesRegex(DumpError, _NO_CODES):
+                    session.create_index(path)
+                with self.assertRaisesRegex(DumpError, _NO_CODES):
+                    list(find(self.path, {"_id": 1}, index=path, program=PROGRAM))
+            with self.assertRaisesRegex(CommandError, 'place "weight": .* cannot be compared exactly'):
+                session.count_documents({"weight": Decimal("1E-19")})
+            self.assertEqual(session.count_documents({"_id": 1}), 1)
+        with self.assertRaisesRegex(CommandError, 'place "weight": .* cannot be compared exactly'):
+            list(find(self.path, {"weight": Decimal("1E-19")}, program=PROGRAM))
+
+    def test_place(self) -> None:
+        """Of the number that has no code beside those before it."""
+        numbers = [document(decimal("m", 1, -1)), document(whole("n", 1), double("m", 0.1))]
+        told = f'document 1, byte {len(numbers[0]) + 4 + 7}, path "m": not a whole number of 64 bits; {_NO_CODES}'
+        with self.assertRaisesRegex(DumpError, f"^{told}"):
+            list(find(self.file(b"".join(numbers)), {"m": 5}, program=PROGRAM))
+
+    def test_damage(self) -> None:
+        """Has its place also behind such numbers."""
+        data = b"".join(MIXED)
+        for bad, byte, text in ((DAMAGED, 7, 'path "d": bad boolean'), (MIXED[1][:50], 0, 'path "": bad length'), (b"\5\0", 0, 'path "": length cut short')):
+            with self.assertRaises(DumpError) as raised:
+                list(find(self.file(data + bad), {"_id": 1}, program=PROGRAM))
+            self.assertEqual(str(raised.exception), f"document 6, byte {len(data) + byte}, {text}")
+
+    def test_bytes(self) -> None:
+        """A double becomes an int64 and a decimal128 binary data, at these paths alone; all types of values are passed over."""
+        nothing = b"".join(bytes([kind]) + b"k\0" for kind in (0x06, 0x0A, 0x7F, 0xFF))
+        others = [
+            b"\x02price\0\x02\0\0\0\x01\0", b"\x05price\0\2\0\0\0\0\x01\0", b"\x07price\0" + b"\1" * 12, b"\x08price\0\1",
+            b"\x09price\0" + b"\1" * 8, b"\x0bprice\0\1\0i\0", b"\x0cprice\0\x02\0\0\0a\0" + b"\1" * 12, b"\x0dprice\0\x02\0\0\0f\0",
+            b"\x0eprice\0\x02\0\0\0f\0", b"\x10price\0\1\0\0\0", b"\x11price\0" + b"\1" * 8, b"\x12price\0" + b"\1" * 8, nothing,
+        ]  # fmt: skip
+        long, data = struct.pack("<d", 0.5), decimal("price", 3, -1)
+        binary = b"\x05price\0\x0b\0\0\0\0" + data[-11:]
+        shown = (double("price", 0.5), data)
+        given = [*others, *shown, double("pric", 0.5), embedded("in", *shown), array("price", double("7", 0.5), embedded("8", *shown)), scoped("c", *shown)]
+        new = b"\x12price\0" + long
+        wanted = [
+            *others, new, binary, double("pric", 0.5), embedded("in", *shown),
+            array("price", b"\x127\0" + long, embedded("8", *shown)), scoped("c", new, binary),
+        ]  # fmt: skip
+        damaged = document(*given)[:-1] + b"\x14x\0" + shown[0]
+        rest = document(*wanted)[:-1] + b"\x14x\0" + shown[0]
+        damaged, rest = ((len(it) + 1).to_bytes(4, "little") + it[4:] + b"\0" for it in (damaged, rest))
+        with open(self.file(document(*given) + damaged + b"\xff" * 9), "rb") as file, open(self.room / "out", "w+b", buffering=0) as out:
+            hide(file, ["price", "c.$scope.price"], out)
+            out.seek(0)
+            self.assertEqual(out.read(), document(*wanted) + rest + b"\xff" * 9)
+
+    def test_commands(self) -> None:
+        """`find --bson`, `query` and `ids`."""
+        run = run_package("find", str(self.path), "--query", '{"price":{"$lt":20}}')
+        self.assertEqual((run.returncode, run.stdout), (2, ""))
+        self.assertRegex(run.stderr, f'^bsonfind: document 1, byte \\d+, path "price": .*{_NO_CODES}')
+        lines = run_package("dump", str(self.path)).stdout.splitlines()
+        run = run_package("query", str(self.path), "--query", '{"_id":{"$gt":3.5}}')
+        self.assertEqual((run.returncode, run.stdout.splitlines()), (0, [f"{self.path}\t{line}" for line in lines[4:]]))
+        ids = self.file(b"2\n5\n", "ids")
+        run = run_package("ids", str(self.path), "--ids", str(ids))
+        self.assertEqual((run.returncode, sorted(run.stdout.splitlines())), (0, [lines[2], lines[5]]))
+        command = [sys.executable, "-m", "bsonfind", "--program", PROGRAM, "find", str(self.path), "--bson", "--sort", '{"weight":-1}']
+        found = subprocess.run(command, env=environment(), stdout=subprocess.PIPE, check=True, stderr=subprocess.PIPE, timeout=PATIENCE)
+        self.assertEqual(found.stdout, b"".join(reversed(MIXED)))
+
+
+class AsyncHidden(Room, unittest.IsolatedAsyncioTestCase):
+    async def test_answers_beside_hidden_numbers(self) -> None:
+        self.path = self.file(b"".join(MIXED))
+        async with AsyncSession(self.path, PROGRAM) as session:
+            for _ in range(2):
+                cursor = session.find({"weight": {"$gte": 1.5}}, sort=[("weight", -1)], decode="bson")
+                self.assertEqual([MIXED.index(it) async for it in cursor], [5, 4, 3])
+                with self.assertRaisesRegex(DumpError, _NO_CODES):
+                    await session.count_documents({"price": {"$exists": True}})
+                with self.assertRaisesRegex(DumpError, _NO_CODES):
+                    await session.create_index("in")
+                await session.create_index("weight")
+                await session.drop_index("weight")
 
 
 class AsyncFinds(Goods, unittest.IsolatedAsyncioTestCase):
@@ -386,14 +567,13 @@ class Copies(Goods):
         """Nothing is left of it, and what was there stays."""
         copy = self.file(b"as it was", "copy.bson")
         bad = self.file(b"".join(GOODS) + DAMAGED, "bad.bson")
-        mixed = self.file(document(double("m", 0.1), decimal("m", 1, -1)), "mixed.bson")
-        for path, text in ((bad, "bad boolean"), (mixed, "no codes hold all numbers of this field"), (self.room / "none.bson", "cannot open")):
+        for path, text in ((bad, "bad boolean"), (self.room / "none.bson", "cannot open")):
             with self.assertRaisesRegex(DumpError, text):
                 prepare(path, copy, program=PROGRAM)
         with self.assertRaisesRegex(ValueError, "is the dump"):
             prepare(self.path, self.path, program=PROGRAM)
         self.assertEqual(copy.read_bytes(), b"as it was")
-        self.assertEqual(sorted(os.listdir(self.room)), ["bad.bson", "copy.bson", "dump.bson", "mixed.bson"])
+        self.assertEqual(sorted(os.listdir(self.room)), ["bad.bson", "copy.bson", "dump.bson"])
 
 
 async def places_of(cursor: AsyncCursor) -> List[int]:

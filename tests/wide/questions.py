@@ -99,6 +99,8 @@ class Asking:
         self.rng, self.tests, self.room = rng, Tests(), Path(room)
         self.inputs = WideInputs(rng)
         self.refused = dict.fromkeys(REASONS, 0)
+        # Whether the dump has numbers that are hidden, and how many requests were answered of such dumps.
+        self.is_hidden, self.beside = False, 0
 
     def ask_dump(self, number: int) -> None:
         """Asks a dump by a session, and once by a run."""
@@ -114,6 +116,9 @@ class Asking:
                             session.create_index(index, sparse=self.rng.random() < 0.3)
                         except CommandError as error:  # The session has it already.
                             self.tests.want(f"dump {number}: index", error.layer == "session", error)
+                        except DumpError as error:  # It would have numbers that are hidden.
+                            self.note(f"dump {number}: index", error)
+                self.is_hidden = bool(session._questions._codes.hidden)
                 token = None
                 for turn in range(REQUESTS):
                     request, texts = self.request()
@@ -147,6 +152,7 @@ class Asking:
             return
         wanted = None if fault else [encoded(model.documents[place]) for place in model.answer(request)]
         self.tests.want(name, found == wanted, (found, wanted))
+        self.beside += self.is_hidden
 
     def note(self, name: str, error: Exception) -> None:
         reason = next((it for it in REASONS if it in str(error)), None)
@@ -176,6 +182,7 @@ def main() -> int:
             asking.ask_dump(number)
     for reason, count in asking.refused.items():
         print(f"refused {count} times: {reason}")
+    print(f"answered {asking.beside} times beside numbers without codes")
     print(f"{asking.tests.passed} passed, {asking.tests.failed} failed")
     return int(asking.tests.failed > 0)
 
