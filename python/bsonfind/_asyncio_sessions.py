@@ -338,7 +338,7 @@ class _Questions:
 
     async def create_index(self, path: str, sparse: bool) -> dict[str, Any]:
         """Makes an index on a path, also for copies that come later. One that would reach hidden numbers is refused."""
-        self._codes.refuse_index(path)
+        self._codes.refuse(Query("{}", indexes=[path]))
         made = [await connection.do(_steps.create_index(path, sparse)) for connection in self._connections]
         self._indexes.append((path, sparse))
         return made[0]

@@ -286,6 +286,18 @@ class Query:
             for operand in self.operands:
                 _settle_operand(operand, levels)
 
+    def refusal(self, error: CommandError | str, levels: dict[str, int]) -> CommandError | None:
+        """What is wrong with a number that has no code by these levels, which a dump has by itself.
+
+        It is the first that is compared at a path which was refused, or at those of a number which was.
+        """
+        paths = {error} if isinstance(error, str) else {path for it in self.operands if ".".join(it.place) == error.place for path in it.paths}
+        for it in self.operands:
+            known = [levels[path] for path in it.paths if path in levels]
+            if paths.intersection(it.paths) and code_at(it.number.value, max(known, default=None)) is None:
+                return _refused_operand(it)
+        return None
+
     def rewritten(self, levels: dict[str, int]) -> str:
         """The text with the codes of its numbers."""
         parts, at = [], 0
@@ -365,10 +377,14 @@ def _settle_operand(operand: Operand, levels: dict[str, int]) -> None:
     while code_at(value, level) is None:
         level += 1
         if level > MOST_LEVEL:
-            shown = f"{operand.number.shown} cannot be compared exactly with the numbers of this field"
-            raise refused(f"{shown}: write it as a number of the type that they have", operand.place)
+            raise _refused_operand(operand)
     for path in operand.paths:
         levels[path] = level
+
+
+def _refused_operand(operand: Operand) -> CommandError:
+    shown = f"{operand.number.shown} cannot be compared exactly with the numbers of this field"
+    return refused(f"{shown}: write it as a number of the type that they have", operand.place)
 
 
 def read_query(text: str, paths: Iterable[str] = (), always: bool = False) -> Query | None:

@@ -216,15 +216,15 @@ class Codes:
         """What tells one copy of a dump from another."""
         return frozenset([*self.levels.items(), *self.hidden])
 
-    def refuse_index(self, path: str) -> None:
-        """Refuses an index that would have hidden numbers."""
-        self.settle(Query("{}", indexes=[path]))
-
-    def settle(self, query: Query) -> None:
-        """Adds what a query needs; one that may reach hidden numbers is refused."""
+    def refuse(self, query: Query) -> None:
+        """Refuses a query that may reach hidden numbers."""
         for path, told in self.hidden.items():
             if query.reaches(path):
-                raise DumpError(told)
+                raise _NoCodesError(told, path)
+
+    def settle(self, query: Query) -> None:
+        """Adds what a query needs, if it is not refused."""
+        self.refuse(query)
         query.settle(self.levels)
 
     def raise_level(self, told: str, query: Query) -> bool:
@@ -243,18 +243,41 @@ class Codes:
             return False
         reason = f"document {document}, byte {byte}, path {text}: {reason}; {_NO_CODES}"
         if path in self.hidden or query.reaches(path) or len(self.hidden) == _MOST_HIDDEN:
-            raise DumpError(reason)
+            raise _NoCodesError(reason, path)
         self.hidden[path] = reason
         del self.levels[path]
         return True
 
 
+class _NoCodesError(DumpError):
+    """No codes hold all numbers of a path, or these beside those of a query."""
+
+    def __init__(self, text: str, path: str) -> None:
+        super().__init__(text)
+        self.path = path
+
+
 def write_copy(original: Original, query: Query, codes: Codes, program: str, group: Group, copy: BinaryIO) -> None:
     """Writes a copy of a dump; the codes become those of all paths that need some, which are found by asking for a copy."""
+    try:
+        _write_copy(original, query, codes, program, group, copy)
+    except (CommandError, _NoCodesError) as error:
+        if not query.operands:
+            raise
+        # It is the numbers of the dump by themselves, or a number of the query.
+        known = Codes()
+        with temporary_file() as file:
+            _write_copy(original, Query("{}"), known, program, group, file)
+        known.refuse(query)
+        refusal = query.refusal(error.path if isinstance(error, _NoCodesError) else error, known.levels)
+        raise refusal or error from None
+
+
+def _write_copy(original: Original, query: Query, codes: Codes, program: str, group: Group, copy: BinaryIO) -> None:
     hidden, is_hidden = None, False
     try:
         while True:
-            _settle(original, query, codes, program, group)
+            codes.settle(query)
             if codes.hidden and not is_hidden:
                 hidden, is_hidden = hidden or temporary_file(), True
                 _hide(original, codes, hidden)
@@ -283,18 +306,6 @@ def _hide(original: Original, codes: Codes, out: BinaryIO) -> None:
         hide(original.rewound(), codes.hidden, out)
     except OSError as error:
         raise _no_room() from error
-
-
-def _settle(original: Original, query: Query, codes: Codes, program: str, group: Group) -> None:
-    """Adds what a query needs. Where its numbers have no codes, that may be since those of the dump have none either."""
-    try:
-        codes.settle(query)
-    except CommandError:
-        known = Codes()
-        with temporary_file() as file:
-            write_copy(original, Query("{}"), known, program, group, file)
-        known.settle(query)
-        raise
 
 
 class Asked(NamedTuple):
@@ -438,7 +449,7 @@ class Questions:
 
     def create_index(self, path: str, sparse: bool) -> dict[str, Any]:
         """Makes an index on a path, also for copies that come later. One that would reach hidden numbers is refused."""
-        self._codes.refuse_index(path)
+        self._codes.refuse(Query("{}", indexes=[path]))
         made = [connection.do(_steps.create_index(path, sparse)) for connection in self.connections]
         self._indexes.append((path, sparse))
         return made[0]

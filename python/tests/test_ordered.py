@@ -373,6 +373,21 @@ class Hidden(Room):
         with self.assertRaisesRegex(CommandError, 'place "weight": .* cannot be compared exactly'):
             list(find(self.path, {"weight": Decimal("1E-19")}, program=PROGRAM))
 
+    def test_number_of_the_query(self) -> None:
+        """Where the numbers of the dump have codes, it is named, and not another number beside it."""
+        for number, filter, place in (
+            (double("m", 0.1), {"m": {"$gt": 0.5, "$lt": Decimal("0.1")}}, "m.$lt"),
+            (b"\x12m\0" + b"\xff" * 7 + b"\x7f", {"m": {"$gte": 1, "$lt": 0.5}}, "m.$lt"),
+            (decimal("m", 1, -1), {"m": {"$in": [Decimal("0.1"), 0.1]}}, "m.$in.1"),
+            (double("m", 0.1), {"n": 0.5, "m": {"$gt": 20.5, "$lt": Decimal("0.1")}}, "m.$lt"),
+        ):
+            path = self.file(document(number), "one.bson")
+            with Session(path, PROGRAM) as session:
+                for ask in (lambda: list(find(path, filter, program=PROGRAM)), lambda: session.count_documents(filter)):
+                    with self.assertRaisesRegex(CommandError, "cannot be compared exactly") as raised:
+                        ask()
+                    self.assertEqual(raised.exception.place, place)
+
     def test_place(self) -> None:
         """Of the number that has no code beside those before it."""
         numbers = [document(decimal("m", 1, -1)), document(whole("n", 1), double("m", 0.1))]
