@@ -2,7 +2,7 @@
 
 from __future__ import annotations
 
-from typing import BinaryIO, Iterable
+from typing import BinaryIO, Iterable, Iterator
 
 from . import _framing
 from ._errors import DumpError
@@ -17,26 +17,25 @@ _DOCUMENT, _ARRAY, _SCOPED, _PATTERN = 0x03, 0x04, 0x0F, 0x0B
 _DOUBLE, _DECIMAL, _INT64, _BINARY = 0x01, 0x13, 0x12, 0x05
 
 
-def hide(file: BinaryIO, paths: Iterable[str], out: BinaryIO) -> None:
-    """Writes a dump in which no double and no decimal128 stands at these paths; all else has its bytes and its place.
+def hide(file: BinaryIO, paths: Iterable[str]) -> Iterator[bytes]:
+    """The bytes of a dump in which no double and no decimal128 stands at these paths; all else has its bytes and its place.
 
     A double becomes an int64 and a decimal128 binary data, which have as many bytes and no values in them either: so all that a
     path reaches stays, unless it is one of these numbers or holds some. What is damaged stays as it is.
     """
     hiding, at = _Hiding(paths), 0
-    with open(out.fileno(), "wb", closefd=False) as whole:
-        try:
-            for end in _framing.walk(file):
-                document = bytearray(_framing.read_at(file, at, end - at, end - at))
-                hiding.elements(document, 4, len(document) - 1, b"", False, _LEVELS)
-                whole.write(document)
-                at = end
-        except DumpError as error:
-            if not error.fault:
-                raise
-            file.seek(at)
-            while piece := file.read(_PIECE):
-                whole.write(piece)
+    try:
+        for end in _framing.walk(file):
+            document = bytearray(_framing.read_at(file, at, end - at, end - at))
+            hiding.elements(document, 4, len(document) - 1, b"", False, _LEVELS)
+            yield document
+            at = end
+    except DumpError as error:
+        if not error.fault:
+            raise
+    file.seek(at)
+    while piece := file.read(_PIECE):
+        yield piece
 
 
 class _Hiding:

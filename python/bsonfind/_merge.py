@@ -205,6 +205,7 @@ def _packed_answer(request: Request, program: str, group: Group, part: Part) -> 
             if not is_wide(error):
                 raise
     original = Original.of_pieces(part.pieces())
+    original.first, original.offset = part.first, part.offset
     try:
         found = AnyLines(original, request, program, is_bson=True, group=group)
         return b"".join(document for batch in found.batches() for document in batch)
@@ -264,6 +265,7 @@ def _count(request: Request, program: str, group: Group, part: Part) -> int:
             if not is_wide(error):
                 raise
     original = Original.of_pieces(part.pieces())
+    original.first, original.offset = part.first, part.offset
     try:
         with Questions(original, program, group=group) as questions:
             return questions.do(_steps.count, request)

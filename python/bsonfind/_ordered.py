@@ -57,6 +57,8 @@ class Original:
     def __init__(self, file: BinaryIO) -> None:
         self._file, self._state = file, FileState.of(file)
         self._ends: array[int] | None = None
+        # How many documents and bytes of a larger dump stand before them.
+        self.first = self.offset = 0
 
     @classmethod
     def of(cls, path: File) -> Original:
@@ -227,7 +229,7 @@ class Codes:
         self.refuse(query)
         query.settle(self.levels)
 
-    def raise_level(self, told: str, query: Query) -> bool:
+    def raise_level(self, told: str, query: Query, original: Original) -> bool:
         """Takes up the path that a run refuses, and says whether it is hidden now; raises why there is no copy for another reason."""
         line = told.rpartition("bsonwide: ")[2]
         found = _REFUSED.fullmatch(line)
@@ -241,7 +243,8 @@ class Codes:
         if path not in self.hidden and level != MOST_LEVEL:
             self.levels[path] = CODE if level is None else level + 1
             return False
-        reason = f"document {document}, byte {byte}, path {text}: {reason}; {_NO_CODES}"
+        place = f"document {int(document) + original.first}, byte {int(byte) + original.offset}, path {text}"
+        reason = f"{place}: {reason}; {_NO_CODES}"
         if path in self.hidden or query.reaches(path) or len(self.hidden) == _MOST_HIDDEN:
             raise _NoCodesError(reason, path)
         self.hidden[path] = reason
@@ -280,7 +283,7 @@ def _write_copy(original: Original, query: Query, codes: Codes, program: str, gr
             codes.settle(query)
             if codes.hidden and not is_hidden:
                 hidden, is_hidden = hidden or temporary_file(), True
-                _hide(original, codes, hidden)
+                _hide(original, codes, group, hidden)
             words = [word_of(path, level) for path, level in sorted(codes.levels.items())]
             # An argument that begins with a hyphen would be an option.
             words = [filter_beside(program), "order", *(["--"] if any(it.startswith("-") for it in words) else []), "-", *words]
@@ -291,7 +294,7 @@ def _write_copy(original: Original, query: Query, codes: Codes, program: str, gr
                 if run.wait() == 0:
                     return
                 try:
-                    is_hidden = not codes.raise_level(run.messages().strip(), query) and is_hidden
+                    is_hidden = not codes.raise_level(run.messages().strip(), query, original) and is_hidden
                 except DumpError as error:
                     # A number in a damaged document has perhaps no name that can be asked for.
                     raise original.fault(program, group) or error from None
@@ -300,10 +303,15 @@ def _write_copy(original: Original, query: Query, codes: Codes, program: str, gr
             hidden.close()
 
 
-def _hide(original: Original, codes: Codes, out: BinaryIO) -> None:
+def _hide(original: Original, codes: Codes, group: Group, out: BinaryIO) -> None:
+    """Writes the dump without the numbers that are hidden; where the group is ended no more is needed."""
     out.seek(0)
     try:
-        hide(original.rewound(), codes.hidden, out)
+        with open(out.fileno(), "wb", closefd=False) as whole:
+            for piece in hide(original.rewound(), codes.hidden):
+                if group.is_ended:
+                    break
+                whole.write(piece)
     except OSError as error:
         raise _no_room() from error
 
@@ -672,6 +680,7 @@ def originals(name: str, start: int, most: int) -> Iterator[tuple[Input, Origina
                     pass
                 continue
             original = Original.of_pieces(pieces)
+            original.first, original.offset = first, offset
             try:
                 yield Input(offset, first, None, None), original
             finally:

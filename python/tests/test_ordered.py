@@ -324,6 +324,12 @@ class Hidden(Room):
         self.assertGreater(len(parts), 2)
         lines = list(find(self.path, {"weight": {"$gt": 0.5}}, sort={"weight": -1}, decode="bytes", program=PROGRAM))
         self.assertEqual(find_parts(parts, {"weight": {"$gt": 0.5}}, sort={"weight": -1}, decode="bytes", program=PROGRAM), lines)
+        for ask in (find_parts, count_parts):
+            with self.assertRaises(PartError) as raised:
+                ask(parts[1:], {"in": {"x": 5}}, program=PROGRAM)
+            first = parts[1].first
+            byte = sum(map(len, MIXED[:first])) + MIXED[first].index(b"\x01price\0", MIXED[first].index(b"\x03in\0"))
+            self.assertRegex(str(raised.exception), f'document {first}, byte {byte}, path "in.price": .*{_NO_CODES}')
 
     def test_what_is_refused(self) -> None:
         """All that may reach one of these numbers, by the first of them; a path with a number is a position or a field."""
@@ -423,10 +429,9 @@ class Hidden(Room):
         damaged = document(*given)[:-1] + b"\x14x\0" + shown[0]
         rest = document(*wanted)[:-1] + b"\x14x\0" + shown[0]
         damaged, rest = ((len(it) + 1).to_bytes(4, "little") + it[4:] + b"\0" for it in (damaged, rest))
-        with open(self.file(document(*given) + damaged + b"\xff" * 9), "rb") as file, open(self.room / "out", "w+b", buffering=0) as out:
-            hide(file, ["price", "c.$scope.price"], out)
-            out.seek(0)
-            self.assertEqual(out.read(), document(*wanted) + rest + b"\xff" * 9)
+        with open(self.file(document(*given) + damaged + b"\xff" * 9), "rb") as file:
+            found = b"".join(hide(file, ["price", "c.$scope.price"]))
+        self.assertEqual(found, document(*wanted) + rest + b"\xff" * 9)
 
     def test_commands(self) -> None:
         """`find --bson`, `query` and `ids`."""
