@@ -153,11 +153,11 @@ class Wide(NamedTuple):
         ]
 
     def find_tasks(self, order: dict) -> list[Task]:
-        """Queries, by the package of Python where it reads doubles."""
+        """Two of the queries, by the package of Python where it reads doubles."""
         package = ["env", f"PYTHONPATH={ROOT}/python", f"PATH={Path(self.wide).parent}:{os.environ['PATH']}", sys.executable, "-m", "bsonfind"]
         does_find = not subprocess.run([*package, "find", "--help"], stdout=subprocess.DEVNULL, stderr=subprocess.DEVNULL, check=False).returncode
         tasks = []
-        for query in peers.queries(order):
+        for query in peers.queries(order)[:2]:
             own = {OWN: [*package, "--program", self.program, "find", self.dump, *query.words()]} if does_find else {}
             others = peers.of_query(query, self.through("wrap", "dump"), self.dump)
             tasks.append(Task(f"find {query.name}", own | others, alike=others.get("dump, jq", []) if own else []))
@@ -314,7 +314,7 @@ def main() -> int:
                 print(f"something else is printed: {task.name}")
                 return 1
         peers.restore(f"{room}/order-{sizes[0]}.bson")
-        print(f"{', '.join(map(str, sizes))} MB, seed {words.seed}, {machine()}, load {os.getloadavg()[0]:.1f}")
+        print(f"{', '.join(map(str, sizes))} MB, seed {words.seed}, {machine()}, load {os.getloadavg()[0]:.1f}", flush=True)
         if len(sizes) > 1:
             print(f"\nkind {kinds[0]}\n")
             show(by_size(sizes, groups, words.runs))
