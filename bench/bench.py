@@ -278,6 +278,12 @@ def speeds(name: str, least: Times) -> dict[str, dict[str, float]]:
     return found
 
 
+def speed_rows(of: dict[str, dict[str, float]]) -> list[list[str]]:
+    """What the picture shows of a dump, as a table."""
+    names = list(dict.fromkeys(name for found in of.values() for name in found))
+    return [["MB a second", *names]] + [[title, *(f"{found[name]:.1f}" if name in found else "" for name in names)] for title, found in of.items()]
+
+
 def machine() -> str:
     """The processor, and how many there are."""
     try:
@@ -325,6 +331,9 @@ def main() -> int:
             show(beside(group, of))
         if not words.only:
             shown = {name: speeds(file, of) for name, file, of in zip(kinds, names, least)}
+            for kind in ("order", "priced"):
+                print(f"\nkind {kind}, by the clock\n")
+                show(speed_rows(shown[kind]))
             draw(shown["order"], shown["priced"], f"{sizes[0]} MB of orders, {machine()}", words.picture)
     return 0
 
