@@ -5,7 +5,8 @@ documents of the dump. A copy is a file without a name, as large as the dump, in
 
 Where no codes hold all numbers of a path, these numbers are hidden from a copy, as `_hiding` says, and a question that may reach
 one of them is refused. The values that any other question compares hold none of them, so they are the same in the copy. What a
-path leads through is the same too: numbers have no fields or elements, and neither has what stands in their places.
+path leads through is the same too: numbers have no fields or elements, and neither has what stands in their places. While such a
+copy is written, the dump without these numbers stands beside it, in one more file.
 """
 
 from __future__ import annotations
@@ -40,7 +41,7 @@ from ._steps import Steps
 from ._wide import Filtered, fault_of, faults_in, filter_beside, is_wide
 
 T = TypeVar("T")
-_REFUSED = re.compile(r'document (\d+), byte (\d+), path (".*"): (not a whole number of 64 bits|no double equals it)')
+_REFUSED = re.compile(r'document (\d+), byte (\d+), path (".*"): (?:not a whole number of 64 bits|no double equals it)')
 # The number of a document at the end of its line.
 _NUMBERED = re.compile(rb'"~n":\{"\$numberLong":"([0-9]+)"\}\}$')
 _PIECE = 1 << 20
@@ -237,17 +238,17 @@ class Codes:
             raise _no_room()
         if not found:
             raise DumpError(line) if line.startswith("document ") else error_of(1, f"bsonfind: {line}")
-        document, byte, text, reason = found.groups()
+        document, byte, text = found.groups()
         path = json.loads(text)
         level = self.levels.get(path)
         if path not in self.hidden and level != MOST_LEVEL:
             self.levels[path] = CODE if level is None else level + 1
             return False
         place = f"document {int(document) + original.first}, byte {int(byte) + original.offset}, path {text}"
-        reason = f"{place}: {reason}; {_NO_CODES}"
+        why = f"{place}: {_NO_CODES}"
         if path in self.hidden or query.reaches(path) or len(self.hidden) == _MOST_HIDDEN:
-            raise _NoCodesError(reason, path)
-        self.hidden[path] = reason
+            raise _NoCodesError(why, path)
+        self.hidden[path] = why
         del self.levels[path]
         return True
 

@@ -329,7 +329,7 @@ class Hidden(Room):
                 ask(parts[1:], {"in": {"x": 5}}, program=PROGRAM)
             first = parts[1].first
             byte = sum(map(len, MIXED[:first])) + MIXED[first].index(b"\x01price\0", MIXED[first].index(b"\x03in\0"))
-            self.assertRegex(str(raised.exception), f'document {first}, byte {byte}, path "in.price": .*{_NO_CODES}')
+            self.assertRegex(str(raised.exception), f'document {first}, byte {byte}, path "in.price": {_NO_CODES}')
 
     def test_what_is_refused(self) -> None:
         """All that may reach one of these numbers, by the first of them; a path with a number is a position or a field."""
@@ -366,7 +366,7 @@ class Hidden(Room):
                     lambda: list(session.find(filter, sort=sort)),
                     lambda: kept.explain(filter, sort=sort),
                 ):
-                    with self.assertRaisesRegex(DumpError, f"^{place}.*{_NO_CODES}", msg=(filter, sort)):
+                    with self.assertRaisesRegex(DumpError, f"^{place}{_NO_CODES}", msg=(filter, sort)):
                         ask()
             for path in ("price", "in", "price.0", "in.0.price"):
                 with self.assertRaisesRegex(DumpError, _NO_CODES):
@@ -397,7 +397,7 @@ class Hidden(Room):
     def test_place(self) -> None:
         """Of the number that has no code beside those before it."""
         numbers = [document(decimal("m", 1, -1)), document(whole("n", 1), double("m", 0.1))]
-        told = f'document 1, byte {len(numbers[0]) + 4 + 7}, path "m": not a whole number of 64 bits; {_NO_CODES}'
+        told = f'document 1, byte {len(numbers[0]) + 4 + 7}, path "m": {_NO_CODES}'
         with self.assertRaisesRegex(DumpError, f"^{told}"):
             list(find(self.file(b"".join(numbers)), {"m": 5}, program=PROGRAM))
 
@@ -437,7 +437,7 @@ class Hidden(Room):
         """`find --bson`, `query` and `ids`."""
         run = run_package("find", str(self.path), "--query", '{"price":{"$lt":20}}')
         self.assertEqual((run.returncode, run.stdout), (2, ""))
-        self.assertRegex(run.stderr, f'^bsonfind: document 1, byte \\d+, path "price": .*{_NO_CODES}')
+        self.assertRegex(run.stderr, f'^bsonfind: document 1, byte \\d+, path "price": {_NO_CODES}')
         lines = run_package("dump", str(self.path)).stdout.splitlines()
         run = run_package("query", str(self.path), "--query", '{"_id":{"$gt":3.5}}')
         self.assertEqual((run.returncode, run.stdout.splitlines()), (0, [f"{self.path}\t{line}" for line in lines[4:]]))
