@@ -354,6 +354,8 @@ class Hidden(Room):
             ({"list": 1}, None, deep),
             ({"list.1": 1}, None, deep),
             ({"list.0.1": 1}, None, deep),
+            ({}, {"list.0.1": 1}, deep),
+            ({}, {"in.0.price": 1}, inner),
             ({"code": {"$exists": True}}, None, scope),
             ({"code.$scope": None}, None, scope),
         )

@@ -16,7 +16,7 @@ from pathlib import Path
 
 sys.path[:0] = [str(Path(__file__).resolve().parents[1]), str(Path(__file__).resolve().parents[2] / "python")]
 
-from model.answers import BadFilter, Dump, Request, Value, check_filter, encoded, path_fault, sort_pairs
+from model.answers import BadFilter, Dump, Request, Value, check_filter, encoded, obj, path_fault, sort_pairs
 from model.inputs import Inputs
 from support import PROGRAM as BUILT
 from support import Tests
@@ -39,6 +39,10 @@ WHOLE_DOUBLES = [it for it in DOUBLES if it == it and abs(it) <= 2.0**53 and it 
 
 def double(value: float) -> Value:
     return Value("double", struct.pack("<d", value))
+
+
+# Numbers with fractions, some of which are doubles and some amounts.
+MIXED = [*map(double, (0.1, 0.3, 9.99)), *(Value("decimal", Decimal(it)) for it in ("0.1", "0.3", "9.99"))]
 
 
 class WideInputs(Inputs):
@@ -65,10 +69,20 @@ class WideInputs(Inputs):
         return double(value if value == value or self.chance(0.3) else 1.5)
 
     def documents(self) -> list[Value]:
-        self.profile = self.rng.choice(["doubles", "doubles", "doubles", "cents", "whole", "all"])
+        self.profile = self.rng.choice(["doubles", "doubles", "doubles", "cents", "whole", "all", "mixed"])
         made = super().documents()
+        if self.profile == "mixed":
+            made = self.made = [self.mixed(it) for it in made]
         self.kinds = []
         return made
+
+    def mixed(self, value: Value, name: str = "") -> Value:
+        """The same, but the numbers below one name have no codes together."""
+        if value.kind == "object":
+            return obj(*((name, self.mixed(it, name)) for name, it in value.of))
+        if value.kind == "array":
+            return Value("array", tuple(self.mixed(it, name) for it in value.of))
+        return self.rng.choice(MIXED) if name == "b" and value.kind in ("int", "long", "double", "decimal") else value
 
     def text(self, value: Value) -> str:
         """Doubles are bare here and there, where JSON has them."""
