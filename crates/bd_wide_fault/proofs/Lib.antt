@@ -1,0 +1,9 @@
+pub mod BodyLemmas
+pub mod DocumentLemmas
+pub mod ElementLemmas
+pub mod FailLemmas
+pub mod NestedLemmas
+pub mod PastLemmas
+pub mod ScalarLemmas
+pub mod StepLemmas
+pub mod TextLemmas

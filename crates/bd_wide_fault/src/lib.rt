@@ -1,0 +1,12 @@
+//! The first fault of a masked document.
+//!
+//! `check` reports a double or a decimal128 as a fault. A masked document has the fault that the document has where these are read,
+//! at the same byte and with the same path.
+//!
+//! - `specs/WideFault.antt`: the first check that fails where doubles and decimal128 are read.
+//! - `laws`: that this is the fault of the masked document.
+#![tactic(auto)]
+
+mod laws;
+
+pub use laws::masked_faults_stay;
