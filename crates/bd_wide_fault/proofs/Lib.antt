@@ -3,6 +3,7 @@ pub mod DocumentLemmas
 pub mod ElementLemmas
 pub mod FailLemmas
 pub mod NestedLemmas
+pub mod OtherLemmas
 pub mod PastLemmas
 pub mod ScalarLemmas
 pub mod StepLemmas

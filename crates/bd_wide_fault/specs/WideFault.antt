@@ -1,14 +1,14 @@
 -- The first check that fails in bytes that are to be one document, in which doubles and
 -- decimal128 are read: a double is any eight bytes, a decimal128 any sixteen. All other rules are
 -- those of `first_fault`.
-use Rattle.std.specs.Prelude.{ℕ, zero, suc, ◌+◌, ◌-◌, List, [], ◌∷◌, length, drop, Option, Some, None}
+use Rattle.std.specs.Prelude.{◌≢◌, ℕ, zero, suc, ◌+◌, ◌-◌, List, [], ◌∷◌, length, drop, Option, Some, None}
 use Rattle.std.specs.Prelude.{option_map, Result, Ok, Bool, true, false, nat_lt, ◌==◌, if◌then◌else◌, codes}
 use Rattle.std.specs.{Option.ok_or, Result.result_err}
 use Rattle.bd_value.specs.Limits.{most_levels}
 use Rattle.bd_raw.specs.{Spelling.type_at, Sizes.number_of}
 use Rattle.bd_raw.specs.declared.raw_parts.{ElementType.ElementType, Holder.Holder}
 use Rattle.bd_check.specs.Fault.{Fault}
-use Rattle.bd_check.specs.declared.fault.FaultKind.TheVariants.{UnknownType, Decimal128, NameUnended}
+use Rattle.bd_check.specs.declared.fault.FaultKind.TheVariants.{UnknownType, Double, Decimal128, NameUnended}
 use Rattle.bd_check.specs.declared.fault.FaultKind.TheVariants.{BadScopeLength, TooDeep}
 use Rattle.bd_check.specs.FirstFault.{◌>>=◌, Nested, fault, label, within, past_code_frame, past_fixed}
 use Rattle.bd_check.specs.FirstFault.{past_frame, past_name, past_nested, past_string, past_value}
@@ -72,3 +72,8 @@ wide_document e bytes = do
 -- its first fault, where it begins at the place, or none
 abbrev pub wide_fault : ℕ → List ℕ → Option Fault
 wide_fault base bytes = result_err (wide_document (base + length bytes) bytes)
+
+-- no fault, or one of another kind than these two types of number
+abbrev pub TellsNoNumber : Option Fault → Type 0
+TellsNoNumber None = Unit {0}
+TellsNoNumber (Some f) = (f.kind ≢ Double) × (f.kind ≢ Decimal128)

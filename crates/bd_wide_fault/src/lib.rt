@@ -4,9 +4,9 @@
 //! at the same byte and with the same path.
 //!
 //! - `specs/WideFault.antt`: the first check that fails where doubles and decimal128 are read.
-//! - `laws`: that this is the fault of the masked document.
+//! - `laws`: that this is the fault of the masked document, and of the document itself if it is another than these numbers.
 #![tactic(auto)]
 
 mod laws;
 
-pub use laws::masked_faults_stay;
+pub use laws::{masked_faults_stay, other_faults_are_first_faults};
