@@ -60,7 +60,7 @@ install: bsonfind bsonwide
 	install -d "$(BIN)" "$(DOC)/docs" "$(DOC)/examples" "$(MAN)" "$(BASH)" "$(ZSH)" "$(FISH)"
 	install -m 755 bsonfind bsonwide "$(BIN)"
 	install -m 644 LICENSE CHANGELOG.md CONTRIBUTING.md README.md "$(DOC)"
-	install -m 644 docs/*.md "$(DOC)/docs"
+	install -m 644 docs/*.md docs/*.svg "$(DOC)/docs"
 	install -m 644 examples/* "$(DOC)/examples"
 	install -m 644 docs/bsonfind.1 docs/bsonwide.1 "$(MAN)"
 	sed -i 's/^\.Os$$/.Os bsonfind $(VERSION)/' "$(MAN)/bsonfind.1" "$(MAN)/bsonwide.1"
