@@ -1,5 +1,5 @@
 -- Masked documents, so many levels deep.
-use Rattle.std.proofs.Common.{◌≡◌, ℕ, zero, suc, ◌+◌, ◌-◌, ◌≤◌, ◌<◌, List, [], ◌++◌, length, take, drop, Option, Some, None, Result, Ok, Err, refl, sym, ap, ap₂, ◌∙◌, arith, append_assoc, append-nil, length-append, length-drop, take-append-drop, drop-drop, Bool, true, false, nat_lt, ◌==◌, ◌||◌, ◌&&◌, not, if◌then◌else◌, codes}
+use Rattle.std.proofs.Common.{◌≡◌, ℕ, zero, suc, ◌+◌, ◌-◌, ◌≤◌, ◌<◌, List, [], ◌∷◌, ◌++◌, length, take, drop, Option, Some, None, Result, Ok, Err, refl, sym, ap, ap₂, ◌∙◌, arith, append_assoc, append-nil, length-append, length-drop, take-append-drop, take_at, drop-drop, Bool, true, false, nat_lt, ◌==◌, ◌||◌, ◌&&◌, not, if◌then◌else◌, codes}
 use Rattle.std.specs.{Int.w32, Int.from_le_bytes, Result.result_err}
 use Rattle.std.proofs.lemmas.{Bool.Decides.nat_tests, List.length-take-le}
 use Rattle.std.proofs.lemmas.Bool.{eq-eqb}
@@ -8,13 +8,15 @@ use Rattle.bd_raw.specs.declared.raw_parts.Holder.TheVariants as holders
 use Rattle.bd_raw.specs.{Sizes.number_of, Spelling.number, Unique.number_length, Unique.number_value}
 use Rattle.bd_check.specs.Fault.{Fault}
 use Rattle.bd_check.specs.FirstFault.{◌>>=◌, within, past_string, past_frame, past_elements, past_code_scope, past_nested, past_document, first_fault, Nested}
+use Rattle.bd_check.specs.Dump.{frame_fault, framed_fault}
 use Rattle.bd_check.specs.declared.fault.FaultKind.TheVariants.{ShortLength, TooDeep}
+use Rattle.bd_check.proofs.DumpLemmas.{frame_good}
 use Rattle.bd_check.proofs.FirstFaultLemmas.{IsBytes, IsBytes-drop, IsBytes-take}
 use Rattle.bd_wide.specs.Rewritten as written
 use Rattle.bd_wide.specs.Rewritten.{counted, holder_least, path_of, scope_at, IsBody, IsScoped, IsNested, IsRewritten}
 use Rattle.bd_wide.specs.Mask.{IsMasked, masked_others}
 use Rattle.bd_wide_fault.specs.WideFault.{wide_elements, wide_code_scope, wide_nested, wide_document, wide_fault}
-use Rattle.bd_wide_fault.proofs.PastLemmas.{gives, Fails}
+use Rattle.bd_wide_fault.proofs.PastLemmas.{gives, Fails, number_cut}
 use Rattle.bd_wide_fault.proofs.FailLemmas.{counted_none, frame_fails, code_frame_fails, number_then, if_fails}
 use Rattle.bd_wide_fault.proofs.ElementLemmas.{Alike, NestedFails}
 use Rattle.bd_wide_fault.proofs.StepLemmas.{NestedAlike}
@@ -209,3 +211,28 @@ faults_stay base bytes new fits count h =
     ] in
     let a = cases (nat_lt (length bytes) 5) refl (to_whole bytes new h) in
     ap (λ k. result_err (past_document (base + k) new)) a.0 ∙ ap result_err (a.1 (base + length bytes))
+
+-- ---- in a dump
+
+pub new_counts : (bytes new : List ℕ) → 5 ≤ length bytes → number_of bytes ≡ length bytes → IsBytes bytes → IsRewritten IsMasked masked_others bytes new
+    → (number_of new ≡ length bytes) × (length new ≡ length bytes)
+new_counts bytes new some count fits h =
+    let cases : (b : Bool) → nat_lt (length bytes) 5 ≡ b → WholeTurn bytes new b → (number_of new ≡ length bytes) × (length new ≡ length bytes) = elim [
+      | true ↦ λ is t. let few : length bytes < 5 = grind (arith, nat_tests, is) in absurd (omega (arith, few, some))
+      | false ↦ λ is t.
+          let room : ℕ = most_levels - 1 in
+          let a = body_alike (wide_nested room) (past_nested room) (Masked room) (nested_fails room) (nested_alike room) (path_of false []) bytes new some count fits (whole_body bytes new t) in
+          let front : number_of new ≡ length a.body + 5 = ap number_of (sym (append-nil new) ∙ a.new_whole [])
+          ∙ ap (from_le_bytes w32) (take_at (number (length a.body + 5)) (a.body ++ a.last ∷ []) 4 (number_length (length a.body + 5))) ∙ a.new_count in
+          let whole = ap (λ (x : List ℕ). length x) (sym (append-nil new) ∙ a.new_whole []) in
+          (omega (arith, front, whole, length-append (number (length a.body + 5)) (a.body ++ a.last ∷ []), length-append a.body (a.last ∷ []), number_length (length a.body + 5), a.size), a.size)
+    ] in
+    cases (nat_lt (length bytes) 5) refl (to_whole bytes new h)
+
+pub frames_stay : (base : ℕ) (bytes new more : List ℕ) → IsBytes bytes → number_of bytes ≡ length bytes → 5 ≤ length bytes → length bytes ≤ longest_document
+    → IsRewritten IsMasked masked_others bytes new → frame_fault base (new ++ more) ≡ wide_fault base bytes
+frames_stay base bytes new more fits count some short h =
+    let c = new_counts bytes new some count fits h in
+    let told : number_of (new ++ more) ≡ length bytes = number_cut new more (omega (arith, c.1, some)) ∙ c.0 in
+    let there = frame_good (new ++ more) (length bytes) told some short (omega (arith, length-append new more, c.1)) in
+    ap (framed_fault base (new ++ more)) there ∙ ap (first_fault base) (take_at new more (length bytes) c.1) ∙ faults_stay base bytes new fits count h

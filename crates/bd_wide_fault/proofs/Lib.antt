@@ -1,5 +1,6 @@
 pub mod BodyLemmas
 pub mod DocumentLemmas
+pub mod DumpLemmas
 pub mod ElementLemmas
 pub mod FailLemmas
 pub mod NestedLemmas

@@ -1,1 +1,2 @@
+pub mod WideDump
 pub mod WideFault

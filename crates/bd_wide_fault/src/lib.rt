@@ -1,12 +1,14 @@
-//! The first fault of a masked document.
+//! The first fault of masked documents and dumps.
 //!
 //! `check` reports a double or a decimal128 as a fault. A masked document has the fault that the document has where these are read,
 //! at the same byte and with the same path.
 //!
 //! - `specs/WideFault.antt`: the first check that fails where doubles and decimal128 are read.
-//! - `laws`: that this is the fault of the masked document, and of the document itself if it is another than these numbers.
+//! - `specs/WideDump.antt`: the same over a dump.
+//! - `laws`: that this is the fault of the masked document, and of the document itself if it is another than these numbers;
+//!   and the same of a masked dump.
 #![tactic(auto)]
 
 mod laws;
 
-pub use laws::{masked_faults_stay, other_faults_are_first_faults};
+pub use laws::{masked_dumps_end_alike, masked_faults_stay, other_faults_are_first_faults};
