@@ -57,11 +57,12 @@ bench: bsonfind bsonwide
 	$(PYTHON) bench/bench.py $(MB) --kind $(KIND)
 
 install: bsonfind bsonwide
-	install -d "$(BIN)" "$(DOC)/docs" "$(DOC)/examples" "$(MAN)" "$(BASH)" "$(ZSH)" "$(FISH)"
+	install -d "$(BIN)" "$(DOC)/docs" "$(DOC)/examples" "$(DOC)/python" "$(MAN)" "$(BASH)" "$(ZSH)" "$(FISH)"
 	install -m 755 bsonfind bsonwide "$(BIN)"
 	install -m 644 LICENSE CHANGELOG.md CONTRIBUTING.md README.md "$(DOC)"
 	install -m 644 docs/*.md docs/*.svg "$(DOC)/docs"
 	install -m 644 examples/* "$(DOC)/examples"
+	install -m 644 python/README.md "$(DOC)/python"
 	install -m 644 docs/bsonfind.1 docs/bsonwide.1 "$(MAN)"
 	sed -i 's/^\.Os$$/.Os bsonfind $(VERSION)/' "$(MAN)/bsonfind.1" "$(MAN)/bsonwide.1"
 	install -m 644 completions/bsonfind.bash "$(BASH)/bsonfind"
@@ -75,7 +76,7 @@ uninstall:
 	rm -f "$(BIN)/bsonfind" "$(MAN)/bsonfind.1" "$(BASH)/bsonfind" "$(ZSH)/_bsonfind" "$(FISH)/bsonfind.fish"
 	rm -f "$(BIN)/bsonwide" "$(MAN)/bsonwide.1" "$(BASH)/bsonwide" "$(ZSH)/_bsonwide" "$(FISH)/bsonwide.fish"
 	rm -f "$(DOC)/LICENSE" "$(DOC)/CHANGELOG.md" "$(DOC)/CONTRIBUTING.md" "$(DOC)/README.md" "$(DOC)/GUIDE.md"
-	rm -rf "$(DOC)/docs" "$(DOC)/examples"
+	rm -rf "$(DOC)/docs" "$(DOC)/examples" "$(DOC)/python"
 	rmdir "$(DOC)" 2>/dev/null || true
 	if command -v $(PYTHON) >/dev/null; then rm -rf "$(PACKAGE)" "$(PACKAGE)-$(VERSION).dist-info"; fi
 
