@@ -82,7 +82,7 @@ class Archive:
     """
 
     def __init__(self, pieces: Iterator[bytes], with_crc: bool = True) -> None:
-        """Reads the list. Whether the pieces are those of a file of gzip is told by the first of them."""
+        """Reads the list. Whether the pieces are those of a file of gzip is known by the first of them."""
         self._reader = _Reader(_plain(pieces))
         self._with_crc = with_crc
         if self._reader.take(len(MAGIC), _NO_ARCHIVE) != MAGIC:
@@ -332,7 +332,7 @@ def _namespace(fields: dict[str, _Value], start: int) -> Namespace:
 
 
 def _fields(data: bytes, start: int, wanted: dict[str, type], **missing: _Value) -> dict[str, _Value]:
-    """The fields of a document that begins at this byte: those that are wanted, by their types, or what they are if missing."""
+    """The fields of a document that begins at this byte: the named ones, by their types, or what they are if missing."""
     try:
         fields = {**missing, **_read_fields(data)}
     except (ValueError, IndexError, struct.error):

@@ -298,7 +298,7 @@ class _Questions:
             try:
                 is_found = await connection.do(_steps.count(Request(probe.text))) > 0
             except CommandError:
-                # The query has this fault too, and perhaps one before it, which is told.
+                # The query has this fault too, and perhaps one before it, which is reported.
                 await connection.do(_steps.count(rewritten))
                 raise
             if is_found:

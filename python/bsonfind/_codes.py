@@ -390,7 +390,7 @@ def _refused_operand(operand: Operand) -> CommandError:
 def read_query(text: str, paths: Iterable[str] = (), always: bool = False) -> Query | None:
     """What a filter and some paths, of a sort or an index, say of numbers; None of a text that the program refuses by itself.
 
-    Where nothing looks like a number that the program does not take, None says so too, unless it is wanted `always`.
+    Where nothing looks like a number that the program does not take, None says so too, unless `always` is true.
     """
     if not always and not _MAY_BE_WIDE.search(text):
         return None

@@ -518,7 +518,7 @@ def refuse_matches(connection: Connection, probes: Iterable[Probe], request: Req
         try:
             is_found = connection.do(_steps.count(Request(probe.text))) > 0
         except CommandError:
-            # The query that the probe was made of has this fault too, and perhaps one before it, which is told.
+            # The query that the probe was made of has this fault too, and perhaps one before it, which is reported.
             connection.do(_steps.count(request))
             raise
         if is_found:

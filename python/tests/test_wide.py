@@ -75,7 +75,7 @@ class Commands(Room):
             self.assertEqual(self.run_command("check", word, stdin=stdin), (0, [], "2 documents, 0 faulty\n"))
 
     def test_names(self) -> None:
-        """What is told of a file that is not there, or no file, is what the program tells."""
+        """What is reported of a file that is not there, or no file, is what the program reports."""
         for command in ("check", "dump"):
             self.assertEqual(self.run_command(command, "none.bson")[::2], (2, "bsonfind: cannot open none.bson\n"))
             self.assertEqual(self.run_command(command, self.room)[0], 2)
