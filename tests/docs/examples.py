@@ -1,7 +1,7 @@
 #!/usr/bin/env python3
 """Looks whether the example in the root of each library is the one that its crate of tests proves and runs.
 
-A library of laws alone needs none: it has nothing to run.
+A library of laws alone needs none, and a face neither: they have nothing to run.
 
 usage: tests/docs/examples.py
 """
@@ -31,7 +31,7 @@ def main():
     for root in sorted(glob.glob(f"{ROOT}/crates/*/src/lib.rt")):
         crate = root.split("/")[-3]
         text = text_of(f"{crate}/src/lib.rt")
-        if crate.endswith("_tests") or MODULES.findall(text) == ["laws"]:
+        if crate.endswith("_tests") or MODULES.findall(text) in ([], ["laws"]):
             continue
         shown = SHOWN.search(text)
         if shown and is_proved(*shown.groups()):

@@ -1,11 +1,12 @@
 //! Values found again by where they stand in a dump, at offsets that were counted by hand, and reads that were counted.
 
 ghost use Rattle.std.specs.Prelude.{◌≡◌, IfSome};
-ghost use Rattle.bd_raw.specs.Sound.{stands};
-ghost use Rattle.bd_bson.specs.Collection.{bytes_of};
+ghost use Rattle.bd_bson_view.specs.Sound.{stands};
+ghost use Rattle.bd_bson_dump.specs.Collection.{bytes_of};
 
 use crate::samples::is_shown;
-use bd_bson::{At, Dump, RawDoc, RawValue, read_dump};
+use bd_bson_dump::{Dump, read_dump};
+use bd_bson_view::{At, RawDoc, RawValue};
 use bd_value::{Class, Kind, Reading, class_of_node};
 use std::alloc::Global;
 use std::process::Abort;

@@ -1,7 +1,7 @@
 //! The documents of a device, one at a time: rows that were worked by hand.
-use bd_check::FaultKind;
-use bd_device::{Input, Limits, MemoryInput, ReadFault, SystemInput, read_all};
-use bd_stream::{DocBuffer, DocFault, DocReader, RawBytes};
+use bd_bson_check::FaultKind;
+use bd_bson_stream::{DocBuffer, DocFault, DocReader, RawBytes};
+use bd_io_device::{Input, Limits, MemoryInput, ReadFault, SystemInput, read_all};
 use bd_value::NoMemory;
 use std::alloc::Global;
 use std::process::Abort;

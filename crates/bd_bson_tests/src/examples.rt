@@ -1,10 +1,10 @@
-//! The examples of use in the roots of `bd_bson`, `bd_check`, `bd_raw`, `bd_stream`, `bd_value` and `bd_write`.
-use bd_bson::read_dump;
-use bd_check::{FaultKind, check_document};
-use bd_device::{Limits, MemoryInput};
-use bd_stream::DocBuffer;
+//! The examples of use in the roots of `bd_bson_dump`, `bd_bson_check`, `bd_bson_view`, `bd_bson_stream`, `bd_value` and `bd_bson_write`.
+use bd_bson_check::{FaultKind, check_document};
+use bd_bson_dump::read_dump;
+use bd_bson_stream::DocBuffer;
+use bd_bson_write::write_document;
+use bd_io_device::{Limits, MemoryInput};
 use bd_value::{Document, Node, Scalar, Value};
-use bd_write::write_document;
 use std::test::Fail;
 
 #[test]
@@ -40,7 +40,7 @@ fn write(rt: HostRuntime) -> Result<(), Fail> {
 }
 
 #[test]
-fn bson(rt: HostRuntime) -> Result<(), Fail> {
+fn dump(rt: HostRuntime) -> Result<(), Fail> {
     let alloc = rt.alloc();
     let bytes = Vec::from_slice(alloc, b"\x05\0\0\0\0\x0c\0\0\0\x10a\0\x01\0\0\0\0")?;
     let dump = read_dump(alloc, bytes)?;

@@ -1,7 +1,7 @@
 //! What the tests share: an element of each kind that was written by hand.
-use bd_check::check_document;
-use bd_extjson::write_node;
-use bd_raw::RawDoc;
+use bd_bson_check::check_document;
+use bd_bson_view::RawDoc;
+use bd_extjson_text::write_node;
 use bd_value::{NoMemory, Reading};
 use std::alloc::Global;
 use std::process::Abort;

@@ -1,8 +1,7 @@
 //! Places of faults, fronts of documents, and frames. The documents and the faults of other bytes are those of the program:
 //! `tests/rows/check-*.jsonl` and `cut-kinds.jsonl`.
 use crate::samples::{every_kind, is_shown, joined};
-use bd_bson::{next_frame, read_document};
-use bd_check::{Fault, FaultKind, check_document};
+use bd_bson_check::{Fault, FaultKind, check_document, next_frame, read_document};
 use bd_value::{NoMemory, Tree};
 use std::alloc::Global;
 use std::process::Abort;

@@ -1,6 +1,6 @@
 //! Each call of a view on every kind, and of its copies in memory.
 use crate::samples::{Element, elements, every_kind, is_shown, view};
-use bd_raw::{Elements, RawDoc, RawValue, type_byte};
+use bd_bson_view::{Elements, RawDoc, RawValue, type_byte};
 use bd_value::{Document, Kind, NoMemory, Node, Reading, Scalar, Tree, to_document, to_value};
 use std::alloc::Global;
 use std::test::Fail;

@@ -1,8 +1,8 @@
 //! Documents that are written, and those that are not. The bytes are those of the program too: `tests/rows/pack-bytes.jsonl`.
 use crate::samples::{elements, every_kind, joined};
-use bd_check::read_document;
+use bd_bson_check::read_document;
+use bd_bson_write::{WriteFault, write_document};
 use bd_value::{Document, NoMemory, Value};
-use bd_write::{WriteFault, write_document};
 use std::alloc::Global;
 use std::process::Abort;
 use std::test::Fail;

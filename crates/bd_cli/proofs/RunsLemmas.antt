@@ -2,23 +2,23 @@
 use Rattle.std.proofs.Common.{◌≡◌, ◌++◌, ◌≤◌, ◌⊎◌, ℕ, List, Ok, Option, ap, arith, inl, inr, length, refl, subst}
 use Rattle.std.specs.Prelude.{codes}
 use Rattle.bd_value.specs.Limits.{longest_input}
-use Rattle.bd_answer.specs.Laws.{new_state}
-use Rattle.bd_bson.specs.Collection.{IsUnread, bytes_of, documents}
-use Rattle.bd_bson.specs.declared.collection.Dump.{Dump}
-use Rattle.bd_check.specs.Fault.{fault_view}
-use Rattle.bd_device.specs.Devices.{Over, Reader, Writer}
-use Rattle.bd_lines.specs.{Serving.ServesAll, Serving.StopsServing, declared.serving.ServeFault.ServeFault}
-use Rattle.bd_service.specs.ServiceView.{KeepsState, RepliesTo, service_dump, service_state}
-use Rattle.bd_service.specs.declared.service.Service.{Service}
-use Rattle.bd_service.proofs.ServedLemmas.{served, stopped}
-use Rattle.bd_files.specs.{declared.output.Status.Status, declared.output.Status.TheVariants.Done, declared.output.Status.TheVariants.Failed}
-use Rattle.bd_files.specs.Output.{TellsMessage, error_line, fault_text, no_memory}
+use Rattle.bd_cursor_model.specs.Laws.{new_state}
+use Rattle.bd_bson_dump.specs.Collection.{IsUnread, bytes_of, documents}
+use Rattle.bd_bson_dump.specs.declared.collection.Dump.{Dump}
+use Rattle.bd_bson_check.specs.Fault.{fault_view}
+use Rattle.bd_io_device.specs.Devices.{Over, Reader, Writer}
+use Rattle.bd_io_lines.specs.{Serving.ServesAll, Serving.StopsServing, declared.serving.ServeFault.ServeFault}
+use Rattle.bd_cli_service.specs.ServiceView.{KeepsState, RepliesTo, service_dump, service_state}
+use Rattle.bd_cli_service.specs.declared.service.Service.{Service}
+use Rattle.bd_cli_service.proofs.ServedLemmas.{served, stopped}
+use Rattle.bd_cli_files.specs.{declared.output.Status.Status, declared.output.Status.TheVariants.Done, declared.output.Status.TheVariants.Failed}
+use Rattle.bd_cli_files.specs.Output.{TellsMessage, error_line, fault_text, no_memory}
 use Rattle.bd_cli.specs.Runs.{ServesRead, ServesToAFault, ServesToTheEnd, command_limits, serve_words}
-use Rattle.bd_check.specs.declared.fault.Fault as declared
-use Rattle.bd_check.specs.declared.fault.FaultKind.TheVariants as kinds
-use Rattle.bd_device.proofs.DevicesLemmas.{reads_at_least}
-use Rattle.bd_device.specs.declared.reading.ReadFault.TheVariants as reads
-use Rattle.bd_lines.specs.declared.serving.ServeFault.TheVariants as faults
+use Rattle.bd_bson_check.specs.declared.fault.Fault as declared
+use Rattle.bd_bson_check.specs.declared.fault.FaultKind.TheVariants as kinds
+use Rattle.bd_io_device.proofs.DevicesLemmas.{reads_at_least}
+use Rattle.bd_io_device.specs.declared.reading.ReadFault.TheVariants as reads
+use Rattle.bd_io_lines.specs.declared.serving.ServeFault.TheVariants as faults
 
 pub to_the_end : {C : Type 0} (state : C → Reader) (gives : C → Option (List ℕ) → C → Type 0) (dump : Dump) (old new : C) (out err : Over Writer)
     (s t : Service) (status : Status) → service_state s ≡ new_state → service_dump s ≡ dump

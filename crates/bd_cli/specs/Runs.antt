@@ -1,23 +1,23 @@
 -- What a run did.
 use Rattle.std.specs.Prelude.{◌≡◌, ◌≢◌, ◌⊎◌, ℕ, List, length, Option, Some, None, Result, Ok, Err, ◌<◌, []}
 use Rattle.bd_value.specs.{Limits.longest_input, Limits.most_reads, Tree.Doc}
-use Rattle.bd_answer.specs.{Session.State, Laws.new_state}
-use Rattle.bd_check.specs.{Dump.IsWalk, Fault.Fault}
-use Rattle.bd_device.specs.{declared.reading.Limits.Limits, declared.reading.ReadFault.ReadFault}
-use Rattle.bd_device.specs.Devices.{Over, Reader, Writer, read_words}
-use Rattle.bd_lines.specs.{Serving.ServesAll, Serving.StopsServing, declared.serving.ServeFault.ServeFault}
-use Rattle.bd_service.specs.Talk.{IsKept, RepliesInText}
-use Rattle.bd_files.specs.{Input.ReadsInput, declared.output.Status.Status, Pack.PacksInput, DumpAndCheck.ChecksInput}
-use Rattle.bd_files.specs.{DumpAndCheck.DumpsInput}
-use Rattle.bd_files.specs.declared.output.Status.TheVariants.{Done, Failed, Usage}
-use Rattle.bd_files.specs.Output.{TellsMessage, cannot_write, error_line, fault_text, no_memory, shown_refusal, Transcript}
-use Rattle.bd_command_line.specs.{FindWords.find_words_of, declared.order.Order.Order}
-use Rattle.bd_command_line.specs.{declared.command_line.TheConstants.USAGE, declared.order.WordsFault.WordsFault}
-use Rattle.bd_find.specs.{Find.FindsDocuments, Asking.AsksNothing}
-use Rattle.bd_lines.specs.declared.serving.ServeFault.TheVariants as faults
-use Rattle.bd_command_line.specs.declared.order.Order.TheVariants as orders
-use Rattle.bd_command_line.specs.declared.order.WordsFault.TheVariants as words
-use Rattle.bd_device.specs.declared.reading.ReadFault.TheVariants as reads
+use Rattle.bd_cursor_model.specs.{Session.State, Laws.new_state}
+use Rattle.bd_bson_check.specs.{Dump.IsWalk, Fault.Fault}
+use Rattle.bd_io_device.specs.{declared.reading.Limits.Limits, declared.reading.ReadFault.ReadFault}
+use Rattle.bd_io_device.specs.Devices.{Over, Reader, Writer, read_words}
+use Rattle.bd_io_lines.specs.{Serving.ServesAll, Serving.StopsServing, declared.serving.ServeFault.ServeFault}
+use Rattle.bd_cli_service.specs.Talk.{IsKept, RepliesInText}
+use Rattle.bd_cli_files.specs.{Input.ReadsInput, declared.output.Status.Status, Pack.PacksInput, DumpAndCheck.ChecksInput}
+use Rattle.bd_cli_files.specs.{DumpAndCheck.DumpsInput}
+use Rattle.bd_cli_files.specs.declared.output.Status.TheVariants.{Done, Failed, Usage}
+use Rattle.bd_cli_files.specs.Output.{TellsMessage, cannot_write, error_line, fault_text, no_memory, shown_refusal, Transcript}
+use Rattle.bd_cli_args.specs.{FindWords.find_words_of, declared.order.Order.Order}
+use Rattle.bd_cli_args.specs.{declared.command_line.TheConstants.USAGE, declared.order.WordsFault.WordsFault}
+use Rattle.bd_cli_find.specs.{Find.FindsDocuments, Asking.AsksNothing}
+use Rattle.bd_io_lines.specs.declared.serving.ServeFault.TheVariants as faults
+use Rattle.bd_cli_args.specs.declared.order.Order.TheVariants as orders
+use Rattle.bd_cli_args.specs.declared.order.WordsFault.TheVariants as words
+use Rattle.bd_io_device.specs.declared.reading.ReadFault.TheVariants as reads
 
 -- as much of the commands is read as of an input
 abbrev pub command_limits : Limits

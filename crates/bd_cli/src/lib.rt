@@ -18,13 +18,16 @@
 //! assert!(rt; err.bytes() == b"1 documents, 0 faulty\n".as_slice());
 //! ```
 //!
-//! - `runs`: `run` and `report`, the command `serve`, and laws of what is shown. `bd_files` has `dump`, `check` and `pack`, and
-//!   `bd_find` has `find`.
+//! - `runs`: `run` and `report`, the command `serve`, and laws of what is shown. `bd_cli_files` has `dump`, `check` and `pack`, and
+//!   `bd_cli_find` has `find`.
+//! - `laws`: what the commands share.
 #![tactic(auto)]
 
+mod laws;
 mod runs;
 
-pub use bd_command_line::{FindOptions, Order, USAGE, WordsFault, parse_words};
-pub use bd_files::Status;
-pub use bd_files::output::CANNOT_WRITE;
-pub use runs::{check_has_the_status_of_dump, dump_shows_a_front, report, run, shows_one_thing};
+pub use bd_cli_args::{FindOptions, Order, USAGE, WordsFault, parse_words};
+pub use bd_cli_files::Status;
+pub use bd_cli_files::output::CANNOT_WRITE;
+pub use laws::{check_has_the_status_of_dump, dump_shows_a_front, shows_one_thing};
+pub use runs::{report, run};

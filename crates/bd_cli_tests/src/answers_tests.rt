@@ -1,5 +1,5 @@
 //! Lines whose answers no run shows: the path of an index, and a size that is greater than a limit.
-use bd_command_line::parse_words;
+use bd_cli_args::parse_words;
 use std::test::Fail;
 
 /// The words of a line, each after a comma, and after an arrow the answer, as it is printed for debugging.

@@ -1,7 +1,8 @@
 //! Runs over devices in memory.
-use bd_cli::{Status, run};
-use bd_command_line::{FindOptions, Order};
-use bd_device::{FailingWrite, MemoryInput, MemoryOutput};
+use bd_cli::run;
+use bd_cli_args::{FindOptions, Order};
+use bd_cli_files::Status;
+use bd_io_device::{FailingWrite, MemoryInput, MemoryOutput};
 use std::alloc::Global;
 
 /// The document {"a":1}.

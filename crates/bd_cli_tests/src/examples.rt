@@ -1,9 +1,9 @@
-//! The examples of use in the roots of `bd_cli`, `bd_command_line`, `bd_files` and `bd_find`.
-use bd_cli::{Status, run};
-use bd_command_line::{FindOptions, Order, parse_words};
-use bd_device::{MemoryInput, MemoryOutput};
-use bd_files::check;
-use bd_find::find::find;
+//! The examples of use in the roots of `bd_cli`, `bd_cli_args`, `bd_cli_files` and `bd_cli_find`.
+use bd_cli::run;
+use bd_cli_args::{FindOptions, Order, parse_words};
+use bd_cli_files::{Status, check};
+use bd_cli_find::find::find;
+use bd_io_device::{MemoryInput, MemoryOutput};
 use std::test::Fail;
 
 #[test]

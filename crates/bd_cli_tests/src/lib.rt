@@ -1,4 +1,4 @@
-//! Tests of `bd_command_line`, `bd_files`, `bd_find` and `bd_cli`, over their public calls: those that need devices in memory. What the
+//! Tests of `bd_cli_args`, `bd_cli_files`, `bd_cli_find` and `bd_cli`, over their public calls: those that need devices in memory. What the
 //! program shows is tested over the program itself.
 #![tactic(auto)]
 

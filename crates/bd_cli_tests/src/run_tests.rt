@@ -1,7 +1,7 @@
 //! Runs over devices in memory, with outcomes that were worked by hand.
 use crate::devices::{AMPLE, BAD_AND_ONE, Command, Devices, FAULT, ONE, ONE_LINE, order_of, reads};
 use bd_cli::Status::{self, Done, Failed};
-use bd_device::FailingWrite;
+use bd_io_device::FailingWrite;
 use std::test::Fail;
 
 /// A read that fails, and what is shown then.

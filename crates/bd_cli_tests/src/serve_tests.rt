@@ -1,8 +1,9 @@
 //! `serve` over devices in memory, with outcomes that were worked by hand.
 use crate::devices::{BAD_AND_ONE, Command, ONE, order_of};
-use bd_cli::{Status, run};
-use bd_device::FailingWrite::{Error, Zero};
-use bd_device::{MemoryInput, MemoryOutput};
+use bd_cli::run;
+use bd_cli_files::Status;
+use bd_io_device::FailingWrite::{Error, Zero};
+use bd_io_device::{MemoryInput, MemoryOutput};
 
 /// Lines of 12, 3, 1, 25 and 23 bytes, with their newlines. The last has none.
 pub(crate) const COMMANDS: &[u8] =

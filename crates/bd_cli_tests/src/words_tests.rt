@@ -1,7 +1,8 @@
 //! What is shown of words that are no order.
-use bd_cli::{Status, report};
-use bd_command_line::{USAGE, WordsFault};
-use bd_device::MemoryOutput;
+use bd_cli::report;
+use bd_cli_args::{USAGE, WordsFault};
+use bd_cli_files::Status;
+use bd_io_device::MemoryOutput;
 
 #[test]
 fn reports_words(rt: HostRuntime) {

@@ -3,8 +3,8 @@ use crate::devices::{BAD_AND_ONE, Command, FAULT, ONE, ONE_LINE, order_of};
 use crate::serve_tests::{COMMANDS, REPLIES};
 use bd_cli::Status::{self, Done, Failed};
 use bd_cli::run;
-use bd_command_line::Order;
-use bd_device::{FailingWrite, MemoryInput, MemoryOutput};
+use bd_cli_args::Order;
+use bd_io_device::{FailingWrite, MemoryInput, MemoryOutput};
 use std::alloc::Global;
 
 /// A command, its file, and what it shows where no write fails: on standard output, on standard error, and by its status.

@@ -12,24 +12,24 @@ use Rattle.std.specs.List.{list_any, range_with_len, join_with_byte, position, p
 use Rattle.std.specs.declared.cmp.Ordering.TheVariants.{Less, Equal, Greater}
 use Rattle.std.specs.{Bool.Decides, Cmp.Lexicographic.pointwise, Borrow.Bor, Option.option_copied, List.Sorted.IsStrictlyIncreasing, Ordering.is_lt, Cmp.IsTotalOrder, Str.bytes_eq}
 use Rattle.bd_value.specs.Tree.{Doc, Tree, doc, fields_of, leaf}
-use Rattle.bd_answer.specs.Session.{IndexMark, is_on}
-use Rattle.bd_answer.specs.{Answer.before, Answer.Selection, Answer.matching, Laws.IsAscending, Source.IsSource, Source.passes}
-use Rattle.bd_bson.specs.{Collection.documents, declared.collection.Dump.Dump, Collection.document_at}
+use Rattle.bd_cursor_model.specs.Session.{IndexMark, is_on}
+use Rattle.bd_cursor_model.specs.{Answer.before, Answer.Selection, Answer.matching, Laws.IsAscending, Source.IsSource, Source.passes}
+use Rattle.bd_bson_dump.specs.{Collection.documents, declared.collection.Dump.Dump, Collection.document_at}
 use Rattle.bd_path.specs.Key.{indexed_keys, keys, sparse_keys}
 use Rattle.bd_path.specs.{Sort.SortPath, Reach.Names, Path.components_of, PathNames.names_of, Sort.sort_paths, declared.sort.Dir.Dir, declared.path.Path.Path}
 use Rattle.bd_path.proofs.SortLemmas.{has_a_key, sort_total}
-use Rattle.bd_filter.specs.{Filter.Filter, FilterMatch.matches, Filter.filter_tree}
-use Rattle.bd_request.specs.declared.request.Request.{Request}
-use Rattle.bd_sort.specs.Selection.{hits_of, order_of_keys, selection_of}
-use Rattle.bd_bounds.specs.{Bounds.KeyBounds, Bounds.bounds, Bounds.is_among, BoundsView.seen_bounds, declared.bounds.Bounds.Bounds}
-use Rattle.bd_bounds.proofs.SoundLemmas.{is_fit, loses_no_match, sparse_loses_no_match}
+use Rattle.bd_query_filter.specs.{Filter.Filter, FilterMatch.matches, Filter.filter_tree}
+use Rattle.bd_cursor_request.specs.declared.request.Request.{Request}
+use Rattle.bd_cursor_sort.specs.Selection.{hits_of, order_of_keys, selection_of}
+use Rattle.bd_index_bounds.specs.{Bounds.KeyBounds, Bounds.bounds, Bounds.is_among, BoundsView.seen_bounds, declared.bounds.Bounds.Bounds}
+use Rattle.bd_index_bounds.proofs.SoundLemmas.{is_fit, loses_no_match, sparse_loses_no_match}
 use Rattle.bd_index.specs.Entries.{KeyAt, entries_from, has_two_keys, is_multikey, keys_at, entries_of}
 use Rattle.bd_index.specs.{Places.AreWithin, Places.lent_bounds, declared.index.Index.Index, IndexView.IsIndexOf}
 use Rattle.bd_index.proofs.WalkLemmas.{any_in}
 use Rattle.bd_cursor.specs.Access.{bounded_or, HasMatchesWithin, ServesFilter, mark_names, index_mark, HasSortOrder, walk_dir, bounded, mark_bounds, named_access, scanned, serving_bounds, walk_or}
 use Rattle.bd_cursor.specs.Access.{access_on}
 use Rattle.bd_cursor.specs.Explanation.{entries_within, index_counts, places_within}
-use Rattle.bd_answer.proofs.{OrderLemmas.filter_all, AnswerLemmas.in_contains, SourceLemmas.batch_in_order, SourceLemmas.all_places, SourceLemmas.unsorted_ordered}
+use Rattle.bd_cursor_model.proofs.{OrderLemmas.filter_all, AnswerLemmas.in_contains, SourceLemmas.batch_in_order, SourceLemmas.all_places, SourceLemmas.unsorted_ordered}
 use Rattle.bd_value.specs.Tree as trees
 
 -- ---- places that ascend

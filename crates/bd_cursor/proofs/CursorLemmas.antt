@@ -4,15 +4,15 @@ use Rattle.std.proofs.Common.{inl, inr, ◌⊎◌, min, eqb}
 use Rattle.std.proofs.lemmas.List.{drop-take, take_all, length-drop, length-take, append-nil, drop_all}
 use Rattle.std.proofs.{lemmas.Cmp.on_total, lemmas.Bool.cases_lt, lemmas.Bool.ne_eqb}
 use Rattle.std.specs.{List.range_with_len, Cmp.IsTotalOrder}
-use Rattle.bd_answer.specs.Answer.{at_most, Mark, answer, before, cut, ordered, rest, is_empty}
+use Rattle.bd_cursor_model.specs.Answer.{at_most, Mark, answer, before, cut, ordered, rest, is_empty}
 use Rattle.bd_value.specs.Tree.{Doc}
-use Rattle.bd_answer.proofs.SourceLemmas.{IsUnsorted, unsorted_after, unsorted_ordered}
+use Rattle.bd_cursor_model.proofs.SourceLemmas.{IsUnsorted, unsorted_after, unsorted_ordered}
 use Rattle.bd_path.specs.{Sort.sort_cmp, Sort.sort_paths}
 use Rattle.bd_path.proofs.SortLemmas.{sort_total}
-use Rattle.bd_filter.specs.Filter.{filter_tree}
-use Rattle.bd_bson.specs.Collection.{document_at}
-use Rattle.bd_sort.specs.Selection.{selection_of, hits_of}
-use Rattle.bd_request.specs.declared.request.Request.{Request}
+use Rattle.bd_query_filter.specs.Filter.{filter_tree}
+use Rattle.bd_bson_dump.specs.Collection.{document_at}
+use Rattle.bd_cursor_sort.specs.Selection.{selection_of, hits_of}
+use Rattle.bd_cursor_request.specs.declared.request.Request.{Request}
 
 abbrev pub unseen : ℕ → (ℕ → Bool) → ℕ → List ℕ
 unseen count hits next = filter hits (range_with_len next (count - next))

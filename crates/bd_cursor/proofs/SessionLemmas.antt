@@ -3,11 +3,11 @@ use Rattle.std.proofs.Common.{◌≡◌, ℕ, Bool, true, false, cond, List, [],
 use Rattle.std.proofs.Common.{Some, None, slice_get, slice_set}
 use Rattle.std.proofs.{lemmas.Bool.eq-eqb, lemmas.Bool.ne_eqb, lemmas.Bool.le-ltb, lemmas.Bool.cond_both, lemmas.Option.slice_get-map, lemmas.Option.slice_get_read}
 use Rattle.bd_value.specs.Limits.{greatest_count}
-use Rattle.bd_answer.specs.Session.{Call, IndexMark, Reply, State, reply, state_after, OpenCursor, batch_of, cursor_of, gave, moved, next_reply, with_moved, without}
-use Rattle.bd_request.specs.declared.results.Refused.{Refused}
+use Rattle.bd_cursor_model.specs.Session.{Call, IndexMark, Reply, State, reply, state_after, OpenCursor, batch_of, cursor_of, gave, moved, next_reply, with_moved, without}
+use Rattle.bd_cursor_request.specs.declared.results.Refused.{Refused}
 use Rattle.bd_cursor.specs.SessionView.{IsRefusedCall, Steps, dump_of, state_of, open_cursor}
 use Rattle.bd_cursor.specs.{declared.session.Session.Session, declared.cursor.Cursor.Cursor}
-use Rattle.bd_bson.specs.declared.collection.Dump.{Dump}
+use Rattle.bd_bson_dump.specs.declared.collection.Dump.{Dump}
 use Rattle.std.specs.Prelude.{option_map}
 
 pub with_marks : (s : State) (is js : List IndexMark) → is ≡ js → record s { indexes = is } ≡ record s { indexes = js }

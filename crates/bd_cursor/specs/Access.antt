@@ -4,15 +4,15 @@ use Rattle.std.specs.Prelude.{ℕ, Bool, false, ◌&&◌, not, List, [], ◌∷�
 use Rattle.std.specs.Prelude.{◌≡◌}
 use Rattle.std.specs.{Str.bytes_eq, Cmp.Lexicographic.pointwise}
 use Rattle.bd_value.specs.Tree.{Doc, leaf}
-use Rattle.bd_answer.specs.Session.{IndexMark, is_on}
+use Rattle.bd_cursor_model.specs.Session.{IndexMark, is_on}
 use Rattle.bd_path.specs.{Sort.SortPath, Reach.Names, Path.components_of, declared.sort.Dir.Dir, PathNames.names_of}
 use Rattle.bd_path.specs.{Sort.sort_paths}
-use Rattle.bd_filter.specs.{Filter.Filter, Filter.filter_tree}
-use Rattle.bd_bounds.specs.{Bounds.KeyBounds, Bounds.bounds, BoundsView.seen_bounds}
+use Rattle.bd_query_filter.specs.{Filter.Filter, Filter.filter_tree}
+use Rattle.bd_index_bounds.specs.{Bounds.KeyBounds, Bounds.bounds, BoundsView.seen_bounds}
 use Rattle.bd_index.specs.{Entries.is_multikey, IndexView.IsIndexOf, declared.index.Index.Index}
 use Rattle.bd_cursor.specs.{declared.access.Choice.Choice, declared.access.Access.Access}
-use Rattle.bd_bson.specs.declared.collection.Dump.{Dump}
-use Rattle.bd_request.specs.declared.request.Request.{Request}
+use Rattle.bd_bson_dump.specs.declared.collection.Dump.{Dump}
+use Rattle.bd_cursor_request.specs.declared.request.Request.{Request}
 use Rattle.bd_value.specs.Tree as trees
 use Rattle.bd_cursor.specs.declared.access.Choice.TheVariants as choices
 use Rattle.bd_cursor.specs.declared.access.Access.TheVariants as ways

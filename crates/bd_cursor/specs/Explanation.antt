@@ -2,20 +2,20 @@
 use Rattle.std.specs.Prelude.{ℕ, List, [], ◌∷◌, codes, count_by, length, option_map, string_bytes, Option, Some, None}
 use Rattle.std.specs.List.{filter, list_any, range_with_len}
 use Rattle.bd_value.specs.Tree.{Doc, leaf}
-use Rattle.bd_answer.specs.Answer.{matching}
-use Rattle.bd_answer.specs.Session.{IndexCounts, IndexMark}
+use Rattle.bd_cursor_model.specs.Answer.{matching}
+use Rattle.bd_cursor_model.specs.Session.{IndexCounts, IndexMark}
 use Rattle.bd_path.specs.Key.{indexed_keys}
-use Rattle.bd_request.specs.{Request.Request, Request.request_view, Results.count_value, Results.text_or_null}
-use Rattle.bd_bson.specs.Collection.{document_at}
-use Rattle.bd_sort.specs.Selection.{selection_for}
-use Rattle.bd_bounds.specs.Bounds.{KeyBounds, is_among}
+use Rattle.bd_cursor_request.specs.{Request.Request, Request.request_view, Results.count_value, Results.text_or_null}
+use Rattle.bd_bson_dump.specs.Collection.{document_at}
+use Rattle.bd_cursor_sort.specs.Selection.{selection_for}
+use Rattle.bd_index_bounds.specs.Bounds.{KeyBounds, is_among}
 use Rattle.bd_index.specs.{Entries.entries_of, Entries.is_multikey, Places.has_key_in}
 use Rattle.bd_cursor.specs.Access.{AccessPath, Way, access_of, bounded, mark_names, scanned, walked, way_of}
 use Rattle.bd_cursor.specs.{declared.access.Choice.Choice, declared.explaining.Explain.Explain}
 use Rattle.bd_cursor.specs.{declared.explaining.Plan.Plan}
 use Rattle.bd_value.specs.Tree as trees
 use Rattle.bd_cursor.specs.declared.explaining.Plan.TheVariants as plans
-use Rattle.bd_request.specs.declared.request.Request as declared
+use Rattle.bd_cursor_request.specs.declared.request.Request as declared
 
 -- how many entries the index of these documents has, and whether one of them has two keys
 abbrev pub index_counts : List Doc → IndexMark → IndexCounts

@@ -3,23 +3,23 @@ use Rattle.std.specs.Prelude.{◌≡◌, ◌-◌, ℕ, Bool, List, drop, length,
 use Rattle.std.specs.Prelude.{Result, Ok, Err}
 use Rattle.std.specs.List.{cons_option, filter, range_with_len}
 use Rattle.bd_value.specs.Tree.{Doc}
-use Rattle.bd_answer.specs.Answer.{Selection, Mark, at_most}
-use Rattle.bd_answer.specs.Session.{left_after, open_reply, Query, Call, GivenBatch, IndexMark, MarkedToken, OpenCursor}
-use Rattle.bd_answer.specs.Session.{Reply, State, changed_by, explain_call, make_call, reply, state_after, with_open}
-use Rattle.bd_answer.specs.Session.{explained, foreign_token, gave, index_there, made, no_cursor, no_index, opened}
-use Rattle.bd_answer.specs.Session.{out_of_range, token_place, too_many_cursors, too_many_indexes}
-use Rattle.bd_bson.specs.{declared.collection.Dump.Dump, Collection.documents}
-use Rattle.bd_filter.specs.{Filter.filter_tree, declared.filter.Filter.Filter}
-use Rattle.bd_sort.specs.Selection.{hits_of, query_of}
+use Rattle.bd_cursor_model.specs.Answer.{Selection, Mark, at_most}
+use Rattle.bd_cursor_model.specs.Session.{left_after, open_reply, Query, Call, GivenBatch, IndexMark, MarkedToken, OpenCursor}
+use Rattle.bd_cursor_model.specs.Session.{Reply, State, changed_by, explain_call, make_call, reply, state_after, with_open}
+use Rattle.bd_cursor_model.specs.Session.{explained, foreign_token, gave, index_there, made, no_cursor, no_index, opened}
+use Rattle.bd_cursor_model.specs.Session.{out_of_range, token_place, too_many_cursors, too_many_indexes}
+use Rattle.bd_bson_dump.specs.{declared.collection.Dump.Dump, Collection.documents}
+use Rattle.bd_query_filter.specs.{Filter.filter_tree, declared.filter.Filter.Filter}
+use Rattle.bd_cursor_sort.specs.Selection.{hits_of, query_of}
 use Rattle.bd_cursor.specs.{declared.cursor.ScanPosition.ScanPosition, Access.Way, Access.by_one, Access.way_of}
 use Rattle.bd_cursor.specs.{Access.index_mark, Explanation.explanation_of, Explanation.index_counts}
 use Rattle.bd_cursor.specs.{declared.access.Choice.Choice, declared.cursor.Cursor.Cursor}
 use Rattle.bd_cursor.specs.{declared.cursor.Remainder.Remainder, declared.session.Session.Session}
 use Rattle.bd_path.specs.declared.path.Path.{Path}
-use Rattle.bd_request.specs.{declared.request.Request.Request, declared.results.Batch.Batch}
-use Rattle.bd_request.specs.{declared.results.Refused.Refused, declared.token.Token.Token}
+use Rattle.bd_cursor_request.specs.{declared.request.Request.Request, declared.results.Batch.Batch}
+use Rattle.bd_cursor_request.specs.{declared.results.Refused.Refused, declared.token.Token.Token}
 use Rattle.bd_cursor.specs.declared.cursor.Remainder.TheVariants as remainders
-use Rattle.bd_request.specs.declared.results.Refused.TheVariants as reasons
+use Rattle.bd_cursor_request.specs.declared.results.Refused.TheVariants as reasons
 
 abbrev pub mark_of : Token → Mark
 mark_of t = record { given = t.given; last = t.last }

@@ -1,24 +1,24 @@
 //! An open cursor, the batches that it gives, and the places that it has left.
 
 ghost use Rattle.std.specs.Prelude.{◌≡◌, ◌<◌, ℕ, IfNone, IfOk, IfSome, List, None, OnErr, OnOk, Some, [], drop, if◌then◌else◌, length, map, option_map, slice_get, slice_set, take};
-ghost use Rattle.bd_answer.specs.Answer.{at_most, cut, is_empty};
-ghost use Rattle.bd_answer.specs.Session.{OpenCursor, batch_of, cursor_of, digest_after, given_by, left_after, moved, token_after, with_moved, without};
-ghost use Rattle.bd_answer.specs.Source.{HandsOut};
-ghost use Rattle.bd_bson.specs.Collection.{documents};
-ghost use Rattle.bd_bson.specs.declared.collection.Dump.{Dump};
-ghost use Rattle.bd_filter.specs.Filter.{filter_tree};
+ghost use Rattle.bd_cursor_model.specs.Answer.{at_most, cut, is_empty};
+ghost use Rattle.bd_cursor_model.specs.Session.{OpenCursor, batch_of, cursor_of, digest_after, given_by, left_after, moved, token_after, with_moved, without};
+ghost use Rattle.bd_cursor_model.specs.Source.{HandsOut};
+ghost use Rattle.bd_bson_dump.specs.Collection.{documents};
+ghost use Rattle.bd_bson_dump.specs.declared.collection.Dump.{Dump};
+ghost use Rattle.bd_query_filter.specs.Filter.{filter_tree};
 ghost use Rattle.bd_index.specs.IndexView.{AreIndexesOf};
-ghost use Rattle.bd_sort.specs.Selection.{hits_of, query_of, selection_of};
+ghost use Rattle.bd_cursor_sort.specs.Selection.{hits_of, query_of, selection_of};
 ghost use Rattle.bd_value.specs.Tree.{Doc};
 ghost use Rattle.bd_cursor.specs.SessionView.{given_batch, marked_token, open_cursor, places_left, scan_left, scan_left_in};
 
 use crate::access::{Access, Choice, PlaceList};
 use crate::session::DigestedDump;
-use bd_bson::Dump;
-use bd_filter::Filter;
+use bd_bson_dump::Dump;
+use bd_cursor_request::{Batch, Request, Token, request_digest};
+use bd_cursor_sort::is_match;
 use bd_index::Index;
-use bd_request::{Batch, Request, Token, request_digest};
-use bd_sort::is_match;
+use bd_query_filter::Filter;
 use bd_value::NoMemory;
 use std::alloc::Global;
 
@@ -146,7 +146,7 @@ pub(crate) enum Remainder {
 
 impl Remainder {
     /// What a request has left: its answer, or the rest of it after a token.
-    #[tactic(auto, using(bd_bson::proofs::CollectionLemmas::documents_length))]
+    #[tactic(auto, using(bd_bson_dump::proofs::CollectionLemmas::documents_length))]
     pub(crate) fn of(
         alloc: Global,
         dump: &Dump,

@@ -2,20 +2,20 @@
 
 ghost use Rattle.std.specs.Prelude.{◌≡◌, ◌<◌, All, IfOk, count_by, length, map};
 ghost use Rattle.std.specs.List.{range_with_len};
-ghost use Rattle.bd_answer.specs.Answer.{matching};
-ghost use Rattle.bd_bson.specs.Collection.{documents};
-ghost use Rattle.bd_filter.specs.Filter.{filter_tree};
-ghost use Rattle.bd_sort.specs.Selection.{selection_of, hits_of};
+ghost use Rattle.bd_cursor_model.specs.Answer.{matching};
+ghost use Rattle.bd_bson_dump.specs.Collection.{documents};
+ghost use Rattle.bd_query_filter.specs.Filter.{filter_tree};
+ghost use Rattle.bd_cursor_sort.specs.Selection.{selection_of, hits_of};
 ghost use Rattle.bd_index.specs.IndexView.{AreIndexesOf};
 ghost use Rattle.bd_cursor.specs.Access.{IsAccessOf, access_path, index_mark};
 ghost use Rattle.bd_cursor.specs.Explanation.{explained_access, explanation_of, told};
 
 use crate::access::{Access, Choice};
-use bd_bson::Dump;
-use bd_filter::Filter;
+use bd_bson_dump::Dump;
+use bd_cursor_request::Request;
+use bd_cursor_sort::is_match;
 use bd_index::Index;
-use bd_request::Request;
-use bd_sort::is_match;
+use bd_query_filter::Filter;
 use bd_value::NoMemory;
 use std::alloc::Global;
 

@@ -2,9 +2,9 @@
 //!
 //! A session owns a dump and indexes of it. A cursor of it gives the answer of a request in batches of any sizes, and the token of
 //! each batch leads on to exactly what was not given, in this session or another over the same dump. Which documents those are:
-//! `bd_answer`.
+//! `bd_cursor_model`.
 //!
-//! An example, which `bd_service_tests` proves and runs as `examples::two_batches`:
+//! An example, which `bd_cli_service_tests` proves and runs as `examples::two_batches`:
 //!
 //! ```
 //! let mut session = Session::new(alloc, dump);
@@ -17,7 +17,7 @@
 //!
 //! Documents are looked at one by one, or reached by an index. An index serves a request by the bounds that the filter gives it,
 //! or by its order, which may be that of the sort (MongoDB manual, "Use Indexes to Sort Query Results"). A sparse one serves only
-//! where no field that is missing may match. Whatever way is taken, the answer is the same. `bd_service_tests` proves and runs
+//! where no field that is missing may match. Whatever way is taken, the answer is the same. `bd_cli_service_tests` proves and runs
 //! this as `examples::two_cheapest_by_index`:
 //!
 //! ```
@@ -40,7 +40,7 @@ mod explaining;
 mod session;
 
 pub use access::{Access, Choice};
-pub use bd_answer::PlaceSource;
-pub use bd_request::{Batch, Made, Refused, Request, Token, dump_digest, request_digest};
+pub use bd_cursor_model::PlaceSource;
+pub use bd_cursor_request::{Batch, Made, Refused, Request, Token, dump_digest, request_digest};
 pub use explaining::{Explain, Plan};
 pub use session::{Session, requests_are_fair};

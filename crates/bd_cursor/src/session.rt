@@ -3,18 +3,18 @@
 ghost use Rattle.std.specs.Prelude.{◌≡◌};
 ghost use Rattle.std.specs.Option.{ForSome};
 ghost use Rattle.sha2.specs.Sha256.{sha256};
-ghost use Rattle.bd_answer.specs.Laws.{IsFair};
-ghost use Rattle.bd_bson.specs.Collection.{bytes_of};
+ghost use Rattle.bd_cursor_model.specs.Laws.{IsFair};
+ghost use Rattle.bd_bson_dump.specs.Collection.{bytes_of};
 ghost use Rattle.bd_index.specs.IndexView.{AreIndexesOf, AreIndexesOf-prop};
-ghost use Rattle.bd_sort.specs.Selection.{query_of};
+ghost use Rattle.bd_cursor_sort.specs.Selection.{query_of};
 
 use crate::access::{Choice, index_on};
 use crate::cursor::{Cursor, Remainder, close, close_at_end, place_of};
 use crate::explaining::{Explain, explanation_of};
-use bd_bson::Dump;
+use bd_bson_dump::Dump;
+use bd_cursor_request::{Batch, Made, Refused, Request, Token, dump_digest, request_digest};
 use bd_index::Index;
 use bd_path::Path;
-use bd_request::{Batch, Made, Refused, Request, Token, dump_digest, request_digest};
 use bd_value::{GREATEST_COUNT, MOST_CURSORS, MOST_INDEXES, NoMemory};
 use std::alloc::Global;
 
@@ -34,16 +34,16 @@ pub struct Session {
 
 impl Session {
     ghost use Rattle.std.specs.Prelude.{◌≤◌, ◌<◌, IfErr, IfOk, IfSome, IsFalse, IsTrue, List, None, OnOk, Option, Some, ℕ, false, length, option_map, string_bytes, true};
-    ghost use Rattle.bd_answer.specs.Laws.{new_state};
-    ghost use Rattle.bd_answer.specs.Session.{Call, drop_call, dropped, explained, find_call, gave, has_index, kill_call, killed, made, next_call};
-    ghost use Rattle.bd_answer.specs.Session.{open_reply, opened, reply, resume_call};
-    ghost use Rattle.bd_bson.specs.Collection.{documents};
+    ghost use Rattle.bd_cursor_model.specs.Laws.{new_state};
+    ghost use Rattle.bd_cursor_model.specs.Session.{Call, drop_call, dropped, explained, find_call, gave, has_index, kill_call, killed, made, next_call};
+    ghost use Rattle.bd_cursor_model.specs.Session.{open_reply, opened, reply, resume_call};
+    ghost use Rattle.bd_bson_dump.specs.Collection.{documents};
     ghost use Rattle.bd_index.specs.IndexView.{IsIndexOf};
     ghost use Rattle.bd_cursor.specs.Access.{index_mark};
     ghost use Rattle.bd_cursor.specs.SessionView.{IsGranted, IsOpening, IsRefusedCall, Steps, dump_of, given_batch, marked_token, path_mark};
     ghost use Rattle.bd_cursor.specs.SessionView.{explain_request, hint_of, make_index, make_of, state_of};
     ghost use Rattle.bd_cursor.specs.Explanation.{told};
-    ghost use Rattle.bd_request.specs.Results.{made_counts};
+    ghost use Rattle.bd_cursor_request.specs.Results.{made_counts};
 
     /// A session with no index and no cursor. It takes no memory.
     pub fn new(alloc: Global, dump: Dump) -> Session

@@ -27,11 +27,11 @@ use Rattle.json.specs.Json.{Json}
 use Rattle.json.specs.Find.{as_bool, as_str, as_object}
 use Rattle.bd_value.specs.Tree as trees
 use Rattle.bd_value.specs.Tree.{Scalar, Tree, leaf, doc, array, code_scope, Items, Fields, field, no_fields, Doc, fields_of, pairs_of, fields_of-pairs_of}
-use Rattle.bd_wrapper.specs.WholeNumber.{fits_bits, if_fits, whole, whole_64, whole_32}
-use Rattle.bd_wrapper.specs.Wrapper.{wrapper_of, single, pair_members, only_member, only, pair, id_of, data_in, digits_in, subtype_in}
-use Rattle.bd_wrapper.specs.Wrapper.{if_word, word_in, name_in, both_in, one, long_in}
-use Rattle.bd_wrapper.specs.declared.wrapper.Wrapper.{Wrapper}
-use Rattle.bd_wrapper.specs.declared.wrapper.Wrapper.TheVariants as kinds
+use Rattle.bd_extjson_wrapper.specs.WholeNumber.{fits_bits, if_fits, whole, whole_64, whole_32}
+use Rattle.bd_extjson_wrapper.specs.Wrapper.{wrapper_of, single, pair_members, only_member, only, pair, id_of, data_in, digits_in, subtype_in}
+use Rattle.bd_extjson_wrapper.specs.Wrapper.{if_word, word_in, name_in, both_in, one, long_in}
+use Rattle.bd_extjson_wrapper.specs.declared.wrapper.Wrapper.{Wrapper}
+use Rattle.bd_extjson_wrapper.specs.declared.wrapper.Wrapper.TheVariants as kinds
 use Rattle.bd_extjson.specs.Read.{bare_number, nested, add_item, add_field, with_scope, two, wrap}
 use Rattle.bd_extjson.specs.Read.{wrap_items, wrap_object, wrapped, wrap_fields, ReadsAs, document}
 use Rattle.bd_extjson.specs.Read as reads

@@ -11,10 +11,10 @@ use Rattle.json.specs.Tree as kit_tree
 use Rattle.bd_value.specs.Fits.{ScalarFits, FitsTypes, ItemsFit, FieldsFit, IsAny}
 use Rattle.bd_value.specs.Tree.{Scalar, null, text as plain_text, boolean, regex, code}
 use Rattle.bd_value.specs.Tree.{Tree, leaf, doc, array, code_scope, Items, no_items, item, Fields, no_fields, field, Doc, fields_of, pairs_in, pairs_of-fields_of}
-use Rattle.bd_text.specs.Text.{text}
-use Rattle.bd_wrapper.specs.Wrapper.{wrapper_of, single, pair, both_in}
-use Rattle.bd_wrapper.specs.declared.wrapper.Wrapper.{Wrapper}
-use Rattle.bd_wrapper.specs.declared.wrapper.Wrapper.TheVariants as kinds
+use Rattle.bd_extjson_text.specs.Text.{text}
+use Rattle.bd_extjson_wrapper.specs.Wrapper.{wrapper_of, single, pair, both_in}
+use Rattle.bd_extjson_wrapper.specs.declared.wrapper.Wrapper.{Wrapper}
+use Rattle.bd_extjson_wrapper.specs.declared.wrapper.Wrapper.TheVariants as kinds
 use Rattle.bd_extjson.specs.Laws.{IsPlainFirst, IsPlain, ArePlainItems, ArePlainFields}
 use Rattle.bd_extjson.proofs.ReadBackLemmas.{scalar_back}
 use Rattle.bd_extjson.proofs.TreeJsonLemmas.{scalar_json, json, elements_json, members_json, value-text}

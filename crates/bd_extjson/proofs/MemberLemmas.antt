@@ -7,10 +7,10 @@ use Rattle.json.specs.Find.{as_str}
 use Rattle.json.proofs.Grammar.{members_end, members_no_key}
 use Rattle.bd_value.specs.Tree.{Tree, doc, code_scope, Fields, Doc, pairs_of, fields_of, fields_of-pairs_of}
 use Rattle.bd_extjson.specs.Read.{nested, with_scope, two, wrap, wrap_object, wrapped, document}
-use Rattle.bd_wrapper.specs.Wrapper.{wrapper_of, through, after_key, is_code_name, is_scope_name}
+use Rattle.bd_extjson_wrapper.specs.Wrapper.{wrapper_of, through, after_key, is_code_name, is_scope_name}
 use Rattle.bd_value.proofs.ViewLemmas.{tree_of-CodeScope}
-use Rattle.bd_wrapper.specs.declared.wrapper.Wrapper.{Wrapper}
-use Rattle.bd_wrapper.specs.declared.wrapper.Wrapper.TheVariants as kinds
+use Rattle.bd_extjson_wrapper.specs.declared.wrapper.Wrapper.{Wrapper}
+use Rattle.bd_extjson_wrapper.specs.declared.wrapper.Wrapper.TheVariants as kinds
 use Rattle.bd_extjson.proofs.ReadLemmas.{nested_is, next_name, never, refused_member, through_made, through_same}
 
 -- ---- members, whatever is made of them

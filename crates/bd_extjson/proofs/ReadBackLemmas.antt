@@ -10,9 +10,9 @@ use Rattle.std.specs.Str.Parse.{digits_value}
 use Rattle.std.proofs.lemmas.Bool.{and_parts, lt-ltb, ltb-true, or_parts}
 use Rattle.std.proofs.lemmas.Fmt.{digits_decimal, digits_value-decimal, first_decimal, decimal_digit}
 use Rattle.std.proofs.lemmas.Int.{ints}
-use Rattle.bd_text.proofs.JsonStringLemmas.{wider}
-use Rattle.bd_wrapper.specs.WholeNumber.{are_digits, fits_bits, whole, whole_64, whole_32}
-use Rattle.bd_wrapper.proofs.WholeNumberLemmas.{own, all_of}
+use Rattle.bd_extjson_text.proofs.JsonStringLemmas.{wider}
+use Rattle.bd_extjson_wrapper.specs.WholeNumber.{are_digits, fits_bits, whole, whole_64, whole_32}
+use Rattle.bd_extjson_wrapper.proofs.WholeNumberLemmas.{own, all_of}
 use Rattle.std.specs.{Prelude.◌||◌, Option.option_zip, Result.result_ok}
 use Rattle.std.proofs.lemmas.Str.{is_utf8-from_IsUtf8}
 use Rattle.base64.specs.Engines.{standard}
@@ -26,8 +26,8 @@ use Rattle.bd_value.specs.Tree.{code_scope, Items, no_items, item, Fields, no_fi
 use Rattle.bd_value.specs.Fits.{IsId, ScalarFits, Fits, FitsTypes, ItemsFit, FieldsFit, IsAny, has_zero, zero_in_scalar, zero_in, zero_in_items, zero_in_fields}
 use Rattle.bd_value.specs.Limits.{most_brackets, most_levels}
 use Rattle.bd_value.proofs.FitsLemmas.{fits_types}
-use Rattle.bd_text.specs.Text.{base64_text, hex_text, text}
-use Rattle.bd_wrapper.specs.Wrapper.{wrapper_of, only, pair, id_of, data_in, subtype_in, word_in, if_word, name_in}
+use Rattle.bd_extjson_text.specs.Text.{base64_text, hex_text, text}
+use Rattle.bd_extjson_wrapper.specs.Wrapper.{wrapper_of, only, pair, id_of, data_in, subtype_in, word_in, if_word, name_in}
 use Rattle.bd_extjson.specs.Read.{add_item, add_field, with_scope, wrap, wrap_items, wrap_object, wrap_fields, json as json_in, document, ReadsAs}
 use Rattle.bd_extjson.specs.Laws.{IsPlainFirst, IsPlain, ArePlainItems, ArePlainFields}
 use Rattle.bd_extjson.proofs.TextLemmas.{utf8-text}

@@ -19,11 +19,11 @@ use Rattle.bd_value.specs.Fits.{has_zero}
 use Rattle.bd_value.proofs.ViewLemmas.{tree_of-Doc, tree_of-Array}
 use Rattle.bd_value.specs.declared.document.Value.TheFolds as folds
 use Rattle.bd_value.specs.declared.document.Value.TheVariants as values
-use Rattle.bd_wrapper.specs.WholeNumber.{whole_64}
-use Rattle.bd_wrapper.specs.Wrapper.{wrapper_of, through, after_key, Fails, Gives}
-use Rattle.bd_wrapper.specs.declared.wrapper.Trouble.{Trouble}
-use Rattle.bd_wrapper.specs.declared.wrapper.Trouble.TheVariants as troubles
-use Rattle.bd_wrapper.specs.declared.wrapper.Wrapper.{Wrapper}
+use Rattle.bd_extjson_wrapper.specs.WholeNumber.{whole_64}
+use Rattle.bd_extjson_wrapper.specs.Wrapper.{wrapper_of, through, after_key, Fails, Gives}
+use Rattle.bd_extjson_wrapper.specs.declared.wrapper.Trouble.{Trouble}
+use Rattle.bd_extjson_wrapper.specs.declared.wrapper.Trouble.TheVariants as troubles
+use Rattle.bd_extjson_wrapper.specs.declared.wrapper.Wrapper.{Wrapper}
 use Rattle.bd_extjson.specs.Read.{bare_number, nested, add_item, add_field, wrap, wrap_items, wrap_object, wrap_fields, json, document, reading}
 
 pub nested_is : {A : Type 0} (room : ℕ) (r : Option A) → 0 < room → nested room r ≡ r

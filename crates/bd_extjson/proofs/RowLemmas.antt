@@ -5,8 +5,8 @@ use Rattle.std.specs.Str.{is_utf8, chars}
 use Rattle.json.proofs.OnLiterals.{json_on_literals}
 use Rattle.hex.specs.Hex.{decode_pairs}
 use Rattle.bd_value.specs.Tree.{leaf, array, code_scope, boolean, int32, int64, timestamp, item, no_items, field, no_fields}
-use Rattle.bd_wrapper.specs.WholeNumber.{whole}
-use Rattle.bd_wrapper.specs.Wrapper.{wrapper_of, only, pair}
+use Rattle.bd_extjson_wrapper.specs.WholeNumber.{whole}
+use Rattle.bd_extjson_wrapper.specs.Wrapper.{wrapper_of, only, pair}
 use Rattle.bd_extjson.specs.Read.{reading}
 
 bare : reading (codes "{\"a\":[-0,2147483648]}") ≡ Some ((97 ∷ [], array (item (leaf (int32 (pos 0))) (item (leaf (int64 (pos 2147483648))) no_items))) ∷ [])

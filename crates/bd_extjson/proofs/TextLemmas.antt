@@ -23,8 +23,8 @@ use Rattle.bd_value.specs.Fits.{ScalarFits, Fits, FitsTypes, ItemsFit, FieldsFit
 use Rattle.bd_value.specs.Tree.{Scalar, min_key, undefined, null, int32, int64, text as plain_text, symbol, binary, object_id, boolean, date, timestamp, regex, db_pointer, code, max_key}
 use Rattle.bd_value.specs.Tree.{Tree, leaf, doc, array, code_scope, Items, no_items, item, Fields, no_fields, field}
 use Rattle.bd_value.proofs.FitsLemmas.{fits_with}
-use Rattle.bd_text.specs.Text.{escape_byte, escaped, quoted, object, member, wrapper_text, base64_text, hex_text, scalar_text, text, items_text, fields_text, needs_escape}
-use Rattle.bd_text.proofs.JsonStringLemmas.{fits_32, fits_64, escaped-digits, escape_byte-plain}
+use Rattle.bd_extjson_text.specs.Text.{escape_byte, escaped, quoted, object, member, wrapper_text, base64_text, hex_text, scalar_text, text, items_text, fields_text, needs_escape}
+use Rattle.bd_extjson_text.proofs.JsonStringLemmas.{fits_32, fits_64, escaped-digits, escape_byte-plain}
 use Rattle.bd_extjson.proofs.TreeJsonLemmas.{quoted-kit}
 
 -- ---- the symbols of numbers and of bytes are ASCII

@@ -18,8 +18,8 @@ use Rattle.json.proofs.Printed.Trees.{value-json_tokens, ArePrintable-json_token
 use Rattle.bd_value.specs.Tree.{depth, fields_depth, items_depth, Scalar, min_key, undefined, null, int32, int64, text as plain_text, symbol, binary, object_id, boolean}
 use Rattle.bd_value.specs.Tree.{date, timestamp, regex, db_pointer, code, max_key, Tree, leaf, doc, array, code_scope, Items, no_items, item, Fields, no_fields, field}
 use Rattle.bd_value.specs.Fits.{ScalarFits, FitsTypes, ItemsFit, FieldsFit, IsAny}
-use Rattle.bd_text.specs.Text.{escape_byte, escaped, object, member, listed, quoted, base64_text, hex_text, scalar_text, text, items_text, fields_text}
-use Rattle.bd_text.proofs.TextLemmas.{before, to_come, to_come-all}
+use Rattle.bd_extjson_text.specs.Text.{escape_byte, escaped, object, member, listed, quoted, base64_text, hex_text, scalar_text, text, items_text, fields_text}
+use Rattle.bd_extjson_text.proofs.TextLemmas.{before, to_come, to_come-all}
 
 abbrev pub wrapped : List ℕ → Json → Json
 wrapped name x = kit.object (kit.member name x kit.no_members)

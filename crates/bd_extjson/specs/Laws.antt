@@ -3,7 +3,7 @@
 -- so a document that has that name first can look like one.
 use Rattle.std.specs.Prelude.{◌≡◌, None}
 use Rattle.bd_value.specs.Tree.{Tree, leaf, doc, array, code_scope, Items, no_items, item, Fields, no_fields, field}
-use Rattle.bd_wrapper.specs.Wrapper.{wrapper_of}
+use Rattle.bd_extjson_wrapper.specs.Wrapper.{wrapper_of}
 
 abbrev pub IsPlainFirst : Fields → Type 0
 IsPlainFirst no_fields = Unit {0}

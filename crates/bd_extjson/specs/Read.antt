@@ -9,9 +9,9 @@ use Rattle.bd_value.specs.{Limits.most_brackets, Limits.most_levels, Fits.has_ze
 use Rattle.bd_value.specs.Tree as trees
 use Rattle.bd_value.specs.Tree.{Tree, leaf, doc, array, code_scope, Items, no_items, item, Fields, no_fields, field}
 use Rattle.bd_value.specs.Tree.{Doc, pairs_of}
-use Rattle.bd_wrapper.specs.{WholeNumber.fits_bits, WholeNumber.whole_64, Wrapper.wrapper_of, Wrapper.single}
-use Rattle.bd_wrapper.specs.{declared.wrapper.Wrapper.Wrapper}
-use Rattle.bd_wrapper.specs.declared.wrapper.Wrapper.TheVariants as kinds
+use Rattle.bd_extjson_wrapper.specs.{WholeNumber.fits_bits, WholeNumber.whole_64, Wrapper.wrapper_of, Wrapper.single}
+use Rattle.bd_extjson_wrapper.specs.{declared.wrapper.Wrapper.Wrapper}
+use Rattle.bd_extjson_wrapper.specs.declared.wrapper.Wrapper.TheVariants as kinds
 
 -- a bare whole number is an Int32 where it fits, else an Int64
 abbrev pub bare_number : Option ℤ → Option Tree

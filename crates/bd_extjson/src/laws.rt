@@ -6,7 +6,7 @@ ghost use Rattle.bd_value.specs.Fits.{Fits, FitsTypes, zero_in};
 ghost use Rattle.bd_value.specs.View.{pairs};
 ghost use Rattle.bd_extjson.specs.Laws.{IsPlain};
 ghost use Rattle.bd_extjson.specs.Read.{ReadsAs};
-ghost use Rattle.bd_text.specs.Text.{text};
+ghost use Rattle.bd_extjson_text.specs.Text.{text};
 
 use bd_value::{Document, document_fits};
 

@@ -14,17 +14,17 @@
 //! - `read`: `read_doc`, one pass over the tokens of a text.
 //! - `laws`: what joins the two.
 //!
-//! The text of a value is written by `bd_text`, whose calls stand here too.
+//! The text of a value is written by `bd_extjson_text`, whose calls stand here too.
 #![tactic(auto)]
 
 mod laws;
 mod read;
 
-pub use bd_diagnose::{JsonFault, JsonFaultKind};
-pub use bd_text::{
+pub use bd_extjson_fault::{JsonFault, JsonFaultKind};
+pub use bd_extjson_text::{
     LineRoom, write_doc, write_node, write_number, write_path, write_string, write_value,
 };
-pub use bd_wrapper::{Trouble, Wrapper};
+pub use bd_extjson_wrapper::{Trouble, Wrapper};
 pub use json::Scratch;
 pub use laws::{
     document_reads_back, reads_back, reads_what_fits, text_determines_document, texts_are_lines,

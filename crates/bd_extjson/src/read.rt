@@ -7,17 +7,17 @@ ghost use Rattle.json.specs.Value.{value_view};
 ghost use Rattle.bd_value.specs.Limits.{most_levels};
 ghost use Rattle.bd_value.specs.Tree.{Doc, Tree, pairs_of, fields_of, items_of};
 ghost use Rattle.bd_value.specs.View.{tree_of, pairs};
-ghost use Rattle.bd_diagnose.specs.JsonFault.{IsPlaced, TellsBadUtf8};
-ghost use Rattle.bd_diagnose.specs.declared.json_fault.JsonFaultKind.TheVariants as faults;
-ghost use Rattle.bd_wrapper.specs.WholeNumber.{whole_64};
-ghost use Rattle.bd_wrapper.specs.Wrapper.{wrapper_of, through, after_key, Fails, Gives};
-ghost use Rattle.bd_wrapper.specs.declared.wrapper.Trouble.TheVariants as troubles;
-ghost use Rattle.bd_wrapper.specs.declared.wrapper.Wrapper.TheVariants as kinds;
+ghost use Rattle.bd_extjson_fault.specs.JsonFault.{IsPlaced, TellsBadUtf8};
+ghost use Rattle.bd_extjson_fault.specs.declared.json_fault.JsonFaultKind.TheVariants as faults;
+ghost use Rattle.bd_extjson_wrapper.specs.WholeNumber.{whole_64};
+ghost use Rattle.bd_extjson_wrapper.specs.Wrapper.{wrapper_of, through, after_key, Fails, Gives};
+ghost use Rattle.bd_extjson_wrapper.specs.declared.wrapper.Trouble.TheVariants as troubles;
+ghost use Rattle.bd_extjson_wrapper.specs.declared.wrapper.Wrapper.TheVariants as kinds;
 ghost use Rattle.bd_extjson.specs.Read.{ReadsAs, json, reading, document, bare_number, with_scope, wrap, wrap_items, wrap_object, wrapped, wrap_fields};
 
-use bd_diagnose::{JsonFault, JsonFaultKind, diagnose};
+use bd_extjson_fault::{JsonFault, JsonFaultKind, diagnose};
+use bd_extjson_wrapper::{Trouble, Wrapper, names_code, names_scope, unwrap_single, whole};
 use bd_value::{Document, MOST_BRACKETS, MOST_LEVELS, Value, has_zero};
-use bd_wrapper::{Trouble, Wrapper, names_code, names_scope, unwrap_single, whole};
 use json::{Reader, Scratch, Token};
 use std::alloc::Global;
 

@@ -1,5 +1,5 @@
 //! What is told of texts, where the program does not show it.
-use bd_diagnose::{JsonFaultKind, diagnose};
+use bd_extjson_fault::{JsonFaultKind, diagnose};
 use bd_value::{MOST_BRACKETS, MOST_LEVELS};
 use std::test::Fail;
 

@@ -1,10 +1,10 @@
-//! The examples of use in the roots of `bd_diagnose`, `bd_extjson`, `bd_pack`, `bd_text` and `bd_wrapper`.
-use bd_diagnose::{JsonFaultKind, diagnose};
-use bd_extjson::{read_doc, write_doc};
-use bd_pack::Packer;
-use bd_text::write_value;
+//! The examples of use in the roots of `bd_extjson_fault`, `bd_extjson`, `bd_extjson_pack`, `bd_extjson_text` and `bd_extjson_wrapper`.
+use bd_extjson::read_doc;
+use bd_extjson_fault::{JsonFaultKind, diagnose};
+use bd_extjson_pack::Packer;
+use bd_extjson_text::{write_doc, write_value};
+use bd_extjson_wrapper::{Wrapper, whole};
 use bd_value::Value;
-use bd_wrapper::{Wrapper, whole};
 use std::test::Fail;
 
 #[test]

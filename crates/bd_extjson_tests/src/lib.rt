@@ -1,4 +1,4 @@
-//! Tests of the crates of texts, `bd_text`, `bd_wrapper`, `bd_diagnose`, `bd_extjson` and `bd_pack`, over their public calls: those that
+//! Tests of the crates of texts, `bd_extjson_text`, `bd_extjson_wrapper`, `bd_extjson_fault`, `bd_extjson` and `bd_extjson_pack`, over their public calls: those that
 //! no row of `tests/rows` shows.
 #![tactic(auto)]
 

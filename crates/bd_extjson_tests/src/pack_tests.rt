@@ -1,6 +1,6 @@
 //! Lines that one packer packs in turn.
-use bd_diagnose::{JsonFault, JsonFaultKind};
-use bd_pack::{LineFault, Packer};
+use bd_extjson_fault::{JsonFault, JsonFaultKind};
+use bd_extjson_pack::{LineFault, Packer};
 use std::test::Fail;
 
 /// A line is packed after what is there, and one that is refused leaves that as it was.

@@ -1,7 +1,7 @@
 //! Texts that are written after what is there, room that is used again, and laws.
-use bd_extjson::{
-    LineRoom, read_doc_with, reads_back, text_determines_document, write_doc, write_node,
-    write_number, write_path, write_string, write_value,
+use bd_extjson::{read_doc_with, reads_back, text_determines_document};
+use bd_extjson_text::{
+    LineRoom, write_doc, write_node, write_number, write_path, write_string, write_value,
 };
 use bd_value::{Tree, Value};
 use json::Scratch;

@@ -1,9 +1,9 @@
 //! The calls that reading is made of, once each.
 use bd_extjson::{bare_number, read_wrapper, wrapper_named};
-use bd_value::{MOST_BRACKETS, MOST_LEVELS, Value};
-use bd_wrapper::{
+use bd_extjson_wrapper::{
     Wrapper, is_whole_number, names_code, names_scope, number_of, only, pair, unwrap_single, whole,
 };
+use bd_value::{MOST_BRACKETS, MOST_LEVELS, Value};
 use json::{Reader, Scratch, Value as Json};
 
 #[test]

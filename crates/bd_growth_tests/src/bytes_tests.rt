@@ -1,13 +1,13 @@
 //! Documents in memory and in bytes, and devices that are read whole, and document by document.
 use crate::answers::{RowFault, is_whole};
 use crate::samples::{FIVE, MIXED, ONE, SEVERAL_KEYS, TWICE, dump_of};
-use bd_check::{FaultKind, read_document};
-use bd_device::{Limits, MemoryInput, ReadFault, read_all};
-use bd_diagnose::JsonFaultKind;
+use bd_bson_check::{FaultKind, read_document};
+use bd_bson_stream::{DocFault, DocReader};
+use bd_bson_write::write_document;
 use bd_extjson::read_doc;
-use bd_stream::{DocFault, DocReader};
+use bd_extjson_fault::JsonFaultKind;
+use bd_io_device::{Limits, MemoryInput, ReadFault, read_all};
 use bd_value::{Document, Value};
-use bd_write::write_document;
 use std::alloc::Global;
 
 /// Whether a document is {"a":1}.

@@ -1,10 +1,11 @@
 //! Paths, the keys that they reach, filters, and their bounds.
 use crate::answers::{RowFault, is_whole};
 use crate::samples::read_filter;
-use bd_bounds::Bounds;
 use bd_extjson::read_doc;
+use bd_index_bounds::Bounds;
 use bd_path::{Dir, Key, Path, key_nodes, keys, sort_key};
-use bd_query::{Filter, FilterFaultKind, matches, parse};
+use bd_query::matches;
+use bd_query_filter::{Filter, FilterFaultKind, parse};
 use bd_value::{Reading, Tree, Value, compare_nodes, try_copy};
 use std::alloc::Global;
 use std::cmp::Ordering;

@@ -1,8 +1,8 @@
 //! Documents in bytes, and what is read of them.
 use crate::answers::RowFault;
-use bd_bson::{Dump, read_dump};
+use bd_bson_dump::{Dump, read_dump};
 use bd_extjson::read_doc;
-use bd_query::{Filter, parse};
+use bd_query_filter::{Filter, parse};
 use std::alloc::Global;
 
 /// {"a":1}

@@ -1,8 +1,8 @@
 //! Replies of a service. The tokens were made by another program.
 use crate::answers::{RowFault, is_whole};
 use crate::samples::{MIXED, SEVERAL_KEYS, dump_of};
-use bd_lines::Replier;
-use bd_service::Service;
+use bd_cli_service::Service;
+use bd_io_lines::Replier;
 use std::alloc::Global;
 
 /// Lines over `SEVERAL_KEYS`, and the reply to each.

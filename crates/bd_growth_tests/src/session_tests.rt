@@ -2,10 +2,11 @@
 use crate::answers::{RowFault, is_whole};
 use crate::samples::{FIVE, MIXED, SEVERAL_KEYS, dump_of};
 use crate::service_tests::{RESUMED, TALK};
-use bd_cursor::{Choice, Request, Session, Token};
+use bd_cli_service::{Reply, write_reply};
+use bd_cursor::{Choice, Session};
+use bd_cursor_request::{Request, Token};
 use bd_extjson::read_doc;
 use bd_path::Path;
-use bd_service::{Reply, write_reply};
 use std::alloc::Global;
 
 /// A filter, a sort, a skip and a limit.

@@ -1,12 +1,12 @@
 //! Texts and bytes that are appended: after a refusal the vector holds what it held, and the call is made again.
 use crate::answers::{RowFault, is_whole};
 use crate::samples::{ONE, TWICE, dump_of};
-use bd_bson::Dump;
-use bd_check::read_document;
-use bd_cursor::{Batch, Token};
-use bd_extjson::{LineRoom, write_doc, write_node, write_value};
-use bd_pack::Packer;
-use bd_service::{Reply, write_reply};
+use bd_bson_check::read_document;
+use bd_bson_dump::Dump;
+use bd_cli_service::{Reply, write_reply};
+use bd_cursor_request::{Batch, Token};
+use bd_extjson_pack::Packer;
+use bd_extjson_text::{LineRoom, write_doc, write_node, write_value};
 use bd_value::{Document, NoMemory, Value};
 use std::alloc::Global;
 

@@ -10,8 +10,8 @@ use Rattle.std.specs.Ordering.{is_lt, is_eq, nat_cmp, ordering_then, ordering_re
 use Rattle.std.proofs.lemmas.Cmp.{and_equiv, eq_by_cmp_equiv, nat_cmp_total, nat_eq_equiv, on_equiv, on_total, then_total}
 use Rattle.bd_value.specs.{Order.cmp, Tree.Tree, Tree.Doc, Tree.doc, Tree.fields_of}
 use Rattle.bd_value.proofs.{OrderLemmas.cmp_total, ViewLemmas.next_at}
-use Rattle.bd_raw.specs.{Sound.StandsAt, Sound.stands, declared.views.At.At}
-use Rattle.bd_bson.specs.{Collection.bytes_of, Collection.documents, declared.collection.Dump.Dump}
+use Rattle.bd_bson_view.specs.{Sound.StandsAt, Sound.stands, declared.views.At.At}
+use Rattle.bd_bson_dump.specs.{Collection.bytes_of, Collection.documents, declared.collection.Dump.Dump}
 use Rattle.bd_path.specs.{Key.distinct, Key.indexed_keys, Key.keys, Reach.Names}
 use Rattle.bd_path.proofs.SortLemmas.{has_a_key}
 use Rattle.bd_index.specs.Entries.{KeyAt, entries_from, entries_of, entry_cmp, is_multikey, is_same_entry, keys_at}

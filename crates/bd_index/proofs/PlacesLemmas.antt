@@ -8,12 +8,12 @@ use Rattle.std.proofs.{lemmas.Bool.false_from_ne_true, lemmas.Bool.Decides.nat_t
 use Rattle.std.proofs.{lemmas.List.Folds.drop_split, lemmas.List.Folds.list_any-append, lemmas.List.Sums.length-filter}
 use Rattle.std.proofs.lemmas.List.{at_drop_more, drop_all, drop-map, get_or_default, get_or-drop, get_or-take, length-drop, length-map, length-take, map-append, take_all, take-map}
 use Rattle.bd_value.specs.Tree.{Tree}
-use Rattle.bd_bson.specs.{Collection.bytes_of, Collection.documents, declared.collection.Dump.Dump}
+use Rattle.bd_bson_dump.specs.{Collection.bytes_of, Collection.documents, declared.collection.Dump.Dump}
 use Rattle.bd_path.specs.PathNames.{names_of}
-use Rattle.bd_bounds.specs.{Bounds.KeyBounds, Bounds.KeySet, Bounds.intersection, Bounds.is_among, Bounds.union, BoundsView.keys_between, BoundsView.keys_within}
-use Rattle.bd_bounds.specs.{BoundsView.is_before, declared.bounds.Bounds.Bounds, declared.bounds.Bounds.TheVariants.Range, declared.bounds.Cut.Cut}
-use Rattle.bd_bounds.specs.declared.bounds.Bounds.TheFolds as folds
-use Rattle.bd_bounds.proofs.{FilterBoundsLemmas.falls_once, FilterBoundsLemmas.one_off}
+use Rattle.bd_index_bounds.specs.{Bounds.KeyBounds, Bounds.KeySet, Bounds.intersection, Bounds.is_among, Bounds.union, BoundsView.keys_between, BoundsView.keys_within}
+use Rattle.bd_index_bounds.specs.{BoundsView.is_before, declared.bounds.Bounds.Bounds, declared.bounds.Bounds.TheVariants.Range, declared.bounds.Cut.Cut}
+use Rattle.bd_index_bounds.specs.declared.bounds.Bounds.TheFolds as folds
+use Rattle.bd_index_bounds.proofs.{FilterBoundsLemmas.falls_once, FilterBoundsLemmas.one_off}
 use Rattle.bd_index.specs.Entries.{KeyAt, entries_of, entry_cmp}
 use Rattle.bd_index.specs.{IndexView.IsIndexOf, IndexView.KeepsEntries, declared.entry.Entry.Entry, declared.index.Index.Index, declared.places.Span.Span}
 use Rattle.bd_index.specs.Places.{AreInOrder, CoverKeys, has_key_in, is_covered, is_in_span, pieces}

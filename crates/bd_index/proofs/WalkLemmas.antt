@@ -14,7 +14,7 @@ use Rattle.std.proofs.lemmas.List.Folds.{Any-from_list_any, list_any-append, lis
 use Rattle.std.proofs.lemmas.List.Kept.{AllPairs-cons, AllPairs-filter}
 use Rattle.bd_value.specs.{Order.cmp, Order.equal, Tree.Tree, Tree.Doc, Tree.doc, Tree.fields_of, Tree.leaf, Tree.null}
 use Rattle.bd_value.proofs.OrderLemmas.{cmp_total}
-use Rattle.bd_bson.specs.{Collection.bytes_of, Collection.document_at, declared.collection.Dump.Dump}
+use Rattle.bd_bson_dump.specs.{Collection.bytes_of, Collection.document_at, declared.collection.Dump.Dump}
 use Rattle.bd_path.specs.{Key.keys, Reach.Names, declared.sort.Dir.Dir, declared.sort.Dir.TheVariants.Down, declared.sort.Dir.TheVariants.Up}
 use Rattle.bd_path.specs.Sort.{dir_cmp, earlier_key, earliest_key, sort_key}
 use Rattle.bd_path.proofs.SortLemmas.{dir_total, equal_is, equal_itself, has_a_key}

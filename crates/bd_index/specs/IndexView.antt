@@ -5,9 +5,9 @@ use Rattle.std.specs.Prelude.{◌≡◌, ℕ, List, [], ◌∷◌, Bool}
 use Rattle.std.specs.{Coded.Coded-set, Coded.coded_ℕ, List.All, List.AllZip}
 use mathlib.Core.HLevel.{is_prop→PathP}
 use Rattle.bd_value.specs.Tree.{Tree}
-use Rattle.bd_raw.specs.{Sound.StandsAt, Sound.StandsAt-prop, Sound.one_stands, Sound.stands}
-use Rattle.bd_raw.specs.{declared.raw.RawValue.RawValue}
-use Rattle.bd_bson.specs.{Collection.bytes_of, Collection.documents, declared.collection.Dump.Dump}
+use Rattle.bd_bson_view.specs.{Sound.StandsAt, Sound.StandsAt-prop, Sound.one_stands, Sound.stands}
+use Rattle.bd_bson_view.specs.{declared.raw.RawValue.RawValue}
+use Rattle.bd_bson_dump.specs.{Collection.bytes_of, Collection.documents, declared.collection.Dump.Dump}
 use Rattle.bd_path.specs.{PathNames.names_of, Reach.Names}
 use Rattle.bd_index.specs.Entries.{AreEntries, KeyAt, is_multikey}
 use Rattle.bd_index.specs.{declared.entry.Entry.Entry, declared.entry.FoundKey.FoundKey, declared.index.Index.Index}

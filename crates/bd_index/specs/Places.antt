@@ -4,8 +4,8 @@ use Rattle.std.specs.Prelude.{slice_index_or, slice_range, Option, option_map}
 use Rattle.std.specs.{Borrow.Bor, List.list_any, List.Sorted.IsStrictlyIncreasing}
 use Rattle.bd_value.specs.Tree.{Doc}
 use Rattle.bd_path.specs.Reach.{Names}
-use Rattle.bd_bounds.specs.Bounds.{KeyBounds, KeySet, is_among}
-use Rattle.bd_bounds.specs.{BoundsView.keys_within, declared.bounds.Bounds.Bounds}
+use Rattle.bd_index_bounds.specs.Bounds.{KeyBounds, KeySet, is_among}
+use Rattle.bd_index_bounds.specs.{BoundsView.keys_within, declared.bounds.Bounds.Bounds}
 use Rattle.bd_index.specs.{Entries.KeyAt, Entries.entries_of, declared.places.Span.Span}
 
 -- bounds in hand; every key is inside where there are none

@@ -6,9 +6,9 @@ use Rattle.std.specs.Prelude.{◌≡◌, ◌==◌, ℕ, Bool, true, List, [], �
 use Rattle.std.specs.Prelude.{slice_range, slice_set, if◌then◌else◌, Contains}
 use Rattle.std.specs.{List.list_any, declared.cmp.Ordering.Ordering}
 use Rattle.bd_value.specs.Tree.{Doc}
-use Rattle.bd_bson.specs.Collection.{document_at}
-use Rattle.bd_answer.specs.{Answer.before, Laws.IsAscending, Source.IsSource}
-use Rattle.bd_answer.proofs.AnswerLemmas.{before_strict}
+use Rattle.bd_bson_dump.specs.Collection.{document_at}
+use Rattle.bd_cursor_model.specs.{Answer.before, Laws.IsAscending, Source.IsSource}
+use Rattle.bd_cursor_model.proofs.AnswerLemmas.{before_strict}
 use Rattle.bd_path.specs.{Reach.Names, Sort.sort_cmp, declared.sort.Dir.Dir}
 use Rattle.bd_path.proofs.SortLemmas.{sort_total}
 use Rattle.bd_index.specs.{Entries.KeyAt, Entries.downward, declared.entry_order.EntryOrder.EntryOrder}

@@ -1,11 +1,11 @@
 //! The entries of an index, as it keeps them and as they were found.
 
 ghost use Rattle.std.specs.Prelude.{◌≡◌};
-ghost use Rattle.bd_raw.specs.Sound.{stands};
-ghost use Rattle.bd_front.specs.Front.{front_of};
+ghost use Rattle.bd_bson_view.specs.Sound.{stands};
+ghost use Rattle.bd_index_prefix.specs.Front.{front_of};
 
-use bd_bson::{At, RawValue};
-use bd_front::Front;
+use bd_bson_view::{At, RawValue};
+use bd_index_prefix::Front;
 
 /// A key of a document, by where it stands in the dump, and the place of the document. A null or an undefined that stands for
 /// what is not there has the offset 0: it takes no byte, so that one stands there in any bytes.

@@ -4,7 +4,7 @@ ghost use Rattle.std.specs.Prelude.{◌≡◌, ◌<◌, ◌≤◌, length};
 ghost use Rattle.bd_index.specs.IndexView.{IsIndexOf, IsIndexOf-prop};
 
 use crate::index::Index;
-use bd_bson::Dump;
+use bd_bson_dump::Dump;
 
 /// The entries of an index that are ahead: upward all of them in turn; downward those of the greatest key first, and of equal
 /// keys in turn.

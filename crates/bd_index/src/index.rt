@@ -3,17 +3,18 @@
 ghost use Rattle.std.specs.Prelude.{◌≡◌, ◌++◌, List, ℕ, Bool, true, false, not, map, length, nat_lt, count_by, IfOk, OnOk};
 ghost use Rattle.std.specs.List.{All, list_any};
 ghost use Rattle.bd_value.specs.Order.{equal};
-ghost use Rattle.bd_raw.specs.Sound.{stands};
-ghost use Rattle.bd_bson.specs.Collection.{bytes_of, documents};
-ghost use Rattle.bd_bson.specs.declared.collection.Dump.{Dump};
+ghost use Rattle.bd_bson_view.specs.Sound.{stands};
+ghost use Rattle.bd_bson_dump.specs.Collection.{bytes_of, documents};
+ghost use Rattle.bd_bson_dump.specs.declared.collection.Dump.{Dump};
 ghost use Rattle.bd_path.specs.Key.{AreKeysOf, IsKeyOf, distinct, key_tree, key_trees};
 ghost use Rattle.bd_path.specs.PathNames.{names_of};
 ghost use Rattle.bd_index.specs.Entries.{KeyAt, entries_of, entry_cmp, is_multikey, is_same_entry, keys_at};
 ghost use Rattle.bd_index.specs.IndexView.{IsFoundIn, IsIndexOf, KeepsDump, KeepsEntries, found_entry, raw_source, raw_tree};
 
 use crate::entry::{Entry, FoundKey};
-use bd_bson::{At, Dump, RawValue};
-use bd_front::{Front, compare_fronts};
+use bd_bson_dump::Dump;
+use bd_bson_view::{At, RawValue};
+use bd_index_prefix::{Front, compare_fronts};
 use bd_path::{Key, Path, all_key_nodes, compare_keys};
 use bd_value::{NoMemory, Reading, compare_nodes};
 use std::alloc::Global;

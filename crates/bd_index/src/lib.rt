@@ -26,7 +26,7 @@ mod index;
 mod places;
 mod walk;
 
-pub use bd_bounds::Bounds;
+pub use bd_index_bounds::Bounds;
 pub use index::Index;
 pub use places::Places;
 pub use walk::Walk;

@@ -3,18 +3,19 @@
 ghost use Rattle.std.specs.Prelude.{◌≡◌, ◌++◌, ◌<◌, ◌≤◌, ◌||◌, ℕ, true, false, not, map, length, slice_index_or, slice_range, IfOk, OnOk};
 ghost use Rattle.std.specs.List.{All};
 ghost use Rattle.std.specs.List.Sorted.{IsPartitionPoint};
-ghost use Rattle.bd_raw.specs.Sound.{stands};
-ghost use Rattle.bd_bson.specs.Collection.{bytes_of, documents};
+ghost use Rattle.bd_bson_view.specs.Sound.{stands};
+ghost use Rattle.bd_bson_dump.specs.Collection.{bytes_of, documents};
 ghost use Rattle.bd_path.specs.PathNames.{names_of};
-ghost use Rattle.bd_bounds.specs.Bounds.{intersection, is_among, union};
-ghost use Rattle.bd_bounds.specs.BoundsView.{keys_between, keys_within, is_before};
+ghost use Rattle.bd_index_bounds.specs.Bounds.{intersection, is_among, union};
+ghost use Rattle.bd_index_bounds.specs.BoundsView.{keys_between, keys_within, is_before};
 ghost use Rattle.bd_index.specs.Entries.{IsRun, KeyAt};
 ghost use Rattle.bd_index.specs.IndexView.{IsIndexOf};
 ghost use Rattle.bd_index.specs.Places.{AreInOrder, AreWithin, CoverKeys, is_covered, is_in_span, lent_bounds, pieces};
 
 use crate::index::Index;
-use bd_bounds::{Bounds, Cut};
-use bd_bson::{Dump, RawValue};
+use bd_bson_dump::Dump;
+use bd_bson_view::RawValue;
+use bd_index_bounds::{Bounds, Cut};
 use bd_value::{NoMemory, compare_nodes};
 use std::alloc::Global;
 

@@ -6,8 +6,8 @@ ghost use Rattle.bd_index.specs.Walk.{places_ahead};
 
 use crate::entry_order::EntryOrder;
 use crate::index::Index;
-use bd_answer::PlaceSource;
-use bd_bson::Dump;
+use bd_bson_dump::Dump;
+use bd_cursor_model::PlaceSource;
 use bd_path::Dir;
 use bd_value::NoMemory;
 use std::alloc::Global;
@@ -61,7 +61,7 @@ impl<'a> PlaceSource for Walk<'a> {
 }
 
 impl Index {
-    ghost use Rattle.bd_bson.specs.Collection.{documents};
+    ghost use Rattle.bd_bson_dump.specs.Collection.{documents};
     ghost use Rattle.bd_path.specs.PathNames.{names_of};
     ghost use Rattle.bd_index.specs.IndexView.{IsIndexOf};
     ghost use Rattle.bd_index.specs.Walk.{WalksAll};

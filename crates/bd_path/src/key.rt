@@ -1,6 +1,6 @@
 //! The keys of a document on a path, as nodes of the document.
 
-ghost use Rattle.std.specs.Prelude.{◌≡◌, ◌≢◌, ◌∷◌, [], List, ℕ, Bool, true, false, map, None, is_some, Contains, IfOk, OnOk};
+ghost use Rattle.std.specs.Prelude.{◌≡◌, ◌∷◌, [], List, ℕ, Bool, true, false, map, IfOk, OnOk};
 ghost use Rattle.std.specs.List.{list_any};
 ghost use Rattle.bd_value.specs.View.{kind_of, tree_of};
 ghost use Rattle.bd_value.specs.Order.{cmp, equal};
@@ -10,7 +10,6 @@ ghost use Rattle.bd_value.specs.declared.node.Kind.TheVariants as kinds;
 ghost use Rattle.bd_path.specs.Key.{AddsKeys, AreKeysAt, AreKeysFrom, AreKeysOf, IsKeyAt, IsKeyOf, distinct, end_keys, gives_new, indexed_keys};
 ghost use Rattle.bd_path.specs.Key.{is_empty_array, is_no_value, key_tree, key_trees, keys, missing_key, sparse_keys as sparse_keys_of, with_key};
 ghost use Rattle.bd_path.specs.PathNames.{names_of};
-ghost use Rattle.bd_path.specs.Reach.{Names, reach};
 ghost use Rattle.bd_path.specs.Walk.{IsStopOf, Stops, TakesOrEnds, stop_tree, stops};
 
 use crate::path::Path;
@@ -239,17 +238,3 @@ pub fn key_value<N: Reading>(alloc: Global, key: Key<N>) -> Result<Value, NoMemo
         Key::Undefined => Ok(Value::Undefined),
     }
 }
-
-/// What always holds of keys, for a proof that calls it: a document has a key on each path, null where the path misses a field or
-/// reaches no value.
-pub fn keys_are_there()
-    ensures some { (t : trees.Tree) (path : Names) → keys t path ≢ [] }
-    ensures missing { (t : trees.Tree) (path : Names) → Contains (reach t path) None → Contains (keys t path) (trees.leaf trees.null) }
-    ensures nothing { (t : trees.Tree) (path : Names) → list_any is_some (reach t path) ≡ false → Contains (keys t path) (trees.leaf trees.null) }
-{}
-
-/// A sparse index leaves out nulls alone: a key that does not equal null is a sparse key.
-pub fn sparse_keys_are_the_rest()
-    ensures { (t : trees.Tree) (path : Names) (k : trees.Tree) → Contains (keys t path) k →
-        equal k (trees.leaf trees.null) ≡ false → Contains (sparse_keys_of t path) k }
-{}

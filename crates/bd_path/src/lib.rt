@@ -19,19 +19,19 @@
 //! - `key`: the keys of a document on a path, as nodes of the document; they are always there: `specs/Key.antt`.
 //! - `sort`: the key of a document in a sort, found with no list of keys, and the order of two documents by several paths, which
 //!   is total: `specs/Sort.antt`.
+//! - `laws`: what always holds of keys and of sorts.
 #![tactic(auto)]
 
 mod component;
 mod key;
+mod laws;
 mod path;
 mod sort;
 mod walk;
 
 pub use component::Component;
-pub use key::{
-    Key, all_key_nodes, compare_keys, key_nodes, key_value, keys, keys_are_there, sparse_keys,
-    sparse_keys_are_the_rest,
-};
+pub use key::{Key, all_key_nodes, compare_keys, key_nodes, key_value, keys, sparse_keys};
+pub use laws::{keys_are_there, sorts_order_all_documents, sparse_keys_are_the_rest};
 pub use path::{Path, PathFault};
-pub use sort::{Dir, compare_in, compare_sort, sort_key, sort_key_node, sorts_order_all_documents};
+pub use sort::{Dir, compare_in, compare_sort, sort_key, sort_key_node};
 pub use walk::{EndTest, Visits, any_end, is_document};

@@ -1,11 +1,10 @@
 //! The key of a document in a sort, found with no list of keys, and the order of two documents by several paths.
 
 ghost use Rattle.std.specs.Prelude.{◌≡◌, ◌⊎◌, ◌∷◌, [], List, ℕ, false, Some, option_map, IfOk};
-ghost use Rattle.std.specs.Cmp.{IsTotalOrder};
 ghost use Rattle.bd_value.specs.View.{tree_of};
 ghost use Rattle.bd_path.specs.Key.{IsKeyAt, IsKeyOf, end_keys, key_tree};
 ghost use Rattle.bd_path.specs.PathNames.{names_of};
-ghost use Rattle.bd_path.specs.Sort.{IsEarliestFrom, SortPath, dir_cmp, earlier_key, earliest_key, gives_earlier, sort_cmp, sort_key, sort_paths};
+ghost use Rattle.bd_path.specs.Sort.{IsEarliestFrom, dir_cmp, earlier_key, earliest_key, gives_earlier, sort_cmp, sort_key, sort_paths};
 ghost use Rattle.bd_path.specs.Walk.{IsStopOf, TakesOrEnds, stop_tree, stops};
 
 use crate::key::{Key, compare_keys, key_value};
@@ -137,8 +136,3 @@ fn earlier<N: Reading>(dir: Dir, first: Option<Key<N>>, second: Key<N>) -> Key<N
         _ => second,
     }
 }
-
-/// A sort is total up to a tie, for any number of paths.
-pub fn sorts_order_all_documents()
-    ensures { (sort : List SortPath) → IsTotalOrder (sort_cmp sort) }
-{}

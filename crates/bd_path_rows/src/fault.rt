@@ -1,8 +1,8 @@
 //! Why a row has no answer.
-use bd_check::Fault;
-use bd_extjson::JsonFault;
+use bd_bson_check::Fault;
+use bd_bson_write::WriteFault;
+use bd_extjson_fault::JsonFault;
 use bd_path::PathFault;
-use bd_write::WriteFault;
 use std::alloc::{AllocError, AllocFailed};
 
 /// Why a row has no answer, in words.

@@ -19,10 +19,11 @@ mod calls;
 mod fault;
 mod order;
 
-use bd_check::check_document;
-use bd_extjson::{read_doc, write_value};
+use bd_bson_check::check_document;
+use bd_bson_write::write_document;
+use bd_extjson::read_doc;
+use bd_extjson_text::write_value;
 use bd_value::{Reading, Tree};
-use bd_write::write_document;
 use calls::call;
 use fault::RowFault;
 use std::alloc::Global;

@@ -3,8 +3,8 @@ use Rattle.std.proofs.Common.{◌≡◌, ◌≤◌, length, arith, Bool, true, f
 use Rattle.std.specs.List.{list_any}
 use Rattle.bd_value.specs.{Tree.elements_in, Tree.Tree}
 use Rattle.bd_path.specs.Reach.{End}
-use Rattle.bd_filter.specs.FilterMatch.{candidates, is_nonempty}
-use Rattle.bd_filter.proofs.MembersLemmas.{any_alike, any_mapped}
+use Rattle.bd_query_filter.specs.FilterMatch.{candidates, is_nonempty}
+use Rattle.bd_query_filter.proofs.MembersLemmas.{any_alike, any_mapped}
 
 -- the candidates of a value are it and its elements
 pub of_value : (f : End → Bool) (t : Tree) → (f (Some t) || list_any (λ x. f (Some x)) (elements_in t)) ≡ list_any f (candidates (Some t))

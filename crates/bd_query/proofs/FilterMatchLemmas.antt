@@ -1,8 +1,8 @@
 -- Whether a document matches a filter, part by part.
 use Rattle.std.proofs.Common.{◌+◌, ℕ, suc, map}
-use Rattle.bd_filter.specs.Filter.{Filter, all_of, some_of, none_of, at_path, Filters, no_filters, filter, Operator, equals, compares, is_in, has_all, has_type, has_size}
-use Rattle.bd_filter.specs.Filter.{exists, negates, has_element, has_document, Operators, no_operators, operator, filters_from, operators_from}
-use Rattle.bd_filter.specs.Filter.{filter_tree, operator_tree}
+use Rattle.bd_query_filter.specs.Filter.{Filter, all_of, some_of, none_of, at_path, Filters, no_filters, filter, Operator, equals, compares, is_in, has_all, has_type, has_size}
+use Rattle.bd_query_filter.specs.Filter.{exists, negates, has_element, has_document, Operators, no_operators, operator, filters_from, operators_from}
+use Rattle.bd_query_filter.specs.Filter.{filter_tree, operator_tree}
 use Rattle.bd_query.specs.declared.filter_match.Body.{Body}
 use Rattle.bd_query.specs.declared.filter_match.Body.TheVariants as bodies
 

@@ -3,8 +3,8 @@ use Rattle.std.specs.Prelude.{Bool, ◌&&◌, map}
 use Rattle.std.specs.List.{list_any}
 use Rattle.bd_value.specs.{Tree.elements_in, Tree.Tree}
 use Rattle.bd_path.specs.Reach.{End, is_document}
-use Rattle.bd_filter.specs.Filter.{filters_from, operators_from, filter_tree, operator_tree}
-use Rattle.bd_filter.specs.FilterMatch.{all_accept, all_match, is_value}
+use Rattle.bd_query_filter.specs.Filter.{filters_from, operators_from, filter_tree, operator_tree}
+use Rattle.bd_query_filter.specs.FilterMatch.{all_accept, all_match, is_value}
 use Rattle.bd_query.specs.declared.filter_match.Body.{Body}
 use Rattle.bd_query.specs.declared.filter_match.Body.TheVariants.{Operators, Filters}
 

@@ -6,12 +6,12 @@ ghost use Rattle.bd_value.specs.Tree.{elements_in};
 ghost use Rattle.bd_value.specs.View.{tree_of};
 ghost use Rattle.bd_path.specs.PathNames.{names_of};
 ghost use Rattle.bd_path.specs.Reach.{reach};
-ghost use Rattle.bd_filter.specs.FilterMatch.{any_candidate, any_equal, candidates, is_nonempty, is_of_size, is_of_type, is_related, is_value, value_or_null};
-ghost use Rattle.bd_filter.specs.Filter.{trees_in};
+ghost use Rattle.bd_query_filter.specs.FilterMatch.{any_candidate, any_equal, candidates, is_nonempty, is_of_size, is_of_type, is_related, is_value, value_or_null};
+ghost use Rattle.bd_query_filter.specs.Filter.{trees_in};
 
 use crate::value_test::{EqualityTest, KindTest, MemberTest, RelationTest, ValueTest, any_element};
-use bd_filter::{Members, Relation};
 use bd_path::{EndTest, Path, any_end};
+use bd_query_filter::{Members, Relation};
 use bd_value::{Kind, Reading, Tree, Value};
 
 /// A candidate passes, where a missing field is a null.

@@ -11,16 +11,16 @@ ghost use Rattle.bd_path.specs.PathNames.{names_of};
 ghost use Rattle.bd_path.specs.Reach.{document_gathering, ends, index_gathering, reach};
 ghost use Rattle.bd_path.specs.Walk.{GathersNone};
 ghost use Rattle.bd_query.specs.FilterMatch.{is_suited, suits};
-ghost use Rattle.bd_filter.specs.Filter.{filters_from, operators_from, filter_tree, operator_tree};
-ghost use Rattle.bd_filter.specs.FilterMatch.{accepts, all_accept, all_hold, all_match, holds, matches, some_match};
+ghost use Rattle.bd_query_filter.specs.Filter.{filters_from, operators_from, filter_tree, operator_tree};
+ghost use Rattle.bd_query_filter.specs.FilterMatch.{accepts, all_accept, all_hold, all_match, holds, matches, some_match};
 
 use crate::end_test::{
     CandidateTest, PresenceTest, SizeTest, any_member, any_of_type, any_related, equals_all,
     has_size,
 };
 use crate::value_test::{EqualityTest, KindTest, MemberTest, ValueTest, equals_each, is_related};
-use bd_filter::{Filter, Operator, Relation};
 use bd_path::{Component, Path, Visits, any_end, is_document};
+use bd_query_filter::{Filter, Operator, Relation};
 use bd_value::{Kind, Reading};
 
 /// Whether a value matches a filter. It takes no memory.

@@ -15,14 +15,14 @@
 //! - `filter_match`: `matches`, whether a value matches a filter.
 //! - `end_test`, `value_test`: what an end of a path and one value are asked.
 //!
-//! Filters themselves are those of `bd_filter`, whose calls stand here too.
+//! Filters themselves are those of `bd_query_filter`, whose calls stand here too.
 #![tactic(auto)]
 
 mod end_test;
 mod filter_match;
 mod value_test;
 
-pub use bd_filter::{
+pub use bd_query_filter::{
     Filter, FilterFault, FilterFaultKind, Members, Operator, bad_documents_alone_are_refused, parse,
 };
 pub use filter_match::matches;

@@ -1,9 +1,9 @@
 //! Bounds of filters, worked by hand.
 use crate::filter_tests::split_filter;
-use bd_bounds::Bounds;
 use bd_extjson::read_doc;
+use bd_index_bounds::Bounds;
 use bd_path::{Path, keys};
-use bd_query::Filter;
+use bd_query_filter::Filter;
 use bd_value::{Tree, Value};
 use std::alloc::Global;
 use std::process::Abort;

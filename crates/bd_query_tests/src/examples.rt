@@ -1,11 +1,12 @@
-//! The examples of use in the roots of `bd_bounds`, `bd_filter`, `bd_front`, `bd_index`, `bd_path` and `bd_query`.
+//! The examples of use in the roots of `bd_index_bounds`, `bd_query_filter`, `bd_index_prefix`, `bd_index`, `bd_path` and `bd_query`.
 use crate::index_samples::{read_documents, read_filter};
-use bd_bounds::Bounds;
 use bd_extjson::read_doc;
-use bd_front::{Front, compare_fronts};
 use bd_index::Index;
+use bd_index_bounds::Bounds;
+use bd_index_prefix::{Front, compare_fronts};
 use bd_path::{Dir, Path, sort_key, sort_key_node};
-use bd_query::{FilterFaultKind, matches, parse};
+use bd_query::matches;
+use bd_query_filter::{FilterFaultKind, parse};
 use bd_value::{Tree, Value};
 use std::cmp::Ordering;
 use std::test::Fail;

@@ -1,7 +1,8 @@
 //! Filters that are made by hand, and filters of texts over documents in memory.
 use bd_extjson::read_doc;
 use bd_path::Path;
-use bd_query::{Filter, FilterFaultKind, Members, Operator, matches, parse};
+use bd_query::matches;
+use bd_query_filter::{Filter, FilterFaultKind, Members, Operator, parse};
 use bd_value::{Tree, Value};
 use std::alloc::Global;
 use std::process::Abort;

@@ -1,8 +1,8 @@
 //! Documents and filters of texts.
-use bd_bson::{Dump, read_dump};
+use bd_bson_dump::{Dump, read_dump};
+use bd_bson_write::write_document;
 use bd_extjson::read_doc;
-use bd_query::{Filter, parse};
-use bd_write::write_document;
+use bd_query_filter::{Filter, parse};
 use std::alloc::Global;
 use std::test::Fail;
 

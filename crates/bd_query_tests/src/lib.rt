@@ -1,4 +1,4 @@
-//! Tests of the crates of questions, `bd_path`, `bd_filter`, `bd_query`, `bd_bounds`, `bd_front` and `bd_index`, over their public calls:
+//! Tests of the crates of questions, `bd_path`, `bd_query_filter`, `bd_query`, `bd_index_bounds`, `bd_index_prefix` and `bd_index`, over their public calls:
 //! what no text is, values in memory, and counted reads. Rows of filters and indexes are in `tests/rows`.
 #![tactic(auto)]
 

@@ -2,9 +2,9 @@
 ghost use Rattle.bd_index.specs.IndexView.{IsIndexOf};
 
 use crate::index_samples::{read_documents, read_filter};
-use bd_bounds::Bounds;
-use bd_bson::Dump;
+use bd_bson_dump::Dump;
 use bd_index::Index;
+use bd_index_bounds::Bounds;
 use bd_path::{Dir, Path};
 use std::alloc::Global;
 use std::test::Fail;

@@ -2,8 +2,8 @@
 use Rattle.std.proofs.Common.{◌≡◌, ℕ, zero, suc, ◌+◌, ◌-◌, ◌≤◌, List, [], ◌∷◌, ◌++◌, length, take, drop, codes, sym, ap, ap₂, ◌∙◌, refl, arith, append_assoc, length-append, length-drop, drop-drop, take_at, drop_at, Bool, true, false, nat_lt, ◌<◌, Some, Result, Ok, Err, OnOk, OnErr, subst, if◌then◌else◌}
 use Rattle.std.specs.Io.{StartsWith}
 use Rattle.std.proofs.lemmas.List.{take-append-le, drop-append-le}
-use Rattle.bd_raw.specs.declared.raw_parts.Holder.TheVariants as holders
-use Rattle.bd_raw.specs.{Spelling.long, Spelling.number, Unique.number_length}
+use Rattle.bd_bson_view.specs.declared.raw_parts.Holder.TheVariants as holders
+use Rattle.bd_bson_view.specs.{Spelling.long, Spelling.number, Unique.number_length}
 use Rattle.bd_wide.specs.Order.{IsNumbered, IsOrdered, numbered}
 use Rattle.bd_wide.specs.Paths.{ends_with_power, path_read}
 use Rattle.bd_wide.specs.declared.paths.OrderPath.{OrderPath}

@@ -1,8 +1,8 @@
 -- Where paths are ignored, what may be written is the same at every path.
 use Rattle.std.proofs.Common.{◌≡◌, inl, inr, ℕ, zero, suc, ◌-◌, List, [], ◌∷◌, ◌++◌, length, take, drop, Option, Some, None, Result, Ok, Err, OnOk, subst, sym, true, false}
-use Rattle.bd_raw.specs.declared.raw_parts.ElementType.{ElementType}
-use Rattle.bd_raw.specs.declared.raw_parts.Holder.{Holder}
-use Rattle.bd_raw.specs.declared.raw_parts.Holder.TheVariants as holders
+use Rattle.bd_bson_view.specs.declared.raw_parts.ElementType.{ElementType}
+use Rattle.bd_bson_view.specs.declared.raw_parts.Holder.{Holder}
+use Rattle.bd_bson_view.specs.declared.raw_parts.Holder.TheVariants as holders
 use Rattle.bd_wide.specs.declared.element.Part.{Part}
 use Rattle.bd_wide.specs.declared.element.Part.TheVariants as parts
 use Rattle.bd_wide.specs.Changes.{IgnoresPaths, ServesAs}

@@ -1,7 +1,7 @@
 -- Runs of elements that stay as they are, whose bytes are written at once.
 use Rattle.std.proofs.Common.{◌≡◌, ◌≤◌, ◌+◌, ap₂, zero, suc, inl, inr, ℕ, ◌-◌, List, [], ◌∷◌, ◌++◌, length, take, drop, Some, None, refl, sym, ap, ◌∙◌, arith, append_assoc, append-nil, length-append, take_at, subst}
 use Rattle.std.proofs.lemmas.List.{take-append-drop}
-use Rattle.bd_raw.specs.declared.raw_parts.ElementType.{ElementType}
+use Rattle.bd_bson_view.specs.declared.raw_parts.ElementType.{ElementType}
 use Rattle.bd_wide.specs.declared.element.Part.TheVariants as parts
 use Rattle.bd_wide.specs.Changes.{Retypes, Stays}
 use Rattle.bd_wide.specs.Rewritten.{Writes, Others, Nested, front, part_of, IsElement}

@@ -3,11 +3,11 @@ use Rattle.std.proofs.Common.{◌≡◌, ℕ, zero, suc, ◌+◌, ◌-◌, ◌<�
 use Rattle.std.proofs.lemmas.{Bool.cases_lt, Bool.Decides.nat_tests, Nat.le_bytes_4, List.get_or-drop, List.get_or-take, List.length-take-le, List.take-take, List.get_or_past}
 use Rattle.std.specs.Int.{w32, from_le_bytes}
 use Rattle.bd_value.specs.declared.node.Kind.TheVariants as kinds
-use Rattle.bd_raw.specs.declared.raw_parts.ElementType.{ElementType}
-use Rattle.bd_raw.specs.declared.raw_parts.ElementType.TheVariants.{Kept, Double, Decimal128}
-use Rattle.bd_raw.specs.declared.raw_parts.Holder.{Holder}
-use Rattle.bd_raw.specs.declared.raw_parts.Holder.TheVariants as holders
-use Rattle.bd_raw.specs.{Spelling.type_at, Spelling.number, Sizes.number_of}
+use Rattle.bd_bson_view.specs.declared.raw_parts.ElementType.{ElementType}
+use Rattle.bd_bson_view.specs.declared.raw_parts.ElementType.TheVariants.{Kept, Double, Decimal128}
+use Rattle.bd_bson_view.specs.declared.raw_parts.Holder.{Holder}
+use Rattle.bd_bson_view.specs.declared.raw_parts.Holder.TheVariants as holders
+use Rattle.bd_bson_view.specs.{Spelling.type_at, Spelling.number, Sizes.number_of}
 use Rattle.bd_wide.specs.Rewritten.{◌>>=◌, Writes, Others, Nested, counted, first_zero, size_at, front, least, holder_least, part_of, path_of, separator, scope_at, IsElement, AreElements, IsBody, IsScoped, IsNested, IsRewritten}
 use Rattle.bd_wide.specs.Refused.{Refused, Refuses, Element, first_of_two, first_refused, refused_body, refused_element, refused_elements, refused_nested, refused_scope}
 use Rattle.bd_wide.proofs.WalkLemmas.{Turn, to_turn, none_only, no_turn, ScopeTurn, to_scope}

@@ -6,14 +6,14 @@ use Rattle.bd_value.specs.declared.node.Kind.TheVariants as kinds
 use Rattle.bd_value.specs.{Limits.longest_document, View.scalar_kind, View.kind_of}
 use Rattle.bd_value.specs.Tree as trees
 use Rattle.bd_value.specs.Tree.{Scalar, Tree, leaf, doc, array, code_scope, Items, no_items, item, Fields, no_fields, field, Doc, fields_of}
-use Rattle.bd_raw.specs.declared.raw_parts.ElementType.{ElementType}
-use Rattle.bd_raw.specs.declared.raw_parts.ElementType.TheVariants.{Kept}
-use Rattle.bd_raw.specs.declared.raw_parts.Holder.TheVariants as holders
-use Rattle.bd_raw.specs.Spelling.{type_byte, number, string, framed, scoped, element, IsName, IsText, IsScalar, IsValue, AreFields, AreItems, IsDocument}
-use Rattle.bd_raw.specs.Sizes.{number_of, size_of}
-use Rattle.bd_raw.specs.Sound.{Sound, extent_is}
-use Rattle.bd_raw.specs.Unique.{type_is, number_length, number_after, string_number, string_length, regex_whole, zero_place, scalar_size}
-use Rattle.bd_raw.proofs.ValueAtLemmas as values
+use Rattle.bd_bson_view.specs.declared.raw_parts.ElementType.{ElementType}
+use Rattle.bd_bson_view.specs.declared.raw_parts.ElementType.TheVariants.{Kept}
+use Rattle.bd_bson_view.specs.declared.raw_parts.Holder.TheVariants as holders
+use Rattle.bd_bson_view.specs.Spelling.{type_byte, number, string, framed, scoped, element, IsName, IsText, IsScalar, IsValue, AreFields, AreItems, IsDocument}
+use Rattle.bd_bson_view.specs.Sizes.{number_of, size_of}
+use Rattle.bd_bson_view.specs.Sound.{Sound, extent_is}
+use Rattle.bd_bson_view.specs.Unique.{type_is, number_length, number_after, string_number, string_length, regex_whole, zero_place, scalar_size}
+use Rattle.bd_bson_view.proofs.ValueAtLemmas as values
 use Rattle.bd_wide.specs.Rewritten.{◌>>=◌, Writes, Others, Nested, fixed, counted, first_zero, two_texts, size_at, front, part_of, path_of, scope_at, IsElement, AreElements, IsBody, IsScoped, IsNested, IsRewritten}
 use Rattle.bd_wide.proofs.WalkLemmas.{Turn, to_turn, none_only, no_turn, ScopeTurn, to_scope}
 use Rattle.bd_wide.proofs.LengthLemmas.{to_whole, WholeTurn}

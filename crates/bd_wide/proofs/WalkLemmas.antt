@@ -2,14 +2,14 @@
 use Rattle.std.proofs.Common.{◌≡◌, ℕ, zero, suc, ◌+◌, ◌-◌, ◌<◌, ◌≤◌, List, [], ◌∷◌, ◌++◌, length, take, drop, Option, Some, None, refl, sym, ap, ap₂, ◌∙◌, arith, append_assoc, length-append, length-drop, append-nil, Result, Ok, Err, OnOk, OnErr, take_at, drop_at, subst, Bool, true, false, ◌==◌}
 use Rattle.std.proofs.lemmas.{Bool.eqb-true, List.nil_from_length, List.length-take-le}
 use Rattle.std.proofs.Math.Seq.{take-append_seam, take-length}
-use Rattle.bd_raw.specs.{Spelling.type_at, Spelling.number, Unique.number_length}
+use Rattle.bd_bson_view.specs.{Spelling.type_at, Spelling.number, Unique.number_length}
 use Rattle.std.specs.Io.{StartsWith}
 use Rattle.bd_value.proofs.FrontLemmas.{front_then, front_all}
-use Rattle.bd_raw.specs.declared.raw_parts.ElementType.{ElementType}
-use Rattle.bd_raw.specs.declared.raw_parts.Holder.{Holder}
-use Rattle.bd_raw.specs.declared.raw_parts.Holder.TheVariants as holders
+use Rattle.bd_bson_view.specs.declared.raw_parts.ElementType.{ElementType}
+use Rattle.bd_bson_view.specs.declared.raw_parts.Holder.{Holder}
+use Rattle.bd_bson_view.specs.declared.raw_parts.Holder.TheVariants as holders
 use Rattle.bd_value.specs.declared.node.Kind.TheVariants as kinds
-use Rattle.bd_raw.specs.declared.raw_parts.ElementType.TheVariants.{Kept}
+use Rattle.bd_bson_view.specs.declared.raw_parts.ElementType.TheVariants.{Kept}
 use Rattle.bd_wide.specs.declared.element.Part.{Part}
 use Rattle.bd_wide.specs.declared.element.Part.TheVariants as parts
 use Rattle.bd_wide.specs.Rewritten.{Writes, Others, Nested, Adds, front, least, holder_least, part_of, name_in, path_of, IsPart, IsElement, AreElements, IsBody, IsScoped, IsNested, scope_at, ◌>>=◌, first_zero, size_at}

@@ -1,6 +1,6 @@
 -- The document that holds the text of a number.
 use Rattle.std.proofs.Common.{◌≡◌, ℕ, ◌+◌, ◌-◌, List, [], ◌∷◌, ◌++◌, length, take, drop, refl, sym, ap, ap₂, ◌∙◌, arith, append_assoc, length-append, take_at, drop_at}
-use Rattle.bd_raw.specs.{Spelling.number, Spelling.string, Spelling.framed, Unique.number_length}
+use Rattle.bd_bson_view.specs.{Spelling.number, Spelling.string, Spelling.framed, Unique.number_length}
 use Rattle.bd_wide.specs.Rewritten.{Adds}
 use Rattle.bd_wide.specs.Wrap.{wrapper}
 use Rattle.bd_wide.proofs.WalkLemmas.{sealed}

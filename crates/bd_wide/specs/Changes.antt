@@ -1,6 +1,6 @@
 -- What a writer of numbers says of itself, so that the walker does less.
 use Rattle.std.specs.Prelude.{◌≡◌, ◌⊎◌, ℕ, List, ◌∷◌, ◌++◌, drop, Some, None}
-use Rattle.bd_raw.specs.declared.raw_parts.ElementType.{ElementType}
+use Rattle.bd_bson_view.specs.declared.raw_parts.ElementType.{ElementType}
 use Rattle.bd_wide.specs.declared.element.Change.{Change}
 use Rattle.bd_wide.specs.declared.element.Change.TheVariants as changes
 use Rattle.bd_wide.specs.declared.element.Part.TheVariants as parts

@@ -1,7 +1,7 @@
 -- The same bytes with types that are read: a double is an int64, a decimal128 an ObjectId whose name has four letters more.
 use Rattle.std.specs.Prelude.{◌≡◌, ℕ, ◌-◌, List, [], ◌∷◌, ◌++◌, length, take, drop, is_some, ◌==◌, ◌&&◌, if◌then◌else◌, codes}
-use Rattle.bd_raw.specs.declared.raw_parts.ElementType.{ElementType}
-use Rattle.bd_raw.specs.declared.raw_parts.ElementType.TheVariants.{Kept, Double, Decimal128}
+use Rattle.bd_bson_view.specs.declared.raw_parts.ElementType.{ElementType}
+use Rattle.bd_bson_view.specs.declared.raw_parts.ElementType.TheVariants.{Kept, Double, Decimal128}
 use Rattle.bd_wide.specs.Rewritten.{Writes, first_zero}
 
 abbrev pub masked_element : ElementType → List ℕ → List ℕ → List ℕ

@@ -1,9 +1,9 @@
 -- The first number of a document that is refused, from left to right, and where it stands.
 use Rattle.std.specs.Prelude.{◌≡◌, ℕ, zero, suc, ◌+◌, ◌-◌, List, [], ◌∷◌, ◌++◌, length, take, drop, Option, Some, None, option_map, true, false, nat_lt, if◌then◌else◌}
 use Rattle.std.specs.Io.{StartsWith}
-use Rattle.bd_raw.specs.declared.raw_parts.ElementType.{ElementType}
-use Rattle.bd_raw.specs.declared.raw_parts.Holder.{Holder}
-use Rattle.bd_raw.specs.declared.raw_parts.Holder.TheVariants as holders
+use Rattle.bd_bson_view.specs.declared.raw_parts.ElementType.{ElementType}
+use Rattle.bd_bson_view.specs.declared.raw_parts.Holder.{Holder}
+use Rattle.bd_bson_view.specs.declared.raw_parts.Holder.TheVariants as holders
 use Rattle.bd_wide.specs.declared.find.Refusal.{Refusal}
 use Rattle.bd_wide.specs.declared.find.Found.{Found}
 use Rattle.bd_wide.specs.declared.element.Part.{Part}

@@ -1,8 +1,8 @@
 -- Doubles and decimal128 as the documents of Extended JSON that hold their texts.
 use Rattle.std.specs.Prelude.{◌≡◌, ◌<◌, ◌≤◌, ◌⊎◌, ℕ, zero, Bool, true, false, List, ◌∷◌, ◌++◌, length, drop, codes, None, Some, IsSome}
 use Rattle.bd_value.specs.Limits.{longest_document}
-use Rattle.bd_raw.specs.declared.raw_parts.ElementType.TheVariants.{Kept, Double, Decimal128}
-use Rattle.bd_raw.specs.{Spelling.framed, Spelling.string, Sizes.long_of}
+use Rattle.bd_bson_view.specs.declared.raw_parts.ElementType.TheVariants.{Kept, Double, Decimal128}
+use Rattle.bd_bson_view.specs.{Spelling.framed, Spelling.string, Sizes.long_of}
 use Rattle.bd_wide_text.specs.{Double.IsDoubleText, Decimal128.decimal128_text}
 use Rattle.bd_wide.specs.{Refused.Refuses, Refused.first_refused, Rewritten.IsRewritten, Rewritten.Writes}
 use Rattle.bd_wide.specs.declared.find.Refusal.TheVariants.{TooDeep}

@@ -2,8 +2,8 @@
 
 ghost use Rattle.std.specs.Prelude.{◌≡◌, ◌≤◌, ◌<◌, ◌+◌, ◌^◌, ◌++◌, List, ℕ, length, Option, OnOk, IfOk, Some};
 ghost use Rattle.std.specs.Io.{StartsWith};
-ghost use Rattle.bd_raw.specs.declared.raw_parts.ElementType as element_type;
-ghost use Rattle.bd_raw.specs.declared.raw_parts.Holder.TheVariants as holders;
+ghost use Rattle.bd_bson_view.specs.declared.raw_parts.ElementType as element_type;
+ghost use Rattle.bd_bson_view.specs.declared.raw_parts.Holder.TheVariants as holders;
 ghost use Rattle.bd_wide.specs.Rewritten.{holder_least, least, part_of, path_of};
 ghost use Rattle.bd_wide.specs.declared.element.Part as parts;
 ghost use Rattle.bd_wide.specs.Refused.{Finds, FindsPlaced, first_refused, refused_at, refused_body, refused_element, refused_elements, refused_part, refused_nested, refused_scope};
@@ -11,7 +11,7 @@ ghost use Rattle.bd_wide.specs.declared.find.Refusal as refusal;
 
 use crate::element::{Part, enter, front, looked_into, separator};
 use crate::walk::scope_at;
-use bd_raw::{ElementType, Holder};
+use bd_bson_view::{ElementType, Holder};
 use bd_value::{MOST_LEVELS, NoMemory};
 
 /// Why a number is refused.

@@ -1,8 +1,8 @@
 //! Laws of what is written of documents. The body of each is empty: its contract is the law.
 
 ghost use Rattle.std.specs.Prelude.{◌≡◌, ◌<◌, [], List, ℕ, None, length, slice_index};
-ghost use Rattle.bd_raw.specs.Sizes.{number_of};
-ghost use Rattle.bd_raw.specs.Spelling.{IsDocument};
+ghost use Rattle.bd_bson_view.specs.Sizes.{number_of};
+ghost use Rattle.bd_bson_view.specs.Spelling.{IsDocument};
 ghost use Rattle.bd_value.specs.Tree.{Doc};
 ghost use Rattle.bd_wide.specs.Mask.{IsMasked, masked_others};
 ghost use Rattle.bd_wide.specs.Order.{IsOrdered};

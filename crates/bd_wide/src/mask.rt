@@ -1,13 +1,13 @@
 //! Bytes of the same length, in which each type is read.
 
 ghost use Rattle.std.specs.Prelude.{◌≡◌, ◌≤◌, ◌++◌, length, OnOk, OnErr};
-ghost use Rattle.bd_raw.specs.declared.raw_parts.ElementType.TheVariants.{Decimal128, Double};
+ghost use Rattle.bd_bson_view.specs.declared.raw_parts.ElementType.TheVariants.{Decimal128, Double};
 ghost use Rattle.std.specs.Io.{StartsWith};
 ghost use Rattle.bd_wide.specs.Mask.{IsMasked, masked_element, masked_others};
 ghost use Rattle.bd_wide.specs.Rewritten.{Adds};
 
 use crate::walk::NumberWriter;
-use bd_raw::{ElementType, raw_parts as raw};
+use bd_bson_view::{ElementType, raw_parts as raw};
 use bd_value::NoMemory;
 
 /// A double becomes an int64 of the same eight bytes, and a decimal128 an ObjectId whose name has four letters more.

@@ -2,7 +2,7 @@
 
 ghost use Rattle.std.specs.Prelude.{◌≡◌, ◌≤◌, ◌+◌, ◌++◌, ◌∷◌, List, ℕ, length, take, drop, IfErr, OnErr, OnOk};
 ghost use Rattle.std.specs.Io.{StartsWith};
-ghost use Rattle.bd_raw.specs.Spelling.{long as long_bytes};
+ghost use Rattle.bd_bson_view.specs.Spelling.{long as long_bytes};
 ghost use Rattle.bd_wide.specs.Rewritten.{Adds, least};
 ghost use Rattle.bd_wide.specs.Order.{IsNumbered, IsOrdered, IsOrderedDocument, IsUnfiltered, IsUnordered, became, code_at, coded as coded_as, int64_element, number_at, numbered, outcome_at, refusal_in, refuses_unordered, whole_at};
 
@@ -10,7 +10,7 @@ use crate::find::{Found, Refusal, Refuser, find_refused};
 use crate::paths::{OrderPath, asked};
 use crate::walk::{NumberWriter, seal, write_rewritten};
 use crate::wrap::long;
-use bd_raw::{ElementType, raw_parts as raw};
+use bd_bson_view::{ElementType, raw_parts as raw};
 use bd_value::{Kind, LONGEST_DOCUMENT, NoMemory};
 use bd_wide_number::{Number, code_of, whole_of};
 
@@ -180,7 +180,7 @@ fn put_int64(head: &[u8], z: i64, out: &mut Vec<u8>) -> Result<(), NoMemory>
 }
 
 /// Appends a number of eight bytes.
-#[tactic(auto, unfolding(bd_raw::specs::Spelling::long))]
+#[tactic(auto, unfolding(bd_bson_view::specs::Spelling::long))]
 fn write_long(n: u64, out: &mut Vec<u8>) -> Result<(), NoMemory>
     ensures ok { OnOk result (out.new.items ≡ out.old.items ++ long_bytes n) }
     ensures kept { OnErr result (out.new.items ≡ out.old.items) }

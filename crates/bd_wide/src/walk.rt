@@ -2,15 +2,15 @@
 
 ghost use Rattle.std.specs.Prelude.{◌≡◌, ◌≤◌, ◌<◌, ◌+◌, ◌-◌, ◌++◌, List, ℕ, length, take, drop, vec_len, OnOk, OnErr, IfSome, IsTrue, Some};
 ghost use Rattle.std.specs.Io.{StartsWith};
-ghost use Rattle.bd_raw.specs.Spelling.{number};
+ghost use Rattle.bd_bson_view.specs.Spelling.{number};
 ghost use Rattle.bd_wide.specs.Changes.{Allows, IgnoresPaths, Leaves, Retypes, ServesAs};
 ghost use Rattle.bd_wide.specs.Rewritten.{least, holder_least, Adds, IsElement, IsPart, AreElements, IsBody, IsScoped, IsNested, IsRewritten, part_of, path_of, separator as separator_of, scope_at as scope_at_of};
 ghost use Rattle.bd_wide.specs.declared.element.Part.TheVariants as parts;
-ghost use Rattle.bd_raw.specs.declared.raw_parts.ElementType as element_type;
-ghost use Rattle.bd_raw.specs.declared.raw_parts.Holder.TheVariants as holders;
+ghost use Rattle.bd_bson_view.specs.declared.raw_parts.ElementType as element_type;
+ghost use Rattle.bd_bson_view.specs.declared.raw_parts.Holder.TheVariants as holders;
 
 use crate::element::{Change, Part, enter, front, looked_into, separator};
-use bd_raw::{ElementType, Holder, raw_parts as raw};
+use bd_bson_view::{ElementType, Holder, raw_parts as raw};
 use bd_value::{MOST_LEVELS, NoMemory};
 
 /// What is written of numbers.
@@ -446,7 +446,7 @@ pub(crate) fn seal(at: usize, out: &mut Vec<u8>)
 }
 
 /// Puts a number into the four bytes at a place.
-#[tactic(auto, unfolding(bd_raw::specs::Spelling::number))]
+#[tactic(auto, unfolding(bd_bson_view::specs::Spelling::number))]
 pub(crate) fn put_number(at: usize, n: u64, out: &mut Vec<u8>)
     requires { at + 4 ≤ vec_len out.old }
     ensures { out.new.items ≡ take at out.old.items ++ (number n ++ drop (at + 4) out.old.items) }
@@ -457,7 +457,7 @@ pub(crate) fn put_number(at: usize, n: u64, out: &mut Vec<u8>)
 }
 
 /// The four lowest bytes of a number, the lowest first.
-#[tactic(auto, unfolding(bd_raw::specs::Spelling::number))]
+#[tactic(auto, unfolding(bd_bson_view::specs::Spelling::number))]
 fn low_bytes(n: u64) -> [u8; 4]
     ensures { result ≡ number n }
 {

@@ -2,15 +2,15 @@
 
 ghost use Rattle.std.specs.Prelude.{◌≡◌, ◌≤◌, ◌++◌, ◌∷◌, [], List, ℕ, length, IfOk, IsSome, IsTrue, None, false, OnErr, OnOk};
 ghost use Rattle.std.specs.Io.{StartsWith};
-ghost use Rattle.bd_raw.specs.Sizes.{long_of};
-ghost use Rattle.bd_raw.specs.Spelling.{string};
+ghost use Rattle.bd_bson_view.specs.Sizes.{long_of};
+ghost use Rattle.bd_bson_view.specs.Spelling.{string};
 ghost use Rattle.bd_wide.specs.Refused.{first_refused};
 ghost use Rattle.bd_wide.specs.Rewritten.{Adds};
 ghost use Rattle.bd_wide.specs.Wrap.{IsElementOf, IsNumberText, IsStringOf, IsWrapped, IsWrappedDocument, IsWrapper, refuses_deepest, wrapper_name};
 
 use crate::find::{Refusal, Refuser, find_refused};
 use crate::walk::{NumberWriter, put_number, seal, write_number, write_rewritten};
-use bd_raw::ElementType;
+use bd_bson_view::ElementType;
 use bd_value::{LONGEST_DOCUMENT, MOST_LEVELS, NoMemory};
 use bd_wide_text::{write_decimal128, write_double};
 

@@ -1,9 +1,9 @@
 -- Lemmas on texts that a device takes one after the other.
 use Rattle.std.proofs.Common.{◌≡◌, ℕ, List, ◌++◌, sym, subst, inl, inr, Result, Ok, Err, OnErr, OnOk, true, false, true≢false}
 use Rattle.std.specs.Result.{is_err}
-use Rattle.bd_device.specs.Devices.{BreaksWithin, Over, TakesText, Writer, between}
+use Rattle.bd_io_device.specs.Devices.{BreaksWithin, Over, TakesText, Writer, between}
 use Rattle.bd_wide_cli.specs.{Output.TellsMessage, declared.output.Status.Status, declared.output.Status.TheVariants.Failed}
-use Rattle.bd_device.proofs.DevicesLemmas.{breaks_first, breaks_second, takes_both}
+use Rattle.bd_io_device.proofs.DevicesLemmas.{breaks_first, breaks_second, takes_both}
 
 -- ---- one text after the other
 

@@ -3,15 +3,15 @@ use Rattle.std.proofs.Common.{◌≡◌, ◌≤◌, ◌<◌, ◌⊎◌, ℕ, ◌
 use Rattle.std.proofs.KnownBytes.{Consumes-nil, Consumes-trans}
 use Rattle.std.specs.Io.KnownBytes.{Consumes}
 use Rattle.std.specs.Int.{w32, from_le_bytes}
-use Rattle.bd_device.specs.Devices.{BreaksWithin, Over, Reader, TakesFront, TakesText, Writer, between}
-use Rattle.bd_raw.specs.Sizes.{number_of}
+use Rattle.bd_io_device.specs.Devices.{BreaksWithin, Over, Reader, TakesFront, TakesText, Writer, between}
+use Rattle.bd_bson_view.specs.Sizes.{number_of}
 use Rattle.bd_wide_cli.specs.declared.filter.Filter.{Filter}
 use Rattle.bd_wide_cli.specs.declared.frame.Next.{Next}
 use Rattle.bd_wide_cli.specs.declared.frame.Next.TheVariants as nexts
 use Rattle.bd_wide_cli.specs.declared.running.Stop.{Stop}
 use Rattle.bd_wide_cli.specs.declared.running.Stop.TheVariants as stops
 use Rattle.bd_wide_cli.specs.Filtered.{AreDocuments, none, more, ArePartlyFiltered, BeginsWithNone, Ends, FiltersAll, FiltersPartly, IsBadLength, IsFrame, IsNext, IsWritten, CopiesRest, PassesOn, StopsCopying, StopsDocument, StopsPassing, WritesDocument, refusal_text}
-use Rattle.bd_device.proofs.DevicesLemmas.{breaks_second, takes_both, takes_none}
+use Rattle.bd_io_device.proofs.DevicesLemmas.{breaks_second, takes_both, takes_none}
 
 pub record Progress (filter : Filter) (file left : Reader) (old new : Writer) (number start kept : ℕ) : Type 0 where
   pub documents : List ℕ

@@ -2,9 +2,9 @@
 use Rattle.std.specs.Prelude.{◌≡◌, ◌<◌, ◌≤◌, ◌⊎◌, ℕ, ◌+◌, Bool, true, false, List, [], ◌++◌, length, codes, decimal, if◌then◌else◌, Option}
 use Rattle.std.specs.Io.KnownBytes.{Consumes, IsAtEnd}
 use Rattle.bd_value.specs.Limits.{longest_document}
-use Rattle.bd_raw.specs.Sizes.{number_of}
-use Rattle.bd_device.specs.Devices.{BreaksWithin, Over, Reader, TakesFront, TakesText, Writer}
-use Rattle.bd_text.specs.Text.{quoted}
+use Rattle.bd_bson_view.specs.Sizes.{number_of}
+use Rattle.bd_io_device.specs.Devices.{BreaksWithin, Over, Reader, TakesFront, TakesText, Writer}
+use Rattle.bd_extjson_text.specs.Text.{quoted}
 use Rattle.bd_wide.specs.{Mask.IsMasked, Mask.masked_others, Order.IsOrderedDocument, Order.IsUnordered, Rewritten.IsRewritten, Wrap.IsWrappedDocument}
 use Rattle.bd_wide.specs.declared.find.{Found.Found, Refusal.Refusal}
 use Rattle.bd_wide.specs.declared.find.Refusal.TheVariants as refusals

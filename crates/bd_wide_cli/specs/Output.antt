@@ -1,8 +1,8 @@
 -- What a run tells on standard error, and its status.
 use Rattle.std.specs.Prelude.{◌≡◌, ◌⊎◌, ℕ, ◌==◌, List, [], ◌∷◌, ◌++◌, codes, decimal, if◌then◌else◌}
-use Rattle.bd_device.specs.Devices.{BreaksWithin, Over, Reader, TakesText, Writer, read_words}
-use Rattle.bd_command_line.specs.declared.order.WordsFault.{WordsFault}
-use Rattle.bd_command_line.specs.declared.order.WordsFault.TheVariants as words
+use Rattle.bd_io_device.specs.Devices.{BreaksWithin, Over, Reader, TakesText, Writer, read_words}
+use Rattle.bd_cli_args.specs.declared.order.WordsFault.{WordsFault}
+use Rattle.bd_cli_args.specs.declared.order.WordsFault.TheVariants as words
 use Rattle.bd_wide_cli.specs.declared.filter.Filter.{Filter}
 use Rattle.bd_wide_cli.specs.declared.output.Status.{Status}
 use Rattle.bd_wide_cli.specs.declared.output.Status.TheVariants.{Done, Failed, Usage}

@@ -6,7 +6,7 @@ ghost use Rattle.std.specs.Int.{w32, from_le_bytes};
 ghost use Rattle.bd_value.specs.Limits.{longest_document};
 ghost use Rattle.bd_wide_cli.specs.Filtered.{IsNext};
 
-use bd_device::{Input, Limits, ReadFault, fill, fill_after};
+use bd_io_device::{Input, Limits, ReadFault, fill, fill_after};
 use bd_value::LONGEST_DOCUMENT;
 
 /// What a buffer holds of a device.

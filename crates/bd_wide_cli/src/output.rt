@@ -1,13 +1,13 @@
 //! What a run tells on standard error, and how it ends. It takes no memory.
 
 ghost use Rattle.std.specs.Prelude.{◌≡◌, ◌++◌, OnErr, OnOk, decimal};
-ghost use Rattle.bd_device.specs.Devices.{BreaksWithin, TakesText, over};
+ghost use Rattle.bd_io_device.specs.Devices.{BreaksWithin, TakesText, over};
 ghost use Rattle.bd_wide_cli.specs.Output.{ReportsFault, TellsMessage, error_line, kept_line, stop_words, usage_text};
 ghost use Rattle.bd_wide_cli.specs.declared.output.Status.TheVariants.{Done, Failed, Usage};
 
 use crate::running::Stop;
-use bd_command_line::WordsFault;
-use bd_device::{DeviceFault, Output, write_all};
+use bd_cli_args::WordsFault;
+use bd_io_device::{DeviceFault, Output, write_all};
 use itoa::Buffer;
 
 /// The exit status of a run.

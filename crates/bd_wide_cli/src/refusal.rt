@@ -2,7 +2,7 @@
 
 ghost use Rattle.std.specs.Prelude.{◌≡◌, ◌<◌, ◌++◌, OnOk, decimal};
 ghost use Rattle.std.specs.Char.{digit_char};
-ghost use Rattle.bd_text.specs.Text.{escape_byte, escaped, quoted};
+ghost use Rattle.bd_extjson_text.specs.Text.{escape_byte, escaped, quoted};
 ghost use Rattle.bd_wide_cli.specs.Filtered.{TellsRefusal, found_text, refusal_text, refusal_words as words_of};
 
 use crate::running::Stop;
@@ -80,7 +80,7 @@ fn refusal_words(why: Refusal) -> &'static [u8]
 }
 
 /// Appends a path as a string of JSON, whether it is UTF-8 or not.
-#[tactic(auto, unfolding(bd_text::specs::Text::quoted))]
+#[tactic(auto, unfolding(bd_extjson_text::specs::Text::quoted))]
 fn write_quoted(path: &[u8], out: &mut Vec<u8>) -> Result<(), NoMemory>
     ensures { OnOk result (out.new.items ≡ out.old.items ++ quoted path.now) }
 {
@@ -92,7 +92,7 @@ fn write_quoted(path: &[u8], out: &mut Vec<u8>) -> Result<(), NoMemory>
 }
 
 /// Appends a byte of a string, or its escape.
-#[tactic(auto, unfolding(bd_text::specs::Text::escape_byte))]
+#[tactic(auto, unfolding(bd_extjson_text::specs::Text::escape_byte))]
 fn write_escaped(b: u8, out: &mut Vec<u8>) -> Result<(), NoMemory>
     ensures { OnOk result (out.new.items ≡ out.old.items ++ escape_byte b) }
 {

@@ -2,7 +2,7 @@
 
 ghost use Rattle.std.specs.Prelude.{◌≡◌, ◌≢◌, ◌≤◌, ◌+◌, length, IfOk, IfErr, OnOk, if◌then◌else◌};
 ghost use Rattle.bd_value.specs.Limits.{longest_input};
-ghost use Rattle.bd_device.specs.Devices.{over};
+ghost use Rattle.bd_io_device.specs.Devices.{over};
 ghost use Rattle.bd_wide_cli.specs.Filtered.{CopiesRest, FiltersAll, FiltersPartly, IsNext, PassesOn, StopsCopying, StopsDocument, StopsPassing, WritesDocument};
 ghost use Rattle.bd_wide_cli.specs.Output.{FiltersInput};
 
@@ -10,7 +10,7 @@ use crate::filter::{Filter, write_filtered};
 use crate::frame::{Next, next_frame};
 use crate::output::{Status, tell_kept, tell_stop};
 use crate::refusal::{Place, refused};
-use bd_device::{Input, Limits, Output, ReadFault, write_all};
+use bd_io_device::{Input, Limits, Output, ReadFault, write_all};
 use bd_value::{LONGEST_INPUT, MOST_READS};
 use bd_wide::Unfiltered;
 use std::alloc::Global;

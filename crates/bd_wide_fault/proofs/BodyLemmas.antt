@@ -4,11 +4,11 @@ use Rattle.std.specs.Int.{w32, from_le_bytes}
 use Rattle.std.proofs.lemmas.{List.length-take-le}
 use Rattle.std.proofs.lemmas.Bool.{le-ltb, eq-eqb}
 use Rattle.bd_value.specs.Limits.{longest_document}
-use Rattle.bd_raw.specs.declared.raw_parts.ElementType.{ElementType}
-use Rattle.bd_check.specs.Fault.{Fault}
-use Rattle.bd_check.specs.FirstFault.{◌>>=◌, fault, past_zero, past_frame, past_elements, Nested}
-use Rattle.bd_check.specs.declared.fault.FaultKind.TheVariants.{BadLength, NoTerminator, ShortLength, ValueShort}
-use Rattle.bd_check.proofs.FirstFaultLemmas.{IsBytes, IsBytes-drop, IsBytes-take}
+use Rattle.bd_bson_view.specs.declared.raw_parts.ElementType.{ElementType}
+use Rattle.bd_bson_check.specs.Fault.{Fault}
+use Rattle.bd_bson_check.specs.FirstFault.{◌>>=◌, fault, past_zero, past_frame, past_elements, Nested}
+use Rattle.bd_bson_check.specs.declared.fault.FaultKind.TheVariants.{BadLength, NoTerminator, ShortLength, ValueShort}
+use Rattle.bd_bson_check.proofs.FirstFaultLemmas.{IsBytes, IsBytes-drop, IsBytes-take}
 use Rattle.bd_wide.specs.Rewritten as written
 use Rattle.bd_wide.specs.Rewritten.{counted, first_zero, size_at, front, holder_least, scope_at, IsElement, AreElements, IsBody, IsScoped}
 use Rattle.bd_wide.specs.Mask.{IsMasked, masked_others}

@@ -4,14 +4,14 @@ use Rattle.std.specs.{Int.w32, Int.from_le_bytes, Result.result_err}
 use Rattle.std.proofs.lemmas.{Bool.Decides.nat_tests, List.length-take-le}
 use Rattle.std.proofs.lemmas.Bool.{eq-eqb}
 use Rattle.bd_value.specs.Limits.{longest_document, most_levels}
-use Rattle.bd_raw.specs.declared.raw_parts.Holder.TheVariants as holders
-use Rattle.bd_raw.specs.{Sizes.number_of, Spelling.number, Unique.number_length, Unique.number_value}
-use Rattle.bd_check.specs.Fault.{Fault}
-use Rattle.bd_check.specs.FirstFault.{◌>>=◌, within, past_string, past_frame, past_elements, past_code_scope, past_nested, past_document, first_fault, Nested}
-use Rattle.bd_check.specs.Dump.{frame_fault, framed_fault}
-use Rattle.bd_check.specs.declared.fault.FaultKind.TheVariants.{ShortLength, TooDeep}
-use Rattle.bd_check.proofs.DumpLemmas.{frame_good}
-use Rattle.bd_check.proofs.FirstFaultLemmas.{IsBytes, IsBytes-drop, IsBytes-take}
+use Rattle.bd_bson_view.specs.declared.raw_parts.Holder.TheVariants as holders
+use Rattle.bd_bson_view.specs.{Sizes.number_of, Spelling.number, Unique.number_length, Unique.number_value}
+use Rattle.bd_bson_check.specs.Fault.{Fault}
+use Rattle.bd_bson_check.specs.FirstFault.{◌>>=◌, within, past_string, past_frame, past_elements, past_code_scope, past_nested, past_document, first_fault, Nested}
+use Rattle.bd_bson_check.specs.Dump.{frame_fault, framed_fault}
+use Rattle.bd_bson_check.specs.declared.fault.FaultKind.TheVariants.{ShortLength, TooDeep}
+use Rattle.bd_bson_check.proofs.DumpLemmas.{frame_good}
+use Rattle.bd_bson_check.proofs.FirstFaultLemmas.{IsBytes, IsBytes-drop, IsBytes-take}
 use Rattle.bd_wide.specs.Rewritten as written
 use Rattle.bd_wide.specs.Rewritten.{counted, holder_least, path_of, scope_at, IsBody, IsScoped, IsNested, IsRewritten}
 use Rattle.bd_wide.specs.Mask.{IsMasked, masked_others}

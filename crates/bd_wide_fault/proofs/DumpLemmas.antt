@@ -2,13 +2,13 @@
 use Rattle.std.proofs.Common.{◌≡◌, ◌⊎◌, inl, inr, ℕ, ◌+◌, List, [], ◌∷◌, ◌++◌, length, Option, Some, None, Err, refl, sym, ap, ◌∙◌, subst, arith, append_assoc, append-nil, length-append, take_at, drop_at, Bool, true, false, nat_lt, ◌||◌}
 use Rattle.std.proofs.lemmas.{Bool.Decides.nat_tests}
 use Rattle.bd_value.specs.{Limits.longest_document, Tree.Doc}
-use Rattle.bd_raw.specs.Sizes.{number_of}
-use Rattle.bd_check.specs.Dump.{AreJoined, IsWalk, frame_fault, frame_length, framed_fault, length_told}
-use Rattle.bd_check.specs.Fault.{Fault}
-use Rattle.bd_check.specs.declared.fault.FaultKind.{FaultKind}
-use Rattle.bd_check.specs.declared.fault.FaultKind.TheVariants.{ShortLength, BadLength}
-use Rattle.bd_check.proofs.DumpLemmas.{found_document, frame_good, joined_append, joined_one, walk_once}
-use Rattle.bd_check.proofs.FirstFaultLemmas.{IsBytes, IsBytes-drop, IsBytes-take}
+use Rattle.bd_bson_view.specs.Sizes.{number_of}
+use Rattle.bd_bson_check.specs.Dump.{AreJoined, IsWalk, frame_fault, frame_length, framed_fault, length_told}
+use Rattle.bd_bson_check.specs.Fault.{Fault}
+use Rattle.bd_bson_check.specs.declared.fault.FaultKind.{FaultKind}
+use Rattle.bd_bson_check.specs.declared.fault.FaultKind.TheVariants.{ShortLength, BadLength}
+use Rattle.bd_bson_check.proofs.DumpLemmas.{found_document, frame_good, joined_append, joined_one, walk_once}
+use Rattle.bd_bson_check.proofs.FirstFaultLemmas.{IsBytes, IsBytes-drop, IsBytes-take}
 use Rattle.bd_wide.specs.Mask.{IsMasked, masked_others}
 use Rattle.bd_wide.specs.Rewritten.{IsRewritten}
 use Rattle.bd_wide_cli.specs.Filtered as filtered

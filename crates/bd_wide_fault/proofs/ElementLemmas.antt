@@ -3,14 +3,14 @@ use Rattle.std.proofs.Common.{◌≡◌, ◌⊎◌, inl, inr, ℕ, suc, ◌-◌,
 use Rattle.std.specs.{List.list_all, Map.lookup, Str.is_utf8}
 use Rattle.bd_value.specs.declared.node.Kind.{Kind}
 use Rattle.bd_value.specs.declared.node.Kind.TheVariants as kinds
-use Rattle.bd_raw.specs.declared.raw_parts.ElementType.{ElementType}
-use Rattle.bd_raw.specs.declared.raw_parts.ElementType.TheVariants.{Kept, Double, Decimal128}
-use Rattle.bd_raw.specs.declared.raw_parts.Holder.{Holder}
-use Rattle.bd_raw.specs.declared.raw_parts.Holder.TheVariants as holders
-use Rattle.bd_raw.specs.{Spelling.holds, Spelling.type_at, Spelling.types}
-use Rattle.bd_check.specs.declared.fault.FaultKind.TheVariants.{NameUnended}
-use Rattle.bd_check.specs.Fault.{Fault}
-use Rattle.bd_check.specs.FirstFault.{◌>>=◌, label, within, text_at, past_value, past_typed, past_element, Nested}
+use Rattle.bd_bson_view.specs.declared.raw_parts.ElementType.{ElementType}
+use Rattle.bd_bson_view.specs.declared.raw_parts.ElementType.TheVariants.{Kept, Double, Decimal128}
+use Rattle.bd_bson_view.specs.declared.raw_parts.Holder.{Holder}
+use Rattle.bd_bson_view.specs.declared.raw_parts.Holder.TheVariants as holders
+use Rattle.bd_bson_view.specs.{Spelling.holds, Spelling.type_at, Spelling.types}
+use Rattle.bd_bson_check.specs.declared.fault.FaultKind.TheVariants.{NameUnended}
+use Rattle.bd_bson_check.specs.Fault.{Fault}
+use Rattle.bd_bson_check.specs.FirstFault.{◌>>=◌, label, within, text_at, past_value, past_typed, past_element, Nested}
 use Rattle.bd_wide.specs.Rewritten.{counted, size_at, holder_least}
 use Rattle.bd_wide_fault.specs.WideFault.{wide_typed, wide_element}
 use Rattle.bd_wide_fault.proofs.PastLemmas.{gives, NoZero, name_is}

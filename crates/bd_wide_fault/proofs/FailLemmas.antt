@@ -5,12 +5,12 @@ use Rattle.std.proofs.lemmas.Bool.{le-ltb}
 use Rattle.bd_value.specs.Limits.{longest_document}
 use Rattle.bd_value.specs.declared.node.Kind.{Kind}
 use Rattle.bd_value.specs.declared.node.Kind.TheVariants as kinds
-use Rattle.bd_raw.specs.declared.raw_parts.ElementType.TheVariants.{Kept}
-use Rattle.bd_raw.specs.{Sizes.number_of, Spelling.holds}
-use Rattle.bd_check.specs.declared.fault.FaultKind.{FaultKind}
-use Rattle.bd_check.specs.declared.fault.FaultKind.TheVariants.{StringUnended, ValueShort}
-use Rattle.bd_check.specs.Fault.{Fault}
-use Rattle.bd_check.specs.FirstFault.{◌>>=◌, fault, past_number, text_at, past_name, past_fixed, past_boolean, past_string, past_regex, past_binary, past_value, past_frame, past_code_frame, Nested}
+use Rattle.bd_bson_view.specs.declared.raw_parts.ElementType.TheVariants.{Kept}
+use Rattle.bd_bson_view.specs.{Sizes.number_of, Spelling.holds}
+use Rattle.bd_bson_check.specs.declared.fault.FaultKind.{FaultKind}
+use Rattle.bd_bson_check.specs.declared.fault.FaultKind.TheVariants.{StringUnended, ValueShort}
+use Rattle.bd_bson_check.specs.Fault.{Fault}
+use Rattle.bd_bson_check.specs.FirstFault.{◌>>=◌, fault, past_number, text_at, past_name, past_fixed, past_boolean, past_string, past_regex, past_binary, past_value, past_frame, past_code_frame, Nested}
 use Rattle.bd_wide.specs.Rewritten as sizes
 use Rattle.bd_wide.specs.Rewritten.{fixed, counted, first_zero, two_texts, size_at}
 use Rattle.bd_wide_fault.proofs.PastLemmas.{gives, Fails, counted_is, number_cut, string_local, named, zero_split, name_is}

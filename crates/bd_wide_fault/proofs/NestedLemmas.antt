@@ -3,12 +3,12 @@ use Rattle.std.proofs.Common.{◌≡◌, ℕ, suc, ◌+◌, ◌-◌, ◌≤◌, 
 use Rattle.std.specs.{Int.w32, Int.from_le_bytes}
 use Rattle.std.proofs.lemmas.{Bool.Decides.nat_tests, List.length-take-le}
 use Rattle.std.proofs.lemmas.Bool.{eqb-true}
-use Rattle.bd_raw.specs.declared.raw_parts.Holder.TheVariants as holders
-use Rattle.bd_raw.specs.{Sizes.number_of, Spelling.number, Unique.number_length, Unique.number_value}
-use Rattle.bd_check.specs.Fault.{Fault}
-use Rattle.bd_check.specs.FirstFault.{◌>>=◌, fault, within, past_string, past_code_frame, past_elements, past_body, past_code_scope, Nested}
-use Rattle.bd_check.specs.declared.fault.FaultKind.TheVariants.{ValueShort, BadScopeLength}
-use Rattle.bd_check.proofs.FirstFaultLemmas.{IsBytes, IsBytes-drop, IsBytes-take}
+use Rattle.bd_bson_view.specs.declared.raw_parts.Holder.TheVariants as holders
+use Rattle.bd_bson_view.specs.{Sizes.number_of, Spelling.number, Unique.number_length, Unique.number_value}
+use Rattle.bd_bson_check.specs.Fault.{Fault}
+use Rattle.bd_bson_check.specs.FirstFault.{◌>>=◌, fault, within, past_string, past_code_frame, past_elements, past_body, past_code_scope, Nested}
+use Rattle.bd_bson_check.specs.declared.fault.FaultKind.TheVariants.{ValueShort, BadScopeLength}
+use Rattle.bd_bson_check.proofs.FirstFaultLemmas.{IsBytes, IsBytes-drop, IsBytes-take}
 use Rattle.bd_wide.specs.Rewritten as written
 use Rattle.bd_wide.specs.Rewritten.{counted, holder_least, path_of, scope_at, AreElements, IsBody, IsScoped, IsNested, IsRewritten}
 use Rattle.bd_wide.specs.Mask.{IsMasked, masked_others}

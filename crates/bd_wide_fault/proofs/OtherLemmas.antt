@@ -2,14 +2,14 @@
 use Rattle.std.proofs.Common.{◌≡◌, ◌≢◌, ◌⊎◌, inl, inr, ℕ, zero, suc, ◌+◌, ◌-◌, List, [], ◌∷◌, length, Option, Some, None, Result, Ok, Err, refl, sym, ap, subst, ◌∙◌, Bool, true, false, ◌==◌, if◌then◌else◌, codes, option_map}
 use Rattle.std.specs.{Option.ok_or, Result.result_err}
 use Rattle.bd_value.specs.Limits.{most_levels}
-use Rattle.bd_raw.specs.declared.raw_parts.ElementType.{ElementType}
-use Rattle.bd_raw.specs.declared.raw_parts.ElementType.TheVariants as types
-use Rattle.bd_raw.specs.declared.raw_parts.Holder.{Holder}
-use Rattle.bd_raw.specs.declared.raw_parts.Holder.TheVariants as holders
-use Rattle.bd_raw.specs.{Sizes.number_of, Spelling.holds, Spelling.type_at}
-use Rattle.bd_check.specs.Fault.{Fault}
-use Rattle.bd_check.specs.declared.fault.FaultKind.TheVariants.{Double, Decimal128, UnknownType, NameUnended}
-use Rattle.bd_check.specs.FirstFault.{◌>>=◌, Nested, label, within, past_body, past_code_frame, past_code_scope, past_document, past_element, past_elements, past_frame, past_name, past_nested, past_string, past_typed, past_value, first_fault}
+use Rattle.bd_bson_view.specs.declared.raw_parts.ElementType.{ElementType}
+use Rattle.bd_bson_view.specs.declared.raw_parts.ElementType.TheVariants as types
+use Rattle.bd_bson_view.specs.declared.raw_parts.Holder.{Holder}
+use Rattle.bd_bson_view.specs.declared.raw_parts.Holder.TheVariants as holders
+use Rattle.bd_bson_view.specs.{Sizes.number_of, Spelling.holds, Spelling.type_at}
+use Rattle.bd_bson_check.specs.Fault.{Fault}
+use Rattle.bd_bson_check.specs.declared.fault.FaultKind.TheVariants.{Double, Decimal128, UnknownType, NameUnended}
+use Rattle.bd_bson_check.specs.FirstFault.{◌>>=◌, Nested, label, within, past_body, past_code_frame, past_code_scope, past_document, past_element, past_elements, past_frame, past_name, past_nested, past_string, past_typed, past_value, first_fault}
 use Rattle.bd_wide_fault.specs.WideFault.{TellsNoNumber, wide_body, wide_code_scope, wide_document, wide_element, wide_elements, wide_fault, wide_nested, wide_typed}
 use Rattle.bd_wide_fault.proofs.ElementLemmas.{holder_kind, holder_value, kind_is, scalar_same}
 

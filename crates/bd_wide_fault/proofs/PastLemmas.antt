@@ -4,11 +4,11 @@ use Rattle.std.specs.{List.AllByRecursion, Int.w32, Int.from_le_bytes}
 use Rattle.std.proofs.lemmas.Bool.{eqb-true, eqb-false, le-ltb}
 use Rattle.std.proofs.lemmas.{Bool.Decides.nat_tests, List.Quantifiers.position-Some, List.length-take-le}
 use Rattle.std.proofs.Math.Seq.{drop-cons}
-use Rattle.bd_raw.specs.{Sizes.number_of, Unique.zero_place}
-use Rattle.bd_check.specs.declared.fault.FaultKind.{FaultKind}
-use Rattle.bd_check.specs.declared.fault.FaultKind.TheVariants.{StringUnended, BadBoolean, ValueShort}
-use Rattle.bd_check.specs.Fault.{Fault}
-use Rattle.bd_check.specs.FirstFault.{◌>>=◌, fault, past_number, past_zero, text_at, past_name, past_fixed, past_boolean, past_string, past_regex}
+use Rattle.bd_bson_view.specs.{Sizes.number_of, Unique.zero_place}
+use Rattle.bd_bson_check.specs.declared.fault.FaultKind.{FaultKind}
+use Rattle.bd_bson_check.specs.declared.fault.FaultKind.TheVariants.{StringUnended, BadBoolean, ValueShort}
+use Rattle.bd_bson_check.specs.Fault.{Fault}
+use Rattle.bd_bson_check.specs.FirstFault.{◌>>=◌, fault, past_number, past_zero, text_at, past_name, past_fixed, past_boolean, past_string, past_regex}
 use Rattle.bd_wide.specs.Rewritten.{fixed, counted, first_zero}
 
 -- what is left after what was gone past, or the fault

@@ -4,11 +4,11 @@ use Rattle.std.specs.{Int.w32, Int.from_le_bytes}
 use Rattle.std.proofs.lemmas.{Bool.Decides.nat_tests, List.length-take-le, List.take-take}
 use Rattle.bd_value.specs.declared.node.Kind.{Kind}
 use Rattle.bd_value.specs.declared.node.Kind.TheVariants as kinds
-use Rattle.bd_raw.specs.declared.raw_parts.ElementType.TheVariants.{Kept}
-use Rattle.bd_raw.specs.{Sizes.number_of, Spelling.holds}
-use Rattle.bd_check.specs.declared.fault.FaultKind.TheVariants.{BadBinaryLength}
-use Rattle.bd_check.specs.Fault.{Fault}
-use Rattle.bd_check.specs.FirstFault.{◌>>=◌, fault, past_fixed, past_string, past_regex, past_data, past_binary, past_value, Nested}
+use Rattle.bd_bson_view.specs.declared.raw_parts.ElementType.TheVariants.{Kept}
+use Rattle.bd_bson_view.specs.{Sizes.number_of, Spelling.holds}
+use Rattle.bd_bson_check.specs.declared.fault.FaultKind.TheVariants.{BadBinaryLength}
+use Rattle.bd_bson_check.specs.Fault.{Fault}
+use Rattle.bd_bson_check.specs.FirstFault.{◌>>=◌, fault, past_fixed, past_string, past_regex, past_data, past_binary, past_value, Nested}
 use Rattle.bd_wide.specs.Rewritten as sizes
 use Rattle.bd_wide.specs.Rewritten.{fixed, counted, first_zero, two_texts, size_at}
 use Rattle.bd_wide_fault.proofs.PastLemmas.{gives, Local, fixed_is, counted_is, number_cut, local_two, fixed_local, boolean_local, string_local, NoZero, zero_split, regex_local}

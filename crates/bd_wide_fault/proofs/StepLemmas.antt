@@ -3,15 +3,15 @@ use Rattle.std.proofs.Common.{◌≡◌, ◌⊎◌, inl, inr, ℕ, suc, ◌+◌,
 use Rattle.std.proofs.lemmas.Bool.{le-ltb, eqb-true}
 use Rattle.bd_value.specs.declared.node.Kind.{Kind}
 use Rattle.bd_value.specs.declared.node.Kind.TheVariants as kinds
-use Rattle.bd_raw.specs.declared.raw_parts.ElementType.{ElementType}
-use Rattle.bd_raw.specs.declared.raw_parts.ElementType.TheVariants.{Kept, Double, Decimal128}
-use Rattle.bd_raw.specs.declared.raw_parts.Holder.{Holder}
-use Rattle.bd_raw.specs.declared.raw_parts.Holder.TheVariants as holders
-use Rattle.bd_raw.specs.{Sizes.number_of, Spelling.holds, Spelling.type_at}
-use Rattle.bd_check.specs.Fault.{Fault}
-use Rattle.bd_check.specs.FirstFault.{label, within, past_fixed, past_value, past_typed, past_element, Nested}
-use Rattle.bd_check.specs.declared.fault.FaultKind.TheVariants.{NameUnended, UnknownType}
-use Rattle.bd_check.proofs.FirstFaultLemmas.{IsBytes}
+use Rattle.bd_bson_view.specs.declared.raw_parts.ElementType.{ElementType}
+use Rattle.bd_bson_view.specs.declared.raw_parts.ElementType.TheVariants.{Kept, Double, Decimal128}
+use Rattle.bd_bson_view.specs.declared.raw_parts.Holder.{Holder}
+use Rattle.bd_bson_view.specs.declared.raw_parts.Holder.TheVariants as holders
+use Rattle.bd_bson_view.specs.{Sizes.number_of, Spelling.holds, Spelling.type_at}
+use Rattle.bd_bson_check.specs.Fault.{Fault}
+use Rattle.bd_bson_check.specs.FirstFault.{label, within, past_fixed, past_value, past_typed, past_element, Nested}
+use Rattle.bd_bson_check.specs.declared.fault.FaultKind.TheVariants.{NameUnended, UnknownType}
+use Rattle.bd_bson_check.proofs.FirstFaultLemmas.{IsBytes}
 use Rattle.bd_wide.specs.Rewritten as written
 use Rattle.bd_wide.specs.Rewritten.{fixed, counted, first_zero, size_at, front, least, holder_least, part_of, separator, IsElement}
 use Rattle.bd_wide.specs.Mask.{IsMasked, masked_element}

@@ -1,8 +1,8 @@
 -- The first fault of a dump, in which doubles and decimal128 are read.
 use Rattle.std.specs.Prelude.{◌≡◌, ℕ, ◌+◌, List, [], ◌++◌, length, take, Option, Some, None, Result, Ok, Err}
-use Rattle.bd_check.specs.Dump.{frame_length}
-use Rattle.bd_check.specs.Fault.{Fault}
-use Rattle.bd_check.specs.declared.fault.FaultKind.{FaultKind}
+use Rattle.bd_bson_check.specs.Dump.{frame_length}
+use Rattle.bd_bson_check.specs.Fault.{Fault}
+use Rattle.bd_bson_check.specs.declared.fault.FaultKind.{FaultKind}
 use Rattle.bd_wide_fault.specs.WideFault.{wide_fault}
 
 -- the fault of the document at the front, of its length or of the bytes it counts

@@ -5,13 +5,13 @@ use Rattle.std.specs.Prelude.{◌≢◌, ℕ, zero, suc, ◌+◌, ◌-◌, List,
 use Rattle.std.specs.Prelude.{option_map, Result, Ok, Bool, true, false, nat_lt, ◌==◌, if◌then◌else◌, codes}
 use Rattle.std.specs.{Option.ok_or, Result.result_err}
 use Rattle.bd_value.specs.Limits.{most_levels}
-use Rattle.bd_raw.specs.{Spelling.type_at, Sizes.number_of}
-use Rattle.bd_raw.specs.declared.raw_parts.{ElementType.ElementType, Holder.Holder}
-use Rattle.bd_check.specs.Fault.{Fault}
-use Rattle.bd_check.specs.declared.fault.FaultKind.TheVariants.{UnknownType, Double, Decimal128, NameUnended}
-use Rattle.bd_check.specs.declared.fault.FaultKind.TheVariants.{BadScopeLength, TooDeep}
-use Rattle.bd_check.specs.FirstFault.{◌>>=◌, Nested, fault, label, within, past_code_frame, past_fixed}
-use Rattle.bd_check.specs.FirstFault.{past_frame, past_name, past_nested, past_string, past_value}
+use Rattle.bd_bson_view.specs.{Spelling.type_at, Sizes.number_of}
+use Rattle.bd_bson_view.specs.declared.raw_parts.{ElementType.ElementType, Holder.Holder}
+use Rattle.bd_bson_check.specs.Fault.{Fault}
+use Rattle.bd_bson_check.specs.declared.fault.FaultKind.TheVariants.{UnknownType, Double, Decimal128, NameUnended}
+use Rattle.bd_bson_check.specs.declared.fault.FaultKind.TheVariants.{BadScopeLength, TooDeep}
+use Rattle.bd_bson_check.specs.FirstFault.{◌>>=◌, Nested, fault, label, within, past_code_frame, past_fixed}
+use Rattle.bd_bson_check.specs.FirstFault.{past_frame, past_name, past_nested, past_string, past_value}
 
 -- a decimal128 that is cut short is refused as such
 abbrev pub wide_typed : Nested → ElementType → ℕ → ℕ → List ℕ → Result (List ℕ) Fault

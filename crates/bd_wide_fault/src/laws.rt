@@ -2,10 +2,10 @@
 
 ghost use Rattle.std.specs.Prelude.{List, Option, length, slice_index, ◌<◌, ◌≡◌, ℕ};
 ghost use Rattle.bd_value.specs.Tree.{Doc};
-ghost use Rattle.bd_check.specs.Dump.{IsWalk};
-ghost use Rattle.bd_check.specs.Fault.{Fault};
-ghost use Rattle.bd_check.specs.FirstFault.{first_fault};
-ghost use Rattle.bd_raw.specs.Sizes.{number_of};
+ghost use Rattle.bd_bson_check.specs.Dump.{IsWalk};
+ghost use Rattle.bd_bson_check.specs.Fault.{Fault};
+ghost use Rattle.bd_bson_check.specs.FirstFault.{first_fault};
+ghost use Rattle.bd_bson_view.specs.Sizes.{number_of};
 ghost use Rattle.bd_wide.specs.Mask.{IsMasked, masked_others};
 ghost use Rattle.bd_wide.specs.Rewritten.{IsRewritten};
 ghost use Rattle.bd_wide_cli.specs.Filtered.{AreFiltered};

@@ -6,10 +6,10 @@ use Rattle.std.proofs.lemmas.{List.length-map, List.Elements.recursion_from_All}
 use Rattle.bd_value.specs.Tree.{doc, Doc, field, fields_of}
 use Rattle.bd_path.specs.Sort.{sort_cmp}
 use Rattle.bd_path.specs.Reach.{Names}
-use Rattle.bd_filter.specs.FilterMatch.{matches}
-use Rattle.bd_bson.specs.Collection.{document_at, documents_at}
-use Rattle.bd_request.specs.Request.{Request}
-use Rattle.bd_sort.specs.Selection.{hits_of, order_of_keys, query_to}
+use Rattle.bd_query_filter.specs.FilterMatch.{matches}
+use Rattle.bd_bson_dump.specs.Collection.{document_at, documents_at}
+use Rattle.bd_cursor_request.specs.Request.{Request}
+use Rattle.bd_cursor_sort.specs.Selection.{hits_of, order_of_keys, query_to}
 use Rattle.bd_wide_order.specs.{Pages.HaveOneAnswer, Query.RequestAsksOf, Query.renumber_request, Values.values_at}
 use Rattle.bd_wide_order.specs.Renumber.{Codes, under, AreIncreasing, DocumentsAreOf, IsOf, renumber, renumber_fields, renumber_document, renumber_documents, renumber_filter}
 use Rattle.bd_wide_order.proofs.ValueLemmas.{values_rise}

@@ -8,12 +8,12 @@ use Rattle.bd_value.specs.{Order.equal, Tree.elements_in}
 use Rattle.bd_value.specs.Tree.{Tree, leaf, int32, int64, doc, array, code_scope, Items, no_items, item, Fields, no_fields, field}
 use Rattle.bd_value.specs.declared.node.Kind.{Kind}
 use Rattle.bd_path.specs.Reach.{End, Names, is_document, reach}
-use Rattle.bd_filter.specs.Filter.{Filter, all_of, some_of, none_of, at_path, Filters, no_filters, filter, Operator}
-use Rattle.bd_filter.specs.Filter.{equals, compares, is_in, has_all, has_type, has_size, exists, negates, has_element}
-use Rattle.bd_filter.specs.Filter.{has_document, Operators, no_operators, operator}
-use Rattle.bd_filter.specs.FilterMatch.{is_array, value_or_null, candidates, any_candidate, is_value, relates, is_related, is_of_type, is_of_size, is_nonempty, any_equal}
-use Rattle.bd_filter.specs.FilterMatch.{matches, all_match, some_match, holds, all_hold, accepts, all_accept}
-use Rattle.bd_filter.specs.declared.operand.Relation.{Relation}
+use Rattle.bd_query_filter.specs.Filter.{Filter, all_of, some_of, none_of, at_path, Filters, no_filters, filter, Operator}
+use Rattle.bd_query_filter.specs.Filter.{equals, compares, is_in, has_all, has_type, has_size, exists, negates, has_element}
+use Rattle.bd_query_filter.specs.Filter.{has_document, Operators, no_operators, operator}
+use Rattle.bd_query_filter.specs.FilterMatch.{is_array, value_or_null, candidates, any_candidate, is_value, relates, is_related, is_of_type, is_of_size, is_nonempty, any_equal}
+use Rattle.bd_query_filter.specs.FilterMatch.{matches, all_match, some_match, holds, all_hold, accepts, all_accept}
+use Rattle.bd_query_filter.specs.declared.operand.Relation.{Relation}
 use Rattle.bd_wide_order.specs.Renumber.{Codes, under, scope_name, AreIncreasing, IsOf, ItemsAreOf, FieldsAreOf, renumber}
 use Rattle.bd_wide_order.specs.Renumber.{renumber_filter, renumber_filters, renumber_operator, renumber_operators}
 use Rattle.bd_wide_order.specs.Renumber.{TakeNumbersAlike, AsksOf, AllAskOf, OperatorAsksOf, OperatorsAskOf}

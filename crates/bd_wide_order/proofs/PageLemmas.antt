@@ -1,8 +1,8 @@
 -- Cursors that have the same places left, and tokens that go on at the same marks, give the same pages.
 use Rattle.std.proofs.Common.{◌≡◌, ℕ, ◌+◌, List, [], ◌∷◌, take, drop, length, min, refl, sym, ap, ap₂, ◌∙◌, Option, Some, None}
 use Rattle.std.specs.Prelude.{option_map, slice_index_or}
-use Rattle.bd_answer.specs.Answer.{Mark, Selection, answer, is_empty, rest}
-use Rattle.bd_answer.specs.Session.{MarkedToken, OpenCursor, Query, given_by, left_after, most_given, moved, token_after}
+use Rattle.bd_cursor_model.specs.Answer.{Mark, Selection, answer, is_empty, rest}
+use Rattle.bd_cursor_model.specs.Session.{MarkedToken, OpenCursor, Query, given_by, left_after, most_given, moved, token_after}
 use Rattle.bd_wide_order.specs.Pages.{HaveOneAnswer, cursor_at, mark_of, pages_from, token_at}
 
 abbrev given_at : Option Mark → ℕ

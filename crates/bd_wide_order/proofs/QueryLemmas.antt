@@ -7,21 +7,21 @@ use Rattle.bd_value.specs.Tree as trees
 use Rattle.bd_value.specs.Tree.{Tree, leaf, int32, int64, doc, array, code_scope, Items, no_items, item, Fields, no_fields, field, Doc, fields_of, fields_of-pairs_of}
 use Rattle.bd_path.specs.{Reach.Names, Path.components_of, Path.path_of, Sort.SortPath, declared.path.PathFault.PathFault}
 use Rattle.bd_path.specs.declared.path.PathFault.TheVariants.{EmptyComponent, TooLong}
-use Rattle.bd_filter.specs.Fault.{Refusal, refuse}
-use Rattle.bd_filter.specs.Filter.{Filter, all_of, some_of, none_of, at_path, filters_from, filter, Operator, equals, compares, is_in, has_all, has_type, has_size, exists, negates, has_element, has_document}
-use Rattle.bd_filter.specs.Filter.{negation_of, operators_from, operator}
-use Rattle.bd_filter.specs.Word.{word_of}
-use Rattle.bd_filter.specs.FilterOf.{read_as, read_at, is_regex, is_bound, first_is_operator, has_operators, unless_left_out, member_value, member_values, members_of}
-use Rattle.bd_filter.specs.FilterOf.{size_value, truth_value, operand_kinds, or_bad_operand, plain_operator, logical_filter, inner_part, has_value_form, pair_filter, operator_of}
-use Rattle.bd_filter.specs.FilterOf.{filters_of, operand_filters, member_filters, member_filter, path_operators, operators_of, not_operator, element_operator, filter_of}
-use Rattle.bd_filter.specs.declared.filter_of.{LogicalOperator.LogicalOperator, PlainOperator.PlainOperator, Word.Word}
-use Rattle.bd_filter.specs.declared.fault.FilterFaultKind.TheVariants as faults
-use Rattle.bd_filter.specs.declared.filter_of.LogicalOperator.TheVariants as logical
-use Rattle.bd_filter.specs.declared.filter_of.PlainOperator.TheVariants as plain
-use Rattle.bd_filter.specs.declared.filter_of.Word.TheVariants as words
-use Rattle.bd_request.specs.Refused.{Reason, bad_filter, plain as plain_reason, then_part, told_as}
-use Rattle.bd_request.specs.Request.{Request, request_of, request_text, request_with, sort_of}
-use Rattle.bd_request.specs.declared.results.Refused.TheVariants as reasons
+use Rattle.bd_query_filter.specs.Fault.{Refusal, refuse}
+use Rattle.bd_query_filter.specs.Filter.{Filter, all_of, some_of, none_of, at_path, filters_from, filter, Operator, equals, compares, is_in, has_all, has_type, has_size, exists, negates, has_element, has_document}
+use Rattle.bd_query_filter.specs.Filter.{negation_of, operators_from, operator}
+use Rattle.bd_query_filter.specs.Word.{word_of}
+use Rattle.bd_query_filter.specs.FilterOf.{read_as, read_at, is_regex, is_bound, first_is_operator, has_operators, unless_left_out, member_value, member_values, members_of}
+use Rattle.bd_query_filter.specs.FilterOf.{size_value, truth_value, operand_kinds, or_bad_operand, plain_operator, logical_filter, inner_part, has_value_form, pair_filter, operator_of}
+use Rattle.bd_query_filter.specs.FilterOf.{filters_of, operand_filters, member_filters, member_filter, path_operators, operators_of, not_operator, element_operator, filter_of}
+use Rattle.bd_query_filter.specs.declared.filter_of.{LogicalOperator.LogicalOperator, PlainOperator.PlainOperator, Word.Word}
+use Rattle.bd_query_filter.specs.declared.fault.FilterFaultKind.TheVariants as faults
+use Rattle.bd_query_filter.specs.declared.filter_of.LogicalOperator.TheVariants as logical
+use Rattle.bd_query_filter.specs.declared.filter_of.PlainOperator.TheVariants as plain
+use Rattle.bd_query_filter.specs.declared.filter_of.Word.TheVariants as words
+use Rattle.bd_cursor_request.specs.Refused.{Reason, bad_filter, plain as plain_reason, then_part, told_as}
+use Rattle.bd_cursor_request.specs.Request.{Request, request_of, request_text, request_with, sort_of}
+use Rattle.bd_cursor_request.specs.declared.results.Refused.TheVariants as reasons
 use Rattle.bd_wide_order.specs.Renumber.{Codes, below, renumber, renumber_items, renumber_fields, renumber_filter, renumber_filters, renumber_operator, renumber_operators}
 use Rattle.bd_wide_order.specs.Query.{pair_value, plain_operand, operand, query_fields, query_members, query_items, query_member, query_value, query_operators, query_inverse, query_element, renumber_query, renumber_request}
 

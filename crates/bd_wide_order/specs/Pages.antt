@@ -1,8 +1,8 @@
 -- What a request to a dump gives, page by page. Only the digests of its tokens are left out: they are those of the bytes
 -- of the dump and of the text of the request.
 use Rattle.std.specs.Prelude.{◌≡◌, ℕ, Bool, List, [], ◌∷◌, Option, option_map}
-use Rattle.bd_answer.specs.Answer.{Mark}
-use Rattle.bd_answer.specs.Session.{GivenBatch, MarkedToken, OpenCursor, Query, batch_of, left_after, moved}
+use Rattle.bd_cursor_model.specs.Answer.{Mark}
+use Rattle.bd_cursor_model.specs.Session.{GivenBatch, MarkedToken, OpenCursor, Query, batch_of, left_after, moved}
 
 -- a batch: its places, where its token goes on, and whether nothing is left
 pub record Page : Type 0 where

@@ -4,12 +4,12 @@
 use Rattle.std.specs.Prelude.{ℕ, List, if◌then◌else◌}
 use Rattle.bd_value.specs.Tree.{Tree, doc, array, Items, no_items, item, Fields, no_fields, field, Doc, fields_of, pairs_of}
 use Rattle.bd_path.specs.Path.{components_of}
-use Rattle.bd_filter.specs.FilterOf.{first_is_operator, has_value_form}
-use Rattle.bd_filter.specs.Word.{word_of}
-use Rattle.bd_filter.specs.declared.filter_of.{PlainOperator.PlainOperator, Word.Word}
-use Rattle.bd_filter.specs.declared.filter_of.PlainOperator.TheVariants as plain
-use Rattle.bd_filter.specs.declared.filter_of.Word.TheVariants as words
-use Rattle.bd_request.specs.Request.{Request}
+use Rattle.bd_query_filter.specs.FilterOf.{first_is_operator, has_value_form}
+use Rattle.bd_query_filter.specs.Word.{word_of}
+use Rattle.bd_query_filter.specs.declared.filter_of.{PlainOperator.PlainOperator, Word.Word}
+use Rattle.bd_query_filter.specs.declared.filter_of.PlainOperator.TheVariants as plain
+use Rattle.bd_query_filter.specs.declared.filter_of.Word.TheVariants as words
+use Rattle.bd_cursor_request.specs.Request.{Request}
 use Rattle.bd_wide_order.specs.Renumber.{AsksOf, Codes, SortsReadAlike, below, renumber, renumber_fields}
 use Rattle.bd_wide_order.specs.Renumber.{renumber_filter}
 

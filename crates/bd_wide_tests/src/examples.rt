@@ -1,8 +1,8 @@
-//! The examples of use in the roots of `bd_wide_number`, `bd_wide_text`, `bd_wide`, `bd_wide_command_line` and `bd_wide_cli`.
-use bd_device::{MemoryInput, MemoryOutput};
+//! The examples of use in the roots of `bd_wide_number`, `bd_wide_text`, `bd_wide`, `bd_wide_args` and `bd_wide_cli`.
+use bd_io_device::{MemoryInput, MemoryOutput};
 use bd_wide::{Mask, write_rewritten};
+use bd_wide_args::{Order, parse_words};
 use bd_wide_cli::{Filter, Status, run};
-use bd_wide_command_line::{Order, parse_words};
 use bd_wide_number::{Number, code_of, whole_of};
 use bd_wide_text::write_double;
 use std::test::Fail;

@@ -1,10 +1,12 @@
 //! `bsonfind`: the commands of bd_cli over the system's files and standard streams.
 #![tactic(auto)]
 
-use bd_cli::{CANNOT_WRITE, Status, report};
-use bd_command_line::{Order, WordsFault, parse_words};
-use bd_device::{BufferedInput, ReadFault, SystemInput, SystemOutput, write_all};
-use bd_gathering::{Fate, GatheredOutput, Gathering, TiedError, TiedInput, hand_on};
+use bd_cli::report;
+use bd_cli_args::{Order, WordsFault, parse_words};
+use bd_cli_files::Status;
+use bd_cli_files::output::CANNOT_WRITE;
+use bd_io_device::{BufferedInput, ReadFault, SystemInput, SystemOutput, write_all};
+use bd_io_stdout::{Fate, GatheredOutput, Gathering, TiedError, TiedInput, hand_on};
 use std::cell::RefCell;
 use std::io::{BufReader, Read, Stdout};
 use std::os::fd::AsRawFd;

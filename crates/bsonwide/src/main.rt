@@ -1,12 +1,12 @@
 //! `bsonwide`: a filter that makes a dump one that `bsonfind` reads, over the system's files and standard streams.
 #![tactic(auto)]
 
-use bd_command_line::WordsFault;
-use bd_device::{BufferedInput, SystemOutput, write_all};
-use bd_gathering::{Fate, GatheredOutput, Gathering, TiedError, TiedInput, hand_on};
+use bd_cli_args::WordsFault;
+use bd_io_device::{BufferedInput, SystemOutput, write_all};
+use bd_io_stdout::{Fate, GatheredOutput, Gathering, TiedError, TiedInput, hand_on};
 use bd_wide::read_order;
+use bd_wide_args::{Order, parse_words};
 use bd_wide_cli::{CANNOT_WRITE, Filter, Status, report};
-use bd_wide_command_line::{Order, parse_words};
 use std::cell::RefCell;
 use std::io::{BufReader, Read, Stdout};
 use std::process::ExitCode;

@@ -1,5 +1,5 @@
 use Rattle.std.proofs.Common.{List, ℕ, subst}
-use Rattle.bd_raw.specs.Sound.{StandsAt, stands}
+use Rattle.bd_bson_view.specs.Sound.{StandsAt, stands}
 use Rattle.bd_bson_tests.proofs.at_tests.again.Goals as goal
 
 pub returns-clause-value : goal.returns-clause-value

@@ -1,5 +1,5 @@
 use Rattle.bd_value.specs.Tree.{leaf, null, undefined}
-use Rattle.bd_bson.specs.Collection.{bytes_of}
+use Rattle.bd_bson_dump.specs.Collection.{bytes_of}
 use Rattle.bd_bson_tests.proofs.at_tests.finds_what_takes_no_byte.Goals as goal
 
 pub value_at-requires : goal.value_at-requires

@@ -1,6 +1,6 @@
 use Rattle.std.proofs.Common.{List, ℕ, inr, refl, subst}
-use Rattle.bd_bson.specs.Collection.{documents}
-use Rattle.bd_device.specs.Devices.{over}
+use Rattle.bd_bson_dump.specs.Collection.{documents}
+use Rattle.bd_io_device.specs.Devices.{over}
 use Rattle.bd_cli.specs.Runs.{ServesDump}
 use Rattle.bd_cli.proofs.RunsLemmas.{fault_told}
 use Rattle.bd_cli.proofs.runs.serve_bytes.Goals as goal

@@ -1,7 +1,7 @@
 use Rattle.std.proofs.Common.{inl, inr, refl}
-use Rattle.bd_device.specs.Devices.{over}
+use Rattle.bd_io_device.specs.Devices.{over}
 use Rattle.bd_cli.proofs.RunsLemmas.{to_a_fault, to_the_end}
-use Rattle.bd_lines.specs.declared.serving.ServeFault.TheVariants as faults
+use Rattle.bd_io_lines.specs.declared.serving.ServeFault.TheVariants as faults
 use Rattle.bd_cli.proofs.runs.serve_dump.Goals as goal
 
 pub returns-in-Ok : goal.returns-in-Ok

@@ -1,7 +1,7 @@
 use Rattle.std.proofs.Common.{◌≡◌, ◌∙◌, arith, length, sym}
 use Rattle.std.specs.Vec.{vec_len}
 use Rattle.std.proofs.lemmas.Bool.{eqb-true}
-use Rattle.bd_bson.specs.Collection.{documents}
+use Rattle.bd_bson_dump.specs.Collection.{documents}
 use Rattle.bd_path.specs.Sort.{sort_paths}
 use Rattle.bd_cursor.proofs.AccessLemmas.{ascends_unsorted, not_sorted}
 use Rattle.bd_cursor.proofs.access.ascending_places.Goals as goal

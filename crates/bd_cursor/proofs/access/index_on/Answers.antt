@@ -1,7 +1,7 @@
 use Rattle.std.proofs.Common.{◌≡◌, ap, map, sym, ◌∙◌, rules, tests}
 use Rattle.std.proofs.{lemmas.Iterator.YieldsList-from_slice, lemmas.Iterator.Search.position_from_yields_List}
 use Rattle.std.specs.Prelude.{is_some, position, string_bytes}
-use Rattle.bd_answer.specs.Session.{is_on}
+use Rattle.bd_cursor_model.specs.Session.{is_on}
 use Rattle.bd_cursor.specs.Access.{index_mark}
 use Rattle.bd_cursor.proofs.AccessLemmas.{found_if_there, position_seen}
 use Rattle.bd_cursor.proofs.access.index_on.Goals as goal

@@ -1,6 +1,6 @@
 use Rattle.std.proofs.Common.{ap, cond, sym, ◌∙◌, None}
 use Rattle.bd_path.specs.Sort.{sort_paths}
-use Rattle.bd_bounds.specs.BoundsView.{seen_bounds}
+use Rattle.bd_index_bounds.specs.BoundsView.{seen_bounds}
 use Rattle.bd_cursor.specs.Access.{bounded, bounded_or, index_mark, scanned, walk_dir, walk_or}
 use Rattle.bd_cursor.proofs.AccessLemmas.{bounds_lead}
 use Rattle.bd_cursor.proofs.access.named_access.Goals as goal

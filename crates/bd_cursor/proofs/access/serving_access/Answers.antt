@@ -1,9 +1,9 @@
 use Rattle.std.proofs.Common.{◌+◌, ◌<◌, drop, length, map, ap, sym, ◌∙◌, subst}
-use Rattle.bd_bson.specs.Collection.{documents}
-use Rattle.bd_filter.specs.Filter.{filter_tree}
+use Rattle.bd_bson_dump.specs.Collection.{documents}
+use Rattle.bd_query_filter.specs.Filter.{filter_tree}
 use Rattle.bd_path.specs.Sort.{sort_paths}
-use Rattle.bd_bounds.specs.BoundsView.{seen_bounds}
-use Rattle.bd_bounds.proofs.FilterBoundsLemmas.{one_off}
+use Rattle.bd_index_bounds.specs.BoundsView.{seen_bounds}
+use Rattle.bd_index_bounds.proofs.FilterBoundsLemmas.{one_off}
 use Rattle.bd_index.specs.IndexView.{IsIndexOf}
 use Rattle.bd_cursor.specs.Access.{first_bounded, first_walked, scanned, index_mark, bounded_or}
 use Rattle.bd_cursor.proofs.AccessLemmas.{bounds_lead}

@@ -1,6 +1,6 @@
 use Rattle.std.proofs.Common.{◌≡◌, drop, map}
-use Rattle.bd_bson.specs.{Collection.documents, declared.collection.Dump.Dump}
-use Rattle.bd_filter.specs.Filter.{filter_tree}
+use Rattle.bd_bson_dump.specs.{Collection.documents, declared.collection.Dump.Dump}
+use Rattle.bd_query_filter.specs.Filter.{filter_tree}
 use Rattle.bd_index.specs.IndexView.{AreIndexesOf}
 use Rattle.bd_cursor.specs.Access.{AccessPath, first_bounded, index_mark}
 use Rattle.bd_cursor.proofs.access.serving_access.Given as goal

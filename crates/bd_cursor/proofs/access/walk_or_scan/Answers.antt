@@ -1,5 +1,5 @@
 use Rattle.std.proofs.Common.{◌≡◌, ◌+◌, ◌<◌, Some, drop, length, map, ap, sym, ◌∙◌, subst}
-use Rattle.bd_bounds.proofs.FilterBoundsLemmas.{one_off}
+use Rattle.bd_index_bounds.proofs.FilterBoundsLemmas.{one_off}
 use Rattle.bd_path.specs.Sort.{sort_paths}
 use Rattle.bd_index.specs.IndexView.{IsIndexOf}
 use Rattle.bd_cursor.specs.Access.{walk_or, first_walked, scanned, walk_dir, index_mark}

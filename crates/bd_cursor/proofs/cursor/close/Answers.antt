@@ -1,4 +1,4 @@
-use Rattle.bd_answer.specs.Session.{OpenCursor}
+use Rattle.bd_cursor_model.specs.Session.{OpenCursor}
 use Rattle.std.proofs.{Common.rules, Common.◌≡◌, Common.◌==◌, Common.◌∙◌, Common.ap, Common.filter, Common.map, Common.not, lemmas.Fn.filter_same}
 use Rattle.bd_cursor.specs.{SessionView.open_cursor, declared.cursor.Cursor.Cursor}
 use Rattle.bd_cursor.proofs.SessionLemmas.{map_kept}

@@ -1,7 +1,7 @@
 use Rattle.std.proofs.Common.{◌≡◌, count_by, take}
-use Rattle.bd_bson.specs.Collection.{documents}
-use Rattle.bd_filter.specs.Filter.{filter_tree}
-use Rattle.bd_sort.specs.Selection.{hits_of}
+use Rattle.bd_bson_dump.specs.Collection.{documents}
+use Rattle.bd_query_filter.specs.Filter.{filter_tree}
+use Rattle.bd_cursor_sort.specs.Selection.{hits_of}
 use Rattle.bd_cursor.proofs.explaining.count_among.Given as goal
 
 abbrev pub invariant-loop-place : goal.invariant-loop-place

@@ -1,8 +1,8 @@
 use Rattle.std.proofs.Common.{◌≡◌, ◌≤◌, count_by}
 use Rattle.std.specs.List.{range_with_len}
-use Rattle.bd_bson.specs.Collection.{documents}
-use Rattle.bd_filter.specs.Filter.{filter_tree}
-use Rattle.bd_sort.specs.Selection.{hits_of}
+use Rattle.bd_bson_dump.specs.Collection.{documents}
+use Rattle.bd_query_filter.specs.Filter.{filter_tree}
+use Rattle.bd_cursor_sort.specs.Selection.{hits_of}
 use Rattle.bd_cursor.proofs.explaining.count_matches.Given as goal
 
 abbrev pub invariant-loop-place : goal.invariant-loop-place

@@ -1,10 +1,10 @@
 use Rattle.std.specs.{Prelude.count_by, Prelude.string_bytes, List.All}
 use Rattle.std.proofs.Common.{◌≡◌, ◌<◌, length, None, Some, ap, sym, ◌∙◌, subst, arith}
-use Rattle.bd_answer.specs.Answer.{matching}
-use Rattle.bd_bson.specs.Collection.{documents}
+use Rattle.bd_cursor_model.specs.Answer.{matching}
+use Rattle.bd_bson_dump.specs.Collection.{documents}
 use Rattle.bd_path.specs.declared.path.Path.{Path}
-use Rattle.bd_filter.specs.Filter.{filter_tree}
-use Rattle.bd_sort.specs.Selection.{selection_of, hits_of}
+use Rattle.bd_query_filter.specs.Filter.{filter_tree}
+use Rattle.bd_cursor_sort.specs.Selection.{selection_of, hits_of}
 use Rattle.bd_cursor.specs.{Access.IsAccessOf, Access.access_path, Explanation.explained_access, Explanation.explanation}
 use Rattle.bd_cursor.proofs.AccessLemmas.{index_source, lent_within, as_many, entries_read, entries_walked, matches_of_all, places_read}
 use Rattle.bd_cursor.specs.declared.explaining.Plan.TheVariants as plans

@@ -3,8 +3,8 @@ use Rattle.std.proofs.lemmas.Result.{err_from_is_err_and}
 use Rattle.std.proofs.lemmas.List.{map_push}
 use Rattle.std.specs.Borrow.{Bor}
 use Rattle.json.specs.Value.{value_view}
-use Rattle.bd_wrapper.specs.Wrapper.{single, through, after_key}
-use Rattle.bd_wrapper.specs.declared.wrapper.Wrapper.TheVariants as kinds
+use Rattle.bd_extjson_wrapper.specs.Wrapper.{single, through, after_key}
+use Rattle.bd_extjson_wrapper.specs.declared.wrapper.Wrapper.TheVariants as kinds
 use Rattle.json.specs.Json.{value, items, parse_map, after_end_array}
 use Rattle.json.proofs.Grammar.{read_key-shorter}
 use Rattle.bd_value.specs.Tree.{leaf, field}

@@ -2,7 +2,7 @@ use Rattle.std.proofs.Common.{◌≡◌, ◌≤◌, ℕ, length, map, option_map
 use Rattle.json.specs.Json.{value, items, parse_map}
 use Rattle.bd_value.specs.View.{tree_of, pairs}
 use Rattle.bd_extjson.specs.Read.{wrap_items, wrap_fields}
-use Rattle.bd_wrapper.specs.Wrapper.{through, after_key}
+use Rattle.bd_extjson_wrapper.specs.Wrapper.{through, after_key}
 use Rattle.bd_extjson.proofs.ReadLemmas.{items_before, fields_before}
 use Rattle.bd_extjson.proofs.read.+reading.Given as goal
 

@@ -3,7 +3,7 @@ use Rattle.std.proofs.lemmas.Result.{err_from_is_err_and}
 use Rattle.json.specs.Json.{value}
 use Rattle.json.specs.Value.{value_view}
 use Rattle.json.proofs.Grammar.{read_key-shorter}
-use Rattle.bd_wrapper.specs.declared.wrapper.Wrapper.TheVariants as kinds
+use Rattle.bd_extjson_wrapper.specs.declared.wrapper.Wrapper.TheVariants as kinds
 use Rattle.bd_extjson.specs.Read.{wrapped}
 use Rattle.bd_extjson.proofs.ReadLemmas.{fails_by, fails_where}
 use Rattle.bd_extjson.proofs.MemberLemmas as seconds

@@ -2,7 +2,7 @@ use Rattle.std.proofs.Common.{◌≡◌, Bool, map, rules}
 use Rattle.std.specs.List.{All, dedup}
 use Rattle.std.proofs.{lemmas.Fn.always_returns_same, lemmas.Fn.dedup_same, lemmas.List.Elements.All-append, lemmas.List.Elements.All-nil, lemmas.List.Filters.All-dedup}
 use Rattle.std.proofs.lemmas.List.Sorted.{All-permutation, ranks_by}
-use Rattle.bd_bson.specs.Collection.{bytes_of}
+use Rattle.bd_bson_dump.specs.Collection.{bytes_of}
 use Rattle.bd_path.specs.Key.{key_trees, distinct}
 use Rattle.bd_index.specs.{Entries.keys_at, IndexView.IsFoundIn, IndexView.found_entry, IndexView.raw_tree, declared.entry.FoundKey.FoundKey}
 use Rattle.bd_index.proofs.{EntryLemmas.counted_own, EntryLemmas.ascends, EntryLemmas.entry_total, RepeatLemmas.found_lt, RepeatLemmas.own_once, RepeatLemmas.repeats}

@@ -1,7 +1,7 @@
 use Rattle.std.proofs.Common.{sym, ◌∙◌}
 use Rattle.bd_value.specs.Tree.{pairs_in}
-use Rattle.bd_raw.specs.Sound.{stands}
-use Rattle.bd_bson.specs.Collection.{documents}
+use Rattle.bd_bson_view.specs.Sound.{stands}
+use Rattle.bd_bson_dump.specs.Collection.{documents}
 use Rattle.bd_path.specs.PathNames.{names_of}
 use Rattle.bd_index.specs.Entries.{has_two_keys}
 use Rattle.bd_index.proofs.EntryLemmas.{any_next}

@@ -1,5 +1,5 @@
 use Rattle.std.proofs.Common.{◌≡◌, drop}
-use Rattle.bd_bson.specs.Collection.{documents}
+use Rattle.bd_bson_dump.specs.Collection.{documents}
 use Rattle.bd_path.specs.PathNames.{names_of}
 use Rattle.bd_index.specs.Entries.{is_multikey}
 use Rattle.bd_index.proofs.index.has_several.Given as goal

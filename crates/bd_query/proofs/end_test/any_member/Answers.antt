@@ -1,7 +1,7 @@
 use Rattle.std.proofs.Common.{◌∙◌}
 use Rattle.bd_value.specs.Order.{equal}
 use Rattle.bd_path.specs.{PathNames.names_of, Reach.reach}
-use Rattle.bd_filter.specs.{FilterMatch.value_or_null, Filter.trees_in}
+use Rattle.bd_query_filter.specs.{FilterMatch.value_or_null, Filter.trees_in}
 use Rattle.bd_query.proofs.EndTestLemmas.{members_first}
 use Rattle.bd_query.proofs.end_test.any_member.Goals as goal
 

@@ -2,7 +2,7 @@ use Rattle.std.proofs.Common.{sym, ◌∙◌}
 use Rattle.std.proofs.lemmas.List.Folds.{list_all-map}
 use Rattle.bd_value.specs.View.{tree_of}
 use Rattle.bd_path.specs.{PathNames.names_of, Reach.reach}
-use Rattle.bd_filter.specs.FilterMatch.{any_equal}
+use Rattle.bd_query_filter.specs.FilterMatch.{any_equal}
 use Rattle.bd_query.proofs.EndTestLemmas.{some_mapped}
 use Rattle.bd_query.proofs.end_test.equals_all.Goals as goal
 

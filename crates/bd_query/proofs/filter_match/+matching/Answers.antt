@@ -8,9 +8,9 @@ use Rattle.bd_path.specs.Reach.{document_gathering, each_gathering, ends, index_
 use Rattle.bd_path.proofs.ReachLemmas as down
 use Rattle.bd_path.proofs.WalkLemmas as walked
 use Rattle.bd_query.specs.FilterMatch.{is_suited, suits}
-use Rattle.bd_filter.specs.Filter.{filters_from, operators_from, filter_tree, operator_tree}
-use Rattle.bd_filter.specs.FilterMatch.{all_accept, all_match, any_candidate, holds, is_of_type, is_value}
-use Rattle.bd_filter.proofs.FilterOfLemmas.{operator_tree-ElemMatch, operator_tree-ElemMatchDocument, operator_tree-Type}
+use Rattle.bd_query_filter.specs.Filter.{filters_from, operators_from, filter_tree, operator_tree}
+use Rattle.bd_query_filter.specs.FilterMatch.{all_accept, all_match, any_candidate, holds, is_of_type, is_value}
+use Rattle.bd_query_filter.proofs.FilterOfLemmas.{operator_tree-ElemMatch, operator_tree-ElemMatchDocument, operator_tree-Type}
 use Rattle.bd_query.proofs.filter_match.+matching.Goals as goal
 use Rattle.bd_query.proofs.filter_match.+matching.Goals.{any_end_suits_in_documents-then-is_document+else-any_end_suits, any_end_suits_in_documents-else-is_document}
 

@@ -1,7 +1,7 @@
 use Rattle.std.proofs.Common.{◌≡◌, ◌≤◌, ◌+◌, ◌-◌, ◌∙◌, ap, ℕ, List, [], ◌∷◌, ◌++◌, length, take, drop, refl, arith, length-append, length-drop, codes}
 use Rattle.std.proofs.lemmas.List.{length-take-le}
-use Rattle.bd_raw.specs.declared.raw_parts.ElementType.{ElementType}
-use Rattle.bd_raw.specs.declared.raw_parts.ElementType.TheVariants.{Kept, Double, Decimal128}
+use Rattle.bd_bson_view.specs.declared.raw_parts.ElementType.{ElementType}
+use Rattle.bd_bson_view.specs.declared.raw_parts.ElementType.TheVariants.{Kept, Double, Decimal128}
 use Rattle.bd_wide.proofs.LengthLemmas.{Keeps, rewritten_keeps}
 use Rattle.bd_wide.specs.Rewritten.{least}
 use Rattle.bd_wide.specs.Mask.{IsMasked, masked_element, masked_others}

@@ -1,6 +1,6 @@
 use Rattle.std.proofs.Common.{◌≡◌, ◌++◌, List, [], ℕ, Option, None, Some, refl, ◌∙◌}
 use Rattle.bd_value.specs.declared.node.Kind.{Kind}
-use Rattle.bd_raw.specs.declared.raw_parts.ElementType.TheVariants.{Kept}
+use Rattle.bd_bson_view.specs.declared.raw_parts.ElementType.TheVariants.{Kept}
 use Rattle.bd_wide_number.specs.declared.number.Number.{Number}
 use Rattle.bd_wide.specs.{Mask.IsMasked, Mask.masked_others, Order.IsOrdered, Order.became, Order.number_at, Order.outcome_of, Wrap.IsWrapped}
 use Rattle.bd_wide.proofs.SpelledLemmas.{KeepsOthers, document_same}

@@ -1,5 +1,5 @@
 use Rattle.std.proofs.Common.{ℕ, List, inl, refl, subst}
-use Rattle.bd_device.specs.Devices.{TakesText, over}
+use Rattle.bd_io_device.specs.Devices.{TakesText, over}
 use Rattle.bd_wide_cli.proofs.output.report.Goals as goal
 
 pub returns-in-Ok : goal.returns-in-Ok

@@ -1,4 +1,4 @@
-use Rattle.bd_device.specs.Devices.{over}
+use Rattle.bd_io_device.specs.Devices.{over}
 use Rattle.bd_wide_cli.specs.Output.{usage_text}
 use Rattle.bd_wide_cli.proofs.OutputLemmas.{told_by}
 use Rattle.bd_wide_cli.proofs.output.tell_usage.Goals as goal

@@ -1,5 +1,5 @@
 use Rattle.std.proofs.Common.{rules, ◌≡◌, decimal}
-use Rattle.bd_device.proofs.DevicesLemmas.{breaks_first}
+use Rattle.bd_io_device.proofs.DevicesLemmas.{breaks_first}
 use Rattle.bd_wide_cli.proofs.OutputLemmas.{on_err, second_err}
 use Rattle.bd_wide_cli.proofs.output.write_count.Goals as goal
 

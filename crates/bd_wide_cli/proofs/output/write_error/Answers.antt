@@ -1,5 +1,5 @@
 use Rattle.std.proofs.Common.{◌++◌, ◌∷◌, [], codes}
-use Rattle.bd_device.proofs.DevicesLemmas.{breaks_first, breaks_second}
+use Rattle.bd_io_device.proofs.DevicesLemmas.{breaks_first, breaks_second}
 use Rattle.bd_wide_cli.proofs.OutputLemmas.{on_err, on_err_map}
 use Rattle.bd_wide_cli.proofs.output.write_error.Goals as goal
 

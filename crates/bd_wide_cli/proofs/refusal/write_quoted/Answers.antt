@@ -1,6 +1,6 @@
 use Rattle.std.proofs.Common.{◌≡◌, ◌<◌, ◌+◌, ◌++◌, ◌∙◌, List, ℕ, length, drop, get_or, ap, sym, append_assoc}
 use Rattle.std.proofs.lemmas.List.{at_drop_more}
-use Rattle.bd_text.specs.Text.{escape_byte, escaped}
+use Rattle.bd_extjson_text.specs.Text.{escape_byte, escaped}
 use Rattle.bd_wide_cli.proofs.refusal.write_quoted.Goals as goal
 
 more : (out next whole : List ℕ) (path : List ℕ) (i b : ℕ) → i < length path → next ≡ out ++ escape_byte (get_or path i b) → out ++ escaped (drop i path) ≡ whole → next ++ escaped (drop (i + 1) path) ≡ whole

@@ -1,5 +1,5 @@
 use Rattle.std.proofs.Common.{◌≡◌, ◌++◌, ◌∷◌, [], drop}
-use Rattle.bd_text.specs.Text.{escaped}
+use Rattle.bd_extjson_text.specs.Text.{escaped}
 use Rattle.bd_wide_cli.proofs.refusal.write_quoted.Given as goal
 
 -- with what is still to come it is the whole

@@ -1,7 +1,7 @@
 use Rattle.std.proofs.Common.{List, ℕ, sym, ◌∙◌, subst}
-use Rattle.bd_device.specs.Devices.{BreaksWithin, TakesText, between}
+use Rattle.bd_io_device.specs.Devices.{BreaksWithin, TakesText, between}
 use Rattle.bd_wide_cli.specs.declared.running.Stop.TheVariants as stops
-use Rattle.bd_device.specs.declared.reading.ReadFault.TheVariants as faults
+use Rattle.bd_io_device.specs.declared.reading.ReadFault.TheVariants as faults
 use Rattle.bd_wide_cli.proofs.OutputLemmas.{broke_of, took_of}
 use Rattle.bd_wide_cli.proofs.RunLemmas as runs
 use Rattle.bd_wide_cli.proofs.running.copy_rest.Goals as goal

@@ -1,6 +1,6 @@
 use Rattle.std.specs.Io.KnownBytes.{Consumes}
 use Rattle.std.proofs.Common.{List, ℕ}
-use Rattle.bd_device.specs.Devices.{TakesText, between}
+use Rattle.bd_io_device.specs.Devices.{TakesText, between}
 use Rattle.bd_wide_cli.proofs.running.copy_rest.Given as goal
 
 abbrev pub invariant-loop : goal.invariant-loop

@@ -1,9 +1,9 @@
 use Rattle.std.proofs.{Common.◌≡◌, Common.◌<◌, Common.false, Common.length, Common.map, Common.ap, Common.sym, Common.◌∙◌, Common.subst, lemmas.Result.IfOk-weaker}
 use Rattle.std.specs.{Prelude.string_bytes, List.list_any}
-use Rattle.bd_answer.specs.Session.{is_on}
-use Rattle.bd_bson.specs.Collection.{documents}
+use Rattle.bd_cursor_model.specs.Session.{is_on}
+use Rattle.bd_bson_dump.specs.Collection.{documents}
 use Rattle.bd_path.specs.Sort.{sort_paths}
-use Rattle.bd_filter.specs.Filter.{filter_tree}
+use Rattle.bd_query_filter.specs.Filter.{filter_tree}
 use Rattle.bd_index.specs.IndexView.{IsIndexOf}
 use Rattle.bd_cursor.specs.Access.{access_of, way_of, index_mark}
 use Rattle.bd_cursor.proofs.AccessLemmas.{access_elsewhere, access_named, found_below}

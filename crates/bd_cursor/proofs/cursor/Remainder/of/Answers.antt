@@ -1,9 +1,9 @@
 use Rattle.std.proofs.Common.{◌<◌, ◌∙◌, ap, arith, drop, length, sym, None, subst}
 use Rattle.std.specs.Option.{option_map}
-use Rattle.bd_answer.specs.{Answer.cut, Session.left_after, Source.places_after}
-use Rattle.bd_answer.proofs.SourceLemmas.{all_places}
-use Rattle.bd_bson.specs.Collection.{documents}
-use Rattle.bd_sort.specs.Selection.{selection_of}
+use Rattle.bd_cursor_model.specs.{Answer.cut, Session.left_after, Source.places_after}
+use Rattle.bd_cursor_model.proofs.SourceLemmas.{all_places}
+use Rattle.bd_bson_dump.specs.Collection.{documents}
+use Rattle.bd_cursor_sort.specs.Selection.{selection_of}
 use Rattle.bd_cursor.specs.SessionView.{marked_token}
 use Rattle.bd_cursor.proofs.cursor.Remainder.of.Goals as goal
 

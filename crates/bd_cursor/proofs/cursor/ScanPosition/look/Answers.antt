@@ -1,8 +1,8 @@
 use Rattle.std.proofs.Common.{rules, ◌≡◌, ◌≤◌, ◌<◌, ◌∙◌, ap, sym, arith, drop, length, None}
-use Rattle.bd_answer.specs.Answer.{at_most}
-use Rattle.bd_bson.specs.Collection.{documents}
-use Rattle.bd_filter.specs.Filter.{filter_tree}
-use Rattle.bd_sort.specs.Selection.{hits_of}
+use Rattle.bd_cursor_model.specs.Answer.{at_most}
+use Rattle.bd_bson_dump.specs.Collection.{documents}
+use Rattle.bd_query_filter.specs.Filter.{filter_tree}
+use Rattle.bd_cursor_sort.specs.Selection.{hits_of}
 use Rattle.std.specs.List.{cons_option}
 use Rattle.bd_cursor.proofs.CursorLemmas.{all_seen, at_most_none, met, missed, passed_over, unseen}
 use Rattle.bd_cursor.proofs.cursor.ScanPosition.look.Goals as goal

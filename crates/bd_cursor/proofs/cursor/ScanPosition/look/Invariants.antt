@@ -1,5 +1,5 @@
 use Rattle.std.proofs.Common.{◌≡◌, ◌-◌, length}
-use Rattle.bd_bson.specs.Collection.{documents}
+use Rattle.bd_bson_dump.specs.Collection.{documents}
 use Rattle.bd_cursor.specs.SessionView.{scan_left_in}
 use Rattle.bd_cursor.proofs.cursor.ScanPosition.look.Given as goal
 

@@ -1,8 +1,8 @@
 use Rattle.std.proofs.Common.{ℕ, ◌∙◌, ap, drop, length, refl, sym}
 use Rattle.std.specs.Option.{option_map}
-use Rattle.bd_answer.specs.{Answer.cut, Session.left_after}
-use Rattle.bd_filter.specs.Filter.{filter_tree}
-use Rattle.bd_sort.specs.Selection.{hits_of, selection_of}
+use Rattle.bd_cursor_model.specs.{Answer.cut, Session.left_after}
+use Rattle.bd_query_filter.specs.Filter.{filter_tree}
+use Rattle.bd_cursor_sort.specs.Selection.{hits_of, selection_of}
 use Rattle.bd_cursor.specs.SessionView.{mark_of, marked_token}
 use Rattle.bd_cursor.proofs.CursorLemmas.{answer_cut, rest_cut, unseen}
 use Rattle.bd_cursor.proofs.cursor.ScanPosition.of.Goals.{in-Some, in-None}

@@ -1,5 +1,5 @@
 use Rattle.std.proofs.{Common.rules, Common.◌≡◌, Common.◌∙◌, Common.ap, Common.sym, Common.filter, Common.map, Common.not, Common.string_bytes, lemmas.Fn.filter_same}
-use Rattle.bd_answer.specs.Session.{IndexMark, changed_by, drop_call, dropped, is_on, reply}
+use Rattle.bd_cursor_model.specs.Session.{IndexMark, changed_by, drop_call, dropped, is_on, reply}
 use Rattle.bd_index.specs.declared.index.Index.{Index}
 use Rattle.bd_cursor.specs.{Access.index_mark, SessionView.state_of}
 use Rattle.bd_cursor.proofs.SessionLemmas.{map_kept, with_marks}

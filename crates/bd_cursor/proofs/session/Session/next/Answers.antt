@@ -1,7 +1,7 @@
 use Rattle.std.proofs.Common.{◌≡◌, ◌≤◌, ◌<◌, ap, sym, ◌∙◌, Some, List, cond, length, map, get_or, slice_get, slice_set, arith, subst}
 use Rattle.std.proofs.{lemmas.Grind.common_steps, lemmas.List.map-set}
 use Rattle.bd_value.specs.Limits.{greatest_count}
-use Rattle.bd_answer.specs.Session.{OpenCursor, State, changed_by, cursor_of, gave, next_call, reply, with_moved, without}
+use Rattle.bd_cursor_model.specs.Session.{OpenCursor, State, changed_by, cursor_of, gave, next_call, reply, with_moved, without}
 use Rattle.bd_cursor.specs.{SessionView.TakesMemory, SessionView.given_batch, SessionView.open_cursor, SessionView.state_of, declared.cursor.Cursor.Cursor}
 use Rattle.bd_cursor.proofs.SessionLemmas.{after_batch, gave_batch, get_some}
 use Rattle.bd_cursor.proofs.session.Session.next.Goals as goal

@@ -1,6 +1,6 @@
 use Rattle.std.proofs.Common.{◌≡◌, ◌≤◌, length, arith}
 use Rattle.std.proofs.lemmas.List.Elements.{All-append}
-use Rattle.bd_bounds.specs.BoundsView.{keys_between}
+use Rattle.bd_index_bounds.specs.BoundsView.{keys_between}
 use Rattle.bd_index.proofs.EntryLemmas.{count_kept}
 use Rattle.bd_index.proofs.PlacesLemmas.{covers_one, gaps_on, gaps_whole, keys_within-Range, order_within, union_on, union_whole}
 use Rattle.bd_index.proofs.index.Index.+spanning.Goals as goal

@@ -1,6 +1,6 @@
 use Rattle.std.proofs.Common.{◌≡◌, false, length, arith, ap₂, ◌∙◌}
 use Rattle.std.specs.Prelude.{nat_lt}
-use Rattle.bd_bson.specs.Collection.{documents}
+use Rattle.bd_bson_dump.specs.Collection.{documents}
 use Rattle.bd_path.specs.PathNames.{names_of}
 use Rattle.bd_index.specs.Entries.{entries_of}
 use Rattle.bd_index.proofs.EntryLemmas.{many_by_count, size_kept}

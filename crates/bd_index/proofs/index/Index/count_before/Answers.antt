@@ -1,6 +1,6 @@
 use Rattle.std.proofs.Common.{arith, get_or}
-use Rattle.bd_raw.specs.Sound.{stands}
-use Rattle.bd_bounds.specs.BoundsView.{is_before}
+use Rattle.bd_bson_view.specs.Sound.{stands}
+use Rattle.bd_index_bounds.specs.BoundsView.{is_before}
 use Rattle.bd_index.proofs.{EntryLemmas.count_kept, PlacesLemmas.above_next, PlacesLemmas.below_next, PlacesLemmas.parted, PlacesLemmas.told}
 use Rattle.bd_index.proofs.index.Index.count_before.Goals as goal
 

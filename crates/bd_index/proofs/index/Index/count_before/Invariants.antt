@@ -1,6 +1,6 @@
 use Rattle.std.proofs.Common.{◌≡◌, ◌≤◌, ◌-◌, true, false, length}
 use Rattle.std.specs.List.{AllWithin}
-use Rattle.bd_bounds.specs.BoundsView.{is_before}
+use Rattle.bd_index_bounds.specs.BoundsView.{is_before}
 use Rattle.bd_index.specs.IndexView.{IsIndexOf}
 use Rattle.bd_index.proofs.index.Index.count_before.Given as goal
 

@@ -1,6 +1,6 @@
 use Rattle.std.proofs.Common.{get_or}
 use Rattle.bd_value.specs.Tree.{leaf, null}
-use Rattle.bd_bson.specs.Collection.{bytes_of}
+use Rattle.bd_bson_dump.specs.Collection.{bytes_of}
 use Rattle.bd_index.proofs.EntryLemmas.{key_there}
 use Rattle.bd_index.proofs.index.Index.key.Goals as goal
 

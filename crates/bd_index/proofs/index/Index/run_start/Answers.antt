@@ -1,5 +1,5 @@
 use Rattle.std.proofs.Common.{◌∙◌, ap, arith, is_eq, sym}
-use Rattle.bd_raw.specs.Sound.{stands}
+use Rattle.bd_bson_view.specs.Sound.{stands}
 use Rattle.bd_index.proofs.{EntryLemmas.count_kept, WalkLemmas.run_begins, WalkLemmas.run_goes_on, WalkLemmas.run_is_whole}
 use Rattle.bd_index.proofs.index.Index.run_start.Goals as goal
 

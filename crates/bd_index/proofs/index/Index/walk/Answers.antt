@@ -1,6 +1,6 @@
 use Rattle.std.proofs.Common.{◌<◌, Bool, false, List, length, sym, ap, ◌∙◌, subst}
 use Rattle.std.proofs.lemmas.List.{get_or-replicate, length-replicate}
-use Rattle.bd_bson.specs.Collection.{documents}
+use Rattle.bd_bson_dump.specs.Collection.{documents}
 use Rattle.bd_path.specs.PathNames.{names_of}
 use Rattle.bd_index.specs.Walk.{entries_ahead}
 use Rattle.bd_index.proofs.WalkLemmas.{AreOrdered, from_above, room_for, upward, walks_fresh}

@@ -1,5 +1,5 @@
 use Rattle.std.proofs.Common.{◌∙◌}
-use Rattle.bd_filter.specs.FilterMatch.{value_or_null}
+use Rattle.bd_query_filter.specs.FilterMatch.{value_or_null}
 use Rattle.bd_query.proofs.EndTestLemmas.{of_value}
 use Rattle.bd_query.proofs.end_test.CandidateTestEndTest.test.Goals as goal
 

@@ -1,5 +1,5 @@
 use Rattle.std.proofs.Common.{◌∙◌}
-use Rattle.bd_filter.specs.FilterMatch.{is_value}
+use Rattle.bd_query_filter.specs.FilterMatch.{is_value}
 use Rattle.bd_query.proofs.EndTestLemmas.{of_value}
 use Rattle.bd_query.proofs.end_test.ValueCandidateTestEndTest.test.Goals as goal
 

@@ -1,7 +1,0 @@
-use Rattle.std.proofs.Common.{◌≡◌, map, take}
-use Rattle.bd_value.specs.View.{tree_of}
-use Rattle.bd_bounds.specs.{Bounds.keys_of_equal, BoundsView.keys_within}
-use Rattle.bd_bounds.proofs.range.bounds_of_equal.Given as goal
-
-abbrev pub invariant-loop-value : goal.invariant-loop-value
-invariant-loop-value l = map keys_within l.parts.items ≡ map keys_of_equal (map tree_of (take l.value-index l.values))

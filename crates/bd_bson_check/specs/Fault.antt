@@ -1,0 +1,99 @@
+-- A fault: which check failed first, at which byte, and the names from the top to the item.
+use Rattle.std.specs.Prelude.{◌≡◌, ◌⊎◌, ℕ, List, [], ◌∷◌, map, reverse, Option, Some, None, Result, Ok, Err}
+use Rattle.std.specs.Prelude.{string_bytes, codes, MatchResult}
+use Rattle.bd_bson_check.specs.declared.fault.{Fault.Fault as HeldFault, Finding.Finding, FaultKind.FaultKind, Stop.Stop}
+
+pub record Fault : Type 0 where
+  pub kind : FaultKind
+  pub offset : ℕ
+  pub path : List (List ℕ)
+
+-- the same fault, seen from one level up
+abbrev pub longer : List ℕ → Fault → Fault
+longer name f = record { kind = f.kind; offset = f.offset; path = name ∷ f.path }
+
+-- what a reader of an item found, which keeps the path from the item up
+abbrev pub found_fault : Finding → Fault
+found_fault f = record { kind = f.kind; offset = f.offset; path = reverse (map string_bytes f.path.items) }
+
+-- a reader stopped at this fault, or memory ran out
+abbrev pub TellsStop : Stop → Fault → Type 0
+TellsStop Stop.NoMemory f = Unit {0}
+TellsStop (Stop.Found g) f = f ≡ found_fault g
+
+-- its answer, seen by a view, is what going past the item gives, or memory ran out
+abbrev pub FailsAtItem : {Y : Type 0} → Stop → Result Y Fault → Type 0
+FailsAtItem Stop.NoMemory given = Unit {0}
+FailsAtItem (Stop.Found f) given = given ≡ Err (found_fault f)
+
+abbrev pub GivesItem : {X Y : Type 0} → (X → Y) → Result X Stop → Result Y Fault → Type 0
+GivesItem view answer given = MatchResult answer (λ x. given ≡ Ok (view x)) (λ e. FailsAtItem e given)
+
+-- the fault that was answered, without the number of the document
+abbrev pub fault_view : HeldFault → Fault
+fault_view e = record { kind = e.kind; offset = e.offset; path = map string_bytes e.path.items }
+
+-- the fault of the document of that number
+pub record IsFault (number : ℕ) (f : Fault) (e : HeldFault) : Type 0 where
+  pub same : f ≡ fault_view e
+  pub document : e.document ≡ number
+
+-- a fault of that kind, which has no place
+pub record HasNoPlace (fault : FaultKind) (e : HeldFault) : Type 0 where
+  pub kind : e.kind ≡ fault
+  pub document : e.document ≡ 0
+  pub offset : e.offset ≡ 0
+  pub path : e.path.items ≡ []
+
+-- no memory was given
+abbrev pub IsWantOfMemory : HeldFault → Type 0
+IsWantOfMemory e = HasNoPlace FaultKind.NoMemory e
+
+abbrev pub IsOf : Stop → ℕ → HeldFault → Type 0
+IsOf Stop.NoMemory number e = IsWantOfMemory e
+IsOf (Stop.Found g) number e = IsFault number (found_fault g) e
+
+-- the fault that was answered is the one there is, or that memory ran out
+abbrev pub TellsFault : ℕ → Option Fault → HeldFault → Type 0
+TellsFault number None e = IsWantOfMemory e
+TellsFault number (Some f) e = IsWantOfMemory e ⊎ IsFault number f e
+
+-- the number of a kind
+abbrev pub fault_number : FaultKind → ℕ
+fault_number FaultKind.ShortLength = 1
+fault_number FaultKind.BadLength = 2
+fault_number FaultKind.NoTerminator = 3
+fault_number FaultKind.UnknownType = 4
+fault_number FaultKind.Double = 5
+fault_number FaultKind.Decimal128 = 6
+fault_number FaultKind.NameUnended = 7
+fault_number FaultKind.BadUtf8 = 8
+fault_number FaultKind.BadStringLength = 9
+fault_number FaultKind.StringUnended = 10
+fault_number FaultKind.BadBoolean = 11
+fault_number FaultKind.BadBinaryLength = 12
+fault_number FaultKind.BadScopeLength = 13
+fault_number FaultKind.TooDeep = 14
+fault_number FaultKind.ValueShort = 15
+fault_number FaultKind.DumpTooLong = 16
+fault_number FaultKind.NoMemory = 17
+
+-- what went wrong, in words
+unfoldable pub fault_words : FaultKind → List ℕ
+fault_words FaultKind.ShortLength = codes "length cut short"
+fault_words FaultKind.BadLength = codes "bad length"
+fault_words FaultKind.NoTerminator = codes "no terminator"
+fault_words FaultKind.UnknownType = codes "unknown type"
+fault_words FaultKind.Double = codes "double"
+fault_words FaultKind.Decimal128 = codes "decimal128"
+fault_words FaultKind.NameUnended = codes "name not ended"
+fault_words FaultKind.BadUtf8 = codes "not UTF-8"
+fault_words FaultKind.BadStringLength = codes "bad string length"
+fault_words FaultKind.StringUnended = codes "string not ended"
+fault_words FaultKind.BadBoolean = codes "bad boolean"
+fault_words FaultKind.BadBinaryLength = codes "bad binary length"
+fault_words FaultKind.BadScopeLength = codes "bad scope length"
+fault_words FaultKind.TooDeep = codes "too deep"
+fault_words FaultKind.ValueShort = codes "value cut short"
+fault_words FaultKind.DumpTooLong = codes "dump too long"
+fault_words FaultKind.NoMemory = codes "no memory"

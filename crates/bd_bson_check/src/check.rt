@@ -1,0 +1,265 @@
+//! The first fault of a document's bytes, from left to right, without a tree; and the documents of a dump in turn.
+
+ghost use Rattle.std.specs.Prelude.{◌≡◌, ◌≤◌, ◌<◌, ◌+◌, length, drop, slice_range, option_map, suc, IfOk, IfErr, IfSome, MatchResult, Ok, Err, Some, None, [], if◌then◌else◌};
+ghost use Rattle.bd_value.specs.Limits.{longest_input};
+ghost use Rattle.bd_value.specs.Tree.{Doc, pairs_in};
+ghost use Rattle.bd_value.specs.View.{pairs};
+ghost use Rattle.bd_bson_view.specs.Spelling.{IsDocument};
+ghost use Rattle.bd_bson_view.specs.Sound.{stands};
+ghost use Rattle.bd_bson_check.specs.Fault.{GivesItem, TellsFault, IsWantOfMemory};
+ghost use Rattle.bd_bson_check.specs.FirstFault.{past_typed, past_element, past_elements, past_body, past_code_scope, past_nested, past_document, first_fault};
+ghost use Rattle.bd_bson_check.specs.Dump.{frame_length, frame_fault, IsNext};
+
+use crate::fault::{
+    Fault, FaultKind, Past, Stop, fault_at, fault_of, frame_fault, want_of_memory, within,
+};
+use crate::parts::{binary, boolean, code_frame, fixed, frame, name, past_scalar, regex, string};
+use bd_bson_view::{ElementType, Holder, RawDoc, element_type, raw_parts};
+use bd_value::{Document, Kind, LONGEST_DOCUMENT, MOST_LEVELS};
+use std::alloc::Global;
+
+/// Checks that all of the bytes are one document, which begins at the offset `base` of a dump and has that number in
+/// it, and gives a view of it.
+///
+/// The fault is the first from left to right: BSON 1.1, `document`, with at most 16,793,600 bytes and 200 levels.
+/// Memory is taken for the path of a fault alone.
+#[inline(always)]
+pub fn check_document<'a>(
+    alloc: Global,
+    bytes: &'a [u8],
+    base: u64,
+    number: u32,
+) -> Result<RawDoc<'a>, Fault>
+    requires { base + length bytes.now ≤ longest_input }
+    ensures spelled { IfOk result (λ d. IsDocument (pairs_in (stands d.sound)) bytes.now) }
+    ensures kept { IfOk result (λ d. d.bytes.now ≡ bytes.now) }
+    ensures first { MatchResult result (λ _. first_fault base bytes.now ≡ None) (TellsFault number (first_fault base bytes.now)) }
+{
+    match document(alloc, base + bytes.len() as u64, bytes) {
+        Ok(()) => Ok(RawDoc::whole(bytes)),
+        Err(stop) => Err(fault_of(alloc, stop, number)),
+    }
+}
+
+/// The document that all of the bytes are. It begins at the offset `base` of a dump and has that number in it.
+///
+/// The fault is the first from left to right, or `FaultKind::NoMemory`, which has no place: BSON 1.1, `document`, with
+/// at most 16,793,600 bytes and 200 levels.
+pub fn read_document(alloc: Global, bytes: &[u8], base: u64, number: u32) -> Result<Document, Fault>
+    requires { base + length bytes.now ≤ longest_input }
+    // What is read is what the bytes spell.
+    ensures found { IfOk result (λ d. IsDocument (pairs d) bytes.now) }
+    // What the bytes spell is read, unless memory runs out.
+    ensures only { (d : Doc) → IsDocument d bytes.now → MatchResult result (λ r. pairs r ≡ d) IsWantOfMemory }
+    ensures fault { IfErr result (TellsFault number (first_fault base bytes.now)) }
+{
+    let raw = check_document(alloc, bytes, base, number)?;
+    match raw.to_document(alloc) {
+        Ok(document) => Ok(document),
+        Err(_) => Err(want_of_memory(alloc)),
+    }
+}
+
+/// Where a document stands in a dump.
+#[derive(Clone, Copy, Debug, PartialEq, Eq)]
+pub struct Frame {
+    /// The offset of its first byte.
+    pub start: usize,
+    /// The number of its bytes, from 5 to 16,793,600.
+    pub length: usize,
+}
+
+/// Where the document at the offset `at` of a dump stands, by the length that it begins with; none at the end.
+///
+/// Fewer than four bytes are `FaultKind::ShortLength`; a length below 5, above 16,793,600 or past the end is
+/// `FaultKind::BadLength`. Both stand at the place, and have the number and an empty path. No memory is taken.
+pub fn next_frame(
+    alloc: Global,
+    bytes: &[u8],
+    at: usize,
+    number: u32,
+) -> Result<Option<Frame>, Fault>
+    requires { at ≤ length bytes.now }
+    ensures found { IfOk result (λ f. frame_length (drop at bytes.now) ≡ Ok (option_map (λ x. x.length) f)) }
+    ensures stands { IfOk result (λ f. IfSome f (λ x. (x.start ≡ at) × (at + x.length ≤ length bytes.now))) }
+    ensures fault { IfErr result (λ e. frame_length (drop at bytes.now) ≡ Err e.kind) }
+    ensures place { IfErr result (λ e. (e.document ≡ number) × (e.offset ≡ at) × (e.path.items ≡ [])) }
+{
+    let rest = &bytes[at..];
+    if rest.is_empty() {
+        return Ok(None);
+    }
+    if rest.len() < 4 {
+        return Err(frame_fault(alloc, FaultKind::ShortLength, at, number));
+    }
+    let length = raw_parts::number(rest) as usize;
+    if length < 5 || length > LONGEST_DOCUMENT || length > rest.len() {
+        return Err(frame_fault(alloc, FaultKind::BadLength, at, number));
+    }
+    Ok(Some(Frame { start: at, length }))
+}
+
+/// The document at the offset `at` of a dump, of which it has that number, and the offset after it; none at the end.
+///
+/// The fault is the first of the document, from left to right, or `FaultKind::NoMemory`, which has no place. Memory is
+/// taken for the path of a fault alone.
+pub fn next_document<'a>(
+    alloc: Global,
+    bytes: &'a [u8],
+    at: usize,
+    number: u32,
+) -> Result<Option<(RawDoc<'a>, usize)>, Fault>
+    requires inside { at ≤ length bytes.now }
+    requires short { length bytes.now ≤ longest_input }
+    ensures next { IfOk result (IsNext bytes.now at) }
+    ensures kept { IfOk result (λ o. IfSome o (λ p. p.0.bytes.now ≡ slice_range bytes.now at p.1)) }
+    ensures fault { IfErr result (TellsFault number (frame_fault at (drop at bytes.now))) }
+{
+    let Some(frame) = next_frame(alloc, bytes, at, number)? else {
+        return Ok(None);
+    };
+    let after = at + frame.length;
+    let document = check_document(alloc, &bytes[at..after], at as u64, number)?;
+    Ok(Some((document, after)))
+}
+
+/// Goes past the document that all of the bytes are to be.
+#[tactic(auto, unfolding(crate::specs::FirstFault::past_document))]
+fn document(alloc: Global, e: u64, bytes: &[u8]) -> Result<(), Stop>
+    requires { length bytes.now ≤ e }
+    ensures { GivesItem (λ x. tt) result (past_document e bytes.now) }
+{
+    let (body, end, _) = frame(alloc, true, e, bytes)?;
+    elements(alloc, MOST_LEVELS as u32 - 1, false, end, body)
+}
+
+/// Goes past all elements.
+#[cycle(checking)]
+fn elements(alloc: Global, room: u32, in_array: bool, e: u64, bytes: &[u8]) -> Result<(), Stop>
+    requires { length bytes.now ≤ e }
+    ensures { GivesItem (λ x. tt) result (past_elements (past_nested room) (if in_array then Some 0 else None) (length bytes.now) e bytes.now) }
+{
+    let mut place = if in_array { Some(0) } else { None };
+    let mut rest = bytes;
+    while !rest.is_empty() {
+        rest = match past_scalar(rest) {
+            Some(after) => after,
+            None => element(alloc, room, place, e, rest)?,
+        };
+        place = next(place);
+    }
+    Ok(())
+}
+
+/// The place of the next element: an element of a document has none.
+fn next(place: Option<usize>) -> Option<usize>
+    requires { IfSome place (λ i. i < usize.MAX) }
+    ensures { result ≡ option_map suc place }
+{
+    match place {
+        None => None,
+        Some(i) => Some(i + 1),
+    }
+}
+
+/// Goes past one element.
+#[cycle(checking)]
+#[tactic(auto, unfolding(crate::specs::FirstFault::past_element))]
+fn element(alloc: Global, room: u32, place: Option<usize>, e: u64, bytes: &[u8]) -> Past<'_>
+    requires some { 0 < length bytes.now }
+    requires inside { length bytes.now ≤ e }
+    ensures gives { GivesItem (λ x. x.now) result (past_element (past_nested room) place e bytes.now) }
+    ensures after { IfOk result (λ x. length x.now < length bytes.now) }
+{
+    let q = e - bytes.len() as u64;
+    let Some(element_type) = element_type(bytes[0]) else {
+        return Err(fault_at(alloc, FaultKind::UnknownType, q));
+    };
+    let (_, rest) = bytes.split_at(1);
+    let (name, rest) = name(alloc, FaultKind::NameUnended, e, rest)?;
+    match value(alloc, room, element_type, q, e, rest) {
+        Ok(rest) => Ok(rest),
+        Err(stop) => Err(within(alloc, place, name, stop)),
+    }
+}
+
+/// Goes past the value of an element whose type byte stands at `q`. Doubles and decimal128 are refused unseen.
+#[cycle(checking)]
+fn value(alloc: Global, room: u32, typed: ElementType, q: u64, e: u64, bytes: &[u8]) -> Past<'_>
+    requires { length bytes.now ≤ e }
+    ensures gives { GivesItem (λ x. x.now) result (past_typed (past_nested room) typed q e bytes.now) }
+    ensures after { IfOk result (λ x. length x.now ≤ length bytes.now) }
+{
+    let kind = match typed {
+        ElementType::Kept(kind) => kind,
+        ElementType::Double => return Err(fault_at(alloc, FaultKind::Double, q)),
+        ElementType::Decimal128 => return Err(fault_at(alloc, FaultKind::Decimal128, q)),
+    };
+    match kind {
+        Kind::MinKey | Kind::Undefined | Kind::Null | Kind::MaxKey => Ok(bytes),
+        Kind::Int32 => fixed(alloc, 4, e, bytes),
+        Kind::Int64 | Kind::Date | Kind::Timestamp => fixed(alloc, 8, e, bytes),
+        Kind::ObjectId => fixed(alloc, 12, e, bytes),
+        Kind::Bool => boolean(alloc, e, bytes),
+        Kind::Text | Kind::Symbol | Kind::Code => string(alloc, e, bytes),
+        Kind::DbPointer => {
+            let rest = string(alloc, e, bytes)?;
+            fixed(alloc, 12, e, rest)
+        }
+        Kind::Binary => binary(alloc, e, bytes),
+        Kind::Regex => regex(alloc, e, bytes),
+        Kind::Doc => nested(alloc, room, Holder::Document, q, e, bytes),
+        Kind::Array => nested(alloc, room, Holder::Array, q, e, bytes),
+        Kind::CodeScope => nested(alloc, room, Holder::CodeScope, q, e, bytes),
+    }
+}
+
+/// Goes past what holds values, with so many levels left for it.
+#[cycle(checking)]
+fn nested(alloc: Global, room: u32, holder: Holder, q: u64, e: u64, bytes: &[u8]) -> Past<'_>
+    requires { length bytes.now ≤ e }
+    ensures gives { GivesItem (λ x. x.now) result (past_nested room holder q e bytes.now) }
+    ensures after { IfOk result (λ x. length x.now ≤ length bytes.now) }
+{
+    if room == 0 {
+        return Err(fault_at(alloc, FaultKind::TooDeep, q));
+    }
+    match holder {
+        Holder::Document => body(alloc, room - 1, false, e, bytes),
+        Holder::Array => body(alloc, room - 1, true, e, bytes),
+        Holder::CodeScope => {
+            if room == 1 {
+                return Err(fault_at(alloc, FaultKind::TooDeep, q));
+            }
+            code_scope(alloc, room - 1, q, e, bytes)
+        }
+    }
+}
+
+/// Goes past a document or an array, with so many levels left below it.
+#[cycle(checking)]
+fn body(alloc: Global, room: u32, in_array: bool, e: u64, bytes: &[u8]) -> Past<'_>
+    requires { length bytes.now ≤ e }
+    ensures gives { GivesItem (λ x. x.now) result (past_body (past_nested room) in_array e bytes.now) }
+    ensures after { IfOk result (λ x. length x.now ≤ length bytes.now) }
+{
+    let (body, end, rest) = frame(alloc, false, e, bytes)?;
+    elements(alloc, room, in_array, end, body)?;
+    Ok(rest)
+}
+
+/// Goes past code with scope, with so many levels left for its scope.
+#[cycle(checking)]
+fn code_scope(alloc: Global, room: u32, q: u64, e: u64, bytes: &[u8]) -> Past<'_>
+    requires { length bytes.now ≤ e }
+    ensures gives { GivesItem (λ x. x.now) result (past_code_scope (past_nested room) q e bytes.now) }
+    ensures after { IfOk result (λ x. length x.now ≤ length bytes.now) }
+{
+    let (parts, end, rest) = code_frame(alloc, e, bytes)?;
+    let scope = string(alloc, end, parts)?;
+    match nested(alloc, room, Holder::Document, q, end, scope) {
+        Ok([]) => Ok(rest),
+        Ok(_) => Err(fault_at(alloc, FaultKind::BadScopeLength, e - bytes.len() as u64)),
+        Err(stop) => Err(within(alloc, None, "$scope", stop)),
+    }
+}

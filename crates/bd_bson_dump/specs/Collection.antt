@@ -1,0 +1,35 @@
+-- The documents of a dump that was read, and why one was not.
+use Rattle.std.specs.Prelude.{◌≡◌, ◌<◌, ◌≤◌, ◌⊎◌, ℕ, List, [], length, slice_get, slice_index_or}
+use Rattle.std.specs.List.{filter_map}
+use Rattle.bd_value.specs.{Limits.longest_input, Tree.Doc, Tree.Tree, Tree.doc, Tree.fields_of}
+use Rattle.bd_bson_check.specs.{Dump.FailsAfter, Fault.fault_view, Fault.HasNoPlace, Fault.IsWantOfMemory}
+use Rattle.bd_bson_check.specs.declared.fault.{Fault.Fault, FaultKind.FaultKind}
+use Rattle.bd_bson_dump.specs.{Starts.documents_starting_at, declared.collection.Dump.Dump}
+
+-- the documents of a dump, in their order
+unfoldable pub documents : Dump → List Doc
+documents dump = documents_starting_at dump.bytes.items dump.starts.items dump.stand
+
+-- the bytes of a dump
+abbrev pub bytes_of : Dump → List ℕ
+bytes_of dump = dump.bytes.items
+
+-- after some whole documents, of which there are as many as the number that it has, stands one that has the fault
+pub record IsFirstFault (bytes : List ℕ) (e : Fault) : Type 0 where
+  pub before : List Doc
+  pub fails : FailsAfter before (fault_view e) bytes
+  pub document : e.document ≡ length before
+
+-- why bytes were not read as a dump: too many, which is tried first,
+-- or out of memory, or the first document with a fault
+abbrev pub IsUnread : List ℕ → Fault → Type 0
+IsUnread bytes e = ((longest_input < length bytes) × HasNoPlace FaultKind.DumpTooLong e)
+    ⊎ ((length bytes ≤ longest_input) × (IsWantOfMemory e ⊎ IsFirstFault bytes e))
+
+-- of these documents the one at a place
+abbrev pub document_at : List Doc → ℕ → Tree
+document_at ds place = doc (fields_of (slice_index_or ds place []))
+
+-- and those at places; a place after the last document has none
+abbrev pub documents_at : List Doc → List ℕ → List Doc
+documents_at ds = filter_map (slice_get ds)

@@ -1,0 +1,57 @@
+//! A dump from its bytes.
+
+ghost use Rattle.std.specs.Prelude.{◌≡◌, ◌≤◌, length, IfOk, IfErr, Some, Ok, Err};
+ghost use Rattle.bd_value.specs.Limits.{longest_input};
+ghost use Rattle.bd_bson_check.specs.Dump.{IsDump};
+ghost use Rattle.bd_bson_dump.specs.Collection.{documents, bytes_of, IsUnread};
+ghost use Rattle.bd_bson_dump.specs.Starts.{StandAt, documents_starting_at};
+
+use crate::collection::Dump;
+use bd_bson_check::{Fault, FaultKind, frame_fault, next_document, want_of_memory};
+use bd_value::LONGEST_INPUT;
+use std::alloc::Global;
+use std::cell::Cell;
+
+/// The documents that the bytes are a dump of, all of them.
+///
+/// # Errors
+///
+/// - `FaultKind::DumpTooLong`, before anything is read, exactly where there are more than 4,294,967,295 bytes. It has no
+///   place.
+/// - The first fault of the first document that has one, by its number, its byte from the start of the bytes, and its path.
+/// - `FaultKind::NoMemory` where memory ran out. It has no place.
+pub fn read_dump(alloc: Global, bytes: Vec<u8>) -> Result<Dump, Fault>
+    ensures dump { IfOk result (λ dump. IsDump (documents dump) bytes.items) }
+    ensures bytes { IfOk result (λ dump. bytes_of dump ≡ bytes.items) }
+    ensures fault { IfErr result (IsUnread bytes.items) }
+{
+    if bytes.len() as u64 > LONGEST_INPUT {
+        return Err(frame_fault(alloc, FaultKind::DumpTooLong, 0, 0));
+    }
+    let starts = starts_in(alloc, &bytes)?;
+    Ok(Dump {
+        bytes,
+        starts,
+        reads: Cell::new(0),
+        value_reads: Cell::new(0),
+    })
+}
+
+/// Where the documents start that bytes which are not too many are a dump of.
+fn starts_in(alloc: Global, bytes: &[u8]) -> Result<Vec<u32>, Fault>
+    requires { length bytes.now ≤ longest_input }
+    ensures dump { IfOk result (λ starts. (all : StandAt bytes.now starts.items)
+        × IsDump (documents_starting_at bytes.now starts.items all) bytes.now) }
+    ensures few { IfOk result (λ starts. length starts.items ≤ length bytes.now) }
+    ensures fault { IfErr result (IsUnread bytes.now) }
+{
+    let mut starts = Vec::new(alloc);
+    let mut at = 0;
+    while let Some((_, after)) = next_document(alloc, bytes, at, starts.len() as u32)? {
+        if starts.push(at as u32).is_err() {
+            return Err(want_of_memory(alloc));
+        }
+        at = after;
+    }
+    Ok(starts)
+}

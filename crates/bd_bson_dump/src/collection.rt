@@ -1,0 +1,77 @@
+//! A dump: all documents of a collection, in their bytes.
+
+ghost use Rattle.std.specs.Prelude.{◌≡◌, ◌≤◌, ◌<◌, Some, length, slice_get};
+ghost use Rattle.bd_value.specs.Limits.{longest_input};
+ghost use Rattle.bd_value.specs.Tree.{Tree, pairs_in};
+ghost use Rattle.bd_bson_view.specs.Sound.{StandsAt, IsPlace, stands};
+ghost use Rattle.bd_bson_dump.specs.Starts.{StandAt, StandAt-prop};
+
+use bd_bson_view::{At, RawDoc, RawValue};
+use std::cell::Cell;
+
+/// The documents of a dump, in their order. A document is named by its number, from 0. It keeps the bytes and where each
+/// document starts, and no trees.
+#[derive(Drop)]
+pub struct Dump {
+    pub(crate) bytes: Vec<u8>,
+    pub(crate) starts: Vec<u32>,
+    /// How often a document was asked for.
+    pub(crate) reads: Cell<u64>,
+    /// How often a value was asked for by where it stands.
+    pub(crate) value_reads: Cell<u64>,
+    ghost few: { length starts.items ≤ longest_input },
+    ghost short: { length bytes.items ≤ longest_input },
+    ghost stand: { StandAt bytes.items starts.items } by { StandAt-prop bytes.items starts.items },
+}
+
+impl Dump {
+    ghost use Rattle.bd_bson_dump.specs.Collection.{documents, bytes_of};
+
+    /// The number of documents. It takes no memory.
+    pub fn len(&self) -> u32
+        ensures { result ≡ length (documents self.now) }
+    {
+        self.starts.len() as u32
+    }
+
+    /// The document of that number. It takes no memory.
+    pub fn document(&self, n: u32) -> RawDoc<'_>
+        requires { n < length (documents self.now) }
+        ensures document { slice_get (documents self.now) n ≡ Some (pairs_in (stands result.sound)) }
+        ensures kept { result.bytes.now ≡ bytes_of self.now }
+    {
+        self.reads.set(self.reads.get().saturating_add(1));
+        RawDoc::at(&self.bytes, self.starts[n as usize] as usize)
+    }
+
+    /// The value that stands there: of the `at` of a view into this dump, what the view stands for. It takes no memory, and is
+    /// no read of a document.
+    pub fn value_at(&self, at: At) -> RawValue<'_>
+        requires { IsPlace (bytes_of self.now) at }
+        ensures value { (tree : Tree) → StandsAt (bytes_of self.now) at tree → stands result.sound ≡ tree }
+        ensures kept { result.bytes.now ≡ bytes_of self.now }
+    {
+        self.value_reads
+            .set(self.value_reads.get().saturating_add(1));
+        at.value_in(&self.bytes)
+    }
+
+    /// How often `document` was called on this dump, at most 18,446,744,073,709,551,615, where it stays. No contract speaks of
+    /// it: it is for tests and for figures.
+    pub fn reads(&self) -> u64 {
+        self.reads.get()
+    }
+
+    /// How often `value_at` was called on this dump, at most 18,446,744,073,709,551,615, where it stays. No contract speaks of it:
+    /// it is for tests and for figures.
+    pub fn value_reads(&self) -> u64 {
+        self.value_reads.get()
+    }
+
+    /// The bytes that it was read from. It takes no memory.
+    pub fn bytes(&self) -> &[u8]
+        ensures { result.now ≡ bytes_of self.now }
+    {
+        &self.bytes
+    }
+}

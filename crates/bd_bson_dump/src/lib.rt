@@ -1,0 +1,24 @@
+//! The documents of a collection, in their bytes.
+//!
+//! An example, which `bd_bson_tests` proves and runs as `examples::dump`:
+//!
+//! ```
+//! let bytes = Vec::from_slice(alloc, b"\x05\0\0\0\0\x0c\0\0\0\x10a\0\x01\0\0\0\0")?;
+//! let dump = read_dump(alloc, bytes)?;
+//! let count = dump.len();
+//! assert!(rt; count == 2);
+//! assert!(rt; dump.document(1).first("a").is_some());
+//! ```
+//!
+//! - `collection`: `Dump`, the documents of a collection in their bytes.
+//! - `collecting`: `read_dump`, which makes one.
+//! - `laws`: what is found of each document of a dump.
+#![tactic(auto)]
+
+mod collecting;
+mod collection;
+mod laws;
+
+pub use collecting::read_dump;
+pub use collection::Dump;
+pub use laws::{judges_as_the_walk, judges_in_turn};

@@ -1,0 +1,48 @@
+use Rattle.std.proofs.Common.{rules, refl}
+use Rattle.std.proofs.lemmas.Result.{err_from_is_err_and}
+use Rattle.bd_bson_stream.proofs.StreamLemmas.{begins}
+use Rattle.bd_bson_stream.proofs.doc_reader.DocReader.next.Goals as goal
+
+pub returns-in_err-advance : goal.returns-in_err-advance
+returns-in_err-advance g c =
+    let p = err_from_is_err_and c.from_residual.result c.from_residual.ensures.1 in
+    let told = c.in_err-advance.ensures in
+    rw (p.1, p.2) (
+      (refl, λ _. tt, (told.failed, told.fails, search rules)),
+      record {
+        frame = tt;
+        front = tt;
+        stands = tt;
+        end = search rules;
+        refused = search rules;
+        after = tt;
+      },
+    )
+
+pub returns : goal.returns
+returns g c =
+    let read = c.in_ok-advance.ensures.reads (search rules) in (
+      (refl, λ _. tt, (read, c.bytes.ensures, c.in_ok-advance.ensures.works)),
+      record {
+        frame = search rules;
+        front = rw c.bytes.ensures (begins _ _ _ read.gave);
+        stands = search rules;
+        end = search rules;
+        refused = search rules;
+        after = tt;
+      },
+    )
+
+pub returns-then-not-branch : goal.returns-then-not-branch
+returns-then-not-branch g c =
+    let none = c.in_ok-advance.ensures.end (search rules) in (
+      (refl, λ _. tt, (none, c.in_ok-advance.ensures.works)),
+      record {
+        frame = tt;
+        front = tt;
+        stands = tt;
+        end = search rules;
+        refused = search rules;
+        after = tt;
+      },
+    )

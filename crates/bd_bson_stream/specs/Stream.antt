@@ -1,0 +1,142 @@
+-- Documents that a device gives one after the other, by the lengths that they begin with.
+use Rattle.std.specs.Prelude.{◌≡◌, ◌<◌, ◌≤◌, ◌+◌, ◌-◌, ◌⊎◌, ℕ, List, [], ◌∷◌, ◌++◌, length, take, Option, Some, None, suc}
+use Rattle.std.specs.Prelude.{Result, Ok, Err, IfSome, IsTrue, false}
+use Rattle.std.specs.Io.KnownBytes.{Consumes, IsAtEnd}
+use Rattle.bd_value.specs.Limits.{longest_document}
+use Rattle.bd_io_device.specs.{Devices.after_more, Devices.AreReads, Devices.Over, Devices.Reader, Devices.ReadsUntil, Devices.over}
+use Rattle.bd_io_device.specs.declared.reading.ReadFault.{ReadFault}
+use Rattle.bd_bson_check.specs.{Dump.frame_length, Dump.length_told, declared.fault.FaultKind.FaultKind}
+use Rattle.bd_bson_stream.specs.declared.{doc_buffer.DocBuffer.DocBuffer, doc_buffer.DocFault.DocFault}
+use Rattle.bd_bson_stream.specs.declared.{doc_reader.RawBytes.RawBytes}
+
+-- the bytes begin with a length, which is their own
+abbrev pub IsFrame : List ℕ → Type 0
+IsFrame bytes = frame_length bytes ≡ Ok (Some (length bytes))
+
+-- the bytes are documents by their lengths, one after the other
+abbrev pub AreFrames : List (List ℕ) → List ℕ → Type 0
+AreFrames [] bytes = bytes ≡ []
+AreFrames (frame ∷ frames) bytes = (rest : List ℕ) × IsFrame frame × AreFrames frames rest × (bytes ≡ frame ++ rest)
+
+-- the bytes are fewer than a document has: too few for its length, or for what this counts
+abbrev pub IsCut : List ℕ → Type 0
+IsCut bytes = (length bytes < 4)
+    ⊎ ((5 ≤ length_told bytes) × (length_told bytes ≤ longest_document) × (length bytes < length_told bytes))
+
+-- the bytes are no more than a document has: too few to go past its length, or no more than this counts
+abbrev pub IsWithinOne : List ℕ → Type 0
+IsWithinOne bytes = (length bytes ≤ 4)
+    ⊎ ((5 ≤ length_told bytes) × (length_told bytes ≤ longest_document) × (length bytes ≤ length_told bytes))
+
+-- the bytes are documents by their lengths and a part of one more, and the last ones are no more than are missing of it
+abbrev pub EndsWithinOne : List ℕ → List ℕ → Type 0
+EndsWithinOne bytes last = (frames : List (List ℕ)) × (front : List ℕ) × (part : List ℕ) × AreFrames frames front
+    × (bytes ≡ front ++ part) × IsWithinOne (part ++ last)
+
+-- a head, and what a device still gives after it,
+-- or some bytes if that is unknown, begin with no length, for this reason
+abbrev pub HasNoFrame : List ℕ → Option (List ℕ) → FaultKind → Type 0
+HasNoFrame head left kind = (bytes : List ℕ) × IfSome left (λ rest. bytes ≡ head ++ rest)
+    × (frame_length bytes ≡ Err kind)
+
+-- the bytes of the document that the buffer holds
+abbrev pub held_bytes : DocBuffer → List ℕ
+held_bytes documents = take documents.size documents.buffer.items
+
+-- the buffer is as long as it was, or as a document needs
+abbrev pub HoldsAsMuch : ℕ → ℕ → ℕ → Type 0
+HoldsAsMuch before after size = (after ≡ before) ⊎ ((before < size) × (after ≡ size))
+
+-- the same for a document that begins with these bytes, where they tell its length
+abbrev pub GrowsFor : ℕ → ℕ → List ℕ → Type 0
+GrowsFor before after bytes = (after ≡ before) ⊎ ((4 ≤ length bytes) × HoldsAsMuch before after (length_told bytes))
+
+-- each read takes one from the reads that may be made
+abbrev pub CountsReads : DocBuffer → DocBuffer → Over Reader → Type 0
+CountsReads before after file = (after.left.turns ≤ before.left.turns)
+    × (file.after.calls ≡ after_more file.before.calls (before.left.turns - after.left.turns))
+
+-- no document is held, and the next one is the one that it was
+pub record HoldsNone (before after : DocBuffer) : Type 0 where
+  pub offset : after.place ≡ before.place
+  pub number : after.number ≡ before.number
+  pub room : after.left.bytes ≡ before.left.bytes
+  pub empty : after.size ≡ 0
+
+-- the reads after this head of a document: the end was found inside it,
+-- or the head is a length that is bad, after which there is no other read
+abbrev pub ReadsToFault : {R : Type 0} → (R → Option (List ℕ) → R → Type 0) → List ℕ → R → List ℕ → R → Type 0
+ReadsToFault gives head old given new = (turns : ℕ)
+    × ((IsCut (head ++ given) × ReadsUntil gives turns old given (Some []) new)
+    ⊎ ((length (head ++ given) ≡ 4) × AreReads gives turns old given new))
+
+-- of a reader, of which this is told, and whose read may give these bytes, or fail, and leave this reader
+module _ {R : Type 0} (state : R → Reader) where
+  module _ (gives : R → Option (List ℕ) → R → Type 0) where
+    -- there is no next document, as one read says
+    pub record FindsEnd (before after : DocBuffer) (old new : R) : Type 0 where
+      pub kept : HoldsNone before after
+      pub end : IsAtEnd (state new).left
+      pub gave : Consumes (state old).left (state new).left []
+      pub one : (before.left.turns ≡ suc after.left.turns) × gives old (Some []) new
+      pub counted : CountsReads before after (over state old new)
+      pub well : (state new).failures ≡ (state old).failures
+      pub grown : length after.buffer.items ≡ length before.buffer.items
+
+    -- the next document was read, and no byte after it
+    pub record ReadsDocument (before after : DocBuffer) (old new : R) : Type 0 where
+      pub frame : IsFrame (held_bytes after)
+      pub gave : Consumes (state old).left (state new).left (held_bytes after)
+      pub reads : AreReads gives (before.left.turns - after.left.turns) old (held_bytes after) new
+      pub offset : after.place ≡ before.place + after.size
+      pub number : after.number ≡ before.number + 1
+      pub room : after.left.bytes + after.size ≡ before.left.bytes
+      pub counted : CountsReads before after (over state old new)
+      pub well : (state new).failures ≡ (state old).failures
+      pub grown : HoldsAsMuch (length before.buffer.items) (length after.buffer.items) after.size
+
+    -- why a document was not read, of which the reader gave these bytes after its head; memory is needed once the four
+    -- bytes of its length were read, and none is read after them;
+    -- of a bad length no byte is read past what it counts
+    abbrev pub IsReason : DocBuffer → R → R → List ℕ → List ℕ → DocFault → Type 0
+    IsReason before old new head given (DocFault.Frame f) =
+        (f.offset ≡ before.place) × (f.document ≡ before.number) × HasNoFrame head (state old).left f.kind
+        × (frame_length (head ++ given) ≡ Err f.kind) × (length (head ++ given) ≤ before.left.bytes)
+        × ((state new).failures ≡ (state old).failures) × IsWithinOne (head ++ given)
+        × ReadsToFault gives head old given new
+    IsReason before old new head given (DocFault.Read ReadFault.Device) =
+        IsCut (head ++ given) × (length (head ++ given) ≤ before.left.bytes)
+        × ((state new).failures ≡ after_more (state old).failures 1)
+        × ((turns : ℕ) × ReadsUntil gives turns old given None new)
+    IsReason before old new head given (DocFault.Read ReadFault.TooLong) =
+        (front : List ℕ) × (last : List ℕ) × (given ≡ front ++ last) × IsCut (head ++ front)
+        × (length (head ++ front) ≤ before.left.bytes) × (before.left.bytes < length (head ++ front) + length last)
+        × IsWithinOne (head ++ given) × ((state new).failures ≡ (state old).failures)
+        × ((turns : ℕ) × ReadsUntil gives turns old front (Some last) new)
+    IsReason before old new head given (DocFault.Read ReadFault.TooManyTurns) =
+        IsCut (head ++ given) × (length (head ++ given) ≤ before.left.bytes)
+        × AreReads gives before.left.turns old given new
+        × ((state new).calls ≡ after_more (state old).calls before.left.turns)
+        × ((state new).failures ≡ (state old).failures)
+    IsReason before old new head given (DocFault.Read ReadFault.NoMemory) = IsCut (head ++ given)
+        × (length (head ++ given) ≤ before.left.bytes) × ((state new).failures ≡ (state old).failures)
+        × (length (head ++ given) ≡ 4) × ((turns : ℕ) × AreReads gives turns old given new)
+    IsReason before old new head given DocFault.Failed = ⊥
+
+    -- the rest of a document that begins with this head was not read, since the reader gave only these bytes
+    pub record FailsToRead (head : List ℕ) (before after : DocBuffer) (old new : R) (fault : DocFault) : Type 0 where
+      pub given : List ℕ
+      pub gave : Consumes (state old).left (state new).left given
+      pub kept : HoldsNone before after
+      pub counted : (state new).calls ≤ after_more (state old).calls before.left.turns
+      pub grown : GrowsFor (length before.buffer.items) (length after.buffer.items) (head ++ given)
+      pub reason : IsReason before old new head given fault
+
+    -- what a call left in place of the buffer and of the device, by its answer
+    abbrev pub Leaves : DocBuffer → R → Result (Option RawBytes) DocFault → DocBuffer → R → Type 0
+    Leaves before old (Ok (Some document)) after new =
+        ReadsDocument before after old new × (document.bytes.now ≡ held_bytes after) × (after.failed ≡ false)
+    Leaves before old (Ok None) after new = FindsEnd before after old new × (after.failed ≡ false)
+    Leaves before old (Err fault) after new =
+        IsTrue after.failed × (before.failed ≡ false → FailsToRead [] before after old new fault)
+        × (IsTrue before.failed → (new ≡ old) × HoldsNone before after × (after.buffer ≡ before.buffer))

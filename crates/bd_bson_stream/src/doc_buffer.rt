@@ -1,0 +1,274 @@
+//! The next document of a device, in a buffer that the documents share.
+
+ghost use Rattle.std.specs.Prelude.{◌≡◌, ◌≤◌, ◌<◌, ◌+◌, ◌-◌, ◌*◌, ◌++◌, ◌⊎◌, ◌↔◌, [], ℕ, List, length, take, true, false, None, Ok, Err, IfOk, IfErr, IfSome, IsTrue, OnErr, OnOk};
+ghost use Rattle.std.specs.Io.KnownBytes.{Consumes, prepend_known};
+ghost use Rattle.bd_value.specs.Limits.{longest_document, longest_input};
+ghost use Rattle.bd_io_device.specs.Devices.{AreReads, over};
+ghost use Rattle.bd_bson_check.specs.Dump.{length_told};
+ghost use Rattle.bd_bson_stream.specs.declared.doc_buffer.FrameFault.{FrameFault};
+ghost use Rattle.bd_bson_stream.specs.declared.doc_buffer.DocFault.TheVariants.{Frame as framed, Read as unread};
+
+use bd_bson_check::{Fault, FaultKind, frame_fault};
+use bd_io_device::{Input, Limits, ReadFault, fill, fill_after};
+use bd_value::LONGEST_DOCUMENT;
+use std::alloc::Global;
+use thiserror::Error;
+
+/// A length that is no document's, and where it stands.
+#[derive(Clone, Copy, Debug, Drop, PartialEq, Eq, Error)]
+#[error("document {document}, byte {offset}: {kind}")]
+pub struct FrameFault {
+    /// `ShortLength` or `BadLength`.
+    pub kind: FaultKind,
+    /// The number of the document, counted from 0.
+    pub document: u32,
+    /// The byte, counted from the first that the device gave.
+    pub offset: u64,
+}
+
+impl FrameFault {
+    /// The same as a fault of a dump, with no path.
+    pub fn to_fault(self, alloc: Global) -> Fault
+        ensures same { (result.kind ≡ self.kind) × (result.document ≡ self.document) × (result.offset ≡ self.offset) }
+        ensures path { result.path.items ≡ [] }
+    {
+        frame_fault(alloc, self.kind, self.offset as usize, self.document)
+    }
+}
+
+/// Why a device gave no document. It owns no memory, so that `DocReader::next` may lend.
+#[derive(Clone, Copy, Debug, Drop, PartialEq, Eq, Error)]
+pub enum DocFault {
+    /// The length of the document is cut short or bad.
+    #[error("{0}")]
+    Frame(FrameFault),
+    /// The device was not read to the end of the document.
+    #[error("{0}")]
+    Read(ReadFault),
+    /// A call before this one met a fault.
+    #[error("an earlier call met a fault")]
+    Failed,
+}
+
+impl From<ReadFault> for DocFault {
+    ghost from_gives = { λ f d. d ≡ unread f };
+
+    fn from(fault: ReadFault) -> DocFault {
+        DocFault::Read(fault)
+    }
+}
+
+/// One document of a device, and how much the device gave up to its end.
+#[derive(Drop)]
+pub struct DocBuffer {
+    /// What the device may still be asked for.
+    left: Limits,
+    buffer: Vec<u8>,
+    /// The length of the document that is held.
+    size: usize,
+    /// The offset of the next document among all bytes that the device gave.
+    place: u64,
+    /// The number of the next document.
+    number: u32,
+    failed: bool,
+    ghost held: { length buffer.items ≤ longest_document },
+    ghost inside: { size ≤ length buffer.items },
+    ghost short: { place + left.bytes ≤ longest_input },
+    ghost counted: { number * 5 ≤ place },
+    ghost emptied: { failed ≡ true → size ≡ 0 },
+}
+
+impl DocBuffer {
+    ghost use Rattle.bd_bson_stream.specs.Stream.{CountsReads, FailsToRead, FindsEnd, HoldsAsMuch, HoldsNone, IsFrame, ReadsDocument, held_bytes};
+
+    /// No document yet. No memory is taken. `limits.bytes` is at most 4,294,967,295.
+    pub fn new(alloc: Global, limits: Limits) -> DocBuffer
+        requires { limits.bytes ≤ longest_input }
+        ensures starts { (result.left ≡ limits) × (result.place ≡ 0) × (result.number ≡ 0) × (result.failed ≡ false) }
+        ensures empty { (result.size ≡ 0) × (result.buffer.items ≡ []) }
+    {
+        DocBuffer {
+            left: limits,
+            buffer: Vec::new(alloc),
+            size: 0,
+            place: 0,
+            number: 0,
+            failed: false,
+        }
+    }
+
+    /// Takes the next document of a device into the buffer; false at the end.
+    ///
+    /// The device gives the bytes of the document, and no byte after them; at the end it gives none. All calls are to
+    /// be handed one device.
+    ///
+    /// # Errors
+    /// - `DocFault::Frame`: the length is cut short or bad, as `next_frame` tells of the bytes that follow;
+    /// - `DocFault::Read`: a read failed (`Device`), gave more than the limit of bytes (`TooLong`), or one more was
+    ///   wanted than may be made (`TooManyTurns`), before the document was whole; or there was no memory (`NoMemory`);
+    /// - `DocFault::Failed`: an earlier call met one of these. The device is not read then.
+    #[inline(always)]
+    pub fn read_next<R: Input>(&mut self, reader: &mut R) -> Result<bool, DocFault>
+        ensures reads { result ≡ Ok true → ReadsDocument R.state R.read_gives self.old self.new reader.old reader.new }
+        ensures end { result ≡ Ok false → FindsEnd R.state R.read_gives self.old self.new reader.old reader.new }
+        ensures fails { self.old.failed ≡ false →
+            IfErr result (FailsToRead R.state R.read_gives [] self.old self.new reader.old reader.new) }
+        // After a fault, and only then, the call is refused, and reads nothing.
+        ensures refused { (result ≡ Err DocFault.Failed) ↔ IsTrue self.old.failed }
+        ensures failed { OnErr result (IsTrue self.new.failed) }
+        ensures works { OnOk result (self.new.failed ≡ false) }
+        ensures quiet { result ≡ Err DocFault.Failed → (reader.new ≡ reader.old) × HoldsNone self.old self.new × (self.new.buffer ≡ self.old.buffer) }
+    {
+        if self.failed {
+            return Err(DocFault::Failed);
+        }
+        let result = self.advance(reader);
+        self.failed = result.is_err();
+        result
+    }
+
+    /// The bytes of the document that was read last; none before the first, at the end and after a fault.
+    pub fn bytes(&self) -> &[u8]
+        ensures { result.now ≡ take self.now.size self.now.buffer.items }
+    {
+        &self.buffer[..self.size]
+    }
+
+    /// The offset of the next document's first byte, counted from the first byte that the device gave.
+    pub fn place(&self) -> u64
+        ensures { result ≡ self.now.place }
+    {
+        self.place
+    }
+
+    /// The number of the next document, counted from 0.
+    pub fn number(&self) -> u32
+        ensures { result ≡ self.now.number }
+    {
+        self.number
+    }
+
+    /// How many bytes are held, at most 16,793,600.
+    pub fn held(&self) -> usize
+        ensures { (result ≡ length self.now.buffer.items) × (result ≤ longest_document) }
+    {
+        self.buffer.len()
+    }
+
+    /// Takes the next document into the buffer; false at the end.
+    fn advance<R: Input>(&mut self, reader: &mut R) -> Result<bool, DocFault>
+        requires works { self.old.failed ≡ false }
+        ensures reads { result ≡ Ok true → ReadsDocument R.state R.read_gives self.old self.new reader.old reader.new }
+        ensures end { result ≡ Ok false → FindsEnd R.state R.read_gives self.old self.new reader.old reader.new }
+        ensures fails { IfErr result (FailsToRead R.state R.read_gives [] self.old self.new reader.old reader.new) }
+        ensures state { self.new.failed ≡ self.old.failed }
+    {
+        self.size = 0;
+        let Some(head) = self.read_length(reader)? else {
+            return Ok(false);
+        };
+        self.read_rest(reader, head)?;
+        Ok(true)
+    }
+
+    /// Reads the four bytes that the next document begins with, which tell how many bytes it has; none at the end.
+    fn read_length<R: Input>(&mut self, reader: &mut R) -> Result<Option<[u8; 4]>, DocFault>
+        requires empty { self.old.size ≡ 0 }
+        ensures kept { HoldsNone self.old self.new × (self.new.failed ≡ self.old.failed) × (self.new.buffer ≡ self.old.buffer) }
+        ensures length { IfOk result (λ o. IfSome o (λ head. (5 ≤ length_told head) × (length_told head ≤ longest_document)
+            × (4 ≤ self.old.left.bytes) × Consumes (R.state reader.old).left (R.state reader.new).left head)) }
+        ensures reads { IfOk result (λ o. IfSome o (λ head.
+            AreReads R.read_gives (self.old.left.turns - self.new.left.turns) reader.old head reader.new)) }
+        ensures counted { OnOk result (CountsReads self.old self.new (over R.state reader.old reader.new)) }
+        ensures well { OnOk result ((R.state reader.new).failures ≡ (R.state reader.old).failures) }
+        ensures end { result ≡ Ok None → FindsEnd R.state R.read_gives self.old self.new reader.old reader.new }
+        ensures fails { IfErr result (FailsToRead R.state R.read_gives [] self.old self.new reader.old reader.new) }
+    {
+        let mut head = [0; 4];
+        let filled = fill(reader, &mut head, self.left)?;
+        self.left.turns -= filled.turns;
+        if filled.bytes == 0 {
+            return Ok(None);
+        }
+        if filled.bytes < 4 {
+            return Err(self.fault(FaultKind::ShortLength));
+        }
+        let length = u32::from_le_bytes(head);
+        if length < 5 || length as usize > LONGEST_DOCUMENT {
+            return Err(self.fault(FaultKind::BadLength));
+        }
+        Ok(Some(head))
+    }
+
+    /// Reads the rest of the document that begins with these four bytes.
+    fn read_rest<R: Input>(&mut self, reader: &mut R, head: [u8; 4]) -> Result<(), DocFault>
+        requires works { self.old.failed ≡ false }
+        requires empty { self.old.size ≡ 0 }
+        requires length { (5 ≤ length_told head) × (length_told head ≤ longest_document) × (4 ≤ self.old.left.bytes) }
+        ensures frame { OnOk result (IsFrame (held_bytes self.new)) }
+        ensures gives { OnOk result (Consumes (prepend_known head (R.state reader.old).left) (R.state reader.new).left (held_bytes self.new)) }
+        ensures reads { OnOk result ((given : List ℕ) × (held_bytes self.new ≡ head ++ given)
+            × AreReads R.read_gives (self.old.left.turns - self.new.left.turns) reader.old given reader.new) }
+        ensures place { OnOk result ((self.new.place ≡ self.old.place + self.new.size) × (self.new.number ≡ self.old.number + 1)
+            × (self.new.left.bytes + self.new.size ≡ self.old.left.bytes)) }
+        ensures state { self.new.failed ≡ self.old.failed }
+        ensures counted { OnOk result (CountsReads self.old self.new (over R.state reader.old reader.new)) }
+        ensures well { OnOk result ((R.state reader.new).failures ≡ (R.state reader.old).failures) }
+        ensures grown { OnOk result (HoldsAsMuch (length self.old.buffer.items) (length self.new.buffer.items) self.new.size) }
+        ensures fails { IfErr result (FailsToRead R.state R.read_gives head self.old self.new reader.old reader.new) }
+    {
+        let length = u32::from_le_bytes(head) as usize;
+        make_room(&mut self.buffer, length)?;
+        let limits = Limits {
+            bytes: self.left.bytes - 4,
+            turns: self.left.turns,
+        };
+        let filled = fill_after(reader, &mut self.buffer, head, length, limits)?;
+        self.left.turns -= filled.turns;
+        if filled.bytes < length - 4 {
+            return Err(self.fault(FaultKind::BadLength));
+        }
+        self.pass(length);
+        Ok(())
+    }
+
+    /// A fault of the next document as a whole.
+    fn fault(&self, kind: FaultKind) -> DocFault
+        ensures { (f : FrameFault) × (result ≡ framed f) × (f.kind ≡ kind) × (f.offset ≡ self.now.place)
+            × (f.document ≡ self.now.number) }
+    {
+        DocFault::Frame(FrameFault {
+            kind,
+            document: self.number,
+            offset: self.place,
+        })
+    }
+
+    /// Goes past the document of that size, which is in the buffer.
+    fn pass(&mut self, size: usize)
+        requires works { self.old.failed ≡ false }
+        requires size { (5 ≤ size) × (size ≤ self.old.left.bytes) × (size ≤ length self.old.buffer.items) }
+        ensures held { self.new.size ≡ size }
+        ensures place { (self.new.place ≡ self.old.place + size) × (self.new.number ≡ self.old.number + 1) }
+        ensures left { (self.new.left.bytes + size ≡ self.old.left.bytes) × (self.new.left.turns ≡ self.old.left.turns) }
+        ensures kept { (self.new.buffer ≡ self.old.buffer) × (self.new.failed ≡ self.old.failed) }
+    {
+        self.left.bytes -= size as u64;
+        self.place += size as u64;
+        self.number += 1;
+        self.size = size;
+    }
+}
+
+/// Makes the buffer at least so long.
+fn make_room(buffer: &mut Vec<u8>, size: usize) -> Result<(), ReadFault>
+    ensures room { OnOk result ((size ≤ length buffer.new.items)
+        × ((length buffer.new.items ≡ length buffer.old.items) ⊎ ((length buffer.old.items < size) × (length buffer.new.items ≡ size)))) }
+    ensures kept { OnErr result (buffer.new.items ≡ buffer.old.items) }
+    ensures memory { IfErr result (λ f. f ≡ ReadFault.NoMemory) }
+{
+    if buffer.len() < size && buffer.resize(size, 0).is_err() {
+        return Err(ReadFault::NoMemory);
+    }
+    Ok(())
+}

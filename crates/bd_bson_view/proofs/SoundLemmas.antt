@@ -1,0 +1,69 @@
+-- A document that is all of some bytes, and values at places.
+use Rattle.std.proofs.Common.{◌≡◌, ◌≤◌, ℕ, ◌+◌, List, [], length, drop, Some, refl, sym, ap, ◌∙◌, subst, arith}
+use Rattle.std.proofs.lemmas.List.{append-nil}
+use Rattle.bd_value.specs.Tree.{Tree, leaf, doc, null, undefined, Doc, fields_of, pairs_in, pairs_of-fields_of, fields_of-pairs_of}
+use Rattle.bd_value.specs.View.{kind_of}
+use Rattle.bd_value.specs.declared.node.Kind.{Kind}
+use Rattle.bd_value.specs.declared.node.Kind.TheVariants as kinds
+use Rattle.bd_bson_view.specs.Spelling.{IsDocument, type_byte, type_at}
+use Rattle.bd_bson_view.specs.Unique.{type_is, no_holder, values}
+use Rattle.bd_bson_view.specs.Sound.{Begins, Sound, Left, stands, stands_is, elements_left, StandsAt, IsPlace}
+use Rattle.bd_bson_view.specs.declared.views.At.{At}
+use Rattle.bd_bson_view.specs.declared.raw_parts.ElementType.TheVariants.{Kept}
+use Rattle.bd_bson_view.proofs.ValueAtLemmas.{kind_is}
+use Rattle.bd_bson_view.proofs.ContentsLemmas.{document_held}
+
+abbrev pub whole_sound : (bytes : List ℕ) (d : Doc) → IsDocument d bytes → Sound kinds.Doc bytes
+whole_sound bytes d h = record { tree = doc (fields_of d); begins = record { value = bytes; after = []; spells = h.spells; typed = refl; cut = sym (append-nil bytes); short = h.short } }
+
+pub whole_is : (bytes : List ℕ) (d : Doc) (h : IsDocument d bytes) (s : Sound kinds.Doc bytes) → IsDocument (pairs_in (stands s)) bytes
+whole_is bytes d h s =
+    let e : d ≡ pairs_in (stands s) = sym (ap pairs_in (stands_is s (whole_sound bytes d h)) ∙ pairs_of-fields_of d) in
+    subst (λ (c : Doc). IsDocument c bytes) e h
+
+pub document_elements : (bytes : List ℕ) (start : ℕ) (s : Sound kinds.Doc (drop start bytes)) (g : Left (drop (start + 4) bytes)) → elements_left g ≡ pairs_in (stands s)
+document_elements bytes start s g = sym (ap pairs_in ((document_held bytes start kinds.Doc s refl).1 g) ∙ pairs_of-fields_of (elements_left g))
+
+-- a document is the pairs in it
+pub document_tree : (bytes : List ℕ) (s : Sound kinds.Doc bytes) → stands s ≡ doc (fields_of (pairs_in (stands s)))
+document_tree bytes s = as_pairs (stands s) (ap kind_of (stands_is s s) ∙ kind_is kinds.Doc bytes s)
+  where
+    as_pairs : (t : Tree) → kind_of t ≡ kinds.Doc → t ≡ doc (fields_of (pairs_in t))
+    as_pairs (leaf a) k = absurd (no_holder a kinds.Doc k refl)
+    as_pairs (doc fs) k = ap doc (sym (fields_of-pairs_of fs))
+    as_pairs _ k = absurd cc
+
+-- the bytes spell one document at most
+pub document_unique : (bytes : List ℕ) (c d : Doc) → IsDocument c bytes → IsDocument d bytes → c ≡ d
+document_unique bytes c d p q =
+    let e = (values (doc (fields_of c)) (doc (fields_of d)) bytes bytes [] [] p.spells q.spells refl refl).0 in
+    sym (pairs_of-fields_of c) ∙ ap pairs_in e ∙ pairs_of-fields_of d
+
+-- one tree stands at a place
+pub same_tree : {kind : Kind} {bytes : List ℕ} (s t : Sound kind bytes) → stands s ≡ stands t
+same_tree s t = stands_is s t ∙ sym (stands_is t t)
+
+-- ---- places
+
+-- where a view stands
+pub placed : (bytes : List ℕ) (start byte : ℕ) (kind : Kind) (s : Sound kind (drop start bytes)) → start ≤ length bytes → byte ≡ type_byte kind
+    → StandsAt bytes (record { kind = byte; start = start }) (stands s)
+unfolding stands
+placed bytes start byte kind s inside is = (inside, subst (λ (n : ℕ). Begins n (drop start bytes) s.tree) (sym is) s.begins)
+
+-- a view of what stands there
+pub sound_there : (bytes : List ℕ) (at : At) (kind : Kind) → IsPlace bytes at → type_at at.kind ≡ Some (Kept kind) → Sound kind (drop at.start bytes)
+sound_there bytes at kind p is =
+    let k : kind_of p.0 ≡ kind = cc (sym (type_is (kind_of p.0)) ∙ ap type_at p.1.1.typed ∙ is) in
+    record { tree = p.0; begins = subst (λ (n : ℕ). Begins n (drop at.start bytes) p.0) (sym p.1.1.typed ∙ ap type_byte k) p.1.1 }
+
+pub tree_there : (bytes : List ℕ) (at : At) (kind : Kind) (s : Sound kind (drop at.start bytes)) (t : Tree) → StandsAt bytes at t → type_at at.kind ≡ Some (Kept kind) → stands s ≡ t
+unfolding sound_there
+tree_there bytes at kind s t h is = stands_is s (sound_there bytes at kind (t, h) is)
+
+-- what takes no byte stands at the start of any bytes
+pub null_there : (bytes : List ℕ) → StandsAt bytes (record { kind = 10; start = 0 }) (leaf null)
+null_there bytes = (omega arith, record { value = []; after = bytes; spells = refl; typed = refl; cut = refl; short = omega arith })
+
+pub undefined_there : (bytes : List ℕ) → StandsAt bytes (record { kind = 6; start = 0 }) (leaf undefined)
+undefined_there bytes = (omega arith, record { value = []; after = bytes; spells = refl; typed = refl; cut = refl; short = omega arith })

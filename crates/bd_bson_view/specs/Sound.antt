@@ -1,0 +1,109 @@
+-- Bytes at whose front a value, or the elements of a document, stand; and where in bytes a value stands.
+use Rattle.std.specs.Prelude.{◌≡◌, ◌≤◌, ℕ, List, ◌∷◌, ◌++◌, length, drop}
+use Rattle.std.proofs.Common.{sym, ap, ◌∙◌}
+use Rattle.std.specs.Coded.{Coded-set, coded_ℕ, le_prop}
+use mathlib.Core.HLevel.{is_prop→PathP}
+use Rattle.bd_value.specs.{Limits.longest_document, View.kind_of, declared.node.Kind.Kind}
+use Rattle.bd_value.specs.Tree.{Tree, Fields, Doc, pairs_of}
+use Rattle.bd_bson_view.specs.{declared.views.At.At, Spelling.type_byte, Spelling.IsValue, Spelling.AreFields}
+use Rattle.bd_bson_view.specs.Unique.{same_kind, values, fields, value_prop, fields_prop, same_bytes, cancel, over_path}
+
+-- the bytes of a tree of that type, and the bytes after them
+pub record Begins (type : ℕ) (bytes : List ℕ) (tree : Tree) : Type 0 where
+  pub value : List ℕ
+  pub after : List ℕ
+  pub spells : IsValue tree value
+  pub typed : type_byte (kind_of tree) ≡ type
+  pub cut : bytes ≡ value ++ after
+  pub short : length value ≤ longest_document
+
+-- bytes begin with one tree at most, and in one way at most
+one : {type : ℕ} {bytes : List ℕ} {t u : Tree} (p : Begins type bytes t) (q : Begins type bytes u)
+    → (t ≡ u) × (p.value ≡ q.value) × (p.after ≡ q.after)
+one {t = t} {u = u} p q = let h = sym p.cut ∙ q.cut in
+    let k = same_kind (kind_of t) (kind_of u) (p.typed ∙ sym q.typed) in
+    let e = values t u p.value q.value p.after q.after p.spells q.spells k h in
+    (e.0, e.1, cancel p.value q.value p.after q.after e.1 h)
+
+pub Begins-prop : (type : ℕ) (bytes : List ℕ) (t : Tree) → IsProp (Begins type bytes t)
+Begins-prop type bytes t p q = let e = one p q in
+    λ i. record {
+      value = e.1 i;
+      after = e.2 i;
+      spells = over_path (IsValue t) (value_prop t) e.1 p.spells q.spells i;
+      typed = Coded-set coded_ℕ (type_byte (kind_of t)) type p.typed q.typed i;
+      cut = is_prop→PathP (λ k. bytes ≡ e.1 k ++ e.2 k) (λ k. same_bytes bytes (e.1 k ++ e.2 k)) p.cut q.cut i;
+      short = over_path (λ (v : List ℕ). length v ≤ longest_document) (λ v. le_prop) e.1 p.short q.short i;
+    }
+
+pub record Sound (kind : Kind) (bytes : List ℕ) : Type 0 where
+  pub tree : Tree
+  pub begins : Begins (type_byte kind) bytes tree
+
+pub Sound-prop : (kind : Kind) (bytes : List ℕ) → IsProp (Sound kind bytes)
+Sound-prop kind bytes p q = let type = type_byte kind in let e = (one p.begins q.begins).0 in
+    λ i. record { tree = e i; begins = over_path (Begins type bytes) (Begins-prop type bytes) e p.begins q.begins i }
+
+-- the elements that are left, their bytes, and the bytes after the zero
+pub record Left (bytes : List ℕ) : Type 0 where
+  pub fields : Fields
+  pub body : List ℕ
+  pub after : List ℕ
+  pub spell : AreFields fields body
+  pub cut : bytes ≡ body ++ 0 ∷ after
+  pub short : length body ≤ longest_document
+
+pub Left-prop : (bytes : List ℕ) → IsProp (Left bytes)
+Left-prop bytes p q = let h : p.body ++ 0 ∷ p.after ≡ q.body ++ 0 ∷ q.after = sym p.cut ∙ q.cut in
+    let e = fields p.fields q.fields p.body q.body p.after q.after p.spell q.spell h in
+    let zero_after : 0 ∷ p.after ≡ 0 ∷ q.after = cancel p.body q.body (0 ∷ p.after) (0 ∷ q.after) e.1 h in
+    let a : p.after ≡ q.after = cc in
+    λ i. record {
+      fields = e.0 i;
+      body = e.1 i;
+      after = a i;
+      spell = is_prop→PathP (λ k. AreFields (e.0 k) (e.1 k)) (λ k. fields_prop (e.0 k) (e.1 k)) p.spell q.spell i;
+      cut = is_prop→PathP (λ k. bytes ≡ e.1 k ++ 0 ∷ a k) (λ k. same_bytes bytes (e.1 k ++ 0 ∷ a k)) p.cut q.cut i;
+      short = over_path (λ (b : List ℕ). length b ≤ longest_document) (λ b. le_prop) e.1 p.short q.short i;
+    }
+
+-- the tree that stands there. It does not unfold, so that a proof may leave the value to be found
+unfoldable pub stands : {kind : Kind} {bytes : List ℕ} → Sound kind bytes → Tree
+stands s = s.tree
+
+-- how many bytes it takes
+unfoldable pub extent : {kind : Kind} {bytes : List ℕ} → Sound kind bytes → ℕ
+extent s = length s.begins.value
+
+-- the elements that are left
+unfoldable pub elements_left : {bytes : List ℕ} → Left bytes → Doc
+elements_left s = pairs_of s.fields
+
+pub stands_is : {kind : Kind} {bytes : List ℕ} (s t : Sound kind bytes) → stands s ≡ t.tree
+unfolding stands
+stands_is {kind} {bytes} s t = ap (λ (x : Sound kind bytes). x.tree) (Sound-prop kind bytes s t)
+
+pub extent_is : {kind : Kind} {bytes : List ℕ} (s t : Sound kind bytes) → extent s ≡ length t.begins.value
+unfolding extent
+extent_is {kind} {bytes} s t = ap (λ (x : Sound kind bytes). length x.begins.value) (Sound-prop kind bytes s t)
+
+pub left_is : {bytes : List ℕ} (s t : Left bytes) → elements_left s ≡ pairs_of t.fields
+unfolding elements_left
+left_is {bytes} s t = ap (λ (x : Left bytes). pairs_of x.fields) (Left-prop bytes s t)
+
+-- ---- places
+
+-- the tree is of that type, and bytes from that offset on spell it
+abbrev pub StandsAt : List ℕ → At → Tree → Type 0
+StandsAt bytes at tree = (at.start ≤ length bytes) × Begins at.kind (drop at.start bytes) tree
+
+-- a value of that type stands there
+abbrev pub IsPlace : List ℕ → At → Type 0
+IsPlace bytes at = (tree : Tree) × StandsAt bytes at tree
+
+-- one tree at most stands at a place, and in one way at most
+pub one_stands : (bytes : List ℕ) (at : At) (t u : Tree) → StandsAt bytes at t → StandsAt bytes at u → t ≡ u
+one_stands bytes at t u p q = (one p.1 q.1).0
+
+pub StandsAt-prop : (bytes : List ℕ) (at : At) (t : Tree) → IsProp (StandsAt bytes at t)
+StandsAt-prop bytes at t = Prim.hlevel (le_prop, Begins-prop)

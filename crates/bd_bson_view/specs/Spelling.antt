@@ -1,0 +1,152 @@
+-- Which bytes are which document (BSON 1.1, the grammar of `document`).
+use Rattle.std.specs.Prelude.{◌≡◌, ◌≢◌, ◌≤◌, ◌<◌, ◌^◌, ℕ, ◌+◌, Bool, true, false, Option, List, [], ◌∷◌, ◌++◌, length}
+use Rattle.std.specs.Prelude.{IsUtf8, FitsSigned, ◌==◌, nat_eq, if◌then◌else◌}
+use Rattle.std.specs.{List.AllByRecursion, Map.lookup}
+use Rattle.std.specs.Int.{w32, w64, to_le_bytes, cast_unsigned}
+use Rattle.bd_value.specs.{Limits.longest_document, Limits.most_levels, View.kind_of, declared.node.Kind.Kind}
+use Rattle.bd_value.specs.Tree as trees
+use Rattle.bd_value.specs.Tree.{Scalar, Tree, leaf, doc, array, code_scope, Items, no_items, item, Fields, no_fields}
+use Rattle.bd_value.specs.Tree.{field, Doc, fields_of, Own, own, own_code}
+use Rattle.bd_value.specs.declared.node.Kind.TheVariants as kinds
+use Rattle.bd_bson_view.specs.declared.raw_parts.ElementType.{ElementType}
+use Rattle.bd_bson_view.specs.declared.raw_parts.ElementType.TheVariants.{Kept, Double, Decimal128}
+pub use Rattle.bd_value.specs.Tree.{depth, fields_depth, items_depth}
+
+-- the byte before an element's name
+abbrev pub type_byte : Kind → ℕ
+type_byte kinds.Text = 2
+type_byte kinds.Doc = 3
+type_byte kinds.Array = 4
+type_byte kinds.Binary = 5
+type_byte kinds.Undefined = 6
+type_byte kinds.ObjectId = 7
+type_byte kinds.Bool = 8
+type_byte kinds.Date = 9
+type_byte kinds.Null = 10
+type_byte kinds.Regex = 11
+type_byte kinds.DbPointer = 12
+type_byte kinds.Code = 13
+type_byte kinds.Symbol = 14
+type_byte kinds.CodeScope = 15
+type_byte kinds.Int32 = 16
+type_byte kinds.Timestamp = 17
+type_byte kinds.Int64 = 18
+type_byte kinds.MaxKey = 127
+type_byte kinds.MinKey = 255
+
+-- every type, a double and a decimal128 too
+abbrev pub types : List (ℕ × ElementType)
+types =
+    (1, Double) ∷ (2, Kept kinds.Text) ∷ (3, Kept kinds.Doc) ∷ (4, Kept kinds.Array) ∷ (5, Kept kinds.Binary)
+    ∷ (6, Kept kinds.Undefined)
+    ∷ (7, Kept kinds.ObjectId) ∷ (8, Kept kinds.Bool) ∷ (9, Kept kinds.Date)
+    ∷ (10, Kept kinds.Null) ∷ (11, Kept kinds.Regex)
+    ∷ (12, Kept kinds.DbPointer) ∷ (13, Kept kinds.Code) ∷ (14, Kept kinds.Symbol)
+    ∷ (15, Kept kinds.CodeScope) ∷ (16, Kept kinds.Int32)
+    ∷ (17, Kept kinds.Timestamp) ∷ (18, Kept kinds.Int64) ∷ (19, Decimal128) ∷ (127, Kept kinds.MaxKey)
+    ∷ (255, Kept kinds.MinKey) ∷ []
+
+-- what a type byte tells; none where BSON has no such type
+abbrev pub type_at : ℕ → Option ElementType
+type_at b = lookup (nat_eq b) types
+
+-- what holds values: the others are scalars
+abbrev pub holds : Kind → Bool
+holds kinds.Doc = true
+holds kinds.Array = true
+holds kinds.CodeScope = true
+holds _ = false
+
+-- `int32`: four bytes, least first; `int64` and `uint64`: eight
+unfoldable pub number : ℕ → List ℕ
+number n = to_le_bytes w32 n
+
+unfoldable pub long : ℕ → List ℕ
+long n = to_le_bytes w64 n
+
+-- `cstring`, without its last byte: UTF-8 with no zero in it
+abbrev pub IsName : List ℕ → Type 0
+IsName n = IsUtf8 n × AllByRecursion (λ b. b ≢ 0) n
+
+-- `string`: the length with the zero at the end, the text, the zero
+abbrev pub string : List ℕ → List ℕ
+string s = number (length s + 1) ++ (s ++ 0 ∷ [])
+
+-- `document`: the length with itself and the zero at the end, the elements, the zero
+abbrev pub framed : List ℕ → List ℕ
+framed body = number (length body + 5) ++ (body ++ 0 ∷ [])
+
+-- the data of `binary`: of subtype 02 the count of the bytes after it comes first
+abbrev pub data_of : ℕ → List ℕ → List ℕ
+data_of subtype payload = if subtype == 2 then number (length payload) ++ payload else payload
+
+-- `code_w_s`: the length with itself, the code, the scope
+abbrev pub scoped : List ℕ → List ℕ → List ℕ
+scoped code scope = number (length (string code ++ scope) + 4) ++ (string code ++ scope)
+
+-- `element`: the type, the name ended by a zero, the value
+abbrev pub element : Tree → List ℕ → List ℕ → List ℕ
+element t name value = type_byte (kind_of t) ∷ (name ++ 0 ∷ value)
+
+-- a text that a `string` can hold
+abbrev pub IsText : List ℕ → Type 0
+IsText s = IsUtf8 s × (length s + 1 < 2 ^ 32)
+
+abbrev pub IsScalar : Scalar → List ℕ → Type 0
+IsScalar (trees.int32 z) bytes = FitsSigned w32 z × (bytes ≡ number (cast_unsigned w32 z))
+IsScalar (trees.int64 z) bytes = FitsSigned w64 z × (bytes ≡ long (cast_unsigned w64 z))
+IsScalar (trees.date z) bytes = FitsSigned w64 z × (bytes ≡ long (cast_unsigned w64 z))
+IsScalar (trees.timestamp seconds increment) bytes =
+    (seconds < 2 ^ 32) × (increment < 2 ^ 32) × (bytes ≡ number increment ++ number seconds)
+IsScalar (trees.boolean b) bytes = bytes ≡ (if b then 1 else 0) ∷ []
+IsScalar (trees.object_id id) bytes = (length id ≡ 12) × (bytes ≡ id)
+IsScalar (trees.text s) bytes = IsText s × (bytes ≡ string s)
+IsScalar (trees.symbol s) bytes = IsText s × (bytes ≡ string s)
+IsScalar (trees.code s) bytes = IsText s × (bytes ≡ string s)
+IsScalar (trees.db_pointer s id) bytes = IsText s × (length id ≡ 12) × (bytes ≡ string s ++ id)
+IsScalar (trees.regex pattern options) bytes =
+    IsName pattern × IsName options × (bytes ≡ pattern ++ 0 ∷ (options ++ 0 ∷ []))
+IsScalar (trees.binary subtype payload) bytes = (subtype < 256) × (length (data_of subtype payload) < 2 ^ 31)
+    × (bytes ≡ number (length (data_of subtype payload)) ++ subtype ∷ data_of subtype payload)
+IsScalar _ bytes = bytes ≡ []
+
+-- The bytes spell the value. An array is spelled as a document whose names are any names.
+abbrev mutual
+  pub IsValue : Tree → List ℕ → Type 0
+  IsValue (leaf s) bytes = IsScalar s bytes
+  IsValue (doc fs) bytes = (body : List ℕ) × AreFields fs body × (bytes ≡ framed body)
+  IsValue (array ts) bytes = (body : List ℕ) × AreItems ts body × (bytes ≡ framed body)
+  IsValue (code_scope s fs) bytes = (body : List ℕ) × AreFields fs body × (bytes ≡ scoped s (framed body)) × IsText s
+
+  -- `e_list` of a document
+  pub AreFields : Fields → List ℕ → Type 0
+  AreFields no_fields bytes = bytes ≡ []
+  AreFields (field name t fs) bytes =
+      (value : List ℕ) × (rest : List ℕ) × IsName name × IsValue t value × AreFields fs rest
+      × (bytes ≡ element t name value ++ rest)
+
+  -- `e_list` of an array
+  pub AreItems : Items → List ℕ → Type 0
+  AreItems no_items bytes = bytes ≡ []
+  AreItems (item t ts) bytes = (name : List ℕ) × (value : List ℕ) × (rest : List ℕ) × IsName name × IsValue t value
+      × AreItems ts rest × (bytes ≡ element t name value ++ rest)
+
+-- the bytes are the document, within the limits of length and depth
+pub record IsDocument (d : Doc) (bytes : List ℕ) : Type 0 where
+  pub spells : IsValue (doc (fields_of d)) bytes
+  pub short : length bytes ≤ longest_document
+  pub shallow : depth (doc (fields_of d)) ≤ most_levels
+
+abbrev pub IsShort : List ℕ → Type 0
+IsShort text = length text ≤ longest_document
+
+-- the texts, and the bytes, of what a value holds besides other values
+abbrev pub OwnIsShort : Own → Type 0
+OwnIsShort (own (trees.text s)) = IsShort s
+OwnIsShort (own (trees.symbol s)) = IsShort s
+OwnIsShort (own (trees.binary subtype payload)) = IsShort payload
+OwnIsShort (own (trees.regex pattern options)) = IsShort pattern × IsShort options
+OwnIsShort (own (trees.db_pointer space id)) = IsShort space
+OwnIsShort (own (trees.code s)) = IsShort s
+OwnIsShort (own_code s) = IsShort s
+OwnIsShort _ = Unit {0}

@@ -1,0 +1,17 @@
+//! Laws of the bytes of documents. The body of each is empty: its contract is the law.
+
+ghost use Rattle.std.specs.Prelude.{◌≡◌, ℕ, List};
+ghost use Rattle.bd_value.specs.Tree.{Doc, Tree};
+ghost use Rattle.bd_bson_view.specs.Spelling.{IsDocument};
+ghost use Rattle.bd_bson_view.specs.Sound.{StandsAt};
+ghost use Rattle.bd_bson_view.specs.declared.views.At.{At};
+
+/// Bytes spell one document at most.
+pub fn spells_one_document()
+    ensures { (bytes : List ℕ) (c d : Doc) → IsDocument c bytes → IsDocument d bytes → c ≡ d }
+{}
+
+/// One value at most stands at a place in bytes.
+pub fn one_value_stands()
+    ensures { (bytes : List ℕ) (at : At) (t u : Tree) → StandsAt bytes at t → StandsAt bytes at u → t ≡ u }
+{}

@@ -1,0 +1,126 @@
+//! Values that stay in their bytes.
+
+ghost use Rattle.std.specs.Prelude.{◌≡◌, ◌≤◌, ◌+◌, length, drop, IfSome, IfNone, [], ◌∷◌};
+ghost use Rattle.bd_value.specs.Limits.{longest_input};
+ghost use Rattle.bd_value.specs.Tree.{Doc, doc, fields_of, pairs_in};
+ghost use Rattle.bd_value.specs.declared.node.Kind.TheVariants as kinds;
+ghost use Rattle.bd_bson_view.specs.Spelling.{IsShort, IsDocument};
+ghost use Rattle.bd_bson_view.specs.Sound.{Sound, Sound-prop, Left, Left-prop, stands, extent, elements_left};
+
+use crate::raw_parts as parts;
+use bd_value::Kind;
+
+/// A value in bytes, which are known to spell one.
+#[derive(Clone, Copy)]
+pub struct RawValue<'a> {
+    pub(crate) bytes: &'a [u8],
+    pub(crate) start: usize,
+    pub(crate) kind: Kind,
+    ghost inside: { start ≤ length bytes.now },
+    ghost short: { length bytes.now ≤ longest_input },
+    ghost sound: { Sound kind (drop start bytes.now) } by { Sound-prop kind (drop start bytes.now) },
+}
+
+/// A document in bytes, which are known to spell one.
+#[derive(Clone, Copy)]
+pub struct RawDoc<'a> {
+    pub(crate) bytes: &'a [u8],
+    pub(crate) start: usize,
+    ghost inside: { start ≤ length bytes.now },
+    ghost short: { length bytes.now ≤ longest_input },
+    ghost sound: { Sound kinds.Doc (drop start bytes.now) } by { Sound-prop kinds.Doc (drop start bytes.now) },
+}
+
+/// The elements of a document or an array, from one on.
+#[derive(Clone, Copy)]
+pub struct Elements<'a> {
+    pub(crate) bytes: &'a [u8],
+    pub(crate) at: usize,
+    ghost short: { length bytes.now ≤ longest_input },
+    ghost left: { Left (drop at bytes.now) } by { Left-prop (drop at bytes.now) },
+}
+
+impl<'a> RawDoc<'a> {
+    /// All of the bytes, which are known to spell one document.
+    pub fn whole(bytes: &'a [u8]) -> RawDoc<'a>
+        requires { (d : Doc) × IsDocument d bytes.now }
+        ensures document { IsDocument (pairs_in (stands result.sound)) bytes.now }
+        ensures kept { result.bytes.now ≡ bytes.now }
+    {
+        RawDoc { bytes, start: 0 }
+    }
+
+    /// The document that stands at that place of the bytes, which are known to spell one there.
+    pub fn at(bytes: &'a [u8], start: usize) -> RawDoc<'a>
+        requires short { length bytes.now ≤ longest_input }
+        requires inside { start ≤ length bytes.now }
+        requires sound { Sound kinds.Doc (drop start bytes.now) }
+        ensures stands { (sound : Sound kinds.Doc (drop start bytes.now)) → stands result.sound ≡ stands sound }
+        ensures kept { result.bytes.now ≡ bytes.now }
+    {
+        RawDoc { bytes, start }
+    }
+
+    /// The document as a value.
+    pub fn value(self) -> RawValue<'a>
+        ensures value { stands result.sound ≡ stands self.entry.sound }
+        ensures document { stands result.sound ≡ doc (fields_of (pairs_in (stands self.entry.sound))) }
+        ensures kept { result.bytes.now ≡ self.entry.bytes.now }
+    {
+        RawValue {
+            bytes: self.bytes,
+            start: self.start,
+            kind: Kind::Doc,
+        }
+    }
+
+    /// The elements.
+    pub fn elements(self) -> Elements<'a>
+        ensures elements { elements_left result.left ≡ pairs_in (stands self.entry.sound) }
+        ensures kept { result.bytes.now ≡ self.entry.bytes.now }
+    {
+        Elements {
+            bytes: self.bytes,
+            at: self.start + 4,
+        }
+    }
+}
+
+impl<'a> RawValue<'a> {
+    /// The place after it.
+    #[inline(always)]
+    fn end(self) -> usize
+        ensures { result ≡ self.entry.start + extent self.entry.sound }
+    {
+        let (_, here) = self.bytes.split_at(self.start);
+        self.start + parts::size(self.kind, here)
+    }
+}
+
+impl<'a> Elements<'a> {
+    /// The name and the value of the next element, and the elements after it.
+    #[inline(always)]
+    pub fn next(self) -> Option<(&'a str, RawValue<'a>, Elements<'a>)>
+        ensures some { IfSome result (λ x. elements_left self.entry.left ≡ (x.0.now, stands x.1.sound) ∷ elements_left x.2.left) }
+        ensures kept { IfSome result (λ x. (x.1.bytes.now ≡ self.entry.bytes.now) × (x.2.bytes.now ≡ self.entry.bytes.now)) }
+        ensures short { IfSome result (λ x. IsShort x.0.now) }
+        ensures none { IfNone result (elements_left self.entry.left ≡ []) }
+    {
+        let byte = self.bytes[self.at];
+        if byte == 0 {
+            return None;
+        }
+        let (_, tail) = self.bytes.split_at(self.at + 1);
+        let (name, _) = parts::name(tail);
+        let value = RawValue {
+            bytes: self.bytes,
+            start: self.at + name.len() + 2,
+            kind: parts::kept(byte),
+        };
+        let after = Elements {
+            bytes: self.bytes,
+            at: value.end(),
+        };
+        Some((name, value, after))
+    }
+}

@@ -1,0 +1,304 @@
+//! What is asked of a document, a value and elements that stay in their bytes. Only the copies take memory.
+
+ghost use Rattle.std.specs.Prelude.{◌≡◌, ◌<◌, ◌≤◌, ◌↔◌, ℕ, List, [], length, slice_get, Some, option_map, IfOk, IfSome, IfNone, IsTrue};
+ghost use Rattle.bd_value.specs.Limits.{longest_input};
+ghost use Rattle.bd_value.specs.Tree.{Tree, leaf, null, undefined, pairs_in, own_of, first_of, AreParts, HoldsNoParts};
+ghost use Rattle.bd_value.specs.View.{tree_of, pairs, seen};
+ghost use Rattle.bd_bson_view.specs.Spelling.{IsShort, OwnIsShort};
+ghost use Rattle.bd_bson_view.specs.Sound.{stands, elements_left, StandsAt, IsPlace};
+ghost use Rattle.bd_bson_view.specs.Contents.{HoldsContents};
+
+use crate::raw::{Elements, RawDoc, RawValue};
+use crate::raw_parts as parts;
+use bd_value::{Document, Kind, NoMemory, Node, Reading, Scalar, Value, to_document, to_value};
+use std::alloc::Global;
+
+impl<'a> RawDoc<'a> {
+    /// The number of pairs. It goes through all of them.
+    pub fn len(self) -> usize
+        ensures { result ≡ length (pairs_in (stands self.entry.sound)) }
+    {
+        self.elements().count()
+    }
+
+    /// Whether it has no pair.
+    pub fn is_empty(self) -> bool
+        ensures { IsTrue result ↔ (pairs_in (stands self.entry.sound) ≡ []) }
+    {
+        self.elements().next().is_none()
+    }
+
+    /// The name and the value of the pair at an index, counted from 0. It goes through those before it.
+    pub fn pair(self, i: usize) -> (&'a str, RawValue<'a>)
+        requires { i < length (pairs_in (stands self.sound)) }
+        ensures pair { slice_get (pairs_in (stands self.entry.sound)) i ≡ Some (result.0.now, stands result.1.sound) }
+        ensures kept { result.1.bytes.now ≡ self.entry.bytes.now }
+        ensures short { IsShort result.0.now }
+    {
+        self.elements().nth(i)
+    }
+
+    /// The value of the first pair of that name; none where no pair has it.
+    pub fn first(self, name: &str) -> Option<RawValue<'a>>
+        ensures first { option_map (λ v. stands v.sound) result ≡ first_of name.now (pairs_in (stands self.entry.sound)) }
+        ensures kept { IfSome result (λ v. v.bytes.now ≡ self.entry.bytes.now) }
+    {
+        self.elements().find(name)
+    }
+
+    /// The document in memory. It fails only if memory runs out.
+    pub fn to_document(self, alloc: Global) -> Result<Document, NoMemory>
+        ensures { IfOk result (λ d. pairs d ≡ pairs_in (stands self.entry.sound)) }
+    {
+        to_document::<RawValue<'a>>(alloc, self.elements())
+    }
+}
+
+impl<'a> RawValue<'a> {
+    /// The elements of a document or an array; every other value has none.
+    pub fn elements(self) -> Option<Elements<'a>>
+        ensures some { IfSome result (λ x. AreParts (stands self.entry.sound) (elements_left x.left)) }
+        ensures kept { IfSome result (λ x. x.bytes.now ≡ self.entry.bytes.now) }
+        ensures none { IfNone result (HoldsNoParts (stands self.entry.sound)) }
+    {
+        match self.contents() {
+            Contents::Document(elements) => Some(elements),
+            Contents::Array(elements) => Some(elements),
+            Contents::Scalar(_) | Contents::CodeScope(_, _) => None,
+        }
+    }
+
+    /// The value in memory. It fails only if memory runs out.
+    pub fn to_value(self, alloc: Global) -> Result<Value, NoMemory>
+        ensures { IfOk result (λ v. tree_of v ≡ stands self.entry.sound) }
+    {
+        to_value(alloc, self)
+    }
+
+    /// Where it stands in its bytes.
+    pub fn at(self) -> At
+        ensures stands { StandsAt self.entry.bytes.now result (stands self.entry.sound) }
+        ensures start { result.start ≡ self.entry.start }
+    {
+        At {
+            kind: parts::type_byte(self.kind),
+            start: self.start as u32,
+        }
+    }
+
+    /// What it holds.
+    #[inline(always)]
+    pub(crate) fn contents(self) -> Contents<'a>
+        ensures { HoldsContents self.entry.bytes.now (stands self.entry.sound) result }
+    {
+        let (bytes, at) = (self.bytes, self.start + 4);
+        let (_, here) = bytes.split_at(self.start);
+        match self.kind {
+            Kind::Doc => Contents::Document(Elements { bytes, at }),
+            Kind::Array => Contents::Array(Elements { bytes, at }),
+            Kind::CodeScope => {
+                let (_, code) = here.split_at(4);
+                let scope = RawDoc {
+                    bytes: self.bytes,
+                    start: self.start + 8 + parts::number(code) as usize,
+                };
+                Contents::CodeScope(parts::text(code), scope)
+            }
+            _ => Contents::Scalar(parts::scalar(self.kind, here)),
+        }
+    }
+}
+
+impl<'a> Reading for RawValue<'a> {
+    type Rest = Elements<'a>;
+
+    ghost tree = { λ s. stands s.sound };
+
+    ghost source = { λ s. s.bytes.now };
+
+    ghost left = { λ r. elements_left r.left };
+
+    ghost rest_source = { λ r. r.bytes.now };
+
+    #[inline(always)]
+    fn kind(self) -> Kind {
+        self.kind
+    }
+
+    #[inline(always)]
+    fn leaf(&self) -> Option<Scalar<'_>> {
+        self.scalar()
+    }
+
+    fn scope(self) -> Option<Self> {
+        match self.contents() {
+            Contents::CodeScope(_, scope) => Some(scope.value()),
+            Contents::Scalar(_) | Contents::Document(_) | Contents::Array(_) => None,
+        }
+    }
+
+    fn len(self) -> usize {
+        match self.contents() {
+            Contents::Document(elements) => elements.count(),
+            Contents::Array(elements) => elements.count(),
+            Contents::Scalar(_) | Contents::CodeScope(_, _) => 0,
+        }
+    }
+
+    fn field(&self, i: usize) -> (&str, Self) {
+        self.pair(i)
+    }
+
+    fn element(self, i: usize) -> Self {
+        match self.contents() {
+            Contents::Array(elements) => elements.nth(i).1,
+            _ => unreachable!(),
+        }
+    }
+
+    fn first(self, name: &str) -> Option<Self> {
+        match self.contents() {
+            Contents::Document(elements) => elements.find(name),
+            _ => None,
+        }
+    }
+
+    fn parts(self) -> Elements<'a> {
+        match self.elements() {
+            Some(elements) => elements,
+            None => unreachable!(),
+        }
+    }
+
+    #[inline(always)]
+    fn next<'r>(rest: &'r Elements<'a>) -> Option<(&'r str, Self, Elements<'a>)> {
+        rest.next()
+    }
+}
+
+impl<'a> Node<'a> for RawValue<'a> {
+    #[inline(always)]
+    fn scalar(self) -> Option<Scalar<'a>>
+        ensures scalar { option_map seen result ≡ own_of (stands self.entry.sound) }
+        ensures short { IfSome result (λ s. OwnIsShort (seen s)) }
+    {
+        match self.contents() {
+            Contents::Scalar(scalar) => Some(scalar),
+            Contents::CodeScope(code, _) => Some(Scalar::CodeScope(code)),
+            Contents::Document(_) | Contents::Array(_) => None,
+        }
+    }
+
+    fn pair(self, i: usize) -> (&'a str, Self) {
+        match self.contents() {
+            Contents::Document(elements) => elements.nth(i),
+            _ => unreachable!(),
+        }
+    }
+}
+
+/// What a value holds.
+#[derive(Clone, Copy)]
+pub enum Contents<'a> {
+    /// It holds no value. The scalar is never `Scalar::CodeScope`.
+    Scalar(Scalar<'a>),
+    Document(Elements<'a>),
+    Array(Elements<'a>),
+    CodeScope(&'a str, RawDoc<'a>),
+}
+
+impl<'a> Elements<'a> {
+    /// How many elements there are from here on. It goes through all of them.
+    pub fn count(self) -> usize
+        ensures { result ≡ length (elements_left self.entry.left) }
+    {
+        let mut rest = self;
+        let mut n = 0;
+        while let Some((_, _, after)) = rest.next() {
+            rest = after;
+            n += 1;
+        }
+        n
+    }
+
+    /// The name and the value of the element at an index, counted from 0. It goes through those before it.
+    pub fn nth(self, i: usize) -> (&'a str, RawValue<'a>)
+        requires { i < length (elements_left self.left) }
+        ensures pair { slice_get (elements_left self.entry.left) i ≡ Some (result.0.now, stands result.1.sound) }
+        ensures kept { result.1.bytes.now ≡ self.entry.bytes.now }
+        ensures short { IsShort result.0.now }
+    {
+        let mut rest = self;
+        let mut k = 0;
+        while k < i {
+            match rest.next() {
+                Some((_, _, after)) => rest = after,
+                None => unreachable!(),
+            }
+            k += 1;
+        }
+        match rest.next() {
+            Some((name, value, _)) => (name, value),
+            None => unreachable!(),
+        }
+    }
+
+    /// The value of the first element of that name; none where no element has it.
+    pub fn find(self, name: &str) -> Option<RawValue<'a>>
+        ensures first { option_map (λ v. stands v.sound) result ≡ first_of name.now (elements_left self.entry.left) }
+        ensures kept { IfSome result (λ v. v.bytes.now ≡ self.entry.bytes.now) }
+    {
+        let mut rest = self;
+        while let Some((here, value, after)) = rest.next() {
+            if here == name {
+                return Some(value);
+            }
+            rest = after;
+        }
+        None
+    }
+}
+
+/// Where a value stands: the byte of its type, as in BSON 1.1, `element`, and the offset of its first byte. The type byte stands
+/// elsewhere, before the name of the element, and that of a whole document nowhere.
+#[derive(Clone, Copy, Debug, PartialEq, Eq)]
+pub struct At {
+    pub kind: u8,
+    pub start: u32,
+}
+
+impl At {
+    /// Where a null stands. It takes no byte, so that one stands at the start of any bytes.
+    pub fn null() -> At
+        ensures { (bytes : List ℕ) → StandsAt bytes result (leaf null) }
+    {
+        At {
+            kind: 0x0A,
+            start: 0,
+        }
+    }
+
+    /// Where an undefined stands. It takes no byte, so that one stands at the start of any bytes.
+    pub fn undefined() -> At
+        ensures { (bytes : List ℕ) → StandsAt bytes result (leaf undefined) }
+    {
+        At {
+            kind: 0x06,
+            start: 0,
+        }
+    }
+
+    /// The value of that type which stands there in the bytes.
+    pub fn value_in(self, bytes: &[u8]) -> RawValue<'_>
+        requires short { length bytes.now ≤ longest_input }
+        requires place { IsPlace bytes.now self }
+        ensures value { (tree : Tree) → StandsAt bytes.now self tree → stands result.sound ≡ tree }
+        ensures kept { result.bytes.now ≡ bytes.now }
+    {
+        RawValue {
+            bytes,
+            start: self.start as usize,
+            kind: parts::kept(self.kind),
+        }
+    }
+}

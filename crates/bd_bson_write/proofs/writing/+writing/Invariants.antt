@@ -1,0 +1,49 @@
+use Rattle.std.proofs.Common.{◌≡◌, ◌+◌, ◌*◌, ◌≤◌, ◌++◌, length, false}
+use Rattle.std.specs.Io.{StartsWith}
+use Rattle.bd_value.specs.{Tree.fields_of, Tree.items_of, Tree.tree_size, Tree.fields_size, Tree.values_of, Fits.zero_in_fields, Fits.zero_in_items}
+use Rattle.bd_bson_view.specs.Spelling.{number, AreFields, AreItems}
+use Rattle.bd_bson_write.specs.TreeBytes.{fields_bytes, items_bytes}
+use Rattle.bd_bson_write.proofs.writing.+writing.Given as goal
+
+abbrev pub decreases-put_value : goal.decreases-put_value
+decreases-put_value g l = 4 * tree_size (g.N.Reading.tree l.node) + 2
+
+abbrev pub decreases-append_leaf : goal.decreases-append_leaf
+decreases-append_leaf g l = 4 * tree_size (g.N.Reading.tree l.node) + 1
+
+abbrev pub decreases-append_element : goal.decreases-append_element
+decreases-append_element g l = 4 * tree_size (g.N.Reading.tree l.node) + 3
+
+abbrev pub decreases-append_fields : goal.decreases-append_fields
+decreases-append_fields g l = 4 * fields_size (fields_of (g.N.Reading.left l.fields))
+
+abbrev pub decreases-append_items : goal.decreases-append_items
+decreases-append_items g l = 4 * fields_size (fields_of (g.N.Reading.left l.items))
+
+-- what was written and what is still to come are all; what is to come being spelled, all is
+abbrev pub invariant-append_fields-loop-next : goal.invariant-append_fields-loop-next
+invariant-append_fields-loop-next g l = record {
+  whole : l.out.items ++ fields_bytes (fields_of (g.N.Reading.left l.rest)) ≡ (l.fn.out.items ++ number 0) ++ fields_bytes (fields_of (g.N.Reading.left l.fn.fields));
+  spelled : AreFields (fields_of (g.N.Reading.left l.rest)) (fields_bytes (fields_of (g.N.Reading.left l.rest)))
+      → AreFields (fields_of (g.N.Reading.left l.fn.fields)) (fields_bytes (fields_of (g.N.Reading.left l.fn.fields)));
+  front : StartsWith l.out.items l.fn.out.items;
+  zero : zero_in_fields (fields_of (g.N.Reading.left l.rest)) ≡ false;
+  fewer : fields_size (fields_of (g.N.Reading.left l.rest)) ≤ fields_size (fields_of (g.N.Reading.left l.fn.fields));
+}
+
+abbrev pub decreases-append_fields-loop-next : goal.decreases-append_fields-loop-next
+decreases-append_fields-loop-next g l = length (g.N.Reading.left l.rest)
+
+abbrev pub invariant-append_items-loop-next : goal.invariant-append_items-loop-next
+invariant-append_items-loop-next g l = record {
+  whole : l.out.items ++ items_bytes l.place (items_of (values_of (g.N.Reading.left l.rest))) ≡ (l.fn.out.items ++ number 0) ++ items_bytes 0 (items_of (values_of (g.N.Reading.left l.fn.items)));
+  spelled : AreItems (items_of (values_of (g.N.Reading.left l.rest))) (items_bytes l.place (items_of (values_of (g.N.Reading.left l.rest))))
+      → AreItems (items_of (values_of (g.N.Reading.left l.fn.items))) (items_bytes 0 (items_of (values_of (g.N.Reading.left l.fn.items))));
+  front : StartsWith l.out.items l.fn.out.items;
+  zero : zero_in_items (items_of (values_of (g.N.Reading.left l.rest))) ≡ false;
+  fewer : fields_size (fields_of (g.N.Reading.left l.rest)) ≤ fields_size (fields_of (g.N.Reading.left l.fn.items));
+  few : l.place ≤ length l.out.items;
+}
+
+abbrev pub decreases-append_items-loop-next : goal.decreases-append_items-loop-next
+decreases-append_items-loop-next g l = length (g.N.Reading.left l.rest)

@@ -1,0 +1,65 @@
+-- The spelling that is written: the names of an array's elements are their places from 0.
+use Rattle.std.specs.Prelude.{◌≡◌, ◌≤◌, ◌<◌, ℕ, suc, List, [], ◌∷◌, ◌++◌, length, decimal, false, if◌then◌else◌}
+use Rattle.std.specs.Int.{w32, w64, cast_unsigned}
+use Rattle.bd_value.specs.Tree as trees
+use Rattle.bd_value.specs.Tree.{Scalar, Tree, leaf, doc, array, code_scope, Items, no_items, item, Fields, no_fields}
+use Rattle.bd_value.specs.Tree.{field, Doc, fields_of}
+use Rattle.bd_value.specs.{Limits.longest_document, Limits.most_levels, Tree.depth, Tree.Own, Tree.own, Tree.own_code}
+use Rattle.bd_value.specs.{Fits.zero_in}
+use Rattle.bd_bson_write.specs.declared.writing.WriteFault.{WriteFault}
+use Rattle.bd_bson_write.specs.declared.writing.WriteFault.TheVariants as faults
+use Rattle.bd_bson_view.specs.Spelling.{number, long, string, framed, data_of, scoped, element, IsText, IsScalar}
+
+abbrev pub scalar_bytes : Scalar → List ℕ
+scalar_bytes (trees.int32 z) = number (cast_unsigned w32 z)
+scalar_bytes (trees.int64 z) = long (cast_unsigned w64 z)
+scalar_bytes (trees.date z) = long (cast_unsigned w64 z)
+scalar_bytes (trees.timestamp seconds increment) = number increment ++ number seconds
+scalar_bytes (trees.boolean b) = (if b then 1 else 0) ∷ []
+scalar_bytes (trees.object_id id) = id
+scalar_bytes (trees.text s) = string s
+scalar_bytes (trees.symbol s) = string s
+scalar_bytes (trees.code s) = string s
+scalar_bytes (trees.db_pointer s id) = string s ++ id
+scalar_bytes (trees.regex pattern options) = pattern ++ 0 ∷ (options ++ 0 ∷ [])
+scalar_bytes (trees.binary subtype payload) = number (length (data_of subtype payload))
+    ++ subtype ∷ data_of subtype payload
+scalar_bytes _ = []
+
+abbrev mutual
+  pub bytes_of : Tree → List ℕ
+  bytes_of (leaf s) = scalar_bytes s
+  bytes_of (doc fs) = framed (fields_bytes fs)
+  bytes_of (array ts) = framed (items_bytes 0 ts)
+  bytes_of (code_scope s fs) = scoped s (framed (fields_bytes fs))
+
+  pub fields_bytes : Fields → List ℕ
+  fields_bytes no_fields = []
+  fields_bytes (field name t fs) = element t name (bytes_of t) ++ fields_bytes fs
+
+  -- of elements, the first of which has that place
+  pub items_bytes : ℕ → Items → List ℕ
+  items_bytes place no_items = []
+  items_bytes place (item t ts) = element t (decimal place) (bytes_of t) ++ items_bytes (suc place) ts
+
+-- what holds no other values: a scalar, or the code of code with scope
+abbrev pub own_bytes : Own → List ℕ
+own_bytes (own s) = scalar_bytes s
+own_bytes (own_code s) = string s
+
+abbrev pub OwnSpells : Own → Type 0
+OwnSpells (own s) = IsScalar s (scalar_bytes s)
+OwnSpells (own_code s) = IsText s
+
+-- the bytes are the document, written within the limits of length and depth
+pub record SpellsPlainly (d : Doc) (bytes : List ℕ) : Type 0 where
+  pub spelled : bytes ≡ bytes_of (doc (fields_of d))
+  pub no_zero : zero_in (doc (fields_of d)) ≡ false
+  pub short : length bytes ≤ longest_document
+  pub shallow : depth (doc (fields_of d)) ≤ most_levels
+
+-- so many bytes are more than a document has, or memory ran out
+abbrev pub OverrunsLimit : ℕ → WriteFault → Type 0
+OverrunsLimit total faults.TooLong = longest_document < total
+OverrunsLimit total faults.NoMemory = Unit {0}
+OverrunsLimit total _ = ⊥

@@ -1,0 +1,170 @@
+//! A document written as bytes: from a tree, or in pieces by a caller that holds none. Each piece is appended whole, or what was
+//! there stays as it was.
+
+ghost use Rattle.std.specs.Prelude.{◌≡◌, ◌≤◌, ◌<◌, ◌↔◌, ◌+◌, ◌++◌, ◌∷◌, [], length, take, drop, vec_len, true, false, IfOk, IfErr, IsErrOf, OnErr, OnOk, Err};
+ghost use Rattle.bd_value.specs.Limits.{longest_document, most_levels};
+ghost use Rattle.bd_value.specs.Tree.{depth as depth_in, HoldsNoParts, Doc, doc, fields_of};
+ghost use Rattle.bd_value.specs.Fits.{zero_in, zero_in_parts};
+ghost use Rattle.bd_value.specs.View.{pairs};
+ghost use Rattle.bd_bson_view.specs.Spelling.{type_byte as byte_of, IsDocument, IsValue, framed, number, string};
+ghost use Rattle.bd_bson_write.specs.TreeBytes.{SpellsPlainly, bytes_of, OverrunsLimit};
+
+use crate::writing::{WriteFault, put_label, put_text, put_value, seal, write_number};
+use bd_value::{
+    Document, Kind, LONGEST_DOCUMENT, MOST_LEVELS, NoMemory, Reading, Scalar, Tree, depth, has_zero,
+};
+use std::alloc::Global;
+
+/// The bytes of a document: BSON 1.1, `document`. The names of an array's elements are their places from 0.
+///
+/// # Errors
+/// Tried in this order:
+/// - `WriteFault::TooDeep`: it nests deeper than 200 levels;
+/// - `WriteFault::NulInName`: a name, or a text of a regular expression, has a zero, which would end it;
+/// - `WriteFault::TooLong`: it has more than 16,793,600 bytes;
+/// - `WriteFault::NoMemory`: the allocator gave no memory.
+pub fn write_document(alloc: Global, document: &Document) -> Result<Vec<u8>, WriteFault>
+    ensures written { IfOk result (λ v. SpellsPlainly (pairs document.now) v.items) }
+    ensures spelled { IfOk result (λ v. IsDocument (pairs document.now) v.items) }
+    ensures too_deep { IsErrOf result WriteFault.TooDeep ↔ (most_levels < depth_in (doc (fields_of (pairs document.now)))) }
+    ensures zero { IsErrOf result WriteFault.NulInName ↔ ((depth_in (doc (fields_of (pairs document.now))) ≤ most_levels)
+        × (zero_in (doc (fields_of (pairs document.now))) ≡ true)) }
+    ensures too_long { IsErrOf result WriteFault.TooLong → (depth_in (doc (fields_of (pairs document.now))) ≤ most_levels)
+        × (zero_in (doc (fields_of (pairs document.now))) ≡ false) × (longest_document < length (bytes_of (doc (fields_of (pairs document.now))))) }
+{
+    if depth(document) > MOST_LEVELS as u64 {
+        return Err(WriteFault::TooDeep);
+    }
+    if holds_zero(Tree::Doc(document)) {
+        return Err(WriteFault::NulInName);
+    }
+    let mut bytes = Vec::new(alloc);
+    put_value(Tree::Doc(document), &mut bytes)?;
+    if bytes.len() > LONGEST_DOCUMENT {
+        return Err(WriteFault::TooLong);
+    }
+    Ok(bytes)
+}
+
+/// Begins a document or an array: its elements come after, and then `end_body` with the place that is answered.
+///
+/// # Errors
+/// `NoMemory` leaves `out` as it was.
+pub fn begin_body(out: &mut Vec<u8>) -> Result<usize, NoMemory>
+    ensures place { IfOk result (λ at. at ≡ length out.old.items) }
+    ensures begun { OnOk result (out.new.items ≡ out.old.items ++ number 0) }
+    ensures kept { OnErr result (out.new.items ≡ out.old.items) }
+{
+    let at = out.len();
+    write_number(0, out)?;
+    Ok(at)
+}
+
+/// Appends what stands before an element's value, its type and its name: BSON 1.1, `element`.
+///
+/// # Errors
+/// `WriteFault::TooLong` where there are more than 16,793,600 bytes before it; `WriteFault::NoMemory`. Both leave `out` as it
+/// was.
+#[inline(always)]
+pub fn append_label(kind: Kind, name: &str, out: &mut Vec<u8>) -> Result<(), WriteFault>
+    ensures ok { OnOk result ((out.new.items ≡ out.old.items ++ (byte_of kind ∷ (name.now ++ 0 ∷ []))) × (length out.old.items ≤ longest_document)) }
+    ensures err { IfErr result (OverrunsLimit (length out.old.items)) }
+    ensures kept { OnErr result (out.new.items ≡ out.old.items) }
+{
+    let before = out.len();
+    let label = put_label(kind, name, out);
+    if label.is_err() {
+        out.truncate(before);
+    }
+    label
+}
+
+/// Appends the bytes of a value. The names of an array's elements are their places from 0.
+///
+/// # Errors
+/// `WriteFault::TooLong` only where there are more than 16,793,600 bytes, with what stands before it: a scalar without a text or
+/// data is appended past that, and `end_body` refuses then. `WriteFault::NoMemory`. Both leave `out` as it was.
+pub fn append_value<N: Reading>(node: N, out: &mut Vec<u8>) -> Result<(), WriteFault>
+    requires { zero_in (N.tree node) ≡ false }
+    ensures ok { OnOk result (out.new.items ≡ out.old.items ++ bytes_of (N.tree node)) }
+    ensures spells { OnOk result (IsValue (N.tree node) (bytes_of (N.tree node))) }
+    ensures err { IfErr result (OverrunsLimit (length out.old.items + length (bytes_of (N.tree node)))) }
+    ensures kept { OnErr result (out.new.items ≡ out.old.items) }
+{
+    let before = out.len();
+    let value = put_value(node, out);
+    if value.is_err() {
+        out.truncate(before);
+    }
+    value
+}
+
+/// Ends the document or the array that began at that place, as `begin_body` answered it, and puts its length there: BSON 1.1,
+/// `document`.
+///
+/// # Errors
+/// `WriteFault::TooLong` where there are more than 16,793,600 bytes, with what stands before it; `WriteFault::NoMemory`. Both
+/// leave `out` as it was, also in the place of the length.
+pub fn end_body(at: usize, out: &mut Vec<u8>) -> Result<(), WriteFault>
+    requires { at + 4 ≤ vec_len out.old }
+    ensures ok { OnOk result (out.new.items ≡ take at out.old.items ++ framed (drop (at + 4) out.old.items)) }
+    ensures within { OnOk result (length out.new.items ≤ longest_document) }
+    ensures err { IfErr result (OverrunsLimit (length out.old.items + 1)) }
+    ensures kept { OnErr result (out.new.items ≡ out.old.items) }
+{
+    let before = out.len();
+    out.extend_from_slice(b"\0")?;
+    let sealed = seal(at, out);
+    if sealed.is_err() {
+        out.truncate(before);
+    }
+    sealed
+}
+
+/// Whether a name, or a text of a regular expression, has a zero.
+#[cycle(zeros)]
+fn holds_zero<N: Reading>(node: N) -> bool
+    ensures { result ≡ zero_in (N.tree node) }
+{
+    match node.kind() {
+        Kind::Doc => zero_in_some::<N>(node.parts(), true),
+        Kind::Array => zero_in_some::<N>(node.parts(), false),
+        _ => zero_in_leaf(node),
+    }
+}
+
+/// The same of what is neither a document nor an array.
+#[cycle(zeros)]
+fn zero_in_leaf<N: Reading>(node: N) -> bool
+    requires { HoldsNoParts (N.tree node) }
+    ensures { result ≡ zero_in (N.tree node) }
+{
+    let Some(own) = node.leaf() else {
+        unreachable!()
+    };
+    match node.scope() {
+        Some(scope) => holds_zero(scope),
+        None => match own {
+            Scalar::Regex { pattern, options } => has_zero(pattern) || has_zero(options),
+            _ => false,
+        },
+    }
+}
+
+/// The same of pairs, or of elements, whose names are passed over.
+#[cycle(zeros)]
+fn zero_in_some<N: Reading>(parts: N::Rest, named: bool) -> bool
+    ensures { result ≡ zero_in_parts named (N.left parts) }
+{
+    let mut rest = parts;
+    while let Some(next) = N::next(&rest) {
+        if named && has_zero(next.0) {
+            return true;
+        }
+        if holds_zero(next.1) {
+            return true;
+        }
+        rest = next.2;
+    }
+    false
+}

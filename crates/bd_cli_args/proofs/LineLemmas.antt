@@ -1,0 +1,359 @@
+-- The lines that are taken have an order; those of a command that takes a file and nothing else are taken.
+use Rattle.std.proofs.Common.{ap₂, subst, ◌⊎◌, inl, inr, ◌≡◌, ◌∙◌, ◌||◌, Bool, cond, true, false, not, refl, sym, ap, List, [], ◌∷◌, codes, Option, Some, None}
+use Rattle.std.proofs.Common.{true≢false, ℕ, Result, Ok, Err, IfOk, IfErr, Box, find, slice_get, unwrap_or, IfSome, is_some, option_and_then, option_map, if◌then◌else◌}
+use Rattle.std.proofs.Common.{◌==◌, ◌<◌, ◌^◌, arith}
+use Rattle.std.specs.Prelude.{⊤}
+use Rattle.std.specs.Str.Parse.{ParsesUnsigned, digits_value, without_leading_plus, IsNumeral}
+use Rattle.std.specs.{Option.option_map_or, Option.option_or, Box.box_value}
+use Rattle.std.proofs.lemmas.{Slice.Eq.bytes_eq-Decides, Bool.and_parts, Bool.cond_both}
+use Rattle.std.proofs.Math.Bool.{and-false}
+use Rattle.clap.specs.Simple.{App, HasMatchesOf, Shape, built, built_leaf, entered, inherited, marked_built, on_top, subcommand_rows, with_leaf_noted, is_simple}
+use Rattle.clap.specs.Simple.{label_of, names_of, rows_at, subcommand_of, subcommand_rows_of}
+use Rattle.clap.specs.declared.error.kind.ErrorKind.TheVariants.{OutOfMemory, MissingRequiredArgument, MissingSubcommand, UnknownArgument, InvalidSubcommand}
+use Rattle.clap.specs.declared.parser.matches.ArgMatches.TheViews.{out-ArgMatches, out-SubCommand}
+use Rattle.clap.specs.{Kinds.HasKind, Kinds.IsAmong, Kinds.Kinds, Kinds.check_kinds, Kinds.or_else, Values.kind_of, Matches.found_of, Matches.subcommand_name_of}
+use Rattle.clap.specs.{declared.parser.matches.SubCommand.SubCommand, declared.error.Error.Error, declared.parser.matches.ArgMatches.ArgMatches, Walk.Row, Walk.rows_of}
+use Rattle.clap.specs.{Walk.Text, Walk.answers_to, Walk.finished, Walk.first_of, Walk.nothing_held, Walk.rows_after, Walk.walk, Faults.check_fault, Faults.entered_fault}
+use Rattle.clap.specs.{Faults.fault_of, Faults.is_simple_and_free, Faults.level_fault, Takes.is_given, Takes.takes, declared.error.kind.ErrorKind.ErrorKind}
+use Rattle.clap.specs.{Words.ReadsOne, ValueTests.is_unsigned_in, declared.builder.value_parser.ValueParser.TheVariants.Unsigned}
+use Rattle.clap.proofs.ValueTestLemmas.{accepts-Accepts, Accepts-accepts}
+use Rattle.clap.proofs.{OnLiterals.clap_on_literals, WalkLemmas.first_value-rows, WalkLemmas.one_text-rows}
+use Rattle.bd_cli_args.specs.CommandLine.{OrderView, GivesOrder, meant, check, dump, pack, serve, fault_for, file_app, find_app, find_words_in, refusal_told}
+use Rattle.bd_cli_args.specs.CommandLine.{is_help_line, is_serve_of_input, line_app, order_of, ordered_by, parser_refusal, serves_input, IsFileCommand, is_file_word}
+use Rattle.bd_cli_args.specs.CommandLine.{is_serve_input_line, number_read}
+use Rattle.bd_cli_args.specs.declared.order.WordsFault.TheVariants.{NoMemory, Usage}
+use Rattle.bd_cli_args.specs.{declared.order.Order.Order, declared.order.WordsFault.WordsFault}
+use Rattle.bd_cli_args.proofs.FaultLemmas.{SameTold, given_first, is_plain, level-sound, same-entered, same-fault}
+
+refused : (k : ErrorKind) → k ∷ [] ≡ [] → ⊥
+refused k e = cc
+
+pub line_simple : is_simple line_app ≡ true
+line_simple = refl
+
+pub line_free : is_simple_and_free line_app ≡ true
+line_free = refl
+
+-- what holds of each command
+EachShape : (Shape → Type 0) → List Shape → Type 0
+EachShape P [] = ⊤
+EachShape P (s ∷ rest) = P s × EachShape P rest
+
+found_shape : (P : Shape → Type 0) (p : Shape → Bool) (shapes : List Shape) → EachShape P shapes → IfSome (find p shapes) P
+unfolding EachShape
+found_shape P p [] each = tt
+found_shape P p (s ∷ rest) each = elim (p s) as (λ b. IfSome (cond b (Some s) (find p rest)) P) [ true ↦ each.0 | false ↦ found_shape P p rest each.1 ]
+
+-- the words of the command have an order where they have no fault
+abbrev HasOrders : Shape → Type 0
+HasOrders s = (words : List Text) → level_fault s [] nothing_held words false [] ≡ [] → is_some (ordered_by s.name (rows_after s.rules [] words)) ≡ true
+
+file_given : (given rest : Bool) → check_kinds false false (not given || rest) ≡ [] → given ≡ true
+file_given true rest e = refl
+file_given false rest e = absurd (refused MissingRequiredArgument e)
+
+-- a command that requires FILE has it
+file_there : (s : Shape) (words : List Text) → is_plain s ≡ true
+    → ((rows : List Row) → check_fault s rows false ≡ [] → is_given (codes "file") rows ≡ true)
+    → level_fault s [] nothing_held words false [] ≡ [] → is_some (first_of (codes "file") (rows_after s.rules [] words)) ≡ true
+file_there s words plain given e =
+    let rows = rows_after s.rules [] words in
+    let level = (level-sound s [] words false [] plain tt).leaves e in
+    given_first (codes "file") rows level.0 (given rows level.2)
+
+some_mapped : {X Y : Type 0} (f : X → Y) (o : Option X) → is_some o ≡ true → is_some (option_map f o) ≡ true
+some_mapped f None e = let bad : ⊥ = cc in absurd bad
+some_mapped f (Some x) e = refl
+
+-- a command that takes a file alone, as it is built
+abbrev pub file_shape : Text → Shape
+file_shape name = built_leaf (inherited (on_top with_leaf_noted (on_top marked_built line_app)).top (file_app name).top)
+
+file_orders : (name : Text) (order : Text → OrderView) → ((rows : List Row) → ordered_by name rows ≡ option_map order (first_of (codes "file") rows)) → HasOrders (file_shape name)
+file_orders name order is words e =
+    let rows = rows_after (file_shape name).rules [] words in
+    ap is_some (is rows) ∙ some_mapped order (first_of (codes "file") rows) (file_there (file_shape name) words refl (λ rows c. file_given _ _ c) e)
+
+-- the command `find`, likewise
+abbrev pub find_shape : Shape
+find_shape = built_leaf (inherited (on_top with_leaf_noted (on_top marked_built line_app)).top find_app.top)
+
+find_orders : HasOrders find_shape
+find_orders words e =
+    let rows = rows_after find_shape.rules [] words in
+    some_mapped (λ file. OrderView.find file (find_words_in rows)) (first_of (codes "file") rows)
+    (file_there find_shape words refl (λ rows c. file_given _ _ c) e)
+
+commands_order : EachShape HasOrders (built line_app).subs
+unfolding EachShape
+commands_order = (
+  file_orders (codes "dump") dump (λ rows. refl),
+  (
+    file_orders (codes "check") check (λ rows. refl),
+    (file_orders (codes "pack") pack (λ rows. refl), (file_orders (codes "serve") serve (λ rows. refl), (find_orders, tt))),
+  ),
+)
+
+-- words that have no fault have an order
+pub order_there : (words : List Text) → fault_of line_app words ≡ [] → is_some (order_of words) ≡ true
+order_there words e =
+    let stop = (walk top.rules names nothing_held words).stopped in
+    let level = level-sound top names words (is_some (entered (built line_app) stop)) (entered_fault (built line_app) stop) refl (same-entered (built line_app) stop refl) in
+    let checks = level.leaves e in
+    at_stop stop checks.1 checks.2
+  where
+    top : Shape
+    top = (built line_app).top
+
+    names : List (Text × List Text)
+    names = names_of (built line_app)
+
+    rows : List Row
+    rows = finished top.rules (walk top.rules names nothing_held words).held
+
+    at_shape : (p : Text × List Text) (o : Option Shape) → IfSome o HasOrders → option_map_or (λ s. level_fault s [] nothing_held p.1 false []) o [] ≡ []
+        → check_fault top rows (is_some (option_map (λ s. rows_at s p.1) o)) ≡ []
+        → is_some (option_and_then (λ q. ordered_by q.0 q.1) (option_map (λ s. rows_at s p.1) o)) ≡ true
+    at_shape p None orders e c = absurd (refused MissingSubcommand c)
+    at_shape p (Some s) orders e c = orders p.1 e
+
+    at_stop : (stop : Option (Text × List Text)) → entered_fault (built line_app) stop ≡ [] → check_fault top rows (is_some (entered (built line_app) stop)) ≡ []
+        → is_some (option_and_then (λ q. ordered_by q.0 q.1) (entered (built line_app) stop)) ≡ true
+    at_stop None e c = absurd (refused MissingSubcommand c)
+    at_stop (Some p) e c = at_shape p (find (λ s. answers_to p.0 (label_of s)) (built line_app).subs)
+        (found_shape HasOrders (λ s. answers_to p.0 (label_of s)) (built line_app).subs commands_order) e c
+
+-- the word `help` is none of them, whatever follows
+pub help_fault : (rest : List Text) → fault_of line_app (codes "help" ∷ rest) ≡ UnknownArgument ∷ InvalidSubcommand ∷ []
+unfolding clap_on_literals
+help_fault rest = refl
+
+help_not_taken : (rest : List Text) → takes line_app (codes "help" ∷ rest) ≡ false
+unfolding clap_on_literals
+help_not_taken rest = and-false _
+
+help_words : (words : List Text) → is_help_line words ≡ true → (rest : List Text) × (words ≡ codes "help" ∷ rest)
+help_words [] e = let f : ⊥ = cc in absurd f
+help_words (w ∷ rest) e = (rest, ap (λ x. x ∷ rest) ((bytes_eq-Decides w (codes "help")).0 e))
+
+-- what a line is told as, by what the parser refuses and by what the words order
+pub told_by : (words : List Text) (refusal : Option WordsFault) (is_of_input : Bool) → parser_refusal words ≡ refusal → serves_input words ≡ is_of_input
+    → fault_for words ≡ option_or refusal (if is_of_input then Some Usage else None)
+told_by words refusal is_of_input refused served =
+    ap₂ (λ (r : Option WordsFault) (b : Bool). option_or r (if b then Some Usage else None)) refused served
+
+pub served_as : (words : List Text) (order : OrderView) (is_of_input : Bool) → order_of words ≡ Some order → is_serve_of_input order ≡ is_of_input
+    → serves_input words ≡ is_of_input
+served_as words order is_of_input is e = ap (λ o. option_map_or is_serve_of_input o false) is ∙ e
+
+pub help_line_told : (words : List Text) → is_help_line words ≡ true → fault_for words ≡ Some Usage
+help_line_told words e =
+    let h = help_words words e in
+    told_by words (Some Usage) (serves_input words)
+    (ap parser_refusal h.1 ∙ ap (λ ks. option_map refusal_told (slice_get ks 0)) (help_fault h.0)) refl
+
+pub help_line_refused : (words : List Text) → is_help_line words ≡ true → takes line_app words ≡ true → ⊥
+help_line_refused words e taken =
+    let h = help_words words e in
+    true≢false (sym taken ∙ (ap (takes line_app) h.1 ∙ help_not_taken h.0))
+
+-- ---- the lines in their plainest form
+
+abbrev pub IsTaken : List Text → OrderView → Type 0
+IsTaken words order = (fault_of line_app words ≡ []) × (order_of words ≡ Some order)
+
+-- ---- what a refusal is told as
+
+first_told : (kinds : Kinds) (k : ErrorKind) → SameTold kinds → IsAmong k kinds → option_map refusal_told (slice_get kinds 0) ≡ Some (refusal_told k)
+first_told [] k same a = absurd a
+first_told (x ∷ xs) k same (inl is) = ap (λ y. Some (refusal_told y)) (sym is)
+first_told (x ∷ xs) k same (inr more) = ap (λ f. Some f) (sym (same k more))
+
+kind_told : (words : List Text) (e : Error) → HasKind (fault_of line_app words) e
+    → (refusal_told (kind_of e) ≡ NoMemory) ⊎ (parser_refusal words ≡ Some (refusal_told (kind_of e)))
+kind_told words e (inl memory) = inl (ap refusal_told memory)
+kind_told words e (inr among) = inr (first_told (fault_of line_app words) (kind_of e) (same-fault (built line_app) words refl) among)
+
+pub refusal_none : (words : List Text) → fault_of line_app words ≡ [] → parser_refusal words ≡ None
+refusal_none words is = ap (λ ks. option_map refusal_told (slice_get ks 0)) is
+
+-- words without a fault are refused only if memory runs out
+pub only_memory : (words : List Text) (f : WordsFault) → fault_for words ≡ None → (f ≡ NoMemory) ⊎ (fault_for words ≡ Some f) → f ≡ NoMemory
+only_memory words f is (inl memory) = memory
+only_memory words f is (inr told) =
+    let none : None ≡ Some f = sym is ∙ told in
+    let bad : ⊥ = cc in absurd bad
+
+-- ---- from what the code reads of the matches to the order
+
+names_read : {Z : Type 0} (s : Option (Box SubCommand Z)) → option_map (λ b. (out-SubCommand (box_value b)).name.now) s ≡ option_map (λ p. p.0) (subcommand_rows s)
+names_read None = refl
+names_read (Some b) = refl
+
+pair_read : (o : Option (Text × List Row)) (name : Text) (rows : List Row) → Some name ≡ option_map (λ p. p.0) o → Some rows ≡ option_map (λ p. p.1) o → o ≡ Some (name, rows)
+pair_read None name rows n r = let bad : ⊥ = cc in absurd bad
+pair_read (Some p) name rows n r =
+    let n' : name ≡ p.0 = ap (λ o. unwrap_or o name) n in
+    let r' : rows ≡ p.1 = ap (λ o. unwrap_or o rows) r in
+    ap₂ (λ (a : Text) (b : List Row). Some (a, b)) (sym n') (sym r')
+
+-- what the getters read of the matches
+pub ruleset readings = (first_value-rows, one_text-rows)
+
+same_cond : {X : Type 0} (b : Bool) (x : X) → cond b x x ≡ x
+same_cond true x = refl
+same_cond false x = refl
+
+-- a command without FILE has no order
+pub no_file : (name : Text) (rows : List Row) → first_of (codes "file") rows ≡ None → ordered_by name rows ≡ None
+no_file name rows e = rw e (simp same_cond)
+
+-- ---- the clauses of the parse, at the program's line
+
+pub refused_as : (a : App) (words : List Text) (e : Error) (f : WordsFault) → a ≡ line_app → (is_simple_and_free a ≡ true → HasKind (fault_of a words) e)
+    → f ≡ refusal_told (kind_of e) → (f ≡ NoMemory) ⊎ (parser_refusal words ≡ Some f)
+refused_as a words e f is h told =
+    let kinds = subst (λ (x : App). is_simple_and_free x ≡ true → HasKind (fault_of x words) e) is h line_free in
+    subst (λ (x : WordsFault). (x ≡ NoMemory) ⊎ (parser_refusal words ≡ Some x)) (sym told) (kind_told words e kinds)
+
+pub refused_taken : (a : App) (words : List Text) (e : Error) → a ≡ line_app → (takes a words ≡ true → kind_of e ≡ OutOfMemory) → takes line_app words ≡ true
+    → refusal_told (kind_of e) ≡ NoMemory
+refused_taken a words e is h taken = ap refusal_told (h (ap (λ (x : App). takes x words) is ∙ taken))
+
+pub no_fault : (a : App) (words : List Text) → a ≡ line_app → (is_simple_and_free a ≡ true → fault_of a words ≡ []) → fault_of line_app words ≡ []
+no_fault a words is h = subst (λ (x : App). is_simple_and_free x ≡ true → fault_of x words ≡ []) is h line_free
+
+-- the name and the rows that the code reads give the order
+pub order_read : (a : App) (words : List Text) (m inner : ArgMatches) (name : Text) → a ≡ line_app → HasMatchesOf a words m → Some name ≡ subcommand_name_of m
+    → Some (rows_of (found_of inner)) ≡ option_map (λ p. p.1) (subcommand_rows_of m) → order_of words ≡ ordered_by name (rows_of (found_of inner))
+order_read a words m inner name is has named rows =
+    let sub : subcommand_rows_of m ≡ subcommand_of line_app words = (subst (λ (x : App). HasMatchesOf x words m) is has line_simple).1 in
+    ap (option_and_then (λ p. ordered_by p.0 p.1))
+    (sym sub ∙ pair_read (subcommand_rows_of m) name (rows_of (found_of inner)) (named ∙ names_read (out-ArgMatches m).subcommand) rows)
+
+same_order : (words : List Text) (a b : OrderView) → order_of words ≡ Some a → order_of words ≡ Some b → a ≡ b
+same_order words a b e f = ap (λ o. unwrap_or o a) (sym e ∙ f)
+
+pub orders_when : (r : Result Order WordsFault) (words : List Text) (order : OrderView) → order_of words ≡ Some order
+    → IfOk r (λ o. order_of words ≡ Some (meant o)) → IfErr r (λ f. f ≡ NoMemory) → GivesOrder r order
+orders_when (Ok o) words order is ok err = same_order words (meant o) order ok is
+orders_when (Err f) words order is ok err = err
+
+-- words that are taken are answered by their order, or memory ran out
+pub answered : (r : Result Order WordsFault) (words line : List Text) (order : OrderView) → words ≡ line
+    → IsTaken line order → is_serve_of_input order ≡ false → IfOk r (λ o. order_of words ≡ Some (meant o))
+    → IfErr r (λ f. (f ≡ NoMemory) ⊎ (fault_for words ≡ Some f)) → GivesOrder r order
+answered (Ok o) words line order is taken other ok err = orders_when (Ok o) words order (ap order_of is ∙ taken.1) ok err
+answered (Err f) words line order is taken other ok err =
+    let refusal = refusal_none words (ap (fault_of line_app) is ∙ taken.0) in
+    only_memory words f (told_by words None false refusal (served_as words order false (ap order_of is ∙ taken.1) other)) err
+
+-- ---- lines of a command that takes a file and nothing else
+
+-- the words of such a command give its file
+abbrev Takes : Text → List Text → Text → Type 0
+Takes name words file =
+    (level_fault (file_shape name) [] nothing_held words false [] ≡ [])
+    × (first_of (codes "file") (rows_after (file_shape name).rules [] words) ≡ Some file)
+
+file_short : (name : Text) (x : ℕ) (xs : List ℕ) → (x == 45) ≡ true → is_file_word (x ∷ xs) ≡ true → Takes name ((x ∷ xs) ∷ []) (x ∷ xs)
+unfolding clap_on_literals
+file_short name x [] is e = (simp is refl, simp is refl)
+file_short name x (y ∷ ys) is e = let f : ⊥ = true≢false (sym (rw is at e)) in absurd f
+
+file_word : (name : Text) (x : ℕ) (xs : List ℕ) (b : Bool) → (x == 45) ≡ b → is_file_word (x ∷ xs) ≡ true → Takes name ((x ∷ xs) ∷ []) (x ∷ xs)
+unfolding clap_on_literals
+file_word name x xs false is e = (simp is refl, simp is refl)
+file_word name x xs true is e = file_short name x xs is e
+
+file_plain : (name file : Text) → is_file_word file ≡ true → Takes name (file ∷ []) file
+unfolding clap_on_literals
+file_plain name [] e = (refl, refl)
+file_plain name (x ∷ xs) e = file_word name x xs (x == 45) refl e
+
+file_escaped : (name file : Text) → Takes name (codes "--" ∷ file ∷ []) file
+unfolding clap_on_literals
+file_escaped name file = (refl, refl)
+
+-- the words of a line after its first one go to the command
+abbrev Enters : Text → (Text → OrderView) → List Text → Type 0
+Enters name order words =
+    (fault_of line_app (name ∷ words) ≡ or_else (level_fault (file_shape name) [] nothing_held words false []) [])
+    × (order_of (name ∷ words) ≡ option_map order (first_of (codes "file") (rows_after (file_shape name).rules [] words)))
+
+enters : (name : Text) (order : Text → OrderView) → IsFileCommand name order → (file : Text) → Enters name order (file ∷ []) × Enters name order (codes "--" ∷ file ∷ [])
+unfolding clap_on_literals
+enters name order (inl e) file = rw (e.0, e.1) ((refl, refl), (refl, refl))
+enters name order (inr (inl e)) file = rw (e.0, e.1) ((refl, refl), (refl, refl))
+enters name order (inr (inr (inl e))) file = rw (e.0, e.1) ((refl, refl), (refl, refl))
+enters name order (inr (inr (inr e))) file = rw (e.0, e.1) ((refl, refl), (refl, refl))
+
+taken : (name file : Text) (order : Text → OrderView) (words : List Text) → Enters name order words → Takes name words file → IsTaken (name ∷ words) (order file)
+taken name file order words enters takes = (enters.0 ∙ ap (λ ks. or_else ks []) takes.0, enters.1 ∙ ap (option_map order) takes.1)
+
+pub file_taken : (name file : Text) (order : Text → OrderView) → IsFileCommand name order → is_file_word file ≡ true
+    → IsTaken (name ∷ file ∷ []) (order file)
+file_taken name file order which plain = taken name file order (file ∷ []) (enters name order which file).0 (file_plain name file plain)
+
+pub file_escaped_taken : (name file : Text) (order : Text → OrderView) → IsFileCommand name order
+    → IsTaken (name ∷ codes "--" ∷ file ∷ []) (order file)
+file_escaped_taken name file order which =
+    taken name file order (codes "--" ∷ file ∷ []) (enters name order which file).1 (file_escaped name file)
+
+-- ---- `serve` of the standard input
+
+-- what the words are answered with where the parser reads them so
+abbrev IsOfInput : List Text → Type 0
+IsOfInput words = (serves_input words ≡ true) × (fault_for words ≡ Some Usage)
+
+taken_of_input : (words : List Text) → IsTaken words (serve (codes "-")) → IsOfInput words
+taken_of_input words taken =
+    let served = served_as words (serve (codes "-")) true taken.1 refl in
+    (served, told_by words None true (refusal_none words taken.0) served)
+
+pub line_of_input : (words : List Text) → is_serve_input_line words ≡ true → IsOfInput words
+line_of_input (a ∷ b ∷ []) e =
+    let h = and_parts _ _ e in
+    let command = (bytes_eq-Decides a (codes "serve")).0 h.0 in
+    let file = (bytes_eq-Decides b (codes "-")).0 h.1 in
+    subst IsOfInput (sym (ap₂ (λ (x y : Text). x ∷ y ∷ []) command file))
+    (taken_of_input (codes "serve" ∷ codes "-" ∷ []) (file_taken (codes "serve") (codes "-") serve (inr (inr (inr (refl, refl)))) refl))
+line_of_input (a ∷ b ∷ c ∷ []) e =
+    let h = and_parts _ _ e in
+    let more = and_parts _ _ h.1 in
+    let command = (bytes_eq-Decides a (codes "serve")).0 h.0 in
+    let escape = (bytes_eq-Decides b (codes "--")).0 more.0 in
+    let file = (bytes_eq-Decides c (codes "-")).0 more.1 in
+    subst IsOfInput (sym (ap₂ (λ (x : Text) (rest : List Text). x ∷ rest) command (ap₂ (λ (x y : Text). x ∷ y ∷ []) escape file)))
+    (taken_of_input (codes "serve" ∷ codes "--" ∷ codes "-" ∷ []) (file_escaped_taken (codes "serve") (codes "-") serve (inr (inr (inr (refl, refl))))))
+line_of_input _ e = let bad : ⊥ = cc in absurd bad
+
+-- the text is a number of 32 bits
+abbrev pub IsSmall : List ℕ → Type 0
+IsSmall t = IsNumeral 10 (without_leading_plus t) × (digits_value 10 (without_leading_plus t) < 2 ^ 32)
+
+pub small_yes : (t : List ℕ) → IsSmall t → is_unsigned_in 0 4294967295 t ≡ true
+small_yes t h = Accepts-accepts false (Unsigned 0 4294967295) t (h.0, omega (arith, h.1), omega arith, omega (arith, h.1))
+
+small_back : (t : List ℕ) → is_unsigned_in 0 4294967295 t ≡ true → IsSmall t
+small_back t e = let a = accepts-Accepts false (Unsigned 0 4294967295) t e in (a.0, omega (arith, a.3))
+
+read_some : {E : Type 0} (t : List ℕ) (r : Result ℕ E) (n : ℕ) → ParsesUnsigned 32 10 t r → r ≡ Ok n → number_read t ≡ Some n
+read_some t (Ok k) n h e =
+    let same : k ≡ n = cc in
+    rw (small_yes t h.0) (ap (λ m. Some m) (sym h.1 ∙ same))
+read_some t (Err e) n h is = absurd cc
+
+read_none : {E : Type 0} (t : List ℕ) (r : Result ℕ E) (e : E) → ParsesUnsigned 32 10 t r → r ≡ Err e → number_read t ≡ None
+read_none t (Ok k) e h is = absurd cc
+read_none t (Err d) e h is = cond_both (is_unsigned_in 0 4294967295 t) (Some (digits_value 10 (without_leading_plus t))) None (λ o. o ≡ None)
+    (λ fits. absurd (h (small_back t fits))) (λ other. refl)
+
+pub number_is : (E : Type 0) (gives : List ℕ → Result ℕ E → Type 0) → ((t : List ℕ) (r : Result ℕ E) → gives t r → ParsesUnsigned 32 10 t r) → (o : Option (List ℕ)) (r : Option ℕ)
+    → (o ≡ None → r ≡ None) → ((t : List ℕ) → o ≡ Some t → ReadsOne gives t r) → option_and_then number_read o ≡ r
+number_is E gives parses None r none value = sym (none refl)
+number_is E gives parses (Some t) (Some n) none value = let done : Result ℕ E = Ok n in read_some t done n (parses t done (value t refl)) refl
+number_is E gives parses (Some t) None none value =
+    let v = value t refl in
+    let failed : Result ℕ E = Err v.0 in
+    read_none t failed v.0 (parses t failed v.1) refl

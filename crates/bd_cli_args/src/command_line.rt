@@ -1,0 +1,291 @@
+//! Reads the words of a line, by `clap`: the line that it takes, and the order that a line is.
+
+ghost use Rattle.std.specs.Prelude.{◌≡◌, ◌⊎◌, [], ◌∷◌, ℕ, List, map, true, false, IfErr, IfOk, IsErrOf, IsSome, IsTrue, None, Some, option_map, codes, string_bytes};
+ghost use Rattle.clap.specs.Simple.{with_subcommand};
+ghost use Rattle.clap.specs.Words.{app_of, first_of, found_of, kind_of, rows_of, rule_of, takes};
+ghost use Rattle.clap.specs.declared.builder.command.Command.TheViews.{out-Command as fields_of};
+ghost use Rattle.bd_cli_args.specs.CommandLine.{GivesOrder, IsFileCommand, OrderView, fault_for, file_app, file_rule, find_app, find_words_in, is_file_word, is_help_line, is_serve_input_line, is_serve_of_input, line_app, meant, option_number, option_rule, order_of, ordered_by, parser_refusal, refusal_told, serves_input, top_app, with_file_commands, with_options, words_of};
+ghost use Rattle.bd_cli_args.specs.FindWords.{find_words_of};
+ghost use Rattle.bd_cli_args.specs.declared.order.WordsFault.TheVariants.{NoMemory};
+
+use crate::order::{FindOptions, Order, WordsFault};
+use bd_value::GREATEST_COUNT;
+use clap::builder::ValueParser;
+use clap::error::ErrorKind;
+use clap::{Arg, ArgAction, ArgMatches, Command, Error};
+use std::alloc::{AllocError, Global};
+
+/// What a request for help and a refused line are answered with.
+pub const USAGE: &str = "usage: bsonfind dump FILE
+       bsonfind check FILE
+       bsonfind pack FILE
+       bsonfind find FILE [--query Q] [--sort S] [--skip N] [--limit N] [--batch N] [--index PATH] [--after TOKEN]
+       bsonfind serve FILE
+";
+
+/// The order of a line: its words without the program's name.
+///
+/// `dump FILE`, `check FILE`, `pack FILE` and `serve FILE` are taken, and
+/// `find FILE [--query Q] [--sort S] [--skip N] [--limit N] [--batch N] [--index PATH] [--after TOKEN]`, N from 0 to
+/// 2,147,483,647, with the options in any order, each once at most, and FILE before or after them. Without `--skip` and
+/// `--limit` they are 0. A file whose name looks like a flag stands after `--`, as in `dump -- -x`. The file of `serve` is
+/// not `-`, since the commands of a session come from the standard input.
+///
+/// # Errors
+///
+/// - `Help` where the words ask for help by a flag, as `--help` and `dump -h` do.
+/// - `Usage` where they are not taken otherwise. The word `help` in the first place is no command.
+/// - `NoMemory` where memory ran out. The word `help` in the first place, `serve -` and `serve -- -` need none.
+#[tactic(auto, using(crate::proofs::LineLemmas::help_line_told, crate::proofs::LineLemmas::help_line_refused, crate::proofs::LineLemmas::line_of_input))]
+pub fn parse_words(alloc: Global, words: &[String]) -> Result<Order, WordsFault>
+    ensures order { IfOk result (λ o. order_of (words_of words.now) ≡ Some (meant o)) }
+    ensures only_taken { IfOk result (λ _. fault_for (words_of words.now) ≡ None) }
+    ensures never_of_input { IfOk result (λ o. is_serve_of_input (meant o) ≡ false) }
+    ensures fault { IfErr result (λ f. (f ≡ NoMemory) ⊎ (fault_for (words_of words.now) ≡ Some f)) }
+    ensures taken { takes line_app (words_of words.now) ≡ true → serves_input (words_of words.now) ≡ false
+        → IfErr result (λ f. f ≡ NoMemory) }
+    // A command that takes a file and nothing else: its file as it stands, or after `--`.
+    ensures file { (name file : List ℕ) (order : List ℕ → OrderView) → IsFileCommand name order → IsTrue (is_file_word file)
+        → is_serve_of_input (order file) ≡ false → words_of words.now ≡ name ∷ file ∷ [] → GivesOrder result (order file) }
+    ensures escaped { (name file : List ℕ) (order : List ℕ → OrderView) → IsFileCommand name order
+        → is_serve_of_input (order file) ≡ false → words_of words.now ≡ name ∷ codes "--" ∷ file ∷ []
+        → GivesOrder result (order file) }
+    ensures serve_input { IsTrue (is_serve_input_line (words_of words.now)) → IsErrOf result WordsFault.Usage }
+    ensures help_word { IsTrue (is_help_line (words_of words.now)) → IsErrOf result WordsFault.Usage }
+{
+    if begins_with_help(words) {
+        return Err(WordsFault::Usage);
+    }
+    if is_plain_serve_of_input(words) {
+        return Err(WordsFault::Usage);
+    }
+    order_taken(alloc, words)
+}
+
+fn begins_with_help(words: &[String]) -> bool
+    ensures { result ≡ is_help_line (words_of words.now) }
+{
+    words.first().is_some_and(|word| word.as_str() == "help")
+}
+
+/// Whether the words are `serve -` or `serve -- -`.
+fn is_plain_serve_of_input(words: &[String]) -> bool
+    ensures { result ≡ is_serve_input_line (words_of words.now) }
+{
+    match words {
+        [command, file] => command.as_str() == "serve" && file.as_str() == "-",
+        [command, escape, file] => {
+            command.as_str() == "serve" && escape.as_str() == "--" && file.as_str() == "-"
+        }
+        _ => false,
+    }
+}
+
+/// The order of words that are taken: in whatever form the parser reads `serve` of the standard input, it is refused.
+fn order_taken(alloc: Global, words: &[String]) -> Result<Order, WordsFault>
+    ensures order { IfOk result (λ o. order_of (words_of words.now) ≡ Some (meant o)) }
+    ensures only_taken { IfOk result (λ _. fault_for (words_of words.now) ≡ None) }
+    ensures never_of_input { IfOk result (λ o. is_serve_of_input (meant o) ≡ false) }
+    ensures fault { IfErr result (λ f. (f ≡ NoMemory) ⊎ (fault_for (words_of words.now) ≡ Some f)) }
+    ensures taken { takes line_app (words_of words.now) ≡ true → serves_input (words_of words.now) ≡ false
+        → IfErr result (λ f. f ≡ NoMemory) }
+{
+    let order = order_in(alloc, words)?;
+    if orders_serve_of_input(&order) {
+        return Err(WordsFault::Usage);
+    }
+    Ok(order)
+}
+
+fn orders_serve_of_input(order: &Order) -> bool
+    ensures { result ≡ is_serve_of_input (meant order.now) }
+{
+    matches!(order, Order::Serve { file } if file.as_str() == "-")
+}
+
+/// The order of words as the parser reads them, `serve` of the standard input among them.
+fn order_in(alloc: Global, words: &[String]) -> Result<Order, WordsFault>
+    ensures order { IfOk result (λ o. order_of (words_of words.now) ≡ Some (meant o)) }
+    ensures only_taken { IfOk result (λ _. parser_refusal (words_of words.now) ≡ None) }
+    ensures fault { IfErr result (λ f. (f ≡ NoMemory) ⊎ (parser_refusal (words_of words.now) ≡ Some f)) }
+    ensures taken { takes line_app (words_of words.now) ≡ true → IfErr result (λ f. f ≡ NoMemory) }
+{
+    let command = line_command(alloc)?;
+    let matches = match command.try_get_matches_from(words) {
+        Ok(matches) => matches,
+        Err(error) => return Err(fault_told(&error)),
+    };
+    let Some((name, inner)) = matches.subcommand() else {
+        unreachable!()
+    };
+    order_named(alloc, name, inner)
+}
+
+fn fault_told(error: &Error) -> WordsFault
+    ensures { result ≡ refusal_told (kind_of error.now) }
+{
+    match error.kind() {
+        ErrorKind::DisplayHelp => WordsFault::Help,
+        ErrorKind::OutOfMemory => WordsFault::NoMemory,
+        _ => WordsFault::Usage,
+    }
+}
+
+/// The order of the command `name` with these matches.
+#[tactic(auto, using(crate::proofs::LineLemmas::no_file, crate::proofs::LineLemmas::readings))]
+fn order_named(alloc: Global, name: &str, matches: &ArgMatches<'_>) -> Result<Order, WordsFault>
+    requires { IsSome (ordered_by name.now (rows_of (found_of matches.now))) }
+    ensures order { IfOk result (λ o. ordered_by name.now (rows_of (found_of matches.now)) ≡ Some (meant o)) }
+    ensures fault { IfErr result (λ f. f ≡ NoMemory) }
+{
+    let Some(file) = matches.get_str("file") else {
+        unreachable!()
+    };
+    let file = String::from_str(alloc, file)?;
+    match name {
+        "dump" => Ok(Order::Dump { file }),
+        "check" => Ok(Order::Check { file }),
+        "pack" => Ok(Order::Pack { file }),
+        "find" => {
+            let options = options_of(alloc, matches)?;
+            Ok(Order::Find { file, options })
+        }
+        "serve" => Ok(Order::Serve { file }),
+        _ => unreachable!(),
+    }
+}
+
+/// What the options say in these matches.
+fn options_of(alloc: Global, matches: &ArgMatches<'_>) -> Result<FindOptions, WordsFault>
+    ensures words { IfOk result (λ o. find_words_of o ≡ find_words_in (rows_of (found_of matches.now))) }
+    ensures fault { IfErr result (λ f. f ≡ NoMemory) }
+{
+    let query = text_of(alloc, matches, "query")?;
+    let sort = text_of(alloc, matches, "sort")?;
+    let index = text_of(alloc, matches, "index")?;
+    let after = text_of(alloc, matches, "after")?;
+    Ok(FindOptions {
+        query,
+        sort,
+        skip: number_of(matches, "skip").unwrap_or(0),
+        limit: number_of(matches, "limit").unwrap_or(0),
+        batch: number_of(matches, "batch"),
+        index,
+        after,
+    })
+}
+
+/// The text of an option, where it is given.
+#[tactic(auto, using(crate::proofs::LineLemmas::readings))]
+fn text_of(alloc: Global, found: &ArgMatches<'_>, name: &str) -> Result<Option<String>, WordsFault>
+    ensures text { IfOk result (λ o. option_map string_bytes o ≡ first_of name.now (rows_of (found_of found.now))) }
+    ensures fault { IfErr result (λ f. f ≡ NoMemory) }
+{
+    match found.get_str(name) {
+        Some(text) => Ok(Some(String::from_str(alloc, text)?)),
+        None => Ok(None),
+    }
+}
+
+/// The number of an option, where it is given.
+fn number_of(matches: &ArgMatches<'_>, name: &str) -> Option<u32>
+    ensures { result ≡ option_number name.now (rows_of (found_of matches.now)) }
+{
+    matches.get_one::<u32>(name)
+}
+
+/// A command that was put together, unless memory ran out.
+type Made<'a> = Result<Command<'a>, AllocError>;
+
+/// The program's whole line.
+fn line_command<'a>(alloc: Global) -> Made<'a>
+    ensures { IfOk result (λ c. (app_of c ≡ line_app) × ((fields_of c).has_globals ≡ false)) }
+{
+    let find = find_command(alloc)?;
+    with_file_commands(alloc, top_command(alloc), &FILE_COMMANDS)?.subcommand(find)
+}
+
+/// The program's line without its commands.
+fn top_command<'a>(alloc: Global) -> Command<'a>
+    ensures { (app_of result ≡ top_app) × ((fields_of result).has_globals ≡ false) }
+{
+    Command::new(alloc, "bsonfind")
+        .no_binary_name(true)
+        .subcommand_required(true)
+        .disable_help_subcommand(true)
+}
+
+/// The commands that take a file and nothing else.
+const FILE_COMMANDS: [&str; 4] = ["dump", "check", "pack", "serve"];
+
+/// The line with these commands more, each of which takes a file and nothing else.
+fn with_file_commands<'a>(alloc: Global, line: Command<'a>, names: &[&'a str]) -> Made<'a>
+    requires { (fields_of line).has_globals ≡ false }
+    ensures app { IfOk result (λ c. app_of c ≡ with_file_commands (app_of line.entry) (map (λ name. name.now) names.now)) }
+    ensures local { IfOk result (λ c. (fields_of c).has_globals ≡ false) }
+{
+    let mut with = line;
+    for name in names {
+        let command = of_file(alloc, name)?;
+        with = with.subcommand(command)?;
+    }
+    Ok(with)
+}
+
+/// A command that takes a file and nothing else.
+fn of_file<'a>(alloc: Global, name: &'a str) -> Made<'a>
+    ensures { IfOk result (λ c. (app_of c ≡ file_app name.entry.now) × ((fields_of c).has_globals ≡ false)) }
+{
+    let file = file_argument(alloc);
+    Command::new(alloc, name).arg(file)
+}
+
+fn file_argument<'a>(alloc: Global) -> Arg<'a>
+    ensures { (rule_of result ≡ file_rule) × (result.global ≡ false) }
+{
+    Arg::new(alloc, "file")
+        .required(true)
+        .action(ArgAction::Set)
+}
+
+/// The options of `find`, and whether each takes a number and not a text.
+const OPTIONS: [(&str, bool); 7] = [
+    ("query", false),
+    ("sort", false),
+    ("skip", true),
+    ("limit", true),
+    ("batch", true),
+    ("index", false),
+    ("after", false),
+];
+
+/// The command `find` with all its options.
+fn find_command<'a>(alloc: Global) -> Made<'a>
+    ensures { IfOk result (λ c. (app_of c ≡ find_app) × ((fields_of c).has_globals ≡ false)) }
+{
+    with_options(alloc, of_file(alloc, "find")?, &OPTIONS)
+}
+
+/// A command with these options more, and whether each takes a number.
+fn with_options<'a>(alloc: Global, command: Command<'a>, options: &[(&'a str, bool)]) -> Made<'a>
+    requires { (fields_of command).has_globals ≡ false }
+    ensures app { IfOk result (λ c. app_of c ≡ with_options (app_of command.entry) (map (λ o. (o.0.now, o.1)) options.now)) }
+    ensures local { IfOk result (λ c. (fields_of c).has_globals ≡ false) }
+{
+    let mut with = command;
+    for (name, takes_number) in options {
+        with = with.arg(option_argument(alloc, name, *takes_number))?;
+    }
+    Ok(with)
+}
+
+fn option_argument<'a>(alloc: Global, name: &'a str, takes_number: bool) -> Arg<'a>
+    ensures { (rule_of result ≡ option_rule name.entry.now takes_number) × (result.global ≡ false) }
+{
+    let text = Arg::new(alloc, name).long(name).action(ArgAction::Set);
+    if takes_number {
+        text.value_parser(ValueParser::unsigned(0, GREATEST_COUNT))
+    } else {
+        text
+    }
+}

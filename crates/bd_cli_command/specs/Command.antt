@@ -1,0 +1,78 @@
+-- What a command asks for, with texts as their bytes and documents as their pairs; and why a document is no command.
+use Rattle.std.specs.Prelude.{ℕ, Bool, List, string_bytes, codes}
+use Rattle.bd_value.specs.{Tree.Doc, View.pairs}
+use Rattle.bd_cli_command.specs.declared.command.{Command.Command as HeldCommand, FindCommand.FindCommand as HeldFind}
+use Rattle.bd_cli_command.specs.declared.{command.Hint.Hint as HeldHint, field.HintForm.HintForm}
+use Rattle.bd_cli_command.specs.declared.command.{CommandFault.CommandFault}
+
+-- by what documents are to be found: by what serves, by a look at each, or by the index on a path
+pub data Hint : Type 0 where
+  any_way : Hint
+  by_scan : Hint
+  by_index : List ℕ → Hint
+
+-- what is to be found, and how
+pub record FindCommand : Type 0 where
+  pub filter : Doc
+  pub sort : Doc
+  pub skip : ℕ
+  pub limit : ℕ
+  pub hint : Hint
+
+-- an index has a path, and is sparse or not; a batch is of a cursor, and of so many documents at most
+pub data Command : Type 0 where
+  creates_index : List ℕ → Bool → Command
+  drops_index : List ℕ → Command
+  finds : FindCommand → Command
+  resumes : List ℕ → FindCommand → Command
+  gets_more : ℕ → ℕ → Command
+  kills_cursor : ℕ → Command
+  explains : FindCommand → Command
+
+-- what a hint in memory stands for; and a command, below
+abbrev pub hint_tree : HeldHint → Hint
+hint_tree HeldHint.Auto = any_way
+hint_tree HeldHint.Scan = by_scan
+hint_tree (HeldHint.Index path) = by_index (string_bytes path)
+
+-- the same, with a path that is borrowed
+abbrev pub hint_read : HintForm → Hint
+hint_read HintForm.Auto = any_way
+hint_read HintForm.Scan = by_scan
+hint_read (HintForm.Index path) = by_index path.now
+
+abbrev pub find_tree : HeldFind → FindCommand
+find_tree f = record {
+  filter = pairs f.filter;
+  sort = pairs f.sort;
+  skip = f.skip;
+  limit = f.limit;
+  hint = hint_tree f.hint;
+}
+
+abbrev pub command_tree : HeldCommand → Command
+command_tree (HeldCommand.CreateIndex path sparse) = creates_index (string_bytes path) sparse
+command_tree (HeldCommand.DropIndex path) = drops_index (string_bytes path)
+command_tree (HeldCommand.Find find) = finds (find_tree find)
+command_tree (HeldCommand.Resume token find) = resumes (string_bytes token) (find_tree find)
+command_tree (HeldCommand.GetMore id batch) = gets_more id batch
+command_tree (HeldCommand.KillCursor id) = kills_cursor id
+command_tree (HeldCommand.Explain find) = explains (find_tree find)
+
+-- why a document is none: the number that a reply has; no reply is out of memory
+abbrev pub command_fault_number : CommandFault → ℕ
+command_fault_number CommandFault.UnknownCommand = 1
+command_fault_number CommandFault.MissingField = 2
+command_fault_number CommandFault.UnknownField = 3
+command_fault_number CommandFault.RepeatedField = 4
+command_fault_number CommandFault.BadField = 5
+command_fault_number CommandFault.NoMemory = 6
+
+-- what went wrong, in words
+unfoldable pub command_fault_words : CommandFault → List ℕ
+command_fault_words CommandFault.UnknownCommand = codes "unknown command"
+command_fault_words CommandFault.MissingField = codes "missing field"
+command_fault_words CommandFault.UnknownField = codes "unknown field"
+command_fault_words CommandFault.RepeatedField = codes "repeated field"
+command_fault_words CommandFault.BadField = codes "bad field"
+command_fault_words CommandFault.NoMemory = codes "no memory"

@@ -1,0 +1,87 @@
+-- Lemmas on what a run writes.
+use Rattle.std.proofs.Common.{subst, ◌≡◌, ℕ, List, [], ◌∷◌, ◌++◌, refl, sym, ap, ◌∙◌, append_assoc, ◌⊎◌, append-nil, inl, inr, arith, ap₂, map, IsUtf8, String}
+use Rattle.std.proofs.lemmas.{Bool.Decides.nat_tests, Str.IsUtf8-append, Str.IsUtf8-nil, Str.IsUtf8-string_bytes}
+use Rattle.std.specs.Prelude.{OnErr, OnOk, Result, Ok, Err, string_bytes}
+use Rattle.std.specs.List.{join_with_byte}
+use Rattle.bd_value.specs.Tree.{Doc, doc, fields_of}
+use Rattle.bd_io_device.specs.Devices.{BreaksWithin, TakesFront, TakesText, Writer, between}
+use Rattle.bd_io_device.proofs.DevicesLemmas.{breaks_first, breaks_second, takes_both}
+use Rattle.json.proofs.Printed.Utf8.{IsUtf8-are_ascii, IsUtf8-quoted}
+use Rattle.bd_extjson_text.specs.Text.{escape_byte, escaped, quoted, text}
+use Rattle.bd_cli_files.specs.{declared.output.OutputFault.OutputFault, declared.output.Status.Status, declared.output.Status.TheVariants.Failed}
+use Rattle.bd_cli_files.specs.declared.output.OutputFault.TheVariants.{NoMemory, Unwritten}
+use Rattle.bd_cli_files.specs.Output.{lines, PrintsOrStarves, StopsWithin, TellsMessage, Transcript, error_line, no_memory, stop_words}
+use Rattle.json.specs.Print as printed
+
+pub lines-append : (ds es : List Doc) → lines (ds ++ es) ≡ lines ds ++ lines es
+lines-append [] es = refl
+lines-append (d ∷ ds) es = ap (λ x. text (doc (fields_of d)) ++ 10 ∷ x) (lines-append ds es) ∙ sym (append_assoc (text (doc (fields_of d))) (10 ∷ lines ds) (lines es))
+
+-- ---- one text after the other
+
+pub on_err : {A E : Type 0} (r : Result A E) (P : Type 0) → P → OnErr r P
+on_err (Ok x) P h = _
+on_err (Err e) P h = h
+
+pub on_err_map : {A E : Type 0} (r : Result A E) (P Q : Type 0) → OnErr r P → (P → Q) → OnErr r Q
+on_err_map (Ok x) P Q h f = _
+on_err_map (Err e) P Q h f = f h
+
+-- an answer to the writing of the second of two texts
+pub second_err : {A E : Type 0} (r : Result A E) (old mid new : Writer) (first second : List ℕ) → TakesText (between old mid) first
+    → OnErr r (BreaksWithin (between mid new) second) → OnErr r (BreaksWithin (between old new) (first ++ second))
+second_err (Ok x) old mid new first second a h = _
+second_err (Err e) old mid new first second a h = breaks_second old mid new first second a h
+
+pub second_ok : {A E : Type 0} (r : Result A E) (old mid new : Writer) (first second : List ℕ) → TakesText (between old mid) first
+    → OnOk r (TakesText (between mid new) second) → OnOk r (TakesText (between old new) (first ++ second))
+second_ok (Ok x) old mid new first second a h = takes_both old mid new first second a h
+second_ok (Err e) old mid new first second a h = _
+
+pub ruleset taking = (takes_both, breaks_first, breaks_second)
+
+-- ---- a text of which a front was taken
+
+pub front_taken : (old new : Writer) (front rest all : List ℕ) → TakesText (between old new) front → all ≡ front ++ rest → TakesFront (between old new) all
+front_taken old new front rest all took cut = (front, rest, cut, took)
+
+-- a write failed in the piece after what was taken
+pub breaks_piece : (old mid new : Writer) (front piece rest all : List ℕ) → TakesText (between old mid) front → BreaksWithin (between mid new) piece
+    → all ≡ front ++ (piece ++ rest) → BreaksWithin (between old new) all
+breaks_piece old mid new front piece rest all took broke cut =
+    let whole = breaks_first old new (front ++ piece) rest (breaks_second old mid new front piece took broke) in
+    subst (λ (x : List ℕ). BreaksWithin (between old new) x) (append_assoc front piece rest ∙ sym cut) whole
+
+pub all_shown : (out_old out_new err_old err_new : Writer) (status : Status) (shown : Transcript) → TakesText (between out_old out_new) shown.out
+    → TellsMessage (between err_old err_new) shown.err shown.status status ⊎ TellsMessage (between err_old err_new) (error_line no_memory) Failed status
+    → PrintsOrStarves (between out_old out_new) (between err_old err_new) shown status
+all_shown out_old out_new err_old err_new status shown wrote (inl told) = inl (wrote, told)
+all_shown out_old out_new err_old err_new status shown wrote (inr told) = inr (inr ((shown.out, [], sym (append-nil shown.out), wrote), told))
+
+-- standard output was stopped
+pub stop_shown : (out_old out_new err_old err_new : Writer) (status : Status) (shown : Transcript) (stopped : OutputFault) → StopsWithin (between out_old out_new) shown.out stopped
+    → TellsMessage (between err_old err_new) (error_line (stop_words stopped)) Failed status → PrintsOrStarves (between out_old out_new) (between err_old err_new) shown status
+stop_shown out_old out_new err_old err_new status shown NoMemory front told = inr (inr (front, told))
+stop_shown out_old out_new err_old err_new status shown Unwritten broke told = inr (inl (broke, told))
+
+-- ---- a path is UTF-8
+
+same_byte : (x : ℕ) → escape_byte x ≡ printed.escape_byte x
+unfolding escape_byte printed.escape_byte
+same_byte x = grind (arith, nat_tests)
+
+same_escapes : (s : List ℕ) → escaped s ≡ printed.escape s
+same_escapes [] = refl
+same_escapes (x ∷ s) = ap₂ (λ (a b : List ℕ). a ++ b) (same_byte x) (same_escapes s)
+
+joined_utf8 : {Z : Type 0} (names : List (String Z)) → IsUtf8 (join_with_byte 46 (map string_bytes names))
+joined_utf8 [] = IsUtf8-nil
+joined_utf8 (n ∷ []) = IsUtf8-string_bytes n
+joined_utf8 (n ∷ m ∷ ns) =
+    IsUtf8-append (string_bytes n) _ (IsUtf8-string_bytes n) (IsUtf8-append (46 ∷ []) _ (IsUtf8-are_ascii (46 ∷ []) refl) (joined_utf8 (m ∷ ns)))
+
+pub path_utf8 : {Z : Type 0} (names : List (String Z)) → IsUtf8 (quoted (join_with_byte 46 (map string_bytes names)))
+unfolding quoted
+path_utf8 names =
+    let path = join_with_byte 46 (map string_bytes names) in
+    subst IsUtf8 (ap (λ (l : List ℕ). 34 ∷ (l ++ 34 ∷ [])) (sym (same_escapes path))) (IsUtf8-quoted path (joined_utf8 names))

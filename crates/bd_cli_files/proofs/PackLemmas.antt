@@ -1,0 +1,228 @@
+-- What `pack` shows is determined, but for the kind and the place of a fault.
+use Rattle.std.proofs.Common.{◌≡◌, ◌≤◌, ◌<◌, ℕ, suc, ◌+◌, List, [], ◌∷◌, ◌++◌, length, take, drop, get_or, Bool, true, false, Option, Some, None, refl, sym, ap, ◌∙◌, subst, append_assoc, append-nil}
+use Rattle.std.proofs.Common.{arith, inl, inr, decimal, Ok, length-append, length-take-le, rules, add-one, Result, Err, ap₂, true≢false}
+use Rattle.std.proofs.{lemmas.Bool.cases_lt, lemmas.Bool.Decides.nat_tests, lemmas.Str.utf8_valid_len_le, lemmas.List.Splits.slice_split_at, lemmas.List.Splits.slice_split_none, lemmas.Grind.flat_map-append, Math.Seq.drop-cons}
+use Rattle.std.proofs.lemmas.List.{get_or-take, get_or_default, take-append-drop}
+use Rattle.std.specs.Prelude.{◌⊎◌, ◌↔◌, ◌==◌, option_map}
+use Rattle.std.specs.{List.All, List.flat_map, Str.Lossy.utf8_valid_len}
+use Rattle.bd_value.specs.{Limits.longest_document, Limits.most_reads, Tree.Doc}
+use Rattle.memchr.specs.Find.{IsFirstByte, is_byte}
+use Rattle.bd_extjson.specs.Read.{ReadsAs, reading}
+use Rattle.bd_extjson_fault.specs.{JsonFault.IsPlaced, JsonFault.TellsBadUtf8, declared.json_fault.JsonFault.JsonFault}
+use Rattle.bd_extjson_pack.specs.Packable.{plain, IsPackable, IsBad}
+use Rattle.bd_extjson_pack.specs.declared.line.LineFault.{LineFault}
+use Rattle.bd_cli_files.specs.{declared.output.OutputFault.OutputFault, declared.output.OutputFault.TheVariants.NoMemory, declared.output.OutputFault.TheVariants.Unwritten, declared.pack.BadLine.BadLine}
+use Rattle.bd_cli_files.specs.{declared.pack.Packing.Packing, declared.output.Status.Status, declared.output.Status.TheVariants.Failed}
+use Rattle.bd_cli_files.specs.Output.{stop_words, PrintsOrStarves, TellsMessage, Transcript, error_line, no_memory, wrong_line, wrong_status}
+use Rattle.bd_cli_files.specs.Pack.{IsShownByPack, PacksLines, bad_line_text, shown_pack, IsPacking, StopsPacking, left_size, lines_left, objects_packed, AreAlike}
+use Rattle.bd_io_device.proofs.DevicesLemmas.{takes_both}
+use Rattle.bd_cli_files.proofs.OutputLemmas.{all_shown, stop_shown, breaks_piece, front_taken}
+use Rattle.bd_io_lines.specs.Lines.{is_empty_line, text_lines}
+use Rattle.bd_io_device.specs.Devices.{BreaksWithin, TakesText, Writer, between}
+use Rattle.bd_io_device.specs.declared.reading.ReadFault.{ReadFault}
+use Rattle.bd_extjson_fault.specs.declared.json_fault.JsonFaultKind.TheVariants as kinds
+use Rattle.bd_extjson_pack.specs.declared.line.LineFault.TheVariants as faults
+
+-- a line is one document
+read_once : (line : List ℕ) (d e : Doc) → ReadsAs line d → ReadsAs line e → d ≡ e
+read_once line d e p q = cc
+
+-- and is no bad line then
+good_or_bad : (line : List ℕ) (d : Doc) (fault : LineFault) → IsPackable line d → IsBad line fault → ⊥
+good_or_bad line d (faults.Unread f) good bad = bad.1 d good.0
+good_or_bad line d faults.TooLong good (e, is, long) =
+    let same = read_once line e d is good.0 in
+    let longer : longest_document < length (plain d) = subst (λ (x : Doc). longest_document < length (plain x)) same long in
+    let short = good.1 in omega arith
+
+alike_faults : (line : List ℕ) (f g : LineFault) → IsBad line f → IsBad line g → (f ≡ faults.TooLong) ↔ (g ≡ faults.TooLong)
+alike_faults line (faults.Unread f) (faults.Unread g) p q = (λ e. absurd cc, λ e. absurd cc)
+alike_faults line (faults.Unread f) faults.TooLong p (d, is, long) = absurd (p.1 d is)
+alike_faults line faults.TooLong (faults.Unread g) (d, is, long) q = absurd (q.1 d is)
+alike_faults line faults.TooLong faults.TooLong p q = (λ e. e, λ e. e)
+
+alike_ends : (bad other same there : Option BadLine) → bad ≡ same → other ≡ there → AreAlike same there → AreAlike bad other
+alike_ends bad other same there p q a = subst (λ (b : Option BadLine). AreAlike b other) (sym p) (subst (λ (b : Option BadLine). AreAlike same b) (sym q) a)
+
+blank_or_not : {A : Type 0} (b : _) → b ≡ true → b ≡ false → A
+blank_or_not b p q = absurd (true≢false (sym p ∙ q))
+
+pub packs_once : (number : ℕ) (lines : List (List ℕ)) (ds es : List Doc) (bad other : Option BadLine) → PacksLines number lines ds bad
+    → PacksLines number lines es other → (ds ≡ es) × AreAlike bad other
+packs_once number [] ds es bad other p q = (p.0 ∙ sym q.0, alike_ends bad other None None p.1 q.1 tt)
+packs_once number (line ∷ lines) ds es bad other (inl p) (inl q) = packs_once (suc number) lines ds es bad other p.1 q.1
+packs_once number (line ∷ lines) ds es bad other (inl p) (inr (inl q)) = blank_or_not _ p.0 q.0
+packs_once number (line ∷ lines) ds es bad other (inl p) (inr (inr q)) = blank_or_not _ p.0 q.0
+packs_once number (line ∷ lines) ds es bad other (inr (inl p)) (inl q) = blank_or_not _ q.0 p.0
+packs_once number (line ∷ lines) ds es bad other (inr (inl (full, (d, xs, good, cut, p)))) (inr (inl (also, (e, ys, fine, split, q)))) =
+    let more = packs_once (suc number) lines xs ys bad other p q in
+    (cut ∙ ap₂ (λ (x : Doc) (zs : List Doc). x ∷ zs) (read_once line d e good.0 fine.0) more.0 ∙ sym split, more.1)
+packs_once number (line ∷ lines) ds es bad other (inr (inl (full, (d, xs, good, cut, p)))) (inr (inr (also, (fault, is, none, end)))) = absurd (good_or_bad line d fault good is)
+packs_once number (line ∷ lines) ds es bad other (inr (inr p)) (inl q) = blank_or_not _ q.0 p.0
+packs_once number (line ∷ lines) ds es bad other (inr (inr (full, (fault, is, none, end)))) (inr (inl (also, (e, ys, fine, split, q)))) = absurd (good_or_bad line e fault fine is)
+packs_once number (line ∷ lines) ds es bad other (inr (inr (full, (f, is, none, end)))) (inr (inr (also, (g, was, nothing, there)))) =
+    (none ∙ sym nothing, alike_ends bad other (Some (record { number = number; fault = f })) (Some (record { number = number; fault = g })) end there (refl, alike_faults line f g is was))
+
+same_status : (bad other : Option BadLine) → AreAlike bad other → wrong_status (option_map bad_line_text bad) ≡ wrong_status (option_map bad_line_text other)
+same_status None None a = refl
+same_status None (Some b) a = absurd a
+same_status (Some b) None a = absurd a
+same_status (Some b) (Some c) a = refl
+
+pub packed_alike : (input : Result (List ℕ) ReadFault) (s t : Transcript) → IsShownByPack input s → IsShownByPack input t → (s.out ≡ t.out) × (s.status ≡ t.status)
+packed_alike (Ok text) s t (ds, bad, packs, shows) (es, other, packed, showed) =
+    let same = packs_once 1 (text_lines text) ds es bad other packs packed in
+    let out : s.out ≡ t.out = ap (λ (x : Transcript). x.out) shows ∙ ap (flat_map plain) same.0 ∙ ap (λ (x : Transcript). x.out) (sym showed) in
+    (out, ap (λ (x : Transcript). x.status) shows ∙ same_status bad other same.1 ∙ ap (λ (x : Transcript). x.status) (sym showed))
+packed_alike (Err fault) s t p q = (ap (λ (x : Transcript). x.out) (p ∙ sym q), ap (λ (x : Transcript). x.status) (p ∙ sym q))
+
+-- ---- any lines are packed in some way
+
+-- lines, the first of which has that number, are packed in some way
+abbrev HasPacking : ℕ → List (List ℕ) → Type 0
+HasPacking number lines = (ds : List Doc) × (bad : Option BadLine) × PacksLines number lines ds bad
+
+pub packs_some : (number : ℕ) (lines : List (List ℕ)) → HasPacking number lines
+packs_some number [] = ([], None, (refl, refl))
+packs_some number (line ∷ lines) = by_blank (is_empty_line line) refl (packs_some (suc number) lines)
+  where
+    short : (d : Doc) → is_empty_line line ≡ false → ReadsAs line d → HasPacking (suc number) lines → (longest_document < length (plain d))
+        ⊎ (length (plain d) ≤ longest_document) → HasPacking number (line ∷ lines)
+    short d full is rest (inl long) = ([], Some (record { number = number; fault = faults.TooLong }), inr (inr (full, (faults.TooLong, (d, is, long), refl, refl))))
+    short d full is rest (inr le) = (d ∷ rest.0, rest.1, inr (inl (full, (d, rest.0, (is, le), refl, rest.2))))
+
+    by_reading : (o : Option Doc) → reading line ≡ o → is_empty_line line ≡ false → HasPacking (suc number) lines → HasPacking number (line ∷ lines)
+    by_reading None none full rest =
+        let fault : JsonFault = record { kind = kinds.Syntax; at = utf8_valid_len line } in
+        let placed : IsPlaced (length line) fault = record { inside = utf8_valid_len_le line; whole = λ e. absurd cc; memory = λ e. absurd cc } in
+        let bytes : TellsBadUtf8 line fault = record { kind = λ _. refl; at = λ _. refl } in
+        ([], Some (record { number = number; fault = faults.Unread fault }), inr (inr (full, (faults.Unread fault, (λ e. cc, λ d is. cc, placed, bytes), refl, refl))))
+    by_reading (Some d) is full rest = short d full is rest (cases_lt longest_document (length (plain d)))
+
+    by_blank : (b : Bool) → is_empty_line line ≡ b → HasPacking (suc number) lines → HasPacking number (line ∷ lines)
+    by_blank true blank rest = (rest.0, rest.1, inl (blank, rest.2))
+    by_blank false full rest = by_reading (reading line) refl full rest
+
+-- ---- the ends of a run
+
+module _ (text : List ℕ) (out_old out_new : Writer) (err_old err_new : Writer) (status : Status) where
+  -- something was shown that is to be shown of the text
+  abbrev pub Shows : Type 0
+  Shows = (shown : Transcript) × IsShownByPack (Ok text) shown × PrintsOrStarves (between out_old out_new) (between err_old err_new) shown status
+
+  abbrev Tells : List ℕ → Status → Type 0
+  Tells told wanted = TellsMessage (between err_old err_new) told wanted status ⊎ TellsMessage (between err_old err_new) (error_line no_memory) Failed status
+
+  -- the bad line, where there is one, and this count
+  abbrev pub TellsPacking : ℕ → Option BadLine → Type 0
+  TellsPacking count bad = Tells (wrong_line (option_map bad_line_text bad) ++ (decimal count ++ objects_packed)) (wrong_status (option_map bad_line_text bad))
+
+  pub shows_packing : (packing : Packing) → IsPacking text (between out_old out_new) packing → TellsPacking packing.count packing.bad → Shows
+  shows_packing packing (ds, packs, counted, wrote) told =
+      let shown = shown_pack ds packing.bad in
+      (shown, (ds, packing.bad, packs, refl), all_shown out_old out_new err_old err_new status shown wrote (subst (λ n. TellsPacking n packing.bad) counted told))
+
+  pub shows_stop : (stopped : OutputFault) → StopsPacking text (between out_old out_new) stopped → TellsMessage (between err_old err_new) (error_line (stop_words stopped)) Failed status → Shows
+  shows_stop stopped (ds, bad, packs, stops) told =
+      (shown_pack ds bad, (ds, bad, packs, refl), stop_shown out_old out_new err_old err_new status (shown_pack ds bad) stopped stops told)
+
+-- ---- lines cut off a text
+
+-- a byte is a newline or none
+newline : (b : ℕ) → (b == 10) ≡ true → b ≡ 10
+newline b e = search (rules, nat_tests)
+
+other_byte : (b : ℕ) → ¬ ((b == 10) ≡ true) → (b == 10) ≡ false
+other_byte b other = search (rules, nat_tests)
+
+none_before : (text : List ℕ) (k : ℕ) → k ≤ length text → ((i : ℕ) → i < k → ¬ ((get_or text i 0 == 10) ≡ true)) → All (λ b. (b == 10) ≡ false) (take k text)
+none_before text k le none i d lt =
+    let inside : i < k = omega (arith, length-take-le k text le) in
+    let same : get_or (take k text) i d ≡ get_or text i 0 = get_or-take k text i d inside ∙ get_or_default text i d 0 (omega arith) in
+    rw same (other_byte (get_or text i 0) (none i inside))
+
+pub cut_at : (text : List ℕ) (k : ℕ) → IsFirstByte (is_byte 10) text (Some k) → text_lines text ≡ take k text ∷ text_lines (drop (k + 1) text)
+cut_at text k first =
+    let high = first.0.high in
+    let here : get_or text k 0 ≡ 10 = newline (get_or text k 0) first.1 in
+    let after : drop k text ≡ 10 ∷ drop (k + 1) text = rw add-one (drop-cons text k 0 high ∙ ap (λ b. b ∷ drop (suc k) text) here) in
+    let parts : text ≡ take k text ++ 10 ∷ drop (k + 1) text = sym (take-append-drop k text) ∙ ap (λ x. take k text ++ x) after in
+    let none = none_before text k (omega arith) (λ i lt. first.0.before i (omega arith) lt) in
+    ap text_lines parts ∙ slice_split_at (λ b. b == 10) (take k text) 10 (drop (k + 1) text) none refl
+
+pub cut_none : (text : List ℕ) → IsFirstByte (is_byte 10) text None → text_lines text ≡ text ∷ []
+cut_none text none =
+    slice_split_none (λ b. b == 10) text (λ i d lt. let same : get_or text i d ≡ get_or text i 0 = get_or_default text i d 0 lt in rw same (other_byte (get_or text i 0) (none i (omega arith) lt)))
+
+-- ---- the loop over the lines
+
+-- what the loop keeps: the documents that were packed, whose bytes were taken
+pub record SoFar (text : List ℕ) (old new : Writer) (left : Option (List ℕ)) (number count : ℕ) : Type 0 where
+  pub done : List Doc
+  pub goes : (es : List Doc) (bad : Option BadLine) → PacksLines (suc number) (lines_left left) es bad → PacksLines 1 (text_lines text) (done ++ es) bad
+  pub counted : count ≡ length done
+  pub few : count ≤ number
+  pub fits : number + left_size left ≤ most_reads
+  pub wrote : TakesText (between old new) (flat_map plain done)
+
+module _ {text : List ℕ} {old new : Writer} {rest : List ℕ} {number count : ℕ} (s : SoFar text old new (Some rest) number count)
+    (line : List ℕ) (after : Option (List ℕ)) (cut : text_lines rest ≡ line ∷ lines_left after) where
+  go_on : (es : List Doc) (bad : Option BadLine) → PacksLines (suc number) (line ∷ lines_left after) es bad → PacksLines 1 (text_lines text) (s.done ++ es) bad
+  go_on es bad p = s.goes es bad (subst (λ (ls : List (List ℕ)). PacksLines (suc number) ls es bad) (sym cut) p)
+
+  next : number + 1 ≡ suc number
+  next = omega arith
+
+  with_one : (d : Doc) (es : List Doc) → flat_map plain (s.done ++ d ∷ es) ≡ flat_map plain s.done ++ (plain d ++ flat_map plain es)
+  with_one d es = flat_map-append plain s.done (d ∷ es)
+
+  -- a line with a document, whose bytes were taken
+  pub packed : (end : Writer) (d : Doc) → left_size after ≤ length rest → is_empty_line line ≡ false → IsPackable line d → TakesText (between new end) (plain d)
+      → SoFar text old end after (number + 1) (count + 1)
+  packed end d smaller full is wrote = record {
+    done = s.done ++ d ∷ [];
+    goes = λ es bad p.
+        let tail = subst (λ (n : ℕ). PacksLines (suc n) (lines_left after) es bad) next p in
+        subst (λ (ds : List Doc). PacksLines 1 (text_lines text) ds bad) (sym (append_assoc s.done (d ∷ []) es))
+        (go_on (d ∷ es) bad (inr (inl (full, (d, es, is, refl, tail)))));
+    counted = let c = s.counted in omega (arith, length-append s.done (d ∷ []));
+    few = let f = s.few in omega arith;
+    fits = let f = s.fits in omega arith;
+    wrote = subst (λ (x : List ℕ). TakesText (between old end) x) (sym (with_one d [] ∙ ap (λ x. flat_map plain s.done ++ x) (append-nil (plain d))))
+        (takes_both old new end (flat_map plain s.done) (plain d) s.wrote wrote);
+  }
+
+  -- standard output broke in its bytes
+  pub breaks : (end : Writer) (d : Doc) → is_empty_line line ≡ false → IsPackable line d → BreaksWithin (between new end) (plain d) → StopsPacking text (between old end) Unwritten
+  breaks end d full is broke =
+      let w = packs_some (suc (suc number)) (lines_left after) in
+      let all = flat_map plain (s.done ++ d ∷ w.0) in
+      let front = breaks_piece old new end (flat_map plain s.done) (plain d) (flat_map plain w.0) all s.wrote broke (with_one d w.0) in
+      (s.done ++ d ∷ w.0, w.1, go_on (d ∷ w.0) w.1 (inr (inl (full, (d, w.0, is, refl, w.2)))), front)
+
+  -- a bad line: the documents before it are all
+  pub ends_bad : (fault : LineFault) → is_empty_line line ≡ false → IsBad line fault
+      → IsPacking text (between old new) (record { count = count; bad = Some (record { number = number + 1; fault = fault }) })
+  ends_bad fault full is =
+      let packs : PacksLines 1 (text_lines text) (s.done ++ []) (Some (record { number = number + 1; fault = fault }))
+      = rw next (go_on [] (Some (record { number = suc number; fault = fault })) (inr (inr (full, (fault, is, refl, refl))))) in
+      (s.done, rw append-nil at packs, s.counted, s.wrote)
+
+module _ {text : List ℕ} {old new : Writer} {left : Option (List ℕ)} {number count : ℕ} (s : SoFar text old new left number count) where
+  -- memory ran out
+  pub starves : StopsPacking text (between old new) NoMemory
+  starves =
+      let w = packs_some (suc number) (lines_left left) in
+      let all = flat_map plain (s.done ++ w.0) in
+      (s.done ++ w.0, w.1, s.goes w.0 w.1 w.2, front_taken old new (flat_map plain s.done) (flat_map plain w.0) all s.wrote (flat_map-append plain s.done w.0))
+
+  -- the text is at its end
+  pub ends : left ≡ None → IsPacking text (between old new) (record { count = count; bad = None })
+  ends none =
+      let last = subst (λ (o : Option (List ℕ)). PacksLines (suc number) (lines_left o) [] None) (sym none) (refl, refl) in
+      (s.done, subst (λ (ds : List Doc). PacksLines 1 (text_lines text) ds None) (append-nil s.done) (s.goes [] None last), s.counted, s.wrote)
+
+pub packed_some : (text : List ℕ) → (shown : Transcript) × IsShownByPack (Ok text) shown
+packed_some text =
+    let w = packs_some 1 (text_lines text) in
+    (shown_pack w.0 w.1, (w.0, w.1, w.2, refl))

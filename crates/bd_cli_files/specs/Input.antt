@@ -1,0 +1,58 @@
+-- What a run read of its input: at most 4,294,967,295 bytes.
+-- Each read but the last gives a byte, so there are never too many.
+use Rattle.std.specs.Prelude.{◌≡◌, ◌≤◌, ◌<◌, ◌⊎◌, ◌+◌, ℕ, List, ◌++◌, length, Option, Some, None, IfSome, Result, Ok}
+use Rattle.std.specs.Prelude.{Err}
+use Rattle.std.specs.Io.KnownBytes.{Consumes, IsAtEnd}
+use Rattle.bd_value.specs.Limits.{longest_input}
+use Rattle.bd_io_device.specs.{Devices.after_more, declared.reading.ReadFault.ReadFault}
+use Rattle.bd_io_device.specs.Devices.{AreReads, Over, Reader, TakesAtMost}
+use Rattle.bd_bson_stream.specs.Stream.{AreFrames, EndsWithinOne, IsWithinOne}
+use Rattle.bd_io_device.specs.declared.reading.ReadFault.TheVariants as reads
+
+-- ---- whole
+
+-- the reader's bytes are these, or it was not read whole for this reason
+abbrev pub ReadsInput : Over Reader → Result (List ℕ) ReadFault → Type 0
+ReadsInput file (Ok bytes) =
+    IfSome file.before.left (λ xs. bytes ≡ xs) × IsAtEnd file.after.left × (length bytes ≤ longest_input)
+    × (file.after.failures ≡ file.before.failures)
+ReadsInput file (Err reads.Device) = file.after.failures ≡ after_more file.before.failures 1
+ReadsInput file (Err reads.TooLong) =
+    IfSome file.before.left (λ xs. longest_input < length xs) × (file.after.failures ≡ file.before.failures)
+ReadsInput file (Err reads.TooManyTurns) = ⊥
+ReadsInput file (Err reads.NoMemory) = TakesAtMost longest_input file × (file.after.failures ≡ file.before.failures)
+
+-- each read gave a byte at least, but for the last one: it may also have failed, or found the end
+abbrev pub ReadsNoFurther : {R : Type 0} → (R → Option (List ℕ) → R → Type 0) → R → R → Type 0
+ReadsNoFurther {R} gives old new = (n : ℕ) × (given : List ℕ) × (last : R) × AreReads gives n old given last
+    × ((new ≡ last) ⊎ ((part : Option (List ℕ)) × gives last part new))
+
+-- ---- document by document
+
+-- the reader gave these bytes, and this part of a document after them, no byte past its end;
+-- no more than the limit in all
+abbrev pub StopsInside : List ℕ → List ℕ → Over Reader → Type 0
+StopsInside front part file =
+    Consumes file.before.left file.after.left (front ++ part)
+    × (length (front ++ part) ≤ longest_input) × IsWithinOne part
+
+-- the reader gave these bytes, and of a document after them no byte past its end
+abbrev pub StopsWithinOne : List ℕ → Over Reader → Type 0
+StopsWithinOne front file = (part : List ℕ) × StopsInside front part file
+
+-- The reader's bytes are these. It gave documents by their lengths,
+-- and of one more, which has a faulty length if there is more, no
+-- byte past its end. Or it gave these bytes, and no more of them were read for this reason;
+-- a read that went past the limit gave no more than was missing of the document that it was in.
+abbrev pub StreamsInput : Over Reader → List ℕ → Option ReadFault → Type 0
+StreamsInput file bytes None = IfSome file.before.left (λ xs. bytes ≡ xs)
+    × ((frames : List (List ℕ)) × (front : List ℕ) × AreFrames frames front × StopsWithinOne front file)
+    × (file.after.failures ≡ file.before.failures)
+StreamsInput file bytes (Some reads.Device) =
+    Consumes file.before.left file.after.left bytes × (length bytes ≤ longest_input)
+    × (file.after.failures ≡ after_more file.before.failures 1)
+StreamsInput file bytes (Some reads.TooLong) =
+    (last : List ℕ) × Consumes file.before.left file.after.left (bytes ++ last)
+    × (length bytes ≤ longest_input) × (longest_input < length bytes + length last) × EndsWithinOne bytes last
+    × (file.after.failures ≡ file.before.failures)
+StreamsInput file bytes (Some _) = ⊥

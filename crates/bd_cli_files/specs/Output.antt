@@ -1,0 +1,117 @@
+-- What a run writes: the text on standard output, the text on standard error, and the exit status.
+use Rattle.std.specs.Prelude.{◌≡◌, ◌⊎◌, ℕ, List, [], ◌∷◌, ◌++◌, codes, decimal, Option, Some, None, Result, Ok}
+use Rattle.std.specs.Prelude.{Err}
+use Rattle.std.specs.{Borrow.Bor, List.join_with_byte}
+use Rattle.bd_value.specs.Tree.{Doc, doc, fields_of}
+use Rattle.bd_io_device.specs.Devices.{BreaksWithin, Over, TakesFront, TakesText, Writer}
+use Rattle.bd_io_device.specs.declared.reading.ReadFault.{ReadFault}
+use Rattle.bd_bson_check.specs.Fault.{Fault, fault_words}
+use Rattle.bd_extjson_text.specs.Text.{text, quoted}
+use Rattle.bd_cli_files.specs.{declared.output.OutputFault.OutputFault, declared.output.Status.Status}
+use Rattle.bd_cli_files.specs.{declared.output.OutputFault.TheVariants.NoMemory}
+use Rattle.bd_cli_files.specs.{declared.output.OutputFault.TheVariants.Unwritten, declared.output.Status.TheVariants.Done}
+use Rattle.bd_cli_files.specs.{declared.output.Status.TheVariants.Failed}
+
+-- standard output, standard error, and the exit status
+pub record Transcript : Type 0 where
+  pub out : List ℕ
+  pub err : List ℕ
+  pub status : Status
+
+-- ---- the texts
+
+-- the documents, one a line
+abbrev pub lines : List Doc → List ℕ
+lines [] = []
+lines (d ∷ ds) = text (doc (fields_of d)) ++ 10 ∷ lines ds
+
+abbrev pub error_line : List ℕ → List ℕ
+error_line message = codes "bsonfind: " ++ (message ++ 10 ∷ [])
+
+-- a fault: the number of its document and its byte, the names of its path joined by dots, and what it is
+abbrev pub place_text : ℕ → ℕ → List ℕ
+place_text number offset = codes "document " ++ (decimal number ++ (codes ", byte " ++ decimal offset))
+
+abbrev pub fault_text : ℕ → Fault → List ℕ
+fault_text number f =
+    place_text number f.offset
+    ++ (codes ", path " ++ (quoted (join_with_byte 46 f.path) ++ (codes ": " ++ fault_words f.kind)))
+
+-- why a run ends where memory ran out, and where standard output failed
+abbrev pub no_memory : List ℕ
+no_memory = codes "no memory"
+
+abbrev pub cannot_write : List ℕ
+cannot_write = codes "cannot write"
+
+abbrev pub stop_words : OutputFault → List ℕ
+stop_words NoMemory = no_memory
+stop_words Unwritten = cannot_write
+
+-- ---- what is shown
+
+-- nothing but why there is nothing to show
+abbrev pub shown_refusal : List ℕ → Transcript
+shown_refusal message = record { out = []; err = error_line message; status = Failed }
+
+-- the first line of standard error, and the status: a message tells what is wrong, or nothing is
+abbrev pub wrong_line : Option (List ℕ) → List ℕ
+wrong_line None = []
+wrong_line (Some message) = error_line message
+
+abbrev pub wrong_status : Option (List ℕ) → Status
+wrong_status None = Done
+wrong_status (Some message) = Failed
+
+-- up to the end of an input, or up to what is wrong in it: what stands before, that, and the counts
+abbrev pub shown_before : List ℕ → Option (List ℕ) → List ℕ → Transcript
+shown_before out wrong counts = record { out = out; err = wrong_line wrong ++ counts; status = wrong_status wrong }
+
+-- a text that is lent, where there is one
+abbrev pub told_bytes : Option (Bor (List ℕ)) → Option (List ℕ)
+told_bytes None = None
+told_bytes (Some text) = Some text.now
+
+-- ---- what was written
+
+-- the writer took the message, and the status is this; or a write failed, and the status is 1
+abbrev pub TellsMessage : Over Writer → List ℕ → Status → Status → Type 0
+TellsMessage err message wanted status =
+    (TakesText err message × (status ≡ wanted)) ⊎ (BreaksWithin err message × (status ≡ Failed))
+
+-- Standard output is as the first tells, and standard error has what belongs to it.
+-- Or a write to standard output failed, as the second tells,
+-- or memory ran out, as the third tells, and standard error says so.
+abbrev pub TellsEnd : Type 0 → Type 0 → Type 0 → Over Writer → Transcript → Status → Type 0
+TellsEnd Whole Broke Starved err shown status = (Whole × TellsMessage err shown.err shown.status status)
+    ⊎ (Broke × TellsMessage err (error_line cannot_write) Failed status)
+    ⊎ (Starved × TellsMessage err (error_line no_memory) Failed status)
+
+-- standard output has the whole text that is to be shown, or a front of it where a write failed
+abbrev pub PrintsShown : Over Writer → Over Writer → Transcript → Status → Type 0
+PrintsShown out err shown status = TellsEnd (TakesText out shown.out) (BreaksWithin out shown.out) ⊥ err shown status
+
+-- or where memory ran out
+abbrev pub PrintsOrStarves : Over Writer → Over Writer → Transcript → Status → Type 0
+PrintsOrStarves out err shown status =
+    TellsEnd (TakesText out shown.out) (BreaksWithin out shown.out) (TakesFront out shown.out) err shown status
+
+-- The same of an input. Why one was not read whole is told as it is, and never as out of memory.
+abbrev pub PrintsInput : Result (List ℕ) ReadFault → Over Writer → Over Writer → Transcript → Status → Type 0
+PrintsInput (Ok bytes) out err shown status = PrintsOrStarves out err shown status
+PrintsInput (Err fault) out err shown status = PrintsShown out err shown status
+
+-- the writer took a front of the text, or a write failed after one
+abbrev pub StopsWithin : Over Writer → List ℕ → OutputFault → Type 0
+StopsWithin out text NoMemory = TakesFront out text
+StopsWithin out text Unwritten = BreaksWithin out text
+
+-- nothing of the text was written, or a write failed after a front of it, which is not all
+abbrev pub StopsWriting : List ℕ → Over Writer → OutputFault → Type 0
+StopsWriting text out NoMemory = out.after ≡ out.before
+StopsWriting text out Unwritten = BreaksWithin out text
+
+-- the writer took the text, or writing it was stopped
+abbrev pub Writes : {A : Type 0} → List ℕ → Over Writer → Result A OutputFault → Type 0
+Writes text out (Ok x) = TakesText out text
+Writes text out (Err stopped) = StopsWriting text out stopped

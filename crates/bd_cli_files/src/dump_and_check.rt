@@ -1,0 +1,254 @@
+//! `dump`, the documents of an input, one a line; and `check`, a line for each document that has a fault. Both go over the
+//! documents one after the other.
+
+ghost use Rattle.std.specs.Prelude.{◌≡◌, ◌<◌, ◌≤◌, ◌⊎◌, ◌++◌, [], ◌∷◌, None, Some, decimal, IfErr, IfOk, OnErr, OnOk};
+ghost use Rattle.bd_value.specs.Limits.{longest_input};
+ghost use Rattle.bd_value.specs.Tree.{pairs_in};
+ghost use Rattle.bd_io_device.specs.Devices.{BreaksWithin, TakesText, over};
+ghost use Rattle.bd_bson_view.specs.Sound.{stands};
+ghost use Rattle.bd_bson_check.specs.Fault.{fault_view};
+ghost use Rattle.bd_cli_files.specs.DumpAndCheck.{ChecksInput, DumpsInput, MeetsFault, StopsWalk, Texts};
+ghost use Rattle.bd_cli_files.specs.DumpAndCheck.{WalksDocuments, check_message, check_status, check_texts, dump_texts, ending_words, objects_found};
+ghost use Rattle.bd_cli_files.specs.Input.{ReadsNoFurther};
+ghost use Rattle.bd_cli_files.specs.Output.{TellsMessage, Writes, error_line, no_memory, wrong_line, wrong_status};
+ghost use Rattle.bd_cli_files.specs.declared.output.Status.TheVariants.{Failed};
+
+use crate::input::LIMITS;
+use crate::output::{
+    OutputFault, Status, fault_message, is_want_of_memory, push_fault, status_of, tell_end,
+    tell_no_memory, tell_stop, words_of, write_count, write_end,
+};
+use bd_bson_check::{Fault, check_document};
+use bd_bson_stream::{DocBuffer, DocFault};
+use bd_bson_view::RawDoc;
+use bd_extjson_text::LineRoom;
+use bd_io_device::{DeviceFault, Input, Output, ReadFault, write_all};
+use std::alloc::Global;
+
+/// After the number of documents, of all or of those that have a fault.
+const OBJECTS_FOUND: &str = " objects found\n";
+
+const DOCUMENTS: &str = " documents, ";
+
+const FAULTY: &str = " faulty\n";
+
+/// Reads an input document by document, and shows each before the next is read.
+pub fn dump<R: Input, O: Output, E: Output>(
+    alloc: Global,
+    input: &mut R,
+    out: &mut O,
+    err: &mut E,
+) -> Status
+    ensures dumps { DumpsInput (over R.state input.old input.new) (over O.state out.old out.new)
+        (over E.state err.old err.new) result }
+    ensures further { ReadsNoFurther R.read_gives input.old input.new }
+{
+    let room = LineRoom::new(alloc);
+    match walk_documents(alloc, input, &mut Printer { room }, out) {
+        Ok(walk) => tell_walk(alloc, &walk, err),
+        Err(fault) => tell_stop(fault, err),
+    }
+}
+
+/// Writes the line of each document, up to the first fault.
+#[derive(Debug, Drop)]
+struct Printer {
+    /// What their lines share.
+    room: LineRoom,
+}
+
+impl<O: Output> Visitor<O> for Printer {
+    ghost texts = { dump_texts };
+
+    fn visit(&mut self, document: RawDoc<'_>, out: &mut O) -> Result<(), OutputFault> {
+        let line = self.room.line(document.value())?;
+        Ok(write_all(out, line)?)
+    }
+
+    fn meet(&mut self, _fault: &Fault, _out: &mut O) -> Result<bool, OutputFault> {
+        Ok(false)
+    }
+}
+
+/// Shows a walk on standard error, after its lines on standard output. Memory is taken only for the path of a fault.
+fn tell_walk<E: Output>(alloc: Global, walk: &Walk, err: &mut E) -> Status
+    ensures { TellsMessage (over E.state err.old err.new) (wrong_line (ending_words walk.now.ending) ++ (decimal walk.now.count ++ objects_found))
+        (wrong_status (ending_words walk.now.ending)) result
+        ⊎ ((fault : Fault) × (walk.now.ending ≡ Ending.Faulty fault)
+        × TellsMessage (over E.state err.old err.new) (error_line no_memory) Failed result) }
+{
+    let count = u64::from(walk.count);
+    match &walk.ending {
+        Ending::Whole => tell_end(None, count, OBJECTS_FOUND, err),
+        Ending::Faulty(fault) => match fault_message(alloc, fault) {
+            Ok(message) => tell_end(Some(&message), count, OBJECTS_FOUND, err),
+            Err(_) => tell_no_memory(err),
+        },
+        Ending::Unread(fault) => tell_end(words_of(Some(*fault)), count, OBJECTS_FOUND, err),
+    }
+}
+
+/// Reads an input document by document, and shows which of them have a fault. No tree is built.
+pub fn check<R: Input, O: Output, E: Output>(
+    alloc: Global,
+    input: &mut R,
+    out: &mut O,
+    err: &mut E,
+) -> Status
+    ensures checks { ChecksInput (over R.state input.old input.new) (over O.state out.old out.new)
+        (over E.state err.old err.new) result }
+    ensures further { ReadsNoFurther R.read_gives input.old input.new }
+{
+    let line = String::new(alloc);
+    match walk_documents(alloc, input, &mut Judge { line }, out) {
+        Ok(walk) => match walk.ending {
+            Ending::Whole => tell_findings(walk.count, walk.bad, None, err),
+            // A bad length: no document after it is looked for.
+            Ending::Faulty(_) => tell_findings(walk.count + 1, walk.bad + 1, None, err),
+            Ending::Unread(fault) => tell_findings(walk.count, walk.bad, Some(fault), err),
+        },
+        Err(fault) => tell_stop(fault, err),
+    }
+}
+
+/// Writes a line for each document that has a fault.
+#[derive(Debug, Drop)]
+struct Judge {
+    /// Room that their lines share.
+    line: String,
+}
+
+impl<O: Output> Visitor<O> for Judge {
+    ghost texts = { check_texts };
+
+    fn visit(&mut self, _document: RawDoc<'_>, _out: &mut O) -> Result<(), OutputFault> {
+        Ok(())
+    }
+
+    fn meet(&mut self, fault: &Fault, out: &mut O) -> Result<bool, OutputFault> {
+        self.line.clear();
+        push_fault(fault, &mut self.line)?;
+        self.line.push('\n')?;
+        write_all(out, self.line.as_bytes())?;
+        Ok(true)
+    }
+}
+
+/// Tells how many documents were judged, how many of them have a fault, and why no more of the input was read. It takes no memory.
+fn tell_findings<E: Output>(
+    documents: u32,
+    faulty: u32,
+    unread: Option<ReadFault>,
+    err: &mut E,
+) -> Status
+    ensures { TellsMessage (over E.state err.old err.new) (check_message unread documents faulty) (check_status unread faulty) result }
+{
+    let wanted = match (faulty, unread) {
+        (0, None) => Status::Done,
+        _ => Status::Failed,
+    };
+    status_of(write_findings(documents, faulty, unread, err), wanted)
+}
+
+/// Writes what standard error is to tell.
+#[tactic(auto, using(crate::proofs::OutputLemmas::taking))]
+fn write_findings<E: Output>(
+    documents: u32,
+    faulty: u32,
+    unread: Option<ReadFault>,
+    err: &mut E,
+) -> Result<(), DeviceFault>
+    ensures ok { OnOk result (TakesText (over E.state err.old err.new) (check_message unread documents faulty)) }
+    ensures err { OnErr result (BreaksWithin (over E.state err.old err.new) (check_message unread documents faulty)) }
+{
+    write_end(words_of(unread), u64::from(documents), DOCUMENTS, err)?;
+    write_count(u64::from(faulty), FAULTY, err)
+}
+
+/// Who is shown the documents of an input, each before the next is read.
+pub(crate) trait Visitor<O: Output> {
+    /// What is written of them.
+    ghost texts: { Texts };
+
+    /// Takes a document without a fault.
+    fn visit(&mut self, document: RawDoc<'_>, out: &mut O) -> Result<(), OutputFault>
+        ensures { Writes (texts.good (pairs_in (stands document.entry.sound))) (over O.state out.old out.new) result };
+
+    /// Takes the fault of a document, and says whether the walk goes on.
+    fn meet(&mut self, fault: &Fault, out: &mut O) -> Result<bool, OutputFault>
+        ensures { MeetsFault (texts.bad fault.now.document (fault_view fault.now)) (over O.state out.old out.new) result };
+}
+
+/// Goes over the documents of an input.
+pub(crate) fn walk_documents<R: Input, O: Output, V: Visitor<O>>(
+    alloc: Global,
+    input: &mut R,
+    visitor: &mut V,
+    out: &mut O,
+) -> Result<Walk, OutputFault>
+    ensures few { IfOk result (λ w. (w.count < longest_input) × (w.bad ≤ w.count)) }
+    ensures walks { IfOk result (WalksDocuments V.texts (over R.state input.old input.new) (over O.state out.old out.new)) }
+    ensures stops { IfErr result (StopsWalk V.texts (over R.state input.old input.new) (over O.state out.old out.new)) }
+    ensures further { ReadsNoFurther R.read_gives input.old input.new }
+{
+    let mut buffer = DocBuffer::new(alloc, LIMITS);
+    let mut bad = 0;
+    loop {
+        let base = buffer.place();
+        let count = buffer.number();
+        match buffer.read_next(input) {
+            Ok(true) => match check_document(alloc, buffer.bytes(), base, count) {
+                Ok(document) => visitor.visit(document, out)?,
+                Err(fault) => {
+                    if is_want_of_memory(&fault) {
+                        return Err(OutputFault::NoMemory);
+                    }
+                    if !visitor.meet(&fault, out)? {
+                        let ending = Ending::Faulty(fault);
+                        return Ok(Walk { count, bad, ending });
+                    }
+                    bad += 1;
+                }
+            },
+            Ok(false) => {
+                let ending = Ending::Whole;
+                return Ok(Walk { count, bad, ending });
+            }
+            Err(DocFault::Frame(fault)) => {
+                let fault = fault.to_fault(alloc);
+                // A bad length: no document after it is looked for, whatever the visitor says.
+                let _goes_on = visitor.meet(&fault, out)?;
+                let ending = Ending::Faulty(fault);
+                return Ok(Walk { count, bad, ending });
+            }
+            Err(DocFault::Read(ReadFault::NoMemory)) => return Err(OutputFault::NoMemory),
+            Err(DocFault::Read(fault)) => {
+                let ending = Ending::Unread(fault);
+                return Ok(Walk { count, bad, ending });
+            }
+            Err(DocFault::Failed) => unreachable!(),
+        }
+    }
+}
+
+/// The documents of an input that were gone over.
+#[derive(Debug, Drop)]
+pub struct Walk {
+    /// How many there are.
+    pub count: u32,
+    /// How many of them have a fault.
+    pub bad: u32,
+    /// What is after them.
+    pub ending: Ending,
+}
+
+/// What comes after the documents of an input.
+#[derive(Debug, Drop)]
+pub enum Ending {
+    /// Nothing.
+    Whole,
+    /// A document that has this fault.
+    Faulty(Fault),
+    /// A document that was not read to its end.
+    Unread(ReadFault),
+}

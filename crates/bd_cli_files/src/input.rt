@@ -1,0 +1,28 @@
+//! An input that is read whole, and how much of an input is read.
+
+ghost use Rattle.std.specs.Prelude.{MatchResult, Ok, Err};
+ghost use Rattle.bd_io_device.specs.Devices.{over};
+ghost use Rattle.bd_cli_files.specs.Input.{ReadsInput, ReadsNoFurther};
+
+use bd_io_device::{Input, Limits, ReadFault, read_all};
+use bd_value::{LONGEST_INPUT, MOST_READS};
+use std::alloc::Global;
+
+/// An input has at most 4,294,967,295 bytes, and takes at most 4,294,967,296 reads: one a byte, and the one that finds the end.
+pub const LIMITS: Limits = Limits {
+    bytes: LONGEST_INPUT,
+    turns: MOST_READS,
+};
+
+/// All bytes of an input, at most 4,294,967,295.
+///
+/// # Errors
+///
+/// `Device` after a failed read, and no read is made after it; `TooLong` if there is one byte more; `NoMemory`.
+pub fn read_input<R: Input>(alloc: Global, input: &mut R) -> Result<Vec<u8>, ReadFault>
+    ensures input { MatchResult result (λ bytes. ReadsInput (over R.state input.old input.new) (Ok bytes.items))
+        (λ fault. ReadsInput (over R.state input.old input.new) (Err fault)) }
+    ensures further { ReadsNoFurther R.read_gives input.old input.new }
+{
+    read_all(alloc, input, LIMITS)
+}

@@ -1,0 +1,252 @@
+//! What a run writes of itself, and how it ends. But for the path of a fault it takes no memory.
+
+ghost use Rattle.std.specs.Prelude.{◌≡◌, ◌++◌, ◌↔◌, ◌⊎◌, IfOk, IsTrue, OnErr, OnOk, decimal, map, option_map, string_bytes};
+ghost use Rattle.std.specs.List.{join_with_byte};
+ghost use Rattle.bd_io_device.specs.Devices.{BreaksWithin, TakesText, over, read_words};
+ghost use Rattle.bd_bson_check.specs.Fault.{fault_view};
+ghost use Rattle.bd_bson_check.specs.declared.fault.FaultKind.TheVariants as kinds;
+ghost use Rattle.bd_extjson_text.specs.Text.{quoted};
+ghost use Rattle.bd_cli_files.specs.Output.{TellsMessage, cannot_write, error_line, fault_text, no_memory, place_text, stop_words, told_bytes, wrong_line, wrong_status};
+ghost use Rattle.bd_cli_files.specs.declared.output.OutputFault.TheVariants.{NoMemory as memory, Unwritten};
+ghost use Rattle.bd_cli_files.specs.declared.output.Status.TheVariants.{Failed};
+
+use bd_bson_check::{Fault, FaultKind};
+use bd_extjson_text::write_path;
+use bd_io_device::{DeviceFault, Output, ReadFault, write_all};
+use bd_value::NoMemory;
+use itoa::Buffer;
+use std::alloc::{AllocError, Global};
+
+/// The exit status of a run.
+#[derive(Clone, Copy, Debug, PartialEq, Eq)]
+pub enum Status {
+    /// All was done.
+    Done = 0,
+    /// A fault of the input, of a query, a sort, the path of an index or a token, or of a device, or out of memory.
+    Failed = 1,
+    /// The arguments were refused.
+    Usage = 2,
+}
+
+/// Why a text was not written to its end.
+#[derive(Debug, Clone, Copy, PartialEq, Eq)]
+pub enum OutputFault {
+    /// Memory ran out.
+    NoMemory,
+    /// A write failed.
+    Unwritten,
+}
+
+impl From<AllocError> for OutputFault {
+    ghost from_gives = { λ _ s. s ≡ memory };
+
+    fn from(_error: AllocError) -> OutputFault {
+        OutputFault::NoMemory
+    }
+}
+
+impl From<DeviceFault> for OutputFault {
+    ghost from_gives = { λ _ s. s ≡ Unwritten };
+
+    fn from(_fault: DeviceFault) -> OutputFault {
+        OutputFault::Unwritten
+    }
+}
+
+/// Why a run ends where memory ran out.
+pub const NO_MEMORY: &str = "no memory";
+
+/// Why a run ends where standard output failed.
+pub const CANNOT_WRITE: &str = "cannot write";
+
+/// Whether a fault is that memory ran out, which is no fault of the input.
+pub fn is_want_of_memory(fault: &Fault) -> bool
+    ensures { IsTrue result ↔ (fault.now.kind ≡ kinds.NoMemory) }
+{
+    matches!(fault.kind, FaultKind::NoMemory)
+}
+
+/// Writes the line of an error.
+#[tactic(auto, using(crate::proofs::OutputLemmas::taking))]
+pub fn write_error<E: Output>(message: &str, err: &mut E) -> Result<(), DeviceFault>
+    ensures ok { OnOk result (TakesText (over E.state err.old err.new) (error_line message.now)) }
+    ensures err { OnErr result (BreaksWithin (over E.state err.old err.new) (error_line message.now)) }
+{
+    write_all(err, b"bsonfind: ")?;
+    write_all(err, message.as_bytes())?;
+    write_all(err, b"\n")
+}
+
+/// Writes a number and the words after it.
+#[tactic(auto, using(crate::proofs::OutputLemmas::taking))]
+pub fn write_count<E: Output>(count: u64, words: &str, err: &mut E) -> Result<(), DeviceFault>
+    ensures ok { OnOk result (TakesText (over E.state err.old err.new) (decimal count ++ words.now)) }
+    ensures err { OnErr result (BreaksWithin (over E.state err.old err.new) (decimal count ++ words.now)) }
+{
+    let mut buffer = Buffer::new();
+    write_all(err, buffer.format(count).as_bytes())?;
+    write_all(err, words.as_bytes())
+}
+
+/// The words of a read fault, where there is one.
+pub(crate) fn words_of(unread: Option<ReadFault>) -> Option<&'static str>
+    ensures { told_bytes result ≡ option_map read_words unread }
+{
+    match unread {
+        None => None,
+        Some(fault) => Some(fault.words()),
+    }
+}
+
+/// Writes what is wrong, where something is, and then a number and the words after it.
+#[tactic(auto, using(crate::proofs::OutputLemmas::taking))]
+pub(crate) fn write_end<E: Output>(
+    wrong: Option<&str>,
+    count: u64,
+    words: &str,
+    err: &mut E,
+) -> Result<(), DeviceFault>
+    ensures ok { OnOk result (TakesText (over E.state err.old err.new) (wrong_line (told_bytes wrong.entry) ++ (decimal count ++ words.now))) }
+    ensures err { OnErr result (BreaksWithin (over E.state err.old err.new) (wrong_line (told_bytes wrong.entry) ++ (decimal count ++ words.now))) }
+{
+    match wrong {
+        None => write_count(count, words, err),
+        Some(message) => {
+            write_error(message, err)?;
+            write_count(count, words, err)
+        }
+    }
+}
+
+/// The status that is wanted where a message was written, and 1 where it was not.
+pub fn status_of(written: Result<(), DeviceFault>, wanted: Status) -> Status
+    ensures ok { OnOk written (result ≡ wanted) }
+    ensures err { OnErr written (result ≡ Failed) }
+{
+    match written {
+        Ok(()) => wanted,
+        Err(_) => Status::Failed,
+    }
+}
+
+/// Tells what is wrong, where something is, and a count. It takes no memory.
+pub(crate) fn tell_end<E: Output>(
+    wrong: Option<&str>,
+    count: u64,
+    words: &str,
+    err: &mut E,
+) -> Status
+    ensures { TellsMessage (over E.state err.old err.new) (wrong_line (told_bytes wrong.entry) ++ (decimal count ++ words.now))
+        (wrong_status (told_bytes wrong.entry)) result }
+{
+    let wanted = match wrong {
+        None => Status::Done,
+        Some(_) => Status::Failed,
+    };
+    status_of(write_end(wrong, count, words, err), wanted)
+}
+
+/// Tells an error. It takes no memory.
+pub fn tell_error<E: Output>(message: &str, err: &mut E) -> Status
+    ensures { TellsMessage (over E.state err.old err.new) (error_line message.now) Failed result }
+{
+    status_of(write_error(message, err), Status::Failed)
+}
+
+/// Tells that memory ran out. It takes none itself.
+pub fn tell_no_memory<E: Output>(err: &mut E) -> Status
+    ensures { TellsMessage (over E.state err.old err.new) (error_line no_memory) Failed result }
+{
+    tell_error(NO_MEMORY, err)
+}
+
+/// Tells that standard output failed.
+pub fn tell_unwritten<E: Output>(err: &mut E) -> Status
+    ensures { TellsMessage (over E.state err.old err.new) (error_line cannot_write) Failed result }
+{
+    tell_error(CANNOT_WRITE, err)
+}
+
+/// Tells why standard output has not all that is to be shown.
+pub fn tell_stop<E: Output>(fault: OutputFault, err: &mut E) -> Status
+    ensures { TellsMessage (over E.state err.old err.new) (error_line (stop_words fault)) Failed result }
+{
+    match fault {
+        OutputFault::NoMemory => tell_no_memory(err),
+        OutputFault::Unwritten => tell_unwritten(err),
+    }
+}
+
+/// Tells why an input was not read whole. It takes no memory.
+pub fn tell_read_fault<E: Output>(fault: ReadFault, err: &mut E) -> Status
+    ensures { TellsMessage (over E.state err.old err.new) (error_line (read_words fault)) Failed result }
+{
+    tell_error(fault.words(), err)
+}
+
+/// Tells why an input is no dump.
+pub fn tell_dump_fault<E: Output>(alloc: Global, fault: &Fault, err: &mut E) -> Status
+    ensures { TellsMessage (over E.state err.old err.new) (error_line (fault_text fault.now.document (fault_view fault.now))) Failed result
+        ⊎ TellsMessage (over E.state err.old err.new) (error_line no_memory) Failed result }
+{
+    match fault_message(alloc, fault) {
+        Ok(message) => tell_error(&message, err),
+        Err(_) => tell_no_memory(err),
+    }
+}
+
+/// Appends a number in decimal.
+///
+/// `NoMemory` leaves `text` as it was.
+pub fn push_number(number: u64, text: &mut String) -> Result<(), NoMemory>
+    ensures ok { OnOk result (string_bytes text.new ≡ string_bytes text.old ++ decimal number) }
+    ensures err { OnErr result (string_bytes text.new ≡ string_bytes text.old) }
+{
+    let mut buffer = Buffer::new();
+    text.push_str(buffer.format(number))
+}
+
+/// Appends the names of a path, joined by dots, as one JSON string.
+///
+/// `NoMemory` leaves `text` as it was.
+pub fn push_path(path: &[String], text: &mut String) -> Result<(), NoMemory>
+    ensures ok { OnOk result (string_bytes text.new ≡ string_bytes text.old ++ quoted (join_with_byte 46 (map string_bytes path.now))) }
+    ensures err { OnErr result (string_bytes text.new ≡ string_bytes text.old) }
+{
+    let mut quoted = Vec::new(*text.allocator());
+    write_path(path, &mut quoted)?;
+    match str::from_utf8(&quoted) {
+        Ok(quoted) => text.push_str(quoted),
+        Err(_) => unreachable!(),
+    }
+}
+
+/// Appends where a fault stands. `NoMemory` may leave a front of it.
+fn push_place(fault: &Fault, text: &mut String) -> Result<(), NoMemory>
+    ensures { OnOk result (string_bytes text.new ≡ string_bytes text.old ++ place_text fault.now.document fault.now.offset) }
+{
+    text.push_str("document ")?;
+    push_number(u64::from(fault.document), text)?;
+    text.push_str(", byte ")?;
+    push_number(fault.offset, text)
+}
+
+/// Appends a fault: where it stands, the names of its path, and what it is. `NoMemory` may leave a front of it.
+pub(crate) fn push_fault(fault: &Fault, text: &mut String) -> Result<(), NoMemory>
+    ensures { OnOk result (string_bytes text.new ≡ string_bytes text.old ++ fault_text fault.now.document (fault_view fault.now)) }
+{
+    push_place(fault, text)?;
+    text.push_str(", path ")?;
+    push_path(&fault.path, text)?;
+    text.push_str(": ")?;
+    text.push_str(fault.kind.words())
+}
+
+/// The message of a fault. `NoMemory` is its only error.
+pub(crate) fn fault_message(alloc: Global, fault: &Fault) -> Result<String, NoMemory>
+    ensures { IfOk result (λ s. string_bytes s ≡ fault_text fault.now.document (fault_view fault.now)) }
+{
+    let mut text = String::new(alloc);
+    push_fault(fault, &mut text)?;
+    Ok(text)
+}

@@ -1,0 +1,84 @@
+-- The lines of documents that were found, and the ends of a run of `find`.
+use Rattle.std.proofs.Common.{◌≡◌, ◌≤◌, ◌<◌, ◌+◌, ℕ, List, [], ◌∷◌, ◌++◌, length, get_or, take, drop, Some, refl, sym, ap, ◌∙◌, subst, arith, inl, inr, ◌⊎◌}
+use Rattle.std.proofs.{lemmas.List.take-append-drop, lemmas.List.take_more, lemmas.List.Elements.filter_map-append}
+use Rattle.bd_io_device.proofs.DevicesLemmas.{takes_none}
+use Rattle.std.specs.Prelude.{slice_get}
+use Rattle.bd_value.specs.Tree.{Doc, doc, fields_of}
+use Rattle.bd_value.specs.Limits.{longest_input}
+use Rattle.bd_extjson_text.specs.Text.{text}
+use Rattle.bd_bson_dump.specs.{Collection.IsUnread, Collection.documents_at}
+use Rattle.bd_bson_check.specs.Fault.{fault_view}
+use Rattle.bd_cli_files.specs.{declared.output.Status.Status, declared.output.Status.TheVariants.Failed}
+use Rattle.bd_cli_files.specs.Output.{PrintsOrStarves, TellsMessage, Transcript, error_line, fault_text, lines, no_memory, shown_refusal}
+use Rattle.bd_cursor_request.specs.{declared.results.Refused.Refused, Refused.IsRefusedPart, Refused.reason_of, Refused.refused_words}
+use Rattle.bd_cli_find.specs.Asking.{PageRequest, refused_text}
+use Rattle.bd_cli_find.specs.Find.{places_from, IsShownOfBytes, shown_of_dump}
+use Rattle.bd_cursor_sort.specs.Selection.{query_to}
+use Rattle.bd_cli_files.proofs.OutputLemmas.{lines-append}
+use Rattle.bd_io_device.specs.Devices.{Writer, between}
+use Rattle.bd_bson_check.specs.declared.fault.Fault as declared
+use Rattle.bd_bson_check.specs.declared.fault.FaultKind.TheVariants as kinds
+
+-- the lines of the documents at the first places
+abbrev pub lines_to : List Doc → List ℕ → ℕ → List ℕ
+lines_to ds ps i = lines (documents_at ds (take i ps))
+
+abbrev pub all_lines : List Doc → List ℕ → List ℕ
+all_lines ds ps = lines (documents_at ds ps)
+
+module _ (ds : List Doc) (ps : List ℕ) where
+  pub cut_at : (i : ℕ) → all_lines ds ps ≡ lines_to ds ps i ++ lines (documents_at ds (drop i ps))
+  cut_at i =
+      ap (λ xs. lines (documents_at ds xs)) (sym (take-append-drop i ps)) ∙ ap lines (filter_map-append (slice_get ds) (take i ps) (drop i ps))
+      ∙ lines-append (documents_at ds (take i ps)) (documents_at ds (drop i ps))
+
+  at_place : (p : ℕ) (d : Doc) → slice_get ds p ≡ Some d → lines (documents_at ds (p ∷ [])) ≡ text (doc (fields_of d)) ++ 10 ∷ []
+  at_place p d is = rw is refl
+
+  pub one_more : (i p : ℕ) (d : Doc) → i < length ps → get_or ps i 0 ≡ p → slice_get ds p ≡ Some d → lines_to ds ps (i + 1) ≡ lines_to ds ps i ++ (text (doc (fields_of d)) ++ 10 ∷ [])
+  one_more i p d lt here is =
+      let grown : take (i + 1) ps ≡ take i ps ++ p ∷ [] = take_more ps i 0 lt ∙ ap (λ x. take i ps ++ x ∷ []) here in
+      ap (λ xs. lines (documents_at ds xs)) grown ∙ ap lines (filter_map-append (slice_get ds) (take i ps) (p ∷ []))
+      ∙ lines-append (documents_at ds (take i ps)) (documents_at ds (p ∷ [])) ∙ ap (λ xs. lines_to ds ps i ++ xs) (at_place p d is)
+
+-- ---- the ends of a run
+
+module _ (out_old out_new : Writer) (err_old err_new : Writer) (status : Status) where
+  -- memory ran out before anything was written
+  pub nothing_shown : (shown : Transcript) → TellsMessage (between err_old err_new) (error_line no_memory) Failed status
+      → PrintsOrStarves (between out_old out_old) (between err_old err_new) shown status
+  nothing_shown shown told = inr (inr (([], shown.out, refl, takes_none out_old), told))
+
+  -- the line of a fault alone, or memory ran out
+  pub refusal_shown : (words : List ℕ) → TellsMessage (between err_old err_new) (error_line words) Failed status ⊎ TellsMessage (between err_old err_new) (error_line no_memory) Failed status
+      → PrintsOrStarves (between out_old out_old) (between err_old err_new) (shown_refusal words) status
+  refusal_shown words (inl told) = inl (takes_none out_old, told)
+  refusal_shown words (inr told) = nothing_shown (shown_refusal words) told
+
+  -- what is shown of a dump with a fault
+  pub fault_shown : (w : PageRequest) (bytes : List ℕ) (fault : declared.Fault) → length bytes ≤ longest_input → IsUnread bytes fault → ¬ (fault.kind ≡ kinds.NoMemory)
+      → TellsMessage (between err_old err_new) (error_line (fault_text fault.document (fault_view fault))) Failed status
+      ⊎ TellsMessage (between err_old err_new) (error_line no_memory) Failed status
+      → (shown : Transcript) × IsShownOfBytes w bytes shown × PrintsOrStarves (between out_old out_old) (between err_old err_new) shown status
+  fault_shown w bytes fault le (inl long) other told = absurd (let more = long.0 in omega arith)
+  fault_shown w bytes fault le (inr (_, inl want)) other told = absurd (other want.kind)
+  fault_shown w bytes fault le (inr (_, inr first)) other told =
+      let words = fault_text (length first.before) (fault_view fault) in
+      let line : error_line (fault_text fault.document (fault_view fault)) ≡ error_line words = ap (λ k. error_line (fault_text k (fault_view fault))) first.document in (
+        shown_refusal words,
+        (first.before, Some (fault_view fault), first.fails, refl),
+        refusal_shown words (subst (λ t. TellsMessage (between err_old err_new) t Failed status ⊎ TellsMessage (between err_old err_new) (error_line no_memory) Failed status) line told),
+      )
+
+  -- what is shown where no cursor was opened
+  pub refused_shown : (bytes : List ℕ) (ds : List Doc) (w : PageRequest) (refused : Refused) → IsRefusedPart (places_from (query_to bytes ds w.request) w.token) refused
+      → TellsMessage (between err_old err_new) (error_line (refused_text (reason_of refused))) Failed status ⊎ TellsMessage (between err_old err_new) (error_line no_memory) Failed status
+      → PrintsOrStarves (between out_old out_old) (between err_old err_new) (shown_of_dump bytes ds w) status
+  unfolding refused_words
+  refused_shown bytes ds w refused (inl want) told = nothing_shown (shown_of_dump bytes ds w) (either (rw want at told))
+    where
+      either : TellsMessage (between err_old err_new) (error_line no_memory) Failed status ⊎ TellsMessage (between err_old err_new) (error_line no_memory) Failed status
+          → TellsMessage (between err_old err_new) (error_line no_memory) Failed status
+      either (inl t) = t
+      either (inr t) = t
+  refused_shown bytes ds w refused (inr led) told = rw led (refusal_shown (refused_text (reason_of refused)) told)

@@ -1,0 +1,124 @@
+-- What the words of `find` ask for, or why they ask for nothing.
+use Rattle.std.specs.Prelude.{◌≡◌, ◌≢◌, ◌⊎◌, ℕ, nat_le, Bool, true, List, [], ◌++◌, length, codes, Option, Some, None}
+use Rattle.std.specs.Prelude.{Result, Ok, Err, if◌then◌else◌, string_bytes}
+use Rattle.std.specs.List.{join_with_byte}
+use Rattle.bd_value.specs.{Limits.greatest_count, Tree.Doc}
+use Rattle.bd_extjson_fault.specs.{JsonFault.IsPlaced, JsonFault.TellsBadUtf8, JsonFault.json_fault_words}
+use Rattle.bd_extjson_fault.specs.{declared.json_fault.JsonFault.JsonFault}
+use Rattle.bd_extjson_text.specs.Text.{quoted}
+use Rattle.bd_extjson.specs.Read.{ReadsAs, reading}
+use Rattle.bd_path.specs.{Path.path_fault_words, declared.path.PathFault.PathFault}
+use Rattle.bd_query_filter.specs.Fault.{Refusal, filter_fault_words}
+use Rattle.bd_cursor_request.specs.{declared.results.Refused.Refused, declared.token.Token.Token}
+use Rattle.bd_cursor_request.specs.Refused.{Reason, bad_filter, plain, reason_of, refused_words, then_part, told_as}
+use Rattle.bd_cursor_request.specs.Request.{Request, named_index, request_of, request_view, token_part}
+use Rattle.bd_cli_args.specs.FindWords.{FindWords}
+use Rattle.bd_io_device.specs.Devices.{Over, Writer}
+use Rattle.bd_cli_files.specs.{Output.TellsMessage, Output.error_line, Pack.byte_text, declared.output.Status.Status}
+use Rattle.bd_cli_files.specs.declared.output.Status.TheVariants.{Failed}
+use Rattle.bd_cli_find.specs.{declared.asking.Asking.Asking, declared.asking.AskingFault.AskingFault}
+use Rattle.bd_extjson_fault.specs.declared.json_fault.JsonFaultKind.TheVariants as kinds
+use Rattle.bd_cursor_request.specs.declared.results.Refused.TheVariants as reasons
+use Rattle.bd_cli_find.specs.declared.asking.AskingFault.TheVariants as faults
+
+-- what is asked of a dump, how much of the answer is shown, and after which token it goes on
+pub record PageRequest : Type 0 where
+  pub request : Request
+  pub batch : Option ℕ
+  pub token : Option Token
+
+-- ---- the texts of faults
+
+-- of a query or a sort, as the name tells
+abbrev pub json_fault_text : List ℕ → JsonFault → List ℕ
+json_fault_text name f = name ++ (byte_text (codes ": byte ") f.kind f.at ++ (codes ": " ++ json_fault_words f.kind))
+
+-- the names down to the pair or member, joined by dots, and which rule it breaks
+abbrev pub refusal_text : Refusal → List ℕ
+refusal_text r = codes "query: place "
+    ++ (quoted (join_with_byte 46 r.place) ++ (codes ": " ++ filter_fault_words r.kind))
+
+abbrev pub index_fault_text : PathFault → List ℕ
+index_fault_text fault = codes "index: " ++ path_fault_words fault
+
+-- the name of the option that is refused, where it has one
+abbrev pub refused_option : Refused → List ℕ
+refused_option reasons.BadSort = codes "sort: "
+refused_option reasons.BadToken = codes "token: "
+refused_option reasons.ForeignToken = codes "token: "
+refused_option reasons.TokenPlace = codes "token: "
+refused_option _ = []
+
+-- what is wrong, after the name of the option
+abbrev pub refused_text : Reason → List ℕ
+refused_text (bad_filter r) = refusal_text r
+refused_text (plain refused) = refused_option refused ++ refused_words refused
+
+-- the document of a query or a sort; without a text it has no pairs. A text that is no document has a fault: which
+-- one, no definition says of a text that is UTF-8
+abbrev pub ReadsText : List ℕ → Option (List ℕ) → Result Doc (List ℕ) → Type 0
+ReadsText name None (Ok d) = d ≡ []
+ReadsText name None (Err message) = ⊥
+ReadsText name (Some text) (Ok d) = ReadsAs text d
+ReadsText name (Some text) (Err message) = (reading text ≡ None)
+    × ((f : JsonFault) × IsPlaced (length text) f × TellsBadUtf8 text f × (f.kind ≢ kinds.NoMemory)
+    × (message ≡ json_fault_text name f))
+
+-- a batch has at most 2,147,483,647 documents
+abbrev pub fits_batch : Option ℕ → Bool
+fits_batch None = true
+fits_batch (Some n) = nat_le n greatest_count
+
+abbrev pub batch_part : Option ℕ → Result (Unit {0}) Reason
+batch_part size = if fits_batch size then Ok tt else Err (plain reasons.Range)
+
+-- the token of a text, where there is one
+abbrev pub after_part : Option (List ℕ) → Result (Option Token) Reason
+after_part None = Ok None
+after_part (Some text) = then_part (token_part text) (λ t. Ok (Some t))
+
+-- What a query and a sort that are documents ask for, or the message of what is refused first:
+-- the request, the size of a batch, the path of the index, the token. Which index is named changes nothing else.
+abbrev pub page_of : FindWords → Doc → Doc → Result PageRequest (List ℕ)
+page_of words query sort =
+    then_part (told_as refused_text (request_of query sort words.skip words.limit)) (λ request.
+    then_part (told_as refused_text (batch_part words.batch)) (λ _.
+    then_part (told_as index_fault_text (named_index words.index)) (λ _.
+    then_part (told_as refused_text (after_part words.after)) (λ token.
+    Ok (record { request = request; batch = words.batch; token = token })))))
+
+-- A part gives a value, for which what comes after it counts,
+-- or it is refused with a message, and then none of that counts.
+abbrev pub IsRefusedOr : {Given : Type 0} → (List ℕ → Type 0) →
+    (Result Given (List ℕ) → Type 0) → (Given → Type 0) → Type 0
+IsRefusedOr {Given} IsRefused IsPart IsRest = ((message : List ℕ) × IsPart (Err message) × IsRefused message)
+    ⊎ ((given : Given) × IsPart (Ok given) × IsRest given)
+
+-- what the words ask for, or the message of what is refused first:
+-- the text of the query, that of the sort, and then the rest
+abbrev pub AsksInWords : FindWords → Result PageRequest (List ℕ) → Type 0
+AsksInWords words asked = IsRefusedOr (λ message. asked ≡ Err message) (ReadsText (codes "query") words.query) (λ query.
+    IsRefusedOr (λ message. asked ≡ Err message) (ReadsText (codes "sort") words.sort) (λ sort.
+    page_of words query sort ≡ asked))
+
+abbrev pub AsksNothing : FindWords → Type 0
+AsksNothing words = (w : PageRequest) → ¬ (AsksInWords words (Ok w))
+
+abbrev pub page_request_of : Asking → PageRequest
+page_request_of a = record { request = request_view a.request; batch = a.size; token = a.token }
+
+-- the message is one of those that a part is refused with, unless memory ran out
+abbrev pub TellsAskingFault : {Given : Type 0} → (Result Given (List ℕ) → Type 0) → AskingFault → Type 0
+TellsAskingFault IsPart faults.NoMemory = Unit {0}
+TellsAskingFault IsPart (faults.Refused refused) = IsPart (Err (refused_text (reason_of refused)))
+TellsAskingFault IsPart (faults.Message message) = IsPart (Err (string_bytes message))
+
+-- so of a part that is refused for a reason
+abbrev pub TellsReason : {Given : Type 0} → Result Given Reason → AskingFault → Type 0
+TellsReason part fault = TellsAskingFault (λ told. told_as refused_text part ≡ told) fault
+
+-- the line of the refusal is written; only in place of that of a filter it may say that memory ran out
+abbrev pub TellsRefusal : Over Writer → Reason → Status → Type 0
+TellsRefusal err (plain refused) status = TellsMessage err (error_line (refused_text (plain refused))) Failed status
+TellsRefusal err (bad_filter r) status = TellsMessage err (error_line (refusal_text r)) Failed status
+    ⊎ TellsMessage err (error_line (codes "no memory")) Failed status

@@ -1,0 +1,254 @@
+//! What the arguments of `find` ask for, and the messages where they are refused.
+
+ghost use Rattle.std.specs.Prelude.{◌≡◌, ◌≢◌, ◌++◌, IfErr, IfOk, Ok, OnErr, OnOk, option_map, string_bytes, true};
+ghost use Rattle.bd_value.specs.View.{pairs};
+ghost use Rattle.bd_io_device.specs.Devices.{BreaksWithin, TakesText, over};
+ghost use Rattle.bd_query_filter.specs.Fault.{refusal_of};
+ghost use Rattle.bd_cursor_request.specs.Refused.{reason_of, refused_words, told_as};
+ghost use Rattle.bd_cursor_request.specs.Request.{named_index, request_of, request_view};
+ghost use Rattle.bd_cli_args.specs.FindWords.{find_words_of};
+ghost use Rattle.bd_cli_files.specs.Output.{error_line};
+ghost use Rattle.bd_cli_find.specs.Asking.{AsksInWords, ReadsText, TellsAskingFault, TellsReason, TellsRefusal, after_part, batch_part};
+ghost use Rattle.bd_cli_find.specs.Asking.{fits_batch, index_fault_text, json_fault_text, page_of, page_request_of, refusal_text, refused_option};
+ghost use Rattle.bd_cli_find.specs.declared.asking.AskingFault.TheVariants.{NoMemory as no_memory};
+
+use bd_cli_args::FindOptions;
+use bd_cli_files::Status;
+use bd_cli_files::output::{push_number, push_path, status_of, tell_error, tell_no_memory};
+use bd_cursor_request::{Refused, Request, Token};
+use bd_extjson::read_doc;
+use bd_extjson_fault::{JsonFault, JsonFaultKind};
+use bd_io_device::{DeviceFault, Output, write_all};
+use bd_path::{Path, PathFault};
+use bd_query_filter::FilterFault;
+use bd_value::{Document, GREATEST_COUNT, NoMemory};
+use std::alloc::{AllocError, Global};
+
+/// What is asked for.
+#[derive(Drop)]
+pub struct Asking {
+    /// Which documents, in which order.
+    pub request: Request,
+    /// How many of them are shown at most; without a size all.
+    pub size: Option<u32>,
+    /// The path of the index that they are found by; without one each document is looked at.
+    pub index: Option<Path>,
+    /// After which token the answer goes on.
+    pub token: Option<Token>,
+}
+
+/// Why nothing is asked for.
+#[derive(Debug, Drop)]
+pub enum AskingFault {
+    /// Memory ran out.
+    NoMemory,
+    /// A filter, a sort, a number or a token is refused.
+    Refused(Refused),
+    /// What is wrong with a text, and where.
+    Message(String),
+}
+
+impl From<AllocError> for AskingFault {
+    ghost from_gives = { λ _ f. f ≡ no_memory };
+
+    fn from(_error: AllocError) -> AskingFault {
+        AskingFault::NoMemory
+    }
+}
+
+/// What the options of `find` ask for. Without a query it is each document, without a sort the order of the dump.
+pub(crate) fn read_asking(alloc: Global, options: &FindOptions) -> Result<Asking, AskingFault>
+    ensures asking { IfOk result (λ a. AsksInWords (find_words_of options.now) (Ok (page_request_of a))) }
+    ensures fits { IfOk result (λ a. fits_batch a.size ≡ true) }
+    ensures index { IfOk result (λ a. option_map (λ path. string_bytes path.text) a.index ≡ (find_words_of options.now).index) }
+    ensures fault { IfErr result (TellsAskingFault (AsksInWords (find_words_of options.now))) }
+{
+    let query = read_text(alloc, "query", &options.query)?;
+    let sort = read_text(alloc, "sort", &options.sort)?;
+    read_page(alloc, query, sort, options)
+}
+
+/// What a query and a sort ask for, with the other options.
+fn read_page(
+    alloc: Global,
+    query: Document,
+    sort: Document,
+    options: &FindOptions,
+) -> Result<Asking, AskingFault>
+    ensures page { IfOk result (λ a. page_of (find_words_of options.now) (pairs query) (pairs sort) ≡ Ok (page_request_of a)) }
+    ensures fits { IfOk result (λ a. fits_batch a.size ≡ true) }
+    ensures index { IfOk result (λ a. option_map (λ path. string_bytes path.text) a.index ≡ (find_words_of options.now).index) }
+    ensures fault { IfErr result (TellsAskingFault (λ told. page_of (find_words_of options.now) (pairs query) (pairs sort) ≡ told)) }
+{
+    let request = read_request(alloc, query, sort, options)?;
+    check_batch(options.batch)?;
+    let index = read_index(alloc, &options.index)?;
+    let token = read_token(&options.after)?;
+    Ok(Asking {
+        request,
+        size: options.batch,
+        index,
+        token,
+    })
+}
+
+/// The document of a query or a sort, as the name tells; without a text it has no pairs.
+fn read_text(alloc: Global, name: &str, text: &Option<String>) -> Result<Document, AskingFault>
+    ensures document { IfOk result (λ d. ReadsText name.now (option_map string_bytes text.now) (Ok (pairs d))) }
+    ensures fault { IfErr result (TellsAskingFault (ReadsText name.now (option_map string_bytes text.now))) }
+{
+    let Some(text) = text else {
+        return Ok(Document::new(alloc));
+    };
+    match read_doc(alloc, text.as_bytes()) {
+        Ok(document) => Ok(document),
+        Err(fault) => match fault.kind {
+            JsonFaultKind::NoMemory => Err(AskingFault::NoMemory),
+            _ => Err(AskingFault::Message(json_message(alloc, name, fault)?)),
+        },
+    }
+}
+
+/// The message of a text that is no document.
+fn json_message(alloc: Global, name: &str, fault: JsonFault) -> Result<String, NoMemory>
+    ensures { IfOk result (λ s. string_bytes s ≡ json_fault_text name.now fault) }
+{
+    let mut message = String::from_str(alloc, name)?;
+    match fault.kind {
+        // It is the whole text that is none.
+        JsonFaultKind::NotADocument => {}
+        _ => {
+            message.push_str(": byte ")?;
+            push_number(fault.at, &mut message)?;
+        }
+    }
+    message.push_str(": ")?;
+    message.push_str(fault.kind.words())?;
+    Ok(message)
+}
+
+/// The request of a query and a sort, with the counts of the options.
+fn read_request(
+    alloc: Global,
+    query: Document,
+    sort: Document,
+    options: &FindOptions,
+) -> Result<Request, AskingFault>
+    ensures request { IfOk result (λ r. request_of (pairs query) (pairs sort) options.now.skip options.now.limit ≡ Ok (request_view r)) }
+    ensures fault { IfErr result (TellsReason (request_of (pairs query) (pairs sort) options.now.skip options.now.limit)) }
+{
+    let (skip, limit) = (u64::from(options.skip), u64::from(options.limit));
+    match Request::new(alloc, query, sort, skip, limit) {
+        Ok(request) => Ok(request),
+        Err(Refused::NoMemory) => Err(AskingFault::NoMemory),
+        Err(refused) => Err(AskingFault::Refused(refused)),
+    }
+}
+
+/// Refuses a batch that may not have that size. It takes no memory.
+fn check_batch(size: Option<u32>) -> Result<(), AskingFault>
+    ensures fits { OnOk result (fits_batch size ≡ true) }
+    ensures fault { IfErr result (TellsReason (batch_part size)) }
+    ensures known { IfErr result (λ fault. fault ≢ no_memory) }
+{
+    match size {
+        Some(size) if u64::from(size) > GREATEST_COUNT => Err(AskingFault::Refused(Refused::Range)),
+        _ => Ok(()),
+    }
+}
+
+/// The path of an index's text, where there is one.
+fn read_index(alloc: Global, text: &Option<String>) -> Result<Option<Path>, AskingFault>
+    ensures path { OnOk result (named_index (option_map string_bytes text.now) ≡ Ok tt) }
+    ensures text { IfOk result (λ index. option_map (λ path. string_bytes path.text) index ≡ option_map string_bytes text.now) }
+    ensures fault { IfErr result (TellsAskingFault (λ told. told_as index_fault_text (named_index (option_map string_bytes text.now)) ≡ told)) }
+{
+    let Some(text) = text else {
+        return Ok(None);
+    };
+    match Path::parse(alloc, text) {
+        Ok(path) => Ok(Some(path)),
+        Err(PathFault::NoMemory) => Err(AskingFault::NoMemory),
+        Err(fault) => Err(AskingFault::Message(option_message(alloc, "index: ", fault.words())?)),
+    }
+}
+
+/// The token of a text, where there is one. It takes no memory.
+fn read_token(text: &Option<String>) -> Result<Option<Token>, AskingFault>
+    ensures token { IfOk result (λ token. after_part (option_map string_bytes text.now) ≡ Ok token) }
+    ensures fault { IfErr result (TellsReason (after_part (option_map string_bytes text.now))) }
+    ensures known { IfErr result (λ fault. fault ≢ no_memory) }
+{
+    let Some(text) = text else {
+        return Ok(None);
+    };
+    match Token::parse(text) {
+        Ok(token) => Ok(Some(token)),
+        Err(refusal) => Err(AskingFault::Refused(refusal)),
+    }
+}
+
+/// The message of an option: its name, and what is wrong with it.
+fn option_message(alloc: Global, option: &str, words: &str) -> Result<String, NoMemory>
+    ensures { IfOk result (λ s. string_bytes s ≡ option.now ++ words.now) }
+{
+    let mut message = String::from_str(alloc, option)?;
+    message.push_str(words)?;
+    Ok(message)
+}
+
+/// The message of a document that is no filter.
+fn filter_message(alloc: Global, fault: &FilterFault) -> Result<String, NoMemory>
+    ensures { IfOk result (λ s. string_bytes s ≡ refusal_text (refusal_of fault.now)) }
+{
+    let mut message = String::from_str(alloc, "query: place ")?;
+    push_path(&fault.place, &mut message)?;
+    message.push_str(": ")?;
+    message.push_str(fault.kind.words())?;
+    Ok(message)
+}
+
+/// Tells why a filter, a sort, a number or a token is refused. Only for the place of a filter's fault it takes memory.
+pub(crate) fn tell_refused<E: Output>(alloc: Global, refused: &Refused, err: &mut E) -> Status
+    ensures { TellsRefusal (over E.state err.old err.new) (reason_of refused.now) result }
+{
+    match refused {
+        Refused::BadFilter(fault) => match filter_message(alloc, fault) {
+            Ok(message) => tell_error(&message, err),
+            Err(_) => tell_no_memory(err),
+        },
+        refused => status_of(write_refused(refused, err), Status::Failed),
+    }
+}
+
+/// Writes the line of a refusal.
+#[tactic(auto, using(bd_cli_files::proofs::OutputLemmas::taking))]
+fn write_refused<E: Output>(refused: &Refused, err: &mut E) -> Result<(), DeviceFault>
+    ensures ok { OnOk result (TakesText (over E.state err.old err.new) (error_line (refused_option refused.now ++ refused_words refused.now))) }
+    ensures err { OnErr result (BreaksWithin (over E.state err.old err.new) (error_line (refused_option refused.now ++ refused_words refused.now))) }
+{
+    write_all(err, b"bsonfind: ")?;
+    write_words(refused_option(refused), refused.words(), err)?;
+    write_all(err, b"\n")
+}
+
+/// Writes a text, and another after it.
+#[tactic(auto, using(bd_cli_files::proofs::OutputLemmas::taking))]
+fn write_words<E: Output>(first: &str, second: &str, err: &mut E) -> Result<(), DeviceFault>
+    ensures ok { OnOk result (TakesText (over E.state err.old err.new) (first.now ++ second.now)) }
+    ensures err { OnErr result (BreaksWithin (over E.state err.old err.new) (first.now ++ second.now)) }
+{
+    write_all(err, first.as_bytes())?;
+    write_all(err, second.as_bytes())
+}
+
+/// The name of the option that is refused, where it has one.
+fn refused_option(refused: &Refused) -> &'static str
+    ensures { result.now ≡ refused_option refused.now }
+{
+    match refused {
+        Refused::BadSort => "sort: ",
+        Refused::BadToken | Refused::ForeignToken | Refused::TokenPlace => "token: ",
+        _ => "",
+    }
+}

@@ -1,0 +1,185 @@
+//! The first batch of what is asked for, shown.
+
+ghost use Rattle.std.specs.Prelude.{◌≡◌, ◌++◌, ◌<◌, ◌≤◌, ◌⊎◌, IfErr, IfOk, MatchOption, OnOk, Some, if◌then◌else◌, length, option_map, string_bytes, true};
+ghost use Rattle.std.specs.List.{All};
+ghost use Rattle.bd_value.specs.Limits.{greatest_count};
+ghost use Rattle.bd_io_device.specs.Devices.{TakesText, over};
+ghost use Rattle.bd_cursor_model.specs.{Session.OpenCursor, Session.cursor_of, Laws.new_state};
+ghost use Rattle.bd_bson_dump.specs.{Collection.bytes_of, Collection.documents, Collection.documents_at};
+ghost use Rattle.bd_cursor_sort.specs.Selection.{query_of};
+ghost use Rattle.bd_cursor.specs.{Access.way_of, SessionView.dump_of, SessionView.hint_of, SessionView.marked_token, SessionView.state_of};
+ghost use Rattle.bd_cursor_request.specs.declared.results.Refused.TheVariants.{NoMemory as memory};
+ghost use Rattle.bd_cli_files.specs.Output.{PrintsOrStarves, StopsWithin, TellsMessage, error_line, lines, no_memory};
+ghost use Rattle.bd_cli_files.specs.declared.output.Status.TheVariants.{Done, Failed};
+ghost use Rattle.bd_cli_find.specs.Asking.{fits_batch, page_request_of};
+ghost use Rattle.bd_cli_find.specs.Find.{AwaitsFirst, IsOpenedOn, IsReady, end_words, find_count_line, index_way, shown_batch};
+ghost use Rattle.bd_cli_find.specs.Find.{shown_of_dump, token_words};
+
+use crate::asking::{Asking, tell_refused};
+use bd_bson_dump::Dump;
+use bd_cli_files::Status;
+use bd_cli_files::output::{OutputFault, push_number, status_of, tell_no_memory, tell_stop};
+use bd_cursor::{Choice, Session};
+use bd_cursor_request::{Batch, Refused, Token};
+use bd_extjson_text::LineRoom;
+use bd_io_device::{Output, write_all};
+use bd_path::Path;
+use bd_value::{GREATEST_COUNT, NoMemory};
+use std::alloc::Global;
+
+/// After the number of documents, where nothing is left.
+const DOCUMENTS_END: &str = " documents, end";
+
+/// After the number of documents, where more are left.
+const DOCUMENTS_MORE: &str = " documents, more";
+
+/// Before a token.
+const TOKEN: &str = ", token ";
+
+/// Shows the first batch of what is asked for of a dump.
+pub(crate) fn show_found<O: Output, E: Output>(
+    alloc: Global,
+    dump: Dump,
+    asking: Asking,
+    out: &mut O,
+    err: &mut E,
+) -> Status
+    requires few { length (documents dump) ≤ greatest_count }
+    requires fits { fits_batch asking.size ≡ true }
+    ensures { PrintsOrStarves (over O.state out.old out.new) (over E.state err.old err.new)
+        (shown_of_dump (bytes_of dump) (documents dump) (page_request_of asking)) result }
+{
+    let size = asking.size;
+    let mut session = Session::new(alloc, dump);
+    match open_first(alloc, &mut session, asking) {
+        Ok(id) => show_batch(alloc, &mut session, id, size, out, err),
+        Err(refused) => tell_refused(alloc, &refused, err),
+    }
+}
+
+/// Opens the first cursor of a session: on an answer, or on what follows a token.
+fn open_first(alloc: Global, session: &mut Session, asking: Asking) -> Result<u64, Refused>
+    requires { state_of session.now ≡ new_state }
+    ensures opened { IsOpenedOn (query_of (dump_of session.old) asking.request) asking.token (state_of session.new) result }
+    ensures dump { dump_of session.new ≡ dump_of session.old }
+{
+    let choice = choose(alloc, session, asking.index)?;
+    match asking.token {
+        Some(token) => session.resume(asking.request, choice, &token),
+        None => session.find(asking.request, choice),
+    }
+}
+
+/// How the documents are looked for: by the index on that path, which is made, or without one each is looked at. It fails only
+/// if memory runs out.
+fn choose(alloc: Global, session: &mut Session, index: Option<Path>) -> Result<Choice, Refused>
+    requires { state_of session.now ≡ new_state }
+    ensures choice { IfOk result (λ choice. AwaitsFirst (state_of session.new) (hint_of choice)) }
+    ensures way { IfOk result (λ choice. way_of choice ≡ index_way (option_map (λ path. string_bytes path.text) index)) }
+    ensures fault { IfErr result (λ refused. refused ≡ memory) }
+    ensures dump { dump_of session.new ≡ dump_of session.old }
+{
+    let Some(path) = index else {
+        return Ok(Choice::Scan);
+    };
+    let copy = path.try_copy(alloc)?;
+    session.create_index(path)?;
+    Ok(Choice::Index(copy))
+}
+
+/// Shows the first batch of a cursor.
+fn show_batch<O: Output, E: Output>(
+    alloc: Global,
+    session: &mut Session,
+    id: u64,
+    size: Option<u32>,
+    out: &mut O,
+    err: &mut E,
+) -> Status
+    requires ready { IsReady (state_of session.now) id (length (documents (dump_of session.now))) }
+    requires fits { fits_batch size ≡ true }
+    ensures { (cursor : OpenCursor) → cursor_of id (state_of session.old).cursors ≡ Some cursor →
+        PrintsOrStarves (over O.state out.old out.new) (over E.state err.old err.new)
+        (shown_batch size (documents (dump_of session.old)) cursor) result }
+{
+    let Ok(batch) = session.next(id, most_of(size)) else {
+        return tell_no_memory(err);
+    };
+    match write_documents(alloc, session.dump(), &batch.places, out) {
+        Ok(()) => tell_batch(alloc, &batch, err),
+        Err(fault) => tell_stop(fault, err),
+    }
+}
+
+/// How many documents a size asks for; without one, as many as a batch may have.
+fn most_of(size: Option<u32>) -> u64
+    ensures { MatchOption size (result ≡ greatest_count) (λ n. result ≡ n) }
+{
+    match size {
+        Some(size) => u64::from(size),
+        None => GREATEST_COUNT,
+    }
+}
+
+/// Writes the documents with these numbers, one a line. Where memory runs out, what was written is a front of the lines.
+fn write_documents<O: Output>(
+    alloc: Global,
+    dump: &Dump,
+    places: &[u32],
+    out: &mut O,
+) -> Result<(), OutputFault>
+    requires { All (λ p. p < length (documents dump.now)) places.now }
+    ensures wrote { OnOk result (TakesText (over O.state out.old out.new) (lines (documents_at (documents dump.now) places.now))) }
+    ensures stops { IfErr result (StopsWithin (over O.state out.old out.new) (lines (documents_at (documents dump.now) places.now))) }
+{
+    let mut room = LineRoom::new(alloc);
+    for place in places {
+        let line = room.line(dump.document(*place).value())?;
+        write_all(out, line)?;
+    }
+    Ok(())
+}
+
+/// Tells how many documents a batch has, whether nothing is left, and the token that leads on.
+fn tell_batch<E: Output>(alloc: Global, batch: &Batch, err: &mut E) -> Status
+    ensures { TellsMessage (over E.state err.old err.new)
+        (find_count_line (length batch.now.places.items) batch.now.end
+        (option_map marked_token batch.now.token)) Done result
+        ⊎ TellsMessage (over E.state err.old err.new) (error_line no_memory) Failed result }
+{
+    match count_line(alloc, batch) {
+        Ok(line) => status_of(write_all(err, line.as_bytes()), Status::Done),
+        Err(_) => tell_no_memory(err),
+    }
+}
+
+/// The line that counts the documents of a batch.
+fn count_line(alloc: Global, batch: &Batch) -> Result<String, NoMemory>
+    ensures { IfOk result (λ s. string_bytes s ≡ find_count_line (length batch.now.places.items) batch.now.end (option_map marked_token batch.now.token)) }
+{
+    let mut line = String::new(alloc);
+    push_number(batch.places.len() as u64, &mut line)?;
+    line.push_str(words_of_end(batch.end))?;
+    push_token(alloc, batch.token, &mut line)?;
+    line.push('\n')?;
+    Ok(line)
+}
+
+/// What stands after the number of documents.
+fn words_of_end(end: bool) -> &'static str
+    ensures { result.now ≡ end_words end }
+{
+    if end { DOCUMENTS_END } else { DOCUMENTS_MORE }
+}
+
+/// Appends a token, where there is one.
+fn push_token(alloc: Global, token: Option<Token>, line: &mut String) -> Result<(), NoMemory>
+    ensures { OnOk result (string_bytes line.new ≡ string_bytes line.old ++ token_words (option_map marked_token token)) }
+{
+    let Some(token) = token else {
+        return Ok(());
+    };
+    line.push_str(TOKEN)?;
+    let text = token.text(alloc)?;
+    line.push_str(&text)
+}

@@ -1,0 +1,106 @@
+-- The replies of a session in memory are those of the machine.
+use Rattle.std.proofs.Common.{◌≡◌, ℕ, List, [], ◌∷◌, ◌++◌, Option, ap, ap₂, ◌∙◌, inl, inr, subst}
+use Rattle.bd_value.specs.Tree.{Doc}
+use Rattle.bd_cursor_model.specs.Session.{State}
+use Rattle.bd_bson_dump.specs.{Collection.bytes_of, Collection.documents, declared.collection.Dump.Dump}
+use Rattle.bd_io_device.specs.Devices.{Over, Reader, Writer}
+use Rattle.bd_io_device.specs.declared.reading.Limits.{Limits}
+use Rattle.bd_io_lines.specs.Serving.{RepliesInTurn, ServesAll, ServesBefore, StopsServing}
+use Rattle.bd_io_lines.specs.declared.serving.ServeFault.{ServeFault}
+use Rattle.bd_cli_service.specs.Reply.{LineReply}
+use Rattle.bd_cli_service.specs.ServiceView.{KeepsState, RepliesTo, service_dump, service_state}
+use Rattle.bd_cli_service.specs.Talk.{IsKept, RepliesInText, Talks, reply_lines}
+use Rattle.bd_cli_service.specs.declared.service.Service.{Service}
+use Rattle.bd_io_lines.specs.Serving as serving
+use Rattle.bd_io_lines.specs.declared.serving.ServeFault.TheVariants as faults
+
+-- the machine over the dump of a session
+abbrev pub RepliesOver : Dump → State → List ℕ → List ℕ → State → Type 0
+RepliesOver dump = RepliesInText (bytes_of dump) (documents dump)
+
+pub dump_kept : (s : Service) (lines : List (List ℕ)) (text : List ℕ) (t : Service) → RepliesInTurn RepliesTo s lines text t → service_dump t ≡ service_dump s
+dump_kept s [] text t (same, none) = ap (λ (x : Service). service_dump x) same
+dump_kept s (line ∷ lines) text t (reply, mid, rest, r, more, is) = dump_kept mid lines rest t more ∙ r.kept
+
+pub replied : (s : Service) (lines : List (List ℕ)) (text : List ℕ) (t : Service) → RepliesInTurn RepliesTo s lines text t
+    → RepliesInTurn (RepliesOver (service_dump s)) (service_state s) lines text (service_state t)
+replied s [] text t (same, none) = (ap (λ (x : Service). service_state x) same, none)
+replied s (line ∷ lines) text t (reply, mid, rest, r, more, is) =
+    let later = subst (λ (d : Dump). RepliesInTurn (RepliesOver d) (service_state mid) lines rest (service_state t)) r.kept (replied mid lines rest t more) in
+    (reply, service_state mid, rest, (r.reply, r.answers, r.written), later, is)
+
+pub one_replied : (s mid t : Service) (line text : List ℕ) → service_dump mid ≡ service_dump s → RepliesTo mid line text t
+    → RepliesOver (service_dump s) (service_state mid) line text (service_state t)
+one_replied s mid t line text kept r =
+    subst (λ (d : Dump). RepliesOver d (service_state mid) line text (service_state t)) kept (r.reply, r.answers, r.written)
+
+one_starved : (s mid t : Service) (line : List ℕ) → service_dump mid ≡ service_dump s → serving.StarvesAt KeepsState RepliesTo mid line t
+    → serving.StarvesAt IsKept (RepliesOver (service_dump s)) (service_state mid) line (service_state t)
+one_starved s mid t line kept (inl same) = inl same
+one_starved s mid t line kept (inr (text, r)) = inr (text, one_replied s mid t line text kept r)
+
+-- ---- served to the end
+
+pub served : {R : Type 0} (state : R → Reader) (gives : R → Option (List ℕ) → R → Type 0) (limits : Limits) (old new : R) (out : Over Writer)
+    (s t : Service) → ServesAll state gives RepliesTo limits old new out s t
+    → ServesAll state gives (RepliesOver (service_dump s)) limits old new out (service_state s) (service_state t)
+served state gives limits old new out s t all = record {
+  left = all.left;
+  given = all.given;
+  text = all.text;
+  short = all.short;
+  reads = all.reads;
+  replied = replied s _ all.text t all.replied;
+  written = all.written;
+}
+
+-- ---- and to a fault
+
+before : {R : Type 0} (state : R → Reader) (gives : R → Option (List ℕ) → R → Type 0) (limits : Limits) (old new : R) (s : Service)
+    (command text : List ℕ) (t : Service) → ServesBefore state gives RepliesTo limits old new s command text t
+    → ServesBefore state gives (RepliesOver (service_dump s)) limits old new (service_state s) command text (service_state t)
+before state gives limits old new s command text t b = record {
+  whole = b.whole;
+  rest = b.rest;
+  after = b.after;
+  left = b.left;
+  ended = b.ended;
+  ends = b.ends;
+  short = b.short;
+  reads = b.reads;
+  in_time = b.in_time;
+  line = b.line;
+  is_command = b.is_command;
+  replied = replied s _ text t b.replied;
+}
+
+pub stopped : {R : Type 0} (state : R → Reader) (gives : R → Option (List ℕ) → R → Type 0) (limits : Limits) (old new : R) (out : Over Writer)
+    (s t : Service) (fault : ServeFault) → StopsServing state gives RepliesTo limits old new out s t KeepsState fault
+    → StopsServing state gives (RepliesOver (service_dump s)) limits old new out (service_state s) (service_state t) IsKept fault
+stopped state gives limits old new out s t (faults.Unread fault) u = record {
+  whole = u.whole;
+  rest = u.rest;
+  text = u.text;
+  ends = u.ends;
+  short = u.short;
+  stops = u.stops;
+  cause = u.cause;
+  in_time = u.in_time;
+  replied = replied s _ u.text t u.replied;
+  written = u.written;
+}
+stopped state gives limits old new out s t faults.NoMemory (command, text, mid, b, taken, starved) =
+    let kept = dump_kept s _ text mid b.replied in
+    (command, text, service_state mid, before state gives limits old new s command text mid b, taken, one_starved s mid t command kept starved)
+stopped state gives limits old new out s t faults.Unwritten (command, text, reply, mid, b, r, broken) =
+    let kept = dump_kept s _ text mid b.replied in
+    (command, text, reply, service_state mid, before state gives limits old new s command text mid b, one_replied s mid t command reply kept r, broken)
+
+-- ---- a talk
+
+pub talk_of : (bytes : List ℕ) (ds : List Doc) (s : State) (lines : List (List ℕ)) (text : List ℕ) (t : State)
+    → RepliesInTurn (RepliesInText bytes ds) s lines text t → (rs : List LineReply) × Talks bytes ds s lines rs t × (text ≡ reply_lines rs)
+talk_of bytes ds s [] text t (same, none) = ([], same, none)
+talk_of bytes ds s (line ∷ lines) text t (reply, mid, rest, (r, answers, written), more, is) =
+    let later = talk_of bytes ds mid lines rest t more in
+    (r ∷ later.0, (mid, answers, later.1), is ∙ ap₂ (λ (x y : List ℕ). x ++ 10 ∷ y) written later.2)

@@ -1,0 +1,11 @@
+use Rattle.std.proofs.Common.{rules, refl, inr, ◌≢◌}
+use Rattle.bd_extjson.specs.Read.{reading}
+use Rattle.bd_cli_service.proofs.CallLemmas.{none_read}
+use Rattle.bd_extjson_fault.specs.declared.json_fault.JsonFaultKind.TheVariants as json
+use Rattle.bd_cli_service.proofs.service.read_line.Goals as goal
+
+pub returns-in_default : goal.returns-in_default
+returns-in_default c =
+    let other : c.in-Err.fault.kind ≢ json.NoMemory = search rules in
+    let none = none_read (reading c.args.line.now) (c.in-Err.ensures.none other) in
+    record { document = tt; fault = λ dump. inr (none, (c.in-Err.fault, c.in-Err.ensures.place, c.in-Err.ensures.utf8, other, refl)) }

@@ -1,0 +1,143 @@
+-- The replies of a session, and the document that each is printed as.
+use Rattle.std.specs.Prelude.{ℕ, pos, Bool, true, false, List, [], ◌∷◌, Option, codes, map, option_map, string_bytes}
+use Rattle.std.specs.{Borrow.Bor, List.join_with_byte}
+use Rattle.bd_value.specs.Tree.{Doc, Pair, Tree, array, doc, fields_of, items_of, leaf}
+use Rattle.bd_extjson_text.specs.Text.{text}
+use Rattle.bd_cursor_model.specs.Session.{IndexCounts}
+use Rattle.bd_bson_dump.specs.Collection.{documents, documents_at}
+use Rattle.bd_extjson_fault.specs.{declared.json_fault.JsonFault.JsonFault, declared.json_fault.JsonFaultKind.JsonFaultKind}
+use Rattle.bd_extjson_fault.specs.JsonFault.{json_fault_number, json_fault_words}
+use Rattle.bd_path.specs.{Path.path_fault_number, Path.path_fault_words, declared.path.PathFault.PathFault}
+use Rattle.bd_query_filter.specs.Fault.{Refusal, filter_fault_number, filter_fault_words}
+use Rattle.bd_cursor_request.specs.Refused.{Reason, bad_filter, plain, reason_of, refused_number, refused_words}
+use Rattle.bd_cursor_request.specs.Results.{count_value, made_counts, text_or_null}
+use Rattle.bd_cursor_request.specs.{Token.token_text, declared.results.Batch.Batch}
+use Rattle.bd_cursor.specs.Explanation.{told}
+use Rattle.bd_cli_command.specs.{Command.command_fault_number, Command.command_fault_words}
+use Rattle.bd_cli_command.specs.{declared.command.CommandFault.CommandFault}
+use Rattle.bd_cli_service.specs.declared.{member.Field.Field, reply.LineRefusal.LineRefusal, reply.Reply.Reply}
+use Rattle.bd_value.specs.Tree as trees
+use Rattle.bd_extjson_fault.specs.declared.json_fault.JsonFaultKind.TheVariants as json
+use Rattle.bd_cli_service.specs.declared.member.Field.TheVariants as fields
+use Rattle.bd_cli_service.specs.declared.reply.LineRefusal.TheVariants as refusals
+use Rattle.bd_cli_service.specs.declared.reply.Reply.TheVariants as replies
+
+-- why there is no result: the layer that refuses,
+-- the number and the words of its reason, and the pair that tells where, if any
+pub record ToldRefusal : Type 0 where
+  pub layer : List ℕ
+  pub number : ℕ
+  pub words : List ℕ
+  pub place : Doc
+
+-- of a batch its documents, whether nothing is left, and the text of the token; of what is explained its pairs
+pub data LineReply : Type 0 where
+  done : LineReply
+  opens : ℕ → LineReply
+  gives : List Doc → Bool → Option (List ℕ) → LineReply
+  makes : IndexCounts → LineReply
+  explains : Doc → LineReply
+  refuses : ToldRefusal → LineReply
+
+abbrev pub documents_value : List Doc → Tree
+documents_value ds = array (items_of (map (λ d. doc (fields_of d)) ds))
+
+-- the pairs after the first one
+abbrev pub reply_pairs : LineReply → Doc
+reply_pairs done = []
+reply_pairs (opens id) = (codes "cursor", count_value id) ∷ []
+reply_pairs (gives ds ends token) =
+    (codes "documents", documents_value ds) ∷ (codes "end", leaf (trees.boolean ends))
+    ∷ (codes "token", text_or_null token) ∷ []
+reply_pairs (makes c) = (codes "entries", count_value c.entries)
+    ∷ (codes "multikey", leaf (trees.boolean c.is_multikey)) ∷ []
+reply_pairs (explains pairs) = pairs
+reply_pairs (refuses r) =
+    (codes "layer", leaf (trees.text r.layer)) ∷ (codes "number", leaf (trees.int32 (pos r.number)))
+    ∷ (codes "text", leaf (trees.text r.words)) ∷ r.place
+
+-- it tells a result
+abbrev pub is_result : LineReply → Bool
+is_result (refuses r) = false
+is_result _ = true
+
+abbrev pub reply_document : LineReply → Doc
+reply_document r = (codes "ok", leaf (trees.boolean (is_result r))) ∷ reply_pairs r
+
+-- canonical Extended JSON, without white space
+abbrev pub reply_text : LineReply → List ℕ
+reply_text r = text (doc (fields_of (reply_document r)))
+
+-- ---- why there is none
+
+-- the byte of a text that is no document; a text as a whole has none
+abbrev pub json_fault_byte : JsonFaultKind → ℕ → Tree
+json_fault_byte json.NotADocument at = leaf trees.null
+json_fault_byte _ at = count_value at
+
+abbrev pub json_refusal : JsonFault → ToldRefusal
+json_refusal f = record {
+  layer = codes "json";
+  number = json_fault_number f.kind;
+  words = json_fault_words f.kind;
+  place = (codes "at", json_fault_byte f.kind f.at) ∷ [];
+}
+
+abbrev pub command_refusal : CommandFault → ToldRefusal
+command_refusal f = record {
+  layer = codes "command";
+  number = command_fault_number f;
+  words = command_fault_words f;
+  place = [];
+}
+
+-- where it is: the names down to the pair or member, joined by dots
+abbrev pub filter_refusal : Refusal → ToldRefusal
+filter_refusal r = record {
+  layer = codes "filter";
+  number = filter_fault_number r.kind;
+  words = filter_fault_words r.kind;
+  place = (codes "place", leaf (trees.text (join_with_byte 46 r.place))) ∷ [];
+}
+
+abbrev pub path_refusal : PathFault → ToldRefusal
+path_refusal f = record { layer = codes "path"; number = path_fault_number f; words = path_fault_words f; place = [] }
+
+-- of a request, a token or a call of the session; of a filter its own fault is told
+abbrev pub session_refusal : Reason → ToldRefusal
+session_refusal (bad_filter r) = filter_refusal r
+session_refusal (plain r) =
+    record { layer = codes "session"; number = refused_number r; words = refused_words r; place = [] }
+
+-- ---- one in memory
+
+abbrev pub told_refusal : LineRefusal → ToldRefusal
+told_refusal (refusals.Json fault) = json_refusal fault
+told_refusal (refusals.Command fault) = command_refusal fault
+told_refusal (refusals.Path fault) = path_refusal fault
+told_refusal (refusals.Session refused) = session_refusal (reason_of refused)
+
+-- a batch of these documents
+abbrev pub given_reply : List Doc → Batch → LineReply
+given_reply ds batch = gives (documents_at ds batch.places.items) batch.end (option_map token_text batch.token)
+
+-- over these documents
+abbrev pub line_reply : List Doc → Reply → LineReply
+line_reply ds replies.Done = done
+line_reply ds (replies.Opened id) = opens id
+line_reply ds (replies.Gave batch) = given_reply ds batch
+line_reply ds (replies.Made m) = makes (made_counts m)
+line_reply ds (replies.Explained e) = explains (told e)
+line_reply ds (replies.Refused refusal) = refuses (told_refusal refusal)
+
+abbrev pub reply_value : Field → Tree
+reply_value fields.Null = leaf trees.null
+reply_value (fields.Truth b) = leaf (trees.boolean b)
+reply_value (fields.Number n) = leaf (trees.int32 (pos n))
+reply_value (fields.Count n) = count_value n
+reply_value (fields.Text s) = leaf (trees.text s.now)
+reply_value (fields.Names names) = leaf (trees.text (join_with_byte 46 (map string_bytes names.now)))
+reply_value (fields.Documents dump places) = documents_value (documents_at (documents dump.now) places.now)
+
+abbrev pub member_pair : Bor (List ℕ) × Field → Pair
+member_pair m = (m.0.now, reply_value m.1)

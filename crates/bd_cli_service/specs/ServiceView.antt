@@ -1,0 +1,82 @@
+-- What a session in memory does at a call, and at a line.
+use Rattle.std.specs.Prelude.{◌≡◌, List, ℕ, Result, Ok, Err, string_bytes}
+use Rattle.std.specs.declared.alloc.AllocError.{AllocError}
+use Rattle.bd_cursor_model.specs.Session.{State, state_after, drop_call, find_call, kill_call, next_call, resume_call}
+use Rattle.bd_bson_dump.specs.{Collection.bytes_of, Collection.documents, declared.collection.Dump.Dump}
+use Rattle.bd_cursor.specs.SessionView.{IsRefused, dump_of, state_of, explain_request, hint_of, make_index}
+use Rattle.bd_cursor.specs.SessionView.{marked_token}
+use Rattle.bd_cursor.specs.declared.session.Session.{Session}
+use Rattle.bd_cli_command.specs.Command.{Command, gets_more, kills_cursor, resumes}
+use Rattle.bd_cursor_request.specs.{Request.token_part, declared.results.Refused.Refused, declared.token.Token.Token}
+use Rattle.bd_cli_service.specs.Reply.{LineReply, ToldRefusal, line_reply, reply_text, told_refusal}
+use Rattle.bd_cli_service.specs.declared.{call.Call.Call, call.CallFault.CallFault, reply.Reply.Reply}
+use Rattle.bd_cli_service.specs.declared.{service.Service.Service}
+use Rattle.bd_cli_service.specs.Talk.{Answers, shown_reply, IsCallIn}
+use Rattle.bd_cursor_sort.specs.Selection.{query_of}
+use Rattle.bd_cursor_model.specs.Session as machine
+use Rattle.bd_cursor_request.specs.declared.results.Refused.TheVariants as reasons
+use Rattle.bd_cli_service.specs.declared.call.Call.TheVariants as calls
+use Rattle.bd_cli_service.specs.declared.call.CallFault.TheVariants as faults
+
+-- a call was made: its reply and the state after it are those of the machine
+pub record Performs (call : machine.Call) (old : Session) (r : Reply) (new : Session) : Type 0 where
+  pub tells : line_reply (documents (dump_of old)) r
+      ≡ shown_reply (documents (dump_of old)) (machine.reply (state_of old) call)
+  pub moves : state_of new ≡ state_after (state_of old) call
+  pub kept : dump_of new ≡ dump_of old
+
+-- or the session refuses it for this reason, and then nothing changes
+abbrev pub IsAnswered : machine.Call → Session → Result Reply Refused → Session → Type 0
+IsAnswered call old (Ok r) new = Performs call old r new
+IsAnswered call old (Err why) new = IsRefused why call old new
+
+-- a refusal has a reply too, but want of memory
+abbrev pub IsPerformed : machine.Call → Session → Result Reply AllocError → Session → Type 0
+IsPerformed call old (Ok r) new = Performs call old r new
+IsPerformed call old (Err e) new = IsRefused reasons.NoMemory call old new
+
+abbrev pub service_state : Service → State
+service_state s = state_of s.session
+
+abbrev pub service_dump : Service → Dump
+service_dump s = dump_of s.session
+
+-- the text is a reply to the line, and the session goes on from one state to the other, over the same dump
+pub record RepliesTo (old : Service) (line text : List ℕ) (new : Service) : Type 0 where
+  pub reply : LineReply
+  pub answers : Answers (bytes_of (service_dump old)) (documents (service_dump old))
+      (service_state old) line reply (service_state new)
+  pub written : text ≡ reply_text reply
+  pub kept : service_dump new ≡ service_dump old
+
+-- the session is as it was
+abbrev pub KeepsState : Service → Service → Type 0
+KeepsState old new = service_state new ≡ service_state old
+
+-- to a dump
+abbrev pub session_call : Dump → Call → machine.Call
+session_call dump (calls.CreateIndex path sparse) = make_index sparse dump path
+session_call dump (calls.DropIndex path) = drop_call (string_bytes path.text)
+session_call dump (calls.Find request choice) = find_call (query_of dump request) (hint_of choice)
+session_call dump (calls.Resume request choice token) =
+    resume_call (query_of dump request) (hint_of choice) (marked_token token)
+session_call dump (calls.GetMore id batch) = next_call id batch
+session_call dump (calls.KillCursor id) = kill_call id
+session_call dump (calls.Explain request choice) = explain_request dump request choice
+
+-- a part of a command is refused for this reason, unless memory ran out
+abbrev pub RefusesPart : {A : Type 0} → Result A ToldRefusal → CallFault → Type 0
+RefusesPart part faults.NoMemory = Unit {0}
+RefusesPart part (faults.Refused why) = part ≡ Err (told_refusal why)
+
+-- memory may run out while the command is read: not where it has numbers alone, nor where its token is none
+abbrev pub MayStarve : Command → Type 0
+MayStarve (gets_more id batch) = ⊥
+MayStarve (kills_cursor id) = ⊥
+MayStarve (resumes token f) = (t : Token) × (token_part token ≡ Ok t)
+MayStarve _ = Unit {0}
+
+-- the line is no call for this reason, unless memory ran out
+abbrev pub RefusesLine : Dump → List ℕ → CallFault → Type 0
+RefusesLine dump line faults.NoMemory = Unit {0}
+RefusesLine dump line (faults.Refused why) = IsCallIn (bytes_of dump) (documents dump) line (Err (told_refusal why))

@@ -1,0 +1,187 @@
+-- A talk with a session: the call that a line is, the replies to lines, and what always holds of them.
+use Rattle.std.specs.Prelude.{◌≡◌, ◌≢◌, ◌⊎◌, ◌==◌, ℕ, List, [], ◌∷◌, ◌++◌, length, map, if◌then◌else◌, Option, Some}
+use Rattle.std.specs.Prelude.{None, option_and_then, option_map, Result, Ok, Err}
+use Rattle.std.specs.{List.filter_map, List.flat_map, List.zip, Result.result_ok, Str.IsUtf8}
+use Rattle.bd_value.specs.Tree.{Doc}
+use Rattle.bd_cursor_model.specs.Laws.{GivesInTurn, new_state}
+use Rattle.bd_cursor_model.specs.Session.{Call, GivenBatch, Query, State, drop_call, explain_call, find_call, gave, kill_call}
+use Rattle.bd_cursor_model.specs.Session.{next_call, resume_call, state_after}
+use Rattle.bd_path.specs.Path.{path_of}
+use Rattle.bd_cursor_request.specs.{Refused.then_part, Refused.told_as, Refused.plain, Results.marked_text}
+use Rattle.bd_cursor_request.specs.Request.{Request, named_index, request_of, token_part}
+use Rattle.bd_cursor_sort.specs.Selection.{query_to}
+use Rattle.bd_cursor.specs.Access.{Way, by_any, by_none, by_one}
+use Rattle.bd_cursor.specs.Explanation.{explanation_for}
+use Rattle.bd_cursor.specs.SessionView.{make_of, marked_token, path_named}
+use Rattle.bd_cli_command.specs.Command.{Command, FindCommand, Hint, any_way, by_index, by_scan, creates_index, drops_index}
+use Rattle.bd_cli_command.specs.Command.{finds, gets_more, kills_cursor, resumes}
+use Rattle.bd_cli_command.specs.CommandOf.{command_of}
+use Rattle.bd_cli_service.specs.Reply.{LineReply, ToldRefusal, command_refusal, done, explains, gives, json_refusal, makes}
+use Rattle.bd_cli_service.specs.Reply.{opens, path_refusal, refuses, reply_text, session_refusal}
+use Rattle.bd_extjson_fault.specs.{JsonFault.IsPlaced, JsonFault.TellsBadUtf8, declared.json_fault.JsonFault.JsonFault}
+use Rattle.bd_extjson.specs.Read.{ReadsAs, reading}
+use Rattle.bd_bson_dump.specs.Collection.{documents_at}
+use Rattle.bd_extjson_fault.specs.declared.json_fault.JsonFaultKind.TheVariants as json
+use Rattle.bd_cursor_model.specs.Session as machine
+use Rattle.bd_cli_command.specs.Command as commands
+use Rattle.bd_cursor_request.specs.declared.results.Refused.TheVariants as reasons
+
+-- which index is to be used
+abbrev pub way_by : Hint → Way
+way_by any_way = by_any
+way_by by_scan = by_none
+way_by (by_index path) = by_one path
+
+abbrev pub hint_path : Hint → Option (List ℕ)
+hint_path hint = path_named (way_by hint)
+
+-- the request is looked at first, and then the path of the index
+abbrev pub search_of : FindCommand → Result Request ToldRefusal
+search_of f =
+    then_part (told_as session_refusal (request_of f.filter f.sort f.skip f.limit)) (λ request.
+    then_part (told_as path_refusal (named_index (hint_path f.hint))) (λ _. Ok request))
+
+-- Over a dump of these bytes, which are these documents,
+-- the call that a command is, or the first thing in it that is refused: of
+-- `resume` the text of the token is looked at first.
+abbrev pub call_of : List ℕ → List Doc → Command → Result Call ToldRefusal
+call_of bytes ds (creates_index path sparse) =
+    then_part (told_as path_refusal (path_of path)) (λ _. Ok (make_of ds (record { path = path; is_sparse = sparse })))
+call_of bytes ds (drops_index path) = then_part (told_as path_refusal (path_of path)) (λ _. Ok (drop_call path))
+call_of bytes ds (finds f) = then_part (search_of f) (λ r. Ok (find_call (query_to bytes ds r) (hint_path f.hint)))
+call_of bytes ds (resumes token f) =
+    then_part (told_as session_refusal (token_part token)) (λ t.
+    then_part (search_of f) (λ r. Ok (resume_call (query_to bytes ds r) (hint_path f.hint) (marked_token t))))
+call_of bytes ds (gets_more id batch) = Ok (next_call id batch)
+call_of bytes ds (kills_cursor id) = Ok (kill_call id)
+call_of bytes ds (commands.explains f) =
+    then_part (search_of f) (λ r. Ok (explain_call (hint_path f.hint) (explanation_for ds r (way_by f.hint))))
+
+-- the call that a document is
+abbrev pub document_call : List ℕ → List Doc → Doc → Result Call ToldRefusal
+document_call bytes ds d = then_part (told_as command_refusal (command_of d)) (call_of bytes ds)
+
+-- what is told of a session's reply, with the documents at the places that it gives
+abbrev pub shown_reply : List Doc → machine.Reply → LineReply
+shown_reply ds (machine.opened id) = opens id
+shown_reply ds (machine.gave b) = gives (documents_at ds b.places) b.ends (option_map marked_text b.token)
+shown_reply ds machine.killed = done
+shown_reply ds (machine.made counts) = makes counts
+shown_reply ds machine.dropped = done
+shown_reply ds (machine.explained e) = explains e
+shown_reply ds machine.no_index = refuses (session_refusal (plain reasons.NoIndex))
+shown_reply ds machine.index_there = refuses (session_refusal (plain reasons.IndexThere))
+shown_reply ds machine.too_many_indexes = refuses (session_refusal (plain reasons.TooManyIndexes))
+shown_reply ds machine.too_many_cursors = refuses (session_refusal (plain reasons.TooManyCursors))
+shown_reply ds machine.no_cursor = refuses (session_refusal (plain reasons.NoCursor))
+shown_reply ds machine.foreign_token = refuses (session_refusal (plain reasons.ForeignToken))
+shown_reply ds machine.token_place = refuses (session_refusal (plain reasons.TokenPlace))
+shown_reply ds machine.out_of_range = refuses (session_refusal (plain reasons.Range))
+
+-- the call that a line is, or why it is none. Of a text that is no document a fault is told: which one of a text
+-- that is UTF-8, is not said
+abbrev pub IsCallIn : List ℕ → List Doc → List ℕ → Result Call ToldRefusal → Type 0
+IsCallIn bytes ds line part = ((d : Doc) × ReadsAs line d × (part ≡ document_call bytes ds d)) ⊎ ((reading line ≡ None)
+    × ((f : JsonFault) × IsPlaced (length line) f × TellsBadUtf8 line f × (f.kind ≢ json.NoMemory)
+    × (part ≡ Err (json_refusal f))))
+
+abbrev pub reply_to : List Doc → State → Result Call ToldRefusal → LineReply
+reply_to ds s (Ok call) = shown_reply ds (machine.reply s call)
+reply_to ds s (Err why) = refuses why
+
+-- a line that is refused changes nothing
+abbrev pub state_then : State → Result Call ToldRefusal → State
+state_then s (Ok call) = state_after s call
+state_then s (Err why) = s
+
+-- a session over a dump of these bytes, which are these documents,
+-- may answer a line so, and goes on from one state to the other
+pub record Answers (bytes : List ℕ) (ds : List Doc) (s : State) (line : List ℕ)
+    (r : LineReply) (t : State) : Type 0 where
+  pub part : Result Call ToldRefusal
+  pub reads : IsCallIn bytes ds line part
+  pub tells : r ≡ reply_to ds s part
+  pub moves : t ≡ state_then s part
+
+-- the state is as it was
+abbrev pub IsKept : State → State → Type 0
+IsKept s t = t ≡ s
+
+-- a reply as `Answers` tells it, with its text
+abbrev pub RepliesInText : List ℕ → List Doc → State → List ℕ → List ℕ → State → Type 0
+RepliesInText bytes ds s line text t = (r : LineReply) × Answers bytes ds s line r t × (text ≡ reply_text r)
+
+-- over a dump of these bytes, which are these documents,
+-- these lines may have these replies in turn, which lead from one state to
+-- the other
+abbrev pub Talks : List ℕ → List Doc → State → List (List ℕ) → List LineReply → State → Type 0
+Talks bytes ds s [] [] t = t ≡ s
+Talks bytes ds s [] (r ∷ rs) t = ⊥
+Talks bytes ds s (line ∷ lines) [] t = ⊥
+Talks bytes ds s (line ∷ lines) (r ∷ rs) t =
+    (mid : State) × Answers bytes ds s line r mid × Talks bytes ds mid lines rs t
+
+-- two replies to a line are the same; or the line is UTF-8 and no document, and each tells a fault of it
+abbrev pub AreAlike : List ℕ → LineReply → LineReply → Type 0
+AreAlike line r s = (r ≡ s) ⊎ (IsUtf8 line × (reading line ≡ None)
+    × (f : JsonFault) × (g : JsonFault) × (r ≡ refuses (json_refusal f)) × (s ≡ refuses (json_refusal g)))
+
+-- two texts of replies to lines, each a line: in turn the replies are alike
+abbrev pub AreAlikeTexts : List (List ℕ) → List ℕ → List ℕ → Type 0
+AreAlikeTexts [] text other = (text ≡ []) × (other ≡ [])
+AreAlikeTexts (line ∷ lines) text other =
+    (r : LineReply) × (s : LineReply) × (rest : List ℕ) × (more : List ℕ) × AreAlike line r s
+    × AreAlikeTexts lines rest more × (text ≡ reply_text r ++ 10 ∷ rest) × (other ≡ reply_text s ++ 10 ∷ more)
+
+-- a line that is UTF-8 is a document
+abbrev pub IsReadLine : List ℕ → Type 0
+IsReadLine line = IsUtf8 line → (d : Doc) × ReadsAs line d
+
+-- the replies as a text, each a line
+abbrev pub reply_lines : List LineReply → List ℕ
+reply_lines [] = []
+reply_lines (r ∷ rs) = reply_text r ++ 10 ∷ reply_lines rs
+
+-- the call that a line is, where it is one
+abbrev pub line_call : List ℕ → List Doc → List ℕ → Option Call
+line_call bytes ds line = option_and_then (λ d. result_ok (document_call bytes ds d)) (reading line)
+
+-- the calls among lines
+abbrev pub calls_in : List ℕ → List Doc → List (List ℕ) → List Call
+calls_in bytes ds lines = filter_map (line_call bytes ds) lines
+
+-- the reply to a line that asks a cursor for a batch, where it gives one
+abbrev pub given_in : LineReply → List LineReply
+given_in (gives ds ends token) = gives ds ends token ∷ []
+given_in _ = []
+
+abbrev pub batch_shown : ℕ → Option Call → LineReply → List LineReply
+batch_shown id (Some (next_call i n)) r = if i == id then given_in r else []
+batch_shown id _ r = []
+
+-- the batches of a cursor among the replies to lines
+abbrev pub batches_shown : List ℕ → List Doc → ℕ → List (List ℕ) → List LineReply → List LineReply
+batches_shown bytes ds id lines rs = flat_map (λ p. batch_shown id (line_call bytes ds p.0) p.1) (zip lines rs)
+
+-- these places are shown in batches of the sizes that the lines ask for, with tokens that lead on to what is left
+pub record ShowsInTurn (bytes : List ℕ) (ds : List Doc) (q : Query) (id : ℕ) (ps : List ℕ)
+    (lines : List (List ℕ)) (rs : List LineReply)
+    : Type 0 where
+  pub given : List GivenBatch
+  pub in_turn : GivesInTurn q id ps (calls_in bytes ds lines) given
+  pub shown : batches_shown bytes ds id lines rs ≡ map (λ b. shown_reply ds (gave b)) given
+
+-- a line is this call and opens a cursor, after some lines and before others
+pub record OpensInTalk (bytes : List ℕ) (ds : List Doc) (call : Call) (id : ℕ)
+    (lines : List (List ℕ)) (rs : List LineReply)
+    : Type 0 where
+  pub earlier : List (List ℕ)
+  pub replies : List LineReply
+  pub before : State
+  pub line : List ℕ
+  pub after : State
+  pub end : State
+  pub begins : Talks bytes ds new_state earlier replies before
+  pub asks : line_call bytes ds line ≡ Some call
+  pub opened : Answers bytes ds before line (opens id) after
+  pub goes_on : Talks bytes ds after lines rs end

@@ -1,0 +1,247 @@
+//! The reply to a line, and its text.
+
+ghost use Rattle.std.specs.Prelude.{◌≡◌, ◌++◌, [], IfOk, OnErr, OnOk, option_map, string_bytes};
+ghost use Rattle.std.specs.Io.{StartsWith};
+ghost use Rattle.bd_bson_dump.specs.Collection.{documents};
+ghost use Rattle.bd_query_filter.specs.Fault.{refusal_of};
+ghost use Rattle.bd_cursor_request.specs.Token.{token_text};
+ghost use Rattle.bd_cursor_request.specs.Results.{made_counts, text_or_null};
+ghost use Rattle.bd_cursor.specs.Explanation.{plan_name, told};
+ghost use Rattle.bd_cli_service.specs.Reply.{explains, filter_refusal, given_reply, json_fault_byte, json_refusal, line_reply, makes, refuses};
+ghost use Rattle.bd_cli_service.specs.Reply.{reply_text, reply_value, told_refusal};
+
+use crate::member::{Field, write_members};
+use bd_bson_dump::Dump;
+use bd_cli_command::CommandFault;
+use bd_cursor::{Explain, Plan};
+use bd_cursor_request::{Batch, Made, Refused, Token};
+use bd_extjson_fault::{JsonFault, JsonFaultKind};
+use bd_path::PathFault;
+use bd_query_filter::FilterFault;
+use bd_value::NoMemory;
+use std::alloc::Global;
+
+/// The reply to a line.
+#[derive(Drop)]
+pub enum Reply {
+    /// What was asked for is done: an index is dropped, or a cursor killed.
+    Done,
+    /// A cursor was opened, and this is its number.
+    Opened(u64),
+    /// The next documents of a cursor.
+    Gave(Batch),
+    /// An index was made.
+    Made(Made),
+    /// How documents are found.
+    Explained(Explain),
+    /// There is no result.
+    Refused(LineRefusal),
+}
+
+/// Why a line has no result, by the layer that refuses it.
+#[derive(Drop)]
+pub enum LineRefusal {
+    /// It is no document.
+    Json(JsonFault),
+    /// The document is no command.
+    Command(CommandFault),
+    /// The text of an index is no path.
+    Path(PathFault),
+    /// A request, a token or a call of the session is refused. A document that is no filter is told by its own fault.
+    Session(Refused),
+}
+
+/// Appends the text of a reply of a session over a dump: canonical Extended JSON v2, without white space.
+///
+/// `NoMemory` leaves `out` as it was.
+pub fn write_reply(
+    alloc: Global,
+    dump: &Dump,
+    reply: &Reply,
+    out: &mut Vec<u8>,
+) -> Result<(), NoMemory>
+    ensures ok { OnOk result (out.new.items ≡ out.old.items ++ reply_text (line_reply (documents dump.now) reply.now)) }
+    ensures err { OnErr result (out.new.items ≡ out.old.items) }
+{
+    let before = out.len();
+    let answer = append_reply(alloc, dump, reply, out);
+    if answer.is_err() {
+        out.truncate(before);
+    }
+    answer
+}
+
+/// The same, but at an error a part may stand.
+fn append_reply(
+    alloc: Global,
+    dump: &Dump,
+    reply: &Reply,
+    out: &mut Vec<u8>,
+) -> Result<(), NoMemory>
+    ensures ok { OnOk result (out.new.items ≡ out.old.items ++ reply_text (line_reply (documents dump.now) reply.now)) }
+    ensures err { OnErr result (StartsWith out.new.items out.old.items) }
+{
+    match reply {
+        Reply::Done => write_members(true, &[], out),
+        Reply::Opened(id) => write_members(true, &[("cursor", Field::Count(*id))], out),
+        Reply::Gave(batch) => append_batch(alloc, dump, batch, out),
+        Reply::Made(made) => append_made(*made, out),
+        Reply::Explained(explanation) => append_explanation(explanation, out),
+        Reply::Refused(refusal) => append_refusal(refusal, out),
+    }
+}
+
+/// Appends the reply of an index that was made.
+#[tactic(auto, using(bd_value::proofs::FrontLemmas::fronts))]
+fn append_made(made: Made, out: &mut Vec<u8>) -> Result<(), NoMemory>
+    ensures ok { OnOk result (out.new.items ≡ out.old.items ++ reply_text (makes (made_counts made))) }
+    ensures err { OnErr result (StartsWith out.new.items out.old.items) }
+{
+    let members = [
+        ("entries", Field::Count(made.entries)),
+        ("multikey", Field::Truth(made.multikey)),
+    ];
+    write_members(true, &members, out)
+}
+
+/// Appends the reply of a batch.
+#[tactic(auto, using(bd_value::proofs::FrontLemmas::fronts))]
+fn append_batch(
+    alloc: Global,
+    dump: &Dump,
+    batch: &Batch,
+    out: &mut Vec<u8>,
+) -> Result<(), NoMemory>
+    ensures ok { OnOk result (out.new.items ≡ out.old.items ++ reply_text (given_reply (documents dump.now) batch.now)) }
+    ensures err { OnErr result (StartsWith out.new.items out.old.items) }
+{
+    let token = token_text(alloc, batch.token)?;
+    let members = [
+        ("documents", Field::Documents(dump, &batch.places)),
+        ("end", Field::Truth(batch.end)),
+        ("token", text_or_null(token.as_deref())),
+    ];
+    write_members(true, &members, out)
+}
+
+/// The text of a token, where there is one.
+fn token_text(alloc: Global, token: Option<Token>) -> Result<Option<String>, NoMemory>
+    ensures { IfOk result (λ text. option_map string_bytes text ≡ option_map token_text token) }
+{
+    match token {
+        Some(token) => Ok(Some(token.text(alloc)?)),
+        None => Ok(None),
+    }
+}
+
+/// A text, or null where there is none.
+fn text_or_null<'a>(text: Option<&'a str>) -> Field<'a, 'static, 'static>
+    ensures { reply_value result ≡ text_or_null (option_map (λ t. t.now) text.entry) }
+{
+    match text {
+        Some(text) => Field::Text(text),
+        None => Field::Null,
+    }
+}
+
+/// Appends the reply that tells how documents are found.
+#[tactic(auto, using(bd_value::proofs::FrontLemmas::fronts))]
+fn append_explanation(explanation: &Explain, out: &mut Vec<u8>) -> Result<(), NoMemory>
+    ensures ok { OnOk result (out.new.items ≡ out.old.items ++ reply_text (explains (told explanation.now))) }
+    ensures err { OnErr result (StartsWith out.new.items out.old.items) }
+{
+    let members = [
+        ("plan", Field::Text(plan_name(explanation.plan))),
+        ("index", text_or_null(explanation.index.as_deref())),
+        ("entries", Field::Count(explanation.entries)),
+        ("documents", Field::Count(explanation.documents)),
+        ("matches", Field::Count(explanation.matches)),
+    ];
+    write_members(true, &members, out)
+}
+
+fn plan_name(plan: Plan) -> &'static str
+    ensures { result.now ≡ plan_name plan }
+{
+    match plan {
+        Plan::Scan => "scan",
+        Plan::Index => "index",
+        Plan::Walk => "walk",
+    }
+}
+
+/// Appends the reply of a line that has no result.
+fn append_refusal(refusal: &LineRefusal, out: &mut Vec<u8>) -> Result<(), NoMemory>
+    ensures ok { OnOk result (out.new.items ≡ out.old.items ++ reply_text (refuses (told_refusal refusal.now))) }
+    ensures err { OnErr result (StartsWith out.new.items out.old.items) }
+{
+    match refusal {
+        LineRefusal::Json(fault) => append_json_fault(*fault, out),
+        LineRefusal::Command(fault) => append_reason("command", fault.number(), fault.words(), out),
+        LineRefusal::Path(fault) => append_reason("path", fault.number(), fault.words(), out),
+        LineRefusal::Session(Refused::BadFilter(fault)) => append_filter_fault(fault, out),
+        LineRefusal::Session(refused) => {
+            append_reason("session", refused.number(), refused.words(), out)
+        }
+    }
+}
+
+/// Appends the reply of a refusal that has no place.
+#[tactic(auto, using(bd_value::proofs::FrontLemmas::fronts))]
+fn append_reason(
+    layer: &'static str,
+    number: u32,
+    words: &'static str,
+    out: &mut Vec<u8>,
+) -> Result<(), NoMemory>
+    ensures ok { OnOk result (out.new.items ≡ out.old.items
+        ++ reply_text (refuses (record { layer = layer.now; number = number; words = words.now; place = [] }))) }
+    ensures err { OnErr result (StartsWith out.new.items out.old.items) }
+{
+    let members = [
+        ("layer", Field::Text(layer)),
+        ("number", Field::Number(number)),
+        ("text", Field::Text(words)),
+    ];
+    write_members(false, &members, out)
+}
+
+/// Appends the reply of a text that is no document.
+#[tactic(auto, using(bd_value::proofs::FrontLemmas::fronts))]
+fn append_json_fault(fault: JsonFault, out: &mut Vec<u8>) -> Result<(), NoMemory>
+    ensures ok { OnOk result (out.new.items ≡ out.old.items ++ reply_text (refuses (json_refusal fault))) }
+    ensures err { OnErr result (StartsWith out.new.items out.old.items) }
+{
+    let members = [
+        ("layer", Field::Text("json")),
+        ("number", Field::Number(fault.kind.number())),
+        ("text", Field::Text(fault.kind.words())),
+        ("at", json_byte(fault)),
+    ];
+    write_members(false, &members, out)
+}
+
+/// The byte of a text where a fault is; a text as a whole has none.
+fn json_byte(fault: JsonFault) -> Field<'static, 'static, 'static>
+    ensures { reply_value result ≡ json_fault_byte fault.kind fault.at }
+{
+    match fault.kind {
+        JsonFaultKind::NotADocument => Field::Null,
+        _ => Field::Count(fault.at),
+    }
+}
+
+/// Appends the reply of a document that is no filter.
+#[tactic(auto, using(bd_value::proofs::FrontLemmas::fronts))]
+fn append_filter_fault(fault: &FilterFault, out: &mut Vec<u8>) -> Result<(), NoMemory>
+    ensures ok { OnOk result (out.new.items ≡ out.old.items ++ reply_text (refuses (filter_refusal (refusal_of fault.now)))) }
+    ensures err { OnErr result (StartsWith out.new.items out.old.items) }
+{
+    let members = [
+        ("layer", Field::Text("filter")),
+        ("number", Field::Number(fault.kind.number())),
+        ("text", Field::Text(fault.kind.words())),
+        ("place", Field::Names(&fault.place)),
+    ];
+    write_members(false, &members, out)
+}

@@ -1,0 +1,58 @@
+//! Replies made by hand, which no talk shows.
+use crate::samples::three;
+use bd_cli_service::{Reply, write_reply};
+use bd_cursor::{Explain, Plan};
+use bd_cursor_request::{Batch, Made};
+use std::alloc::Global;
+use std::test::Fail;
+
+/// Whether a reply has this text, after what stood before it.
+fn is_told(alloc: Global, reply: &Reply, wanted: &str) -> Result<bool, Fail> {
+    let dump = three(alloc)?;
+    let mut text = Vec::from_slice(alloc, b"x")?;
+    write_reply(alloc, &dump, reply, &mut text)?;
+    Ok(text.strip_prefix(b"x".as_slice()) == Some(wanted.as_bytes()))
+}
+
+#[test]
+fn results(rt: HostRuntime) -> Result<(), Fail> {
+    for (reply, wanted) in [
+        (
+            Reply::Opened(9_223_372_036_854_775_807),
+            r#"{"ok":true,"cursor":{"$numberLong":"9223372036854775807"}}"#,
+        ),
+        (
+            Reply::Made(Made {
+                entries: 4_294_967_296,
+                multikey: true,
+            }),
+            r#"{"ok":true,"entries":{"$numberLong":"4294967296"},"multikey":true}"#,
+        ),
+        (
+            Reply::Explained(Explain {
+                plan: Plan::Scan,
+                index: None,
+                entries: 3,
+                documents: 2,
+                matches: 1,
+            }),
+            r#"{"ok":true,"plan":"scan","index":null,"entries":{"$numberLong":"3"},"documents":{"$numberLong":"2"},"matches":{"$numberLong":"1"}}"#,
+        ),
+    ] {
+        assert!(rt; is_told(rt.alloc(), &reply, wanted)?, "{wanted}");
+    }
+    Ok(())
+}
+
+/// The second document, with no token.
+#[test]
+fn a_batch_without_a_token(rt: HostRuntime) -> Result<(), Fail> {
+    let batch = Batch {
+        places: Vec::from_slice(rt.alloc(), &[1])?,
+        token: None,
+        end: true,
+    };
+    let wanted = r#"{"ok":true,"documents":[{}],"end":true,"token":null}"#;
+    assert!(rt; is_told(rt.alloc(), &Reply::Gave(batch), wanted)?);
+    Ok(())
+}

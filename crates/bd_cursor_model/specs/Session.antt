@@ -1,0 +1,174 @@
+-- A session as a machine: the calls, their replies, and the state between them.
+use Rattle.std.specs.Prelude.{ℕ, ◌+◌, ◌^◌, ◌-◌, ◌==◌, nat_lt, min, Bool, true, not, List, [], ◌∷◌, ◌++◌, take, drop}
+use Rattle.std.specs.Prelude.{length, Option, Some, None, is_some, ◌||◌, slice_index_or, if◌then◌else◌}
+use Rattle.std.specs.{List.filter, List.list_any, Str.bytes_eq}
+use Rattle.bd_value.specs.{Limits.greatest_count, Limits.most_cursors, Limits.most_indexes, Tree.Doc}
+use Rattle.bd_cursor_model.specs.Answer.{Selection, Mark, answer, is_empty, rest}
+
+-- a request to a dump; the digest ties its tokens to both
+pub record Query : Type 0 where
+  pub selection : Selection
+  pub digest : List ℕ
+
+pub record MarkedToken : Type 0 where
+  pub mark : Mark
+  pub digest : List ℕ
+
+-- an open cursor: its request's digest, the token after what it gave last, and the places that it has left
+pub record OpenCursor : Type 0 where
+  pub id : ℕ
+  pub digest : List ℕ
+  pub token : Option MarkedToken
+  pub left : List ℕ
+
+-- what is left of the answer of a request after a token; without one, all of it
+abbrev pub left_after : Selection → Option MarkedToken → List ℕ
+left_after a None = answer a
+left_after a (Some t) = rest a t.mark
+
+-- an index, of which there is one a path: a sparse one leaves out fields that are not there
+pub record IndexMark : Type 0 where
+  pub path : List ℕ
+  pub is_sparse : Bool
+
+-- how many entries an index has, and whether some document has two keys
+pub record IndexCounts : Type 0 where
+  pub entries : ℕ
+  pub is_multikey : Bool
+
+-- the indexes in the order in which they were made, the number of the next cursor, and the open cursors
+pub record State : Type 0 where
+  pub indexes : List IndexMark
+  pub next_id : ℕ
+  pub cursors : List OpenCursor
+
+-- A call of a session. To find, to resume and to explain may name the path of the index that is to be used. An index is
+-- made with the counts that the dump gives it.
+-- What is explained, as the pairs of a document, is a function of the indexes that are there.
+pub data Call : Type 0 where
+  find_call : Query → Option (List ℕ) → Call
+  resume_call : Query → Option (List ℕ) → MarkedToken → Call
+  next_call : ℕ → ℕ → Call
+  kill_call : ℕ → Call
+  make_call : IndexMark → IndexCounts → Call
+  drop_call : List ℕ → Call
+  explain_call : Option (List ℕ) → (List IndexMark → Doc) → Call
+
+pub record GivenBatch : Type 0 where
+  pub places : List ℕ
+  pub token : Option MarkedToken
+  pub ends : Bool
+
+pub data Reply : Type 0 where
+  opened : ℕ → Reply
+  gave : GivenBatch → Reply
+  killed : Reply
+  made : IndexCounts → Reply
+  dropped : Reply
+  explained : Doc → Reply
+  no_index : Reply
+  index_there : Reply
+  too_many_indexes : Reply
+  too_many_cursors : Reply
+  no_cursor : Reply
+  foreign_token : Reply
+  token_place : Reply
+  out_of_range : Reply
+
+-- the count of documents given stays there
+abbrev pub most_given : ℕ
+most_given = 2 ^ 64 - 1
+
+abbrev pub cursor_of : ℕ → List OpenCursor → Option OpenCursor
+cursor_of id [] = None
+cursor_of id (c ∷ cs) = if c.id == id then Some c else cursor_of id cs
+
+abbrev pub without : ℕ → List OpenCursor → List OpenCursor
+without id cs = filter (λ (c : OpenCursor). not (c.id == id)) cs
+
+abbrev pub given_by : Option MarkedToken → ℕ
+given_by None = 0
+given_by (Some t) = t.mark.given
+
+-- a token keeps its digest; the first one has that of the request
+abbrev pub digest_after : List ℕ → Option MarkedToken → List ℕ
+digest_after digest None = digest
+digest_after digest (Some t) = t.digest
+
+-- the token after some more places; where none is given it stays
+abbrev pub token_after : List ℕ → Option MarkedToken → List ℕ → Option MarkedToken
+token_after digest t [] = t
+token_after digest t (p ∷ ps) = Some (record {
+  mark = record { given = min most_given (given_by t + length (p ∷ ps)); last = slice_index_or (p ∷ ps) (length ps) 0 };
+  digest = digest_after digest t;
+})
+
+abbrev pub is_on : List ℕ → IndexMark → Bool
+is_on path i = bytes_eq path i.path
+
+-- the index that is named is there
+abbrev pub has_index : List IndexMark → Option (List ℕ) → Bool
+has_index indexes None = true
+has_index indexes (Some path) = list_any (is_on path) indexes
+
+-- as many cursors are open as may be, or the last number was given
+abbrev pub is_full : State → Bool
+is_full s = not (nat_lt (length s.cursors) most_cursors) || nat_lt (2 ^ 63 - 1) s.next_id
+
+abbrev pub open_reply : State → Option (List ℕ) → Reply
+open_reply s hint =
+    if has_index s.indexes hint then (if is_full s then too_many_cursors else opened s.next_id) else no_index
+
+abbrev pub with_open : State → List ℕ → Option MarkedToken → List ℕ → State
+with_open s digest t ps = record s {
+  next_id = s.next_id + 1;
+  cursors = s.cursors ++ record { id = s.next_id; digest = digest; token = t; left = ps } ∷ [];
+}
+
+-- a batch of n places, and the cursor after it
+abbrev pub batch_of : OpenCursor → ℕ → GivenBatch
+batch_of c n =
+    record {
+      places = take n c.left;
+      token = token_after c.digest c.token (take n c.left);
+      ends = is_empty (drop n c.left);
+    }
+
+abbrev pub moved : OpenCursor → ℕ → OpenCursor
+moved c n = record c { token = token_after c.digest c.token (take n c.left); left = drop n c.left }
+
+-- the cursor of that number moved on
+abbrev pub with_moved : ℕ → ℕ → List OpenCursor → List OpenCursor
+with_moved id n [] = []
+with_moved id n (c ∷ cs) = if c.id == id then moved c n ∷ cs else c ∷ with_moved id n cs
+
+abbrev pub next_reply : Option OpenCursor → ℕ → Reply
+next_reply None n = no_cursor
+next_reply (Some c) n = if nat_lt greatest_count n then out_of_range else gave (batch_of c n)
+
+-- refusals are tried in this order: the token's digest, its place, the index, the number of cursors.
+abbrev pub reply : State → Call → Reply
+reply s (find_call q hint) = open_reply s hint
+reply s (resume_call q hint t) = if bytes_eq t.digest q.digest
+    then (if nat_lt t.mark.last q.selection.count then open_reply s hint else token_place) else foreign_token
+reply s (next_call id n) = next_reply (cursor_of id s.cursors) n
+reply s (kill_call id) = if is_some (cursor_of id s.cursors) then killed else no_cursor
+reply s (make_call i counts) = if has_index s.indexes (Some i.path) then index_there
+    else (if nat_lt (length s.indexes) most_indexes then made counts else too_many_indexes)
+reply s (drop_call path) = if has_index s.indexes (Some path) then dropped else no_index
+reply s (explain_call hint pairs) = if has_index s.indexes hint then explained (pairs s.indexes) else no_index
+
+-- What a reply says of the state: a cursor that has nothing left is closed,
+-- no cursor knows an index, and a call that is refused changes nothing.
+abbrev pub changed_by : Reply → Call → State → State
+changed_by (opened id) (find_call q hint) s = with_open s q.digest None (answer q.selection)
+changed_by (opened id) (resume_call q hint t) s = with_open s q.digest (Some t) (rest q.selection t.mark)
+changed_by (gave batch) (next_call id n) s =
+    record s { cursors = if batch.ends then without id s.cursors else with_moved id n s.cursors }
+changed_by killed (kill_call id) s = record s { cursors = without id s.cursors }
+changed_by (made counts) (make_call i _) s = record s { indexes = s.indexes ++ i ∷ [] }
+changed_by dropped (drop_call path) s = record s { indexes = filter (λ (i : IndexMark). not (is_on path i)) s.indexes }
+changed_by reply call s = s
+
+abbrev pub state_after : State → Call → State
+state_after s call = changed_by (reply s call) call s

@@ -1,0 +1,54 @@
+//! Sources of places.
+ghost use Rattle.std.specs.Prelude.{◌≡◌, ◌-◌, Bool, List, ℕ};
+ghost use Rattle.std.specs.List.{range_with_len};
+ghost use Rattle.bd_cursor_model.specs.Source.{HandsOut, IsSource, scan_law};
+
+/// What hands out places, among which those of all documents that match are.
+pub trait PlaceSource {
+    /// The places that it has left to hand out.
+    ghost left: { Self → List ℕ };
+
+    /// What makes it a source for so many documents and a test.
+    ghost serves: { Self → ℕ → (ℕ → Bool) → Type 0 };
+
+    /// The next place, as long as there is one. It takes no memory.
+    fn next_place(&mut self) -> Option<u32>
+        ensures { HandsOut result (left self.old) (left self.new) };
+
+    /// No match is missing, and none comes twice.
+    ghost law: { (s : Self) (n : ℕ) (hits : ℕ → Bool) → serves s n hits → IsSource n hits (left s) };
+}
+
+/// Every place, ascending.
+#[derive(Clone, Copy, Debug)]
+pub struct Scan {
+    next: u32,
+    count: u32,
+}
+
+impl Scan {
+    /// A scan of so many documents.
+    pub fn new(count: u32) -> Scan
+        ensures { result ≡ record { next = 0; count = count } }
+    {
+        Scan { next: 0, count }
+    }
+}
+
+impl PlaceSource for Scan {
+    ghost left = { λ s. range_with_len s.next (s.count - s.next) };
+
+    ghost serves = { λ s n hits. (s.next ≡ 0) × (s.count ≡ n) };
+
+    fn next_place(&mut self) -> Option<u32> {
+        if self.next < self.count {
+            let place = self.next;
+            self.next += 1;
+            Some(place)
+        } else {
+            None
+        }
+    }
+
+    ghost law = { λ s n hits e. scan_law s.next s.count n hits e.0 e.1 };
+}

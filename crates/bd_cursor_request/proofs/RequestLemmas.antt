@@ -1,0 +1,46 @@
+-- A sort with its directions as numbers of 32 bits, pair by pair.
+use Rattle.std.proofs.Common.{◌≡◌, ℕ, List, [], ◌∷◌, ◌++◌, sym, ap, ap₂, ◌∙◌, append_assoc, ◌≤◌, ◌&&◌, Bool, true, false, cond, Option, Some, None, length, refl, inl}
+use Rattle.std.proofs.Common.{inr}
+use Rattle.bd_value.specs.Tree as trees
+use Rattle.bd_value.specs.Tree.{Doc, Tree, leaf, doc, fields_of, pairs_of-fields_of, AreParts}
+use Rattle.bd_cursor_request.specs.Request.{direction_number, sort_written, direction_of, are_distinct, pair_names, sort_of, sort_pairs}
+use Rattle.bd_cursor_request.specs.{Refused.IsRefusedAs, declared.results.Refused.Refused}
+use Rattle.std.specs.Prelude.{nat_le}
+use Rattle.std.proofs.lemmas.Bool.{le-leb}
+use Rattle.bd_path.specs.Sort.{SortPath}
+
+abbrev with_pair : Doc → List ℕ → Tree → Doc
+with_pair front name t = front ++ (name, t) ∷ []
+
+-- one pair more is written
+pub written_on : (front left after whole pushed : Doc) (name copy : List ℕ) (t v : Tree) → front ++ sort_written left ≡ whole → left ≡ (name, t) ∷ after
+    → pushed ≡ front ++ (copy, v) ∷ [] → copy ≡ name → v ≡ leaf (trees.int32 (direction_number (direction_of t))) → pushed ++ sort_written after ≡ whole
+written_on front left after whole pushed name copy t v so_far is push same number =
+    ap (λ (d : Doc). d ++ sort_written after) (push ∙ ap₂ (with_pair front) same number)
+    ∙ append_assoc front ((name, leaf (trees.int32 (direction_number (direction_of t)))) ∷ []) (sort_written after)
+    ∙ ap (λ (d : Doc). front ++ sort_written d) (sym is) ∙ so_far
+
+-- what was read, and what is left
+abbrev pub joined : List SortPath → Option (List SortPath) → Option (List SortPath)
+joined front (Some ss) = Some (front ++ ss)
+joined front None = None
+
+-- the pairs of a document in hand
+pub parts_are : (d ps : Doc) → AreParts (doc (fields_of d)) ps → ps ≡ d
+parts_are d ps are = are ∙ pairs_of-fields_of d
+
+pub a_name_twice : (d : Doc) → are_distinct (pair_names d) ≡ false → sort_of d ≡ None
+a_name_twice d is = go (nat_le (length d) 4) (are_distinct (pair_names d)) is
+  where
+    go : (a b : Bool) → b ≡ false → cond (a && b) (sort_pairs d) None ≡ None
+    go true true e = absurd cc
+    go true false e = refl
+    go false b e = refl
+
+pub few_and_distinct : (d : Doc) → length d ≤ 4 → are_distinct (pair_names d) ≡ true → sort_of d ≡ sort_pairs d
+few_and_distinct d le is = rw (le-leb (length d) 4 le, is) refl
+
+-- where a part is refused, the whole is
+pub refused_alike : (refused reason : Refused) (X Y : Type 0) → (X → Y) → IsRefusedAs refused reason X → IsRefusedAs refused reason Y
+refused_alike refused reason X Y gives (inl starved) = inl starved
+refused_alike refused reason X Y gives (inr (is, x)) = inr (is, gives x)

@@ -1,0 +1,12 @@
+use Rattle.std.proofs.Common.{◌≡◌, length}
+use Rattle.bd_path.specs.Sort.{sort_paths}
+use Rattle.bd_cursor_request.specs.Request.{sort_pairs}
+use Rattle.bd_cursor_request.proofs.RequestLemmas.{joined}
+use Rattle.bd_cursor_request.proofs.request.read_pairs.Given as goal
+
+-- what was read, and what is left to read, are all
+abbrev pub invariant-loop-next : goal.invariant-loop-next
+invariant-loop-next g l = joined (sort_paths l.sort.items) (sort_pairs (g.N.Reading.left l.left)) ≡ sort_pairs (g.N.Reading.left l.fn.pairs)
+
+abbrev pub decreases-loop-next : goal.decreases-loop-next
+decreases-loop-next g l = length (g.N.Reading.left l.left)

@@ -1,0 +1,100 @@
+-- What is asked of a dump, and the text that its tokens are tied to.
+use Rattle.std.specs.Prelude.{ℕ, ℤ, pos, negsuc, ◌==◌, nat_le, ◌&&◌, not, Bool, true, List, [], ◌∷◌, length, map}
+use Rattle.std.specs.Prelude.{Option, Some, None, Result, Ok, Err, if◌then◌else◌, ◌++◌, codes, decimal}
+use Rattle.std.specs.{List.list_any, Str.bytes_eq, Option.ok_or}
+use Rattle.bd_value.specs.Tree as trees
+use Rattle.bd_value.specs.Tree.{Tree, Doc, leaf, doc, fields_of}
+use Rattle.bd_path.specs.{Sort.SortPath, Reach.Names, Path.path_of, declared.sort.Dir.Dir}
+use Rattle.bd_path.specs.{declared.sort.Dir.TheVariants.Up, declared.sort.Dir.TheVariants.Down}
+use Rattle.bd_path.specs.{declared.path.PathFault.PathFault, Sort.sort_paths}
+use Rattle.bd_value.specs.Limits.{greatest_count}
+use Rattle.bd_extjson_text.specs.Text.{text}
+use Rattle.bd_query_filter.specs.{Filter.Filter, Filter.filter_tree, FilterOf.filter_of}
+use Rattle.bd_cursor_request.specs.Refused.{Reason, bad_filter, plain, then_part, told_as}
+use Rattle.bd_cursor_request.specs.{Token.token_of, declared.token.Token.Token}
+use Rattle.bd_cursor_request.specs.declared.results.Refused.TheVariants as reasons
+use Rattle.bd_cursor_request.specs.declared.request.Request as declared
+
+abbrev pub direction_numbered : ℤ → Option Dir
+direction_numbered (pos n) = if n == 1 then Some Up else None
+direction_numbered (negsuc n) = if n == 0 then Some Down else None
+
+abbrev pub direction_of : Tree → Option Dir
+direction_of (leaf (trees.int32 z)) = direction_numbered z
+direction_of (leaf (trees.int64 z)) = direction_numbered z
+direction_of t = None
+
+abbrev pub sort_with : Result Names PathFault → Option Dir → Option (List SortPath) → Option (List SortPath)
+sort_with (Ok path) (Some dir) (Some ss) = Some (record { path = path; dir = dir } ∷ ss)
+sort_with _ _ _ = None
+
+-- each pair is a path and a direction
+abbrev pub sort_pairs : Doc → Option (List SortPath)
+sort_pairs [] = Some []
+sort_pairs (p ∷ ps) = sort_with (path_of p.0) (direction_of p.1) (sort_pairs ps)
+
+-- no name stands twice
+abbrev pub are_distinct : List (List ℕ) → Bool
+are_distinct [] = true
+are_distinct (name ∷ names) = not (list_any (bytes_eq name) names) && are_distinct names
+
+abbrev pub pair_names : Doc → List (List ℕ)
+pair_names d = map (λ p. p.0) d
+
+abbrev pub sort_of : Doc → Option (List SortPath)
+sort_of d = if nat_le (length d) 4 && are_distinct (pair_names d) then sort_pairs d else None
+
+-- directions are written as numbers of 32 bits
+abbrev pub direction_number : Option Dir → ℤ
+direction_number (Some Up) = pos 1
+direction_number (Some Down) = negsuc 0
+direction_number None = pos 0
+
+abbrev pub sort_written : Doc → Doc
+sort_written d = map (λ p. (p.0, leaf (trees.int32 (direction_number (direction_of p.1))))) d
+
+-- the filter and the sort in canonical Extended JSON
+abbrev pub request_text : Doc → Doc → ℕ → ℕ → List ℕ
+request_text filter sort skip limit =
+    codes "{\"filter\":" ++ (text (doc (fields_of filter))
+    ++ (codes ",\"sort\":" ++ (text (doc (fields_of (sort_written sort)))
+    ++ (codes ",\"skip\":" ++ (decimal skip ++ (codes ",\"limit\":" ++ (decimal limit ++ codes "}")))))))
+
+pub record Request : Type 0 where
+  pub filter : Filter
+  pub sorts : List SortPath
+  pub skip : ℕ
+  pub limit : ℕ
+  pub text : List ℕ
+
+abbrev pub request_with : Doc → Doc → ℕ → ℕ → Filter → List SortPath → Request
+request_with filter sort skip limit f ss =
+    record { filter = f; sorts = ss; skip = skip; limit = limit; text = request_text filter sort skip limit }
+
+-- What documents and counts ask for, or why they ask for nothing:
+-- the filter is looked at first, then the sort, then the counts.
+abbrev pub request_of : Doc → Doc → ℕ → ℕ → Result Request Reason
+request_of filter sort skip limit =
+    then_part (told_as bad_filter (filter_of filter)) (λ f.
+    then_part (ok_or (sort_of sort) (plain reasons.BadSort)) (λ ss.
+    if nat_le skip greatest_count && nat_le limit greatest_count
+    then Ok (request_with filter sort skip limit f ss) else Err (plain reasons.Range)))
+
+-- the text that names an index, where there is one, is a path
+abbrev pub named_index : Option (List ℕ) → Result (Unit {0}) PathFault
+named_index None = Ok tt
+named_index (Some text) = then_part (path_of text) (λ _. Ok tt)
+
+-- the token that a text is
+abbrev pub token_part : List ℕ → Result Token Reason
+token_part text = ok_or (token_of text) (plain reasons.BadToken)
+
+-- one in memory
+abbrev pub request_view : declared.Request → Request
+request_view r = record {
+  filter = filter_tree r.filter;
+  sorts = sort_paths r.sort.items;
+  skip = r.skip;
+  limit = r.limit;
+  text = r.text.items;
+}

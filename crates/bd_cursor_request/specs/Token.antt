@@ -1,0 +1,36 @@
+-- Where the answer of a request goes on, as a text.
+use Rattle.std.specs.Prelude.{ℕ, ◌==◌, ◌&&◌, List, [], ◌∷◌, ◌++◌, length, take, drop, if◌then◌else◌}
+use Rattle.std.specs.{Prelude.Option, Prelude.Some, Prelude.None, Prelude.option_and_then, Result.result_ok}
+use Rattle.std.specs.Int.{w32, w64, from_le_bytes, to_le_bytes}
+use Rattle.base64.specs.{Engines.standard, GeneralPurpose.decode_of, GeneralPurpose.encode_of}
+use Rattle.sha2.specs.Sha256.{sha256}
+use Rattle.bd_cursor_request.specs.declared.token.Token.{Token}
+
+-- version 1; how many documents were given, and the place of the last, the least byte first; and the digest: 45 bytes
+abbrev pub token_bytes : Token → List ℕ
+token_bytes t = 1 ∷ (to_le_bytes w64 t.given ++ (to_le_bytes w32 t.last ++ t.digest))
+
+-- they are written in base64, standard and padded: 60 characters
+abbrev pub token_text : Token → List ℕ
+token_text t = encode_of standard (token_bytes t)
+
+-- the token of the bytes after the version
+abbrev pub token_after_version : List ℕ → Token
+token_after_version bytes = record {
+  given = from_le_bytes w64 (take 8 bytes);
+  last = from_le_bytes w32 (take 4 (drop 8 bytes));
+  digest = drop 4 (drop 8 bytes);
+}
+
+-- the token that bytes are
+abbrev pub token_in : List ℕ → Option Token
+token_in [] = None
+token_in (version ∷ bytes) = if (version == 1) && (length bytes == 44) then Some (token_after_version bytes) else None
+
+-- the token that a text is: no bit and no sign of padding is loose
+abbrev pub token_of : List ℕ → Option Token
+token_of text = if length text == 60 then option_and_then token_in (result_ok (decode_of standard text)) else None
+
+-- the digest of the dump's bytes, and after it the text of the request
+abbrev pub token_digest : List ℕ → List ℕ → List ℕ
+token_digest bytes text = sha256 (sha256 bytes ++ text)

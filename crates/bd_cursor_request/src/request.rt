@@ -1,0 +1,221 @@
+//! What is asked of a dump: a filter, a sort and counts.
+
+ghost use Rattle.std.specs.Prelude.{◌≡◌, ◌++◌, IfErr, IfOk, None, Ok, OnOk, Some, codes, decimal};
+ghost use Rattle.std.specs.List.{list_any};
+ghost use Rattle.std.specs.Str.{bytes_eq};
+ghost use Rattle.bd_value.specs.Tree.{int32, leaf};
+ghost use Rattle.bd_value.specs.View.{pairs, tree_of};
+ghost use Rattle.bd_path.specs.Sort.{sort_paths};
+ghost use Rattle.bd_query_filter.specs.Filter.{filter_tree};
+ghost use Rattle.bd_query_filter.specs.FilterOf.{filter_of};
+ghost use Rattle.bd_cursor_request.specs.Refused.{IsRefusedAs, IsRefusedPart, bad_filter, told_as};
+ghost use Rattle.bd_cursor_request.specs.Request.{are_distinct, direction_number, direction_of, pair_names, request_of, request_text, request_view};
+ghost use Rattle.bd_cursor_request.specs.Request.{sort_of, sort_pairs, sort_written};
+ghost use Rattle.bd_cursor_request.specs.declared.results.Refused.TheVariants.{BadSort};
+
+use crate::results::Refused;
+use bd_extjson_text::{write_doc, write_number};
+use bd_path::{Dir, Path, PathFault};
+use bd_query_filter::{Filter, FilterFaultKind, parse};
+use bd_value::{Document, GREATEST_COUNT, NoMemory, Reading, Scalar, Tree, Value};
+use std::alloc::Global;
+
+/// What is asked of a dump: which documents, in which order, how many of them to pass over, and how many at most.
+#[derive(Drop)]
+pub struct Request {
+    /// The documents that match.
+    pub filter: Filter,
+    /// The paths by which they are sorted, the first one first; none for the order of the dump.
+    pub sort: Vec<(Path, Dir)>,
+    /// How many are passed over: 0 to 2,147,483,647.
+    pub skip: u64,
+    /// How many are given at most: 0 to 2,147,483,647, where 0 is no limit.
+    pub limit: u64,
+    /// The text that tokens are tied to: `{"filter":F,"sort":S,"skip":N,"limit":N}`, in canonical Extended JSON.
+    pub text: Vec<u8>,
+}
+
+impl Request {
+    /// The request of a filter, a sort (`{}`, or one to four paths with 1 or -1 each), a skip and a limit.
+    ///
+    /// # Errors
+    ///
+    /// In this order: `BadFilter` with the first fault of the filter, `BadSort`, and `Range` where a number is above
+    /// 2,147,483,647. `NoMemory` where no memory was given.
+    pub fn new(
+        alloc: Global,
+        filter: Document,
+        sort: Document,
+        skip: u64,
+        limit: u64,
+    ) -> Result<Request, Refused>
+        ensures request { IfOk result (λ r. request_of (pairs filter) (pairs sort) skip limit ≡ Ok (request_view r)) }
+        ensures refused { IfErr result (IsRefusedPart (request_of (pairs filter) (pairs sort) skip limit)) }
+    {
+        let parsed = read_filter(alloc, &filter)?;
+        let pairs = read_sort(alloc, &sort)?;
+        if skip > GREATEST_COUNT || limit > GREATEST_COUNT {
+            return Err(Refused::Range);
+        }
+        let text = text_of(alloc, &filter, &sort, skip, limit)?;
+        Ok(Request {
+            filter: parsed,
+            sort: pairs,
+            skip,
+            limit,
+            text,
+        })
+    }
+}
+
+/// The filter of a document.
+fn read_filter(alloc: Global, document: &Document) -> Result<Filter, Refused>
+    ensures filter { IfOk result (λ f. filter_of (pairs document.now) ≡ Ok (filter_tree f)) }
+    ensures fault { IfErr result (IsRefusedPart (told_as bad_filter (filter_of (pairs document.now)))) }
+{
+    match parse(alloc, document) {
+        Ok(filter) => Ok(filter),
+        Err(fault) => match fault.kind {
+            FilterFaultKind::NoMemory => Err(Refused::NoMemory),
+            _ => Err(Refused::BadFilter(fault)),
+        },
+    }
+}
+
+/// The text of a request.
+fn text_of(
+    alloc: Global,
+    filter: &Document,
+    sort: &Document,
+    skip: u64,
+    limit: u64,
+) -> Result<Vec<u8>, NoMemory>
+    ensures { IfOk result (λ v. v.items ≡ request_text (pairs filter.now) (pairs sort.now) skip limit) }
+{
+    let sort = written_sort(alloc, sort)?;
+    let mut text = Vec::new(alloc);
+    text.extend_from_slice(b"{\"filter\":")?;
+    write_doc(filter, &mut text)?;
+    text.extend_from_slice(b",\"sort\":")?;
+    write_doc(&sort, &mut text)?;
+    write_counts(skip, limit, &mut text)?;
+    Ok(text)
+}
+
+/// Appends a skip and a limit, and the end.
+fn write_counts(skip: u64, limit: u64, text: &mut Vec<u8>) -> Result<(), NoMemory>
+    ensures { OnOk result (text.new.items ≡ text.old.items
+        ++ (codes ",\"skip\":" ++ (decimal skip ++ (codes ",\"limit\":" ++ (decimal limit ++ codes "}"))))) }
+{
+    text.extend_from_slice(b",\"skip\":")?;
+    write_number(skip, text)?;
+    text.extend_from_slice(b",\"limit\":")?;
+    write_number(limit, text)?;
+    text.extend_from_slice(b"}")
+}
+
+/// A sort with each direction as a number of 32 bits.
+fn written_sort(alloc: Global, sort: &Document) -> Result<Document, NoMemory>
+    ensures { IfOk result (λ d. pairs d ≡ sort_written (pairs sort.now)) }
+{
+    let mut written = Document::new(alloc);
+    let mut left = Tree::Doc(sort).parts();
+    while let Some(next) = Tree::next(&left) {
+        let name = String::from_str(alloc, next.0)?;
+        written.push(name, written_direction(next.1))?;
+        left = next.2;
+    }
+    Ok(written)
+}
+
+/// 1 for up, -1 for down; 0 where a value is neither.
+fn written_direction<N: Reading>(value: N) -> Value
+    ensures { tree_of result ≡ leaf (int32 (direction_number (direction_of (N.tree value)))) }
+{
+    match direction_of(value) {
+        Some(Dir::Up) => Value::Int32(1),
+        Some(Dir::Down) => Value::Int32(-1),
+        None => Value::Int32(0),
+    }
+}
+
+/// The most paths of a sort.
+const MOST: usize = 4;
+
+/// The sort that a document asks for. It fails with `BadSort` where it asks for none, and with `NoMemory`.
+fn read_sort(alloc: Global, document: &Document) -> Result<Vec<(Path, Dir)>, Refused>
+    ensures sort { IfOk result (λ v. sort_of (pairs document.now) ≡ Some (sort_paths v.items)) }
+    ensures fault { IfErr result (λ r. IsRefusedAs r BadSort (sort_of (pairs document.now) ≡ None)) }
+{
+    if document.len() > MOST {
+        return Err(Refused::BadSort);
+    }
+    let pairs = Tree::Doc(document).parts();
+    if !are_distinct::<Tree<'_>>(pairs) {
+        return Err(Refused::BadSort);
+    }
+    read_pairs::<Tree<'_>>(alloc, pairs)
+}
+
+/// Whether no name stands twice.
+fn are_distinct<N: Reading>(pairs: N::Rest) -> bool
+    ensures { result ≡ are_distinct (pair_names (N.left pairs)) }
+{
+    let mut left = pairs;
+    while let Some(next) = N::next(&left) {
+        if has_name::<N>(next.2, next.0) {
+            return false;
+        }
+        left = next.2;
+    }
+    true
+}
+
+fn has_name<N: Reading>(pairs: N::Rest, name: &str) -> bool
+    ensures { result ≡ list_any (bytes_eq name.now) (pair_names (N.left pairs)) }
+{
+    let mut left = pairs;
+    while let Some(next) = N::next(&left) {
+        if name == next.0 {
+            return true;
+        }
+        left = next.2;
+    }
+    false
+}
+
+fn read_pairs<N: Reading>(alloc: Global, pairs: N::Rest) -> Result<Vec<(Path, Dir)>, Refused>
+    ensures sort { IfOk result (λ v. sort_pairs (N.left pairs) ≡ Some (sort_paths v.items)) }
+    ensures fault { IfErr result (λ r. IsRefusedAs r BadSort (sort_pairs (N.left pairs) ≡ None)) }
+{
+    let mut sort = Vec::new(alloc);
+    let mut left = pairs;
+    while let Some(next) = N::next(&left) {
+        let Some(dir) = direction_of(next.1) else {
+            return Err(Refused::BadSort);
+        };
+        match Path::parse(alloc, next.0) {
+            Ok(path) => sort.push((path, dir))?,
+            Err(PathFault::NoMemory) => return Err(Refused::NoMemory),
+            Err(_) => return Err(Refused::BadSort),
+        }
+        left = next.2;
+    }
+    Ok(sort)
+}
+
+/// 1 is up, and -1 down.
+fn direction_of<N: Reading>(value: N) -> Option<Dir>
+    ensures { result ≡ direction_of (N.tree value) }
+{
+    let number = match value.leaf() {
+        Some(Scalar::Int32(number)) => i64::from(number),
+        Some(Scalar::Int64(number)) => number,
+        _ => return None,
+    };
+    match number {
+        1 => Some(Dir::Up),
+        -1 => Some(Dir::Down),
+        _ => None,
+    }
+}

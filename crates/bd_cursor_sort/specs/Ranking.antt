@@ -1,0 +1,56 @@
+-- Documents while they are put in order by one path after the other.
+-- Each has a rank by the paths so far: the lower rank is first,
+-- and those that tie have one rank.
+use Rattle.std.specs.Prelude.{◌≡◌, ◌<◌, ℕ, ◌+◌, List, [], ◌∷◌, length, map, Option, Some, None, if◌then◌else◌}
+use Rattle.std.specs.Prelude.{slice_index_or}
+use Rattle.std.specs.Ordering.{is_lt, nat_cmp, ordering_then}
+use Rattle.std.specs.{List.Sorted.IsPermutation, List.Sorted.IsSortedBy, declared.cmp.Ordering.Ordering}
+use Rattle.bd_value.specs.Tree.{Doc, Tree}
+use Rattle.bd_path.specs.{Sort.SortPath, Sort.dir_cmp, Sort.sort_key, declared.sort.Dir.Dir}
+use Rattle.bd_cursor_model.specs.Answer.{before}
+use Rattle.bd_bson_dump.specs.Collection.{document_at}
+use Rattle.bd_index_prefix.specs.Front.{kept_key}
+use Rattle.bd_cursor_sort.specs.{Selection.order_of_keys, declared.ranking.Ranked.Ranked, declared.ranking.Row.Row}
+
+-- a document with its key on a path
+pub record Keyed : Type 0 where
+  pub rank : ℕ
+  pub place : ℕ
+  pub key : Tree
+
+abbrev pub keyed_row : Row → Keyed
+keyed_row r = record { rank = r.rank; place = r.place; key = kept_key r.key.key }
+
+abbrev pub keyed : List Doc → SortPath → Ranked → Keyed
+keyed ds s r = record { rank = r.rank; place = r.place; key = sort_key s.dir (document_at ds r.place) s.path }
+
+-- by rank, and where the ranks are one by key
+abbrev pub keyed_cmp : Dir → Keyed → Keyed → Ordering
+keyed_cmp dir a b = ordering_then (nat_cmp a.rank b.rank) (dir_cmp dir a.key b.key)
+
+-- then by place
+abbrev pub rows_cmp : Dir → Keyed → Keyed → Ordering
+rows_cmp dir a b = ordering_then (keyed_cmp dir a b) (nat_cmp a.place b.place)
+
+-- the new rank of a document, after one of a rank
+abbrev pub next_rank : Dir → ℕ → Option Keyed → Keyed → ℕ
+next_rank dir rank None y = rank
+next_rank dir rank (Some x) y = if is_lt (keyed_cmp dir x y) then rank + 1 else rank
+
+-- the new ranks of documents that are in order
+abbrev pub ranks_from : Dir → ℕ → Option Keyed → List Keyed → List Ranked
+ranks_from dir rank last [] = []
+ranks_from dir rank last (y ∷ ys) =
+    record { rank = next_rank dir rank last y; place = y.place }
+    ∷ ranks_from dir (next_rank dir rank last y) (Some y) ys
+
+abbrev pub place_of : Ranked → ℕ
+place_of r = r.place
+
+-- documents in order, with ranks that say how they stand
+pub record AreRanked (ds : List Doc) (ss : List SortPath) (ps : List ℕ) (rs : List Ranked) : Type 0 where
+  pub same : IsPermutation ps (map place_of rs)
+  pub rises : IsSortedBy (before (order_of_keys ds ss)) (map place_of rs)
+  pub stand : (i j : ℕ) (d : Ranked) → i < length rs → j < length rs →
+      nat_cmp (slice_index_or rs i d).rank (slice_index_or rs j d).rank
+      ≡ order_of_keys ds ss (slice_index_or rs i d).place (slice_index_or rs j d).place

@@ -1,0 +1,34 @@
+-- What a request selects of the documents of a dump.
+use Rattle.std.specs.{Prelude.ℕ, Prelude.Bool, Prelude.List, Prelude.length, declared.cmp.Ordering.Ordering}
+use Rattle.bd_value.specs.Tree.{Doc}
+use Rattle.bd_cursor_model.specs.{Answer.Selection, Session.Query}
+use Rattle.bd_bson_dump.specs.{Collection.bytes_of, Collection.documents, Collection.document_at}
+use Rattle.bd_bson_dump.specs.{declared.collection.Dump.Dump}
+use Rattle.bd_path.specs.{Sort.SortPath, Sort.sort_cmp, Sort.sort_paths}
+use Rattle.bd_query_filter.specs.{Filter.Filter, FilterMatch.matches, Filter.filter_tree}
+use Rattle.bd_cursor_request.specs.{Token.token_digest, Request.Request, Request.request_view}
+use Rattle.bd_cursor_request.specs.declared.request.Request as declared
+
+-- which documents match
+abbrev pub hits_of : List Doc → Filter → ℕ → Bool
+hits_of ds f p = matches f (document_at ds p)
+
+-- how the sort keys of two documents stand
+abbrev pub order_of_keys : List Doc → List SortPath → ℕ → ℕ → Ordering
+order_of_keys ds ss p q = sort_cmp ss (document_at ds p) (document_at ds q)
+
+-- what a filter, a sort, a skip and a limit select
+abbrev pub selection_for : List Doc → Filter → List SortPath → ℕ → ℕ → Selection
+selection_for ds f ss skip limit =
+    record { count = length ds; hits = hits_of ds f; by = order_of_keys ds ss; skip = skip; limit = limit }
+
+abbrev pub selection_of : List Doc → declared.Request → Selection
+selection_of ds r = selection_for ds (filter_tree r.filter) (sort_paths r.sort.items) r.skip r.limit
+
+-- a request to a dump of these bytes, which are these documents, with what ties its tokens to the bytes and to its text
+abbrev pub query_to : List ℕ → List Doc → Request → Query
+query_to bytes ds r =
+    record { selection = selection_for ds r.filter r.sorts r.skip r.limit; digest = token_digest bytes r.text }
+
+abbrev pub query_of : Dump → declared.Request → Query
+query_of dump r = query_to (bytes_of dump) (documents dump) (request_view r)

@@ -1,0 +1,231 @@
+//! The places of the documents that match and come after the last one given, in the order of a sort.
+
+ghost use Rattle.std.specs.Prelude.{◌≡◌, ◌&&◌, ◌<◌, ◌≤◌, ℕ, All, IfOk, IfSome, List, OnOk, length, take};
+ghost use Rattle.bd_cursor_model.specs.Answer.{at_most, before};
+ghost use Rattle.bd_cursor_model.specs.Laws.{IsAscending};
+ghost use Rattle.bd_cursor_model.specs.Source.{is_after, passes, places_after};
+ghost use Rattle.bd_bson_dump.specs.Collection.{documents};
+ghost use Rattle.bd_query_filter.specs.Filter.{filter_tree};
+ghost use Rattle.bd_path.specs.Sort.{SortPath, sort_paths};
+ghost use Rattle.bd_cursor_sort.specs.Selection.{hits_of, order_of_keys, selection_of};
+ghost use Rattle.bd_cursor_sort.specs.Sorting.{AreFirst, IsEnd, IsMark, has_enough, is_before_mark, mark_place};
+
+use crate::mark::Mark;
+use crate::ranking::first_in_order;
+use bd_bson_dump::Dump;
+use bd_cursor_model::PlaceSource;
+use bd_cursor_request::Request;
+use bd_path::{Dir, Path};
+use bd_query::matches;
+use bd_query_filter::Filter;
+use bd_value::NoMemory;
+use std::alloc::Global;
+
+/// Places that are kept at least before they are put in order, so that few are not put in order often.
+const FEWEST: usize = 256;
+
+/// How many times as many places as are wanted are kept before they are put in order.
+const TIMES: usize = 4;
+
+/// The places of the documents that match and come after the last one given, in the order of the sort, at most so many. It
+/// takes memory for some more places than are wanted, and not for all that match. It fails only if memory runs out.
+pub fn sorted_places<P: PlaceSource + Drop>(
+    alloc: Global,
+    dump: &Dump,
+    request: &Request,
+    source: P,
+    last: Option<u32>,
+    most: Option<u64>,
+) -> Result<Vec<u32>, NoMemory>
+    requires serves { P.serves source (length (documents dump.now)) (hits_of (documents dump.now) (filter_tree request.now.filter)) }
+    requires there { IfSome last (λ p. p < length (documents dump.now)) }
+    ensures { IfOk result (λ v. v.items ≡ at_most most (places_after (selection_of (documents dump.now) request.now) last)) }
+{
+    let limit = limit_of(most, dump.len() as usize);
+    if limit == 0 {
+        return Ok(Vec::new(alloc));
+    }
+    let last = last_mark(alloc, dump, &request.sort, last)?;
+    first_places(alloc, dump, request, source, &last, limit)
+}
+
+/// The same from a source that hands them out in the order of the sort: it stops where the last one is found, and sorts nothing.
+/// It fails only if memory runs out.
+pub fn places_in_order<P: PlaceSource + Drop>(
+    alloc: Global,
+    dump: &Dump,
+    request: &Request,
+    mut source: P,
+    last: Option<u32>,
+    most: Option<u64>,
+) -> Result<Vec<u32>, NoMemory>
+    requires serves { P.serves source (length (documents dump.now)) (hits_of (documents dump.now) (filter_tree request.now.filter)) }
+    requires order { IsAscending (before (order_of_keys (documents dump.now) (sort_paths request.now.sort.items))) (P.left source) }
+    requires there { IfSome last (λ p. p < length (documents dump.now)) }
+    ensures { IfOk result (λ v. v.items ≡ at_most most (places_after (selection_of (documents dump.now) request.now) last)) }
+{
+    let mark = last_mark(alloc, dump, &request.sort, last)?;
+    let last = &mark;
+    let mut found = Vec::new(alloc);
+    while !is_full(most, found.len()) {
+        let Some(place) = source.next_place() else {
+            break;
+        };
+        if is_wanted(dump, request, last, place) {
+            found.push(place)?;
+        }
+    }
+    Ok(found)
+}
+
+/// Whether the document at a place matches.
+pub fn is_match(dump: &Dump, filter: &Filter, place: u32) -> bool
+    requires { place < length (documents dump.now) }
+    ensures { result ≡ hits_of (documents dump.now) (filter_tree filter.now) place }
+{
+    matches(filter, dump.document(place).value())
+}
+
+/// How many of so many places are given at most.
+fn limit_of(most: Option<u64>, count: usize) -> usize
+    ensures { (ps : List ℕ) → length ps ≤ count → take result ps ≡ at_most most ps }
+{
+    match most {
+        Some(most) => (most as usize).min(count),
+        None => count,
+    }
+}
+
+/// Whether there are as many places as are wanted at most.
+fn is_full(most: Option<u64>, count: usize) -> bool
+    ensures { result ≡ has_enough most count }
+{
+    match most {
+        Some(most) => count as u64 >= most,
+        None => false,
+    }
+}
+
+/// The mark of the last document given, where there is one.
+fn last_mark<'d>(
+    alloc: Global,
+    dump: &'d Dump,
+    sort: &'d [(Path, Dir)],
+    last: Option<u32>,
+) -> Result<Option<Mark<'d>>, NoMemory>
+    requires { IfSome last (λ p. p < length (documents dump.now)) }
+    ensures place { IfOk result (λ m. mark_place m ≡ last) }
+    ensures keys { IfOk result (λ m. IfSome m (IsMark (documents dump.now) (sort_paths sort.now))) }
+{
+    match last {
+        Some(place) => Ok(Some(Mark::new(alloc, dump, sort, place)?)),
+        None => Ok(None),
+    }
+}
+
+/// The first so many places of the documents that match and come after the last one given. A document is compared with the last
+/// of the first so many so far, and mostly left out.
+fn first_places<P: PlaceSource + Drop>(
+    alloc: Global,
+    dump: &Dump,
+    request: &Request,
+    mut source: P,
+    last: &Option<Mark<'_>>,
+    most: usize,
+) -> Result<Vec<u32>, NoMemory>
+    requires serves { P.serves source (length (documents dump.now)) (hits_of (documents dump.now) (filter_tree request.now.filter)) }
+    requires last { IfSome last.now (IsMark (documents dump.now) (sort_paths request.now.sort.items)) }
+    requires some { 0 < most }
+    ensures { IfOk result (λ v. v.items
+        ≡ take most (places_after (selection_of (documents dump.now) request.now) (mark_place last.now))) }
+{
+    let room = most.saturating_mul(TIMES).max(FEWEST);
+    let mut places = Vec::new(alloc);
+    let mut end = None;
+    while let Some(place) = source.next_place() {
+        if may_be_first(dump, request, last, &end, place) {
+            if places.len() >= room {
+                end = keep_first(alloc, dump, &request.sort, &mut places, most)?;
+            }
+            places.push(place)?;
+        }
+    }
+    first_in_order(alloc, dump, &request.sort, &places, most)
+}
+
+/// Puts places in order and keeps the first so many. Where there are as many, it gives the mark of the last one: no document
+/// after it is among the first so many.
+fn keep_first<'d>(
+    alloc: Global,
+    dump: &'d Dump,
+    sort: &'d [(Path, Dir)],
+    places: &mut Vec<u32>,
+    most: usize,
+) -> Result<Option<Mark<'d>>, NoMemory>
+    requires below { All (λ p. p < length (documents dump.now)) places.old.items }
+    requires some { 0 < most }
+    ensures first { OnOk result
+        (AreFirst (before (order_of_keys (documents dump.now) (sort_paths sort.now))) most places.old.items places.new.items) }
+    ensures mark { IfOk result (λ m. IfSome m (IsMark (documents dump.now) (sort_paths sort.now))) }
+    ensures end { IfOk result (λ m. IsEnd most places.new.items (mark_place m)) }
+{
+    let first = first_in_order(alloc, dump, sort, places, most)?;
+    *places = first;
+    if places.len() < most {
+        return Ok(None);
+    }
+    let mark = Mark::new(alloc, dump, sort, places[most - 1])?;
+    Ok(Some(mark))
+}
+
+/// Whether the document at a place is wanted, and comes before the end of the first ones.
+fn may_be_first(
+    dump: &Dump,
+    request: &Request,
+    last: &Option<Mark<'_>>,
+    end: &Option<Mark<'_>>,
+    place: u32,
+) -> bool
+    requires last { IfSome last.now (IsMark (documents dump.now) (sort_paths request.now.sort.items)) }
+    requires end { IfSome end.now (IsMark (documents dump.now) (sort_paths request.now.sort.items)) }
+    requires below { place < length (documents dump.now) }
+    ensures { let by = order_of_keys (documents dump.now) (sort_paths request.now.sort.items) in
+        result ≡ (passes (hits_of (documents dump.now) (filter_tree request.now.filter)) by (mark_place last.now) place
+        && is_before_mark (before by) (mark_place end.now) place) }
+{
+    is_wanted(dump, request, last, place) && is_ahead(dump, end, place)
+}
+
+/// Whether the document at a place matches and comes after the last one given.
+fn is_wanted(dump: &Dump, request: &Request, last: &Option<Mark<'_>>, place: u32) -> bool
+    requires last { IfSome last.now (IsMark (documents dump.now) (sort_paths request.now.sort.items)) }
+    requires below { place < length (documents dump.now) }
+    ensures { result ≡ passes (hits_of (documents dump.now) (filter_tree request.now.filter))
+        (order_of_keys (documents dump.now) (sort_paths request.now.sort.items)) (mark_place last.now) place }
+{
+    is_match(dump, &request.filter, place) && is_past(dump, last, place)
+}
+
+/// Whether the document at a place comes after that of a mark.
+fn is_past(dump: &Dump, mark: &Option<Mark<'_>>, place: u32) -> bool
+    requires { place < length (documents dump.now) }
+    ensures { (ss : List SortPath) → IfSome mark.now (IsMark (documents dump.now) ss) →
+        result ≡ is_after (before (order_of_keys (documents dump.now) ss)) (mark_place mark.now) place }
+{
+    match mark {
+        Some(mark) => mark.compare(dump, place).is_gt(),
+        None => true,
+    }
+}
+
+/// Whether it comes before that of a mark.
+fn is_ahead(dump: &Dump, mark: &Option<Mark<'_>>, place: u32) -> bool
+    requires { place < length (documents dump.now) }
+    ensures { (ss : List SortPath) → IfSome mark.now (IsMark (documents dump.now) ss) →
+        result ≡ is_before_mark (before (order_of_keys (documents dump.now) ss)) (mark_place mark.now) place }
+{
+    match mark {
+        Some(mark) => mark.compare(dump, place).is_lt(),
+        None => true,
+    }
+}

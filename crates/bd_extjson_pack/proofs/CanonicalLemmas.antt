@@ -1,0 +1,404 @@
+-- Canonical text, read from its front.
+use Rattle.std.proofs.Common.{◌-◌, ◌≡◌, ◌<◌, ◌≤◌, ℕ, suc, ℤ, List, [], ◌∷◌, ◌++◌, eqb, get_or, Bor, length, take, drop, Bool, true, false, cond, Option, Some, None, refl}
+use Rattle.std.proofs.Common.{sym, ap, ap₂, ◌∙◌, arith, append_assoc, append-nil, length-append, take-append-drop, Result, Ok, Err, is_ok, zero, ◌^◌, pos, neg_ℤ, decimal}
+use Rattle.std.proofs.Common.{inl, inr, ◌+◌, ◌*◌, ltb, not, bit_or, map, replicate}
+use Rattle.std.specs.Prelude.{codes, ◌||◌, ◌==◌, ◌/◌, ◌%◌, nat_lt, IfSome, IsUtf8, OnOk}
+use Rattle.std.specs.{List.list_any, List.join_with_byte, List.prefix_len, Char.digit_char, Char.is_ascii_digit, Str.all_ascii_digits, Str.bytes_eq}
+use Rattle.std.specs.{Fmt.signed_decimal, Bool.then_some, Result.result_ok, Result.is_err, Str.Parse.digits_value}
+use Rattle.base64.specs.{Engines.standard, GeneralPurpose.encode_of}
+use Rattle.bd_value.specs.{Limits.longest_document, Limits.most_levels, Tree.fields_depth, Tree.items_depth}
+use Rattle.bd_value.specs.Fits.{has_zero, zero_in_scalar, zero_in, zero_in_fields, zero_in_items}
+use Rattle.bd_value.specs.Fits.{ScalarFits, FieldsFit, ItemsFit, IsId}
+use Rattle.bd_value.specs.Tree as trees
+use Rattle.bd_value.specs.Tree.{Scalar, Tree, leaf, doc, array, code_scope, Items, Fields, item, field, Doc, fields_of, items_of}
+use Rattle.bd_bson_view.specs.Spelling.{element, string}
+use Rattle.bd_bson_write.specs.TreeBytes.{bytes_of}
+use Rattle.std.specs.Result.{result_ok}
+use Rattle.bd_extjson_wrapper.specs.Wrapper.{wrapper_of}
+use Rattle.bd_extjson.specs.{Laws.IsPlainFirst, Laws.ArePlainFields, Laws.ArePlainItems, Read.ReadsAs}
+use Rattle.bd_extjson_text.specs.Text.{needs_escape, escape_byte, escaped, quoted, hex_text, base64_text, scalar_text, member, text, items_text, fields_text}
+use Rattle.std.proofs.{lemmas.Bool.or_parts, lemmas.Bool.or_from, lemmas.Bool.and_parts, lemmas.Bool.cases_lt, lemmas.List.Sums.prefix_len-le-length}
+use Rattle.std.proofs.{lemmas.Bool.Decides.nat_tests, lemmas.Grind.flat_map-append, lemmas.Str.digit_value_digit}
+use Rattle.std.proofs.{lemmas.Int.Digits.digits_value_more, lemmas.List.length-take-le, lemmas.List.get_or-take, lemmas.List.length-map}
+use Rattle.std.proofs.{lemmas.Fmt.decimal-digits_value, lemmas.Fmt.decimal_is_IsNumeral, lemmas.Slice.Eq.bytes_eq-Decides}
+use Rattle.bd_extjson_text.proofs.JsonStringLemmas.{escaped-plain, escaped-digits}
+use Rattle.bd_extjson.proofs.ReadBackLemmas.{document_back}
+use Rattle.bd_extjson_pack.specs.Packable.{plain, IsPackable, IsCanonical, AreCanonical, AreCanonicalFields}
+use Rattle.hex.specs.{Hex.encode_lower, Hex.decode_sized, declared.FromHexError.FromHexError}
+use Rattle.hex.proofs.HexLemmas.{decode_of-ok, decode_sized-ok, decode_sized-twice}
+use Rattle.bd_extjson_wrapper.proofs.WholeNumberLemmas.{own}
+use Rattle.std.proofs.lemmas.Simd.{length-chunk, trailing_mask_l, mask_l-mod, zip2_splat, zip2_of_maps, map-map, run_in_chunk_fails, none_from_empty_mask}
+use lib.Count.{count_trailing_zeros}
+use lib.Lanes.{zip2, chunk, mask_l, top}
+
+-- ---- strings
+
+no_zero : (s : List ℕ) → list_any needs_escape s ≡ false → has_zero s ≡ false
+no_zero [] e = refl
+no_zero (b ∷ s) e =
+    let both = or_parts (needs_escape b) (list_any needs_escape s) e in
+    let other : (b == 0) ≡ false = grind (arith, nat_tests, both.0) in
+    rw other (no_zero s both.1)
+
+-- a string is read: the first mark, what stands for itself, the last mark
+pub string_read : (whole after inside last rest : List ℕ) (n : ℕ) → whole ≡ 34 ∷ after → inside ≡ take n after → last ≡ drop n after → last ≡ 34 ∷ rest → list_any needs_escape (take n after) ≡ false
+    → (whole ≡ quoted inside ++ rest) × (has_zero inside ≡ false)
+unfolding quoted
+string_read whole after inside last rest n begins is left ends none =
+    let plain : list_any needs_escape inside ≡ false = rw is none in
+    let all : after ≡ inside ++ (34 ∷ rest) = sym (take-append-drop n after) ∙ rw (← is, ← left, ends) refl in
+    (rw (begins, all, escaped-plain inside plain, append_assoc inside (34 ∷ []) rest) refl, no_zero inside plain)
+
+-- ---- lists of texts
+
+abbrev pub led : List (List ℕ) → List ℕ
+led [] = []
+led (x ∷ xs) = x ++ (44 ∷ led xs)
+
+pub led_one_more : (xs : List (List ℕ)) (x : List ℕ) → led (xs ++ x ∷ []) ≡ led xs ++ (x ++ 44 ∷ [])
+led_one_more [] x = refl
+led_one_more (y ∷ xs) x = ap (λ l. y ++ (44 ∷ l)) (led_one_more xs x) ∙ sym (append_assoc y (44 ∷ led xs) (x ++ 44 ∷ []))
+
+pub joined_end : (xs : List (List ℕ)) (x : List ℕ) → join_with_byte 44 (xs ++ x ∷ []) ≡ led xs ++ x
+joined_end [] x = refl
+joined_end (y ∷ []) x = sym (append_assoc y (44 ∷ []) x)
+joined_end (y ∷ z ∷ xs) x = ap (λ l. y ++ (44 ∷ l)) (joined_end (z ∷ xs) x) ∙ sym (append_assoc y (44 ∷ led (z ∷ xs)) x)
+
+-- ---- trees
+
+pub roomier : (few room : ℕ) (t : Tree) → few ≤ room → IsCanonical few t → IsCanonical room t
+roomier few room t le c = record { fits = c.fits; determined = c.determined; no_zero = c.no_zero; shallow = omega (arith, le, c.shallow) }
+
+-- the four facts, of lists of elements and of pairs
+abbrev AreItems : ℕ → Items → Type 0
+AreItems room ts = ItemsFit IsUtf8 ts × ArePlainItems ts × (zero_in_items ts ≡ false) × (items_depth ts ≤ room)
+
+abbrev AreFields : ℕ → Fields → Type 0
+AreFields room fs = FieldsFit IsUtf8 fs × ArePlainFields fs × (zero_in_fields fs ≡ false) × (fields_depth fs ≤ room)
+
+items_known : (room : ℕ) (ts : List Tree) → AreCanonical room ts → AreItems room (items_of ts)
+items_known room [] a = (tt, tt, refl, omega arith)
+items_known room (t ∷ ts) a =
+    let c = a.0 in
+    let r = items_known room ts a.1 in
+    ((c.fits, r.0), (c.determined, r.1), or_from (zero_in t) (zero_in_items (items_of ts)) c.no_zero r.2, omega (arith, c.shallow, r.3))
+
+pub array_known : (room : ℕ) (ts : List Tree) → AreCanonical room ts → IsCanonical (suc room) (array (items_of ts))
+array_known room ts a =
+    let r = items_known room ts a in
+    record { fits = r.0; determined = r.1; no_zero = r.2; shallow = omega (arith, r.3) }
+
+fields_known : (room : ℕ) (d : Doc) → AreCanonicalFields room d → AreFields room (fields_of d)
+fields_known room [] a = (tt, tt, refl, omega arith)
+fields_known room (p ∷ ps) a =
+    let c = a.1 in
+    let r = fields_known room ps a.2 in
+    let others = or_from (zero_in p.1) (zero_in_fields (fields_of ps)) c.no_zero r.2 in
+    let zero = or_from (has_zero p.0) (zero_in p.1 || zero_in_fields (fields_of ps)) a.0.1 others in
+    ((a.0.0, (c.fits, r.0)), (c.determined, r.1), zero, omega (arith, c.shallow, r.3))
+
+first_plain : (room : ℕ) (d : Doc) → AreCanonicalFields room d → IsPlainFirst (fields_of d)
+first_plain room [] a = tt
+first_plain room (p ∷ ps) a = a.0.2
+
+pub doc_known : (room : ℕ) (d : Doc) → AreCanonicalFields room d → IsCanonical (suc room) (doc (fields_of d))
+doc_known room d a =
+    let r = fields_known room d a in
+    record { fits = r.0; determined = (first_plain room d a, r.1); no_zero = r.2; shallow = omega (arith, r.3) }
+
+pub reads_canonical : (line rest : List ℕ) (d : Doc) → line ≡ text (doc (fields_of d)) ++ rest → length rest ≡ 0 → AreCanonicalFields (most_levels - 1) d → ReadsAs line d
+reads_canonical line [] d is none a =
+    let c = doc_known (most_levels - 1) d a in
+    let whole : line ≡ text (doc (fields_of d)) = is ∙ append-nil (text (doc (fields_of d))) in
+    rw whole (document_back d c.fits c.determined c.no_zero c.shallow)
+reads_canonical line (x ∷ rest) d is none a = absurd cc
+
+-- ---- one more
+
+pub one_more_canonical : (room : ℕ) (ts : List Tree) (t : Tree) → AreCanonical room ts → IsCanonical room t → AreCanonical room (ts ++ t ∷ [])
+one_more_canonical room [] t a c = (c, tt)
+one_more_canonical room (s ∷ ts) t a c = (a.0, one_more_canonical room ts t a.1 c)
+
+abbrev pub IsName : List ℕ → Type 0
+IsName name = IsUtf8 name × (has_zero name ≡ false) × (wrapper_of name ≡ None)
+
+pub one_more_canonical_field : (room : ℕ) (ps : Doc) (name : List ℕ) (t : Tree) → AreCanonicalFields room ps → IsName name → IsCanonical room t → AreCanonicalFields room (ps ++ (name, t) ∷ [])
+one_more_canonical_field room [] name t a n c = (n, c, tt)
+one_more_canonical_field room (p ∷ ps) name t a n c = (a.0, a.1, one_more_canonical_field room ps name t a.2 n c)
+
+pub texts_end : (ts : List Tree) (t : Tree) → items_text (items_of (ts ++ t ∷ [])) ≡ items_text (items_of ts) ++ text t ∷ []
+texts_end [] t = refl
+texts_end (s ∷ ts) t = ap (λ l. text s ∷ l) (texts_end ts t)
+
+pub members_end : (ps : Doc) (name : List ℕ) (t : Tree) → fields_text (fields_of (ps ++ (name, t) ∷ [])) ≡ fields_text (fields_of ps) ++ member name (text t) ∷ []
+members_end [] name t = refl
+members_end (p ∷ ps) name t = ap (λ l. member p.0 (text p.1) ∷ l) (members_end ps name t)
+
+-- What was read of a text, to where the next piece begins, or to where the last one ends.
+abbrev pub IsReadTo : ℕ → List ℕ → List (List ℕ) → List ℕ → Option (Bor (List ℕ)) → Type 0
+IsReadTo bracket whole pieces rest None = whole ≡ bracket ∷ (join_with_byte 44 pieces ++ rest)
+IsReadTo bracket whole pieces rest (Some at) = whole ≡ bracket ∷ (led pieces ++ at.now)
+
+pub goes_on : (bracket : ℕ) (whole : List ℕ) (pieces : List (List ℕ)) (piece at rest : List ℕ) (next : Option (Bor (List ℕ)))
+    → whole ≡ bracket ∷ (led pieces ++ at) → at ≡ piece ++ rest → IfSome next (λ n. rest ≡ 44 ∷ n.now)
+    → IsReadTo bracket whole (pieces ++ piece ∷ []) rest next
+goes_on bracket whole pieces piece at rest None is read none = rw (is, read, joined_end pieces piece) (simp append_assoc)
+goes_on bracket whole pieces piece at rest (Some n) is read comma = rw (is, read, comma, led_one_more pieces piece) (simp append_assoc)
+
+-- the bracket after the last piece
+pub ended_at : (bracket last : ℕ) (whole : List ℕ) (pieces : List (List ℕ)) (old rest : List ℕ) → whole ≡ bracket ∷ (join_with_byte 44 pieces ++ old) → old ≡ last ∷ rest
+    → whole ≡ bracket ∷ ((join_with_byte 44 pieces ++ last ∷ []) ++ rest)
+ended_at bracket last whole pieces old rest read e = rw (read, e) (simp append_assoc)
+
+pub within_rest : (rest : List ℕ) (next : Option (Bor (List ℕ))) → IfSome next (λ n. rest ≡ 44 ∷ n.now) → IfSome next (λ n. length n.now ≤ length rest)
+within_rest rest None comma = tt
+within_rest rest (Some n) comma = omega (arith, ap (λ x. length x) comma)
+
+pub member_read : (at value name : List ℕ) (t : Tree) (rest : List ℕ) → at ≡ quoted name ++ (58 ∷ value) → value ≡ text t ++ rest → at ≡ member name (text t) ++ rest
+member_read at value name t rest a b = rw (a, b) (simp append_assoc)
+
+-- ---- names
+
+-- the name of each wrapper begins with a dollar sign
+pub no_wrapper : (name : List ℕ) → eqb (get_or name 0 0) 36 ≡ false → wrapper_of name ≡ None
+unfolding wrapper_of
+no_wrapper [] p = refl
+no_wrapper (c ∷ cs) p = rw p refl
+
+-- ---- scalars
+
+-- a wrapper in three pieces
+pub wrapped : (front value back whole text inside after rest : List ℕ) → text ≡ front ++ inside → inside ≡ value ++ after → after ≡ back ++ rest
+    → whole ≡ front ++ (value ++ back) → text ≡ whole ++ rest
+wrapped front value back whole text inside after rest a b c spelled = rw (a, b, c, spelled) (simp append_assoc)
+
+pub number_read : (make : ℤ → Scalar) (front back text inside after rest : List ℕ) (z y : ℤ) → text ≡ front ++ inside → inside ≡ quoted (signed_decimal z) ++ after → after ≡ back ++ rest → z ≡ y
+    → scalar_text (make z) ≡ front ++ (quoted (signed_decimal z) ++ back) → text ≡ scalar_text (make y) ++ rest
+number_read make front back text inside after rest z y a b c same spelled = rw (← same) (wrapped front (quoted (signed_decimal z)) back (scalar_text (make z)) text inside after rest a b c spelled)
+
+nested : (a b c d e : List ℕ) → ((a ++ (b ++ c)) ++ d) ++ e ≡ a ++ (b ++ (c ++ (d ++ e)))
+nested a b c d e = simp append_assoc
+
+pub binary_text : (payload : List ℕ) (subtype : ℕ)
+    → scalar_text (trees.binary subtype payload) ≡ codes "{\"$binary\":{\"base64\":" ++ (quoted (encode_of standard payload)
+    ++ (codes ",\"subType\":" ++ (quoted (hex_text (subtype ∷ [])) ++ codes "}}")))
+unfolding scalar_text base64_text quoted escape_byte
+binary_text payload subtype =
+    ap (λ x. codes "{\"$binary\":{\"base64\":" ++ x)
+    (nested (quoted (encode_of standard payload)) (codes ",\"subType\":") (quoted (hex_text (subtype ∷ []))) (125 ∷ []) (125 ∷ []))
+
+pub leaf_canonical : (s : Scalar) → ScalarFits IsUtf8 s → zero_in_scalar s ≡ false → IsCanonical 0 (leaf s)
+leaf_canonical s fits none = record { fits = fits; determined = tt; no_zero = none; shallow = omega arith }
+
+-- ---- a text is not empty
+
+some_text : (s : Scalar) → 0 < length (scalar_text s)
+unfolding scalar_text quoted
+some_text (trees.boolean true) = omega arith
+some_text (trees.boolean false) = omega arith
+some_text _ = omega arith
+
+some_tree_text : (t : Tree) → 0 < length (text t)
+some_tree_text (leaf s) = some_text s
+some_tree_text (doc fs) = omega arith
+some_tree_text (array ts) = omega arith
+some_tree_text (code_scope s fs) = omega arith
+
+pub shorter : (t : Tree) (whole rest : List ℕ) → whole ≡ text t ++ rest → length rest < length whole
+shorter t whole rest is = omega (arith, some_tree_text t, ap (λ x. length x) is, length-append (text t) rest)
+
+-- ---- what is read of a value
+
+-- the scalar that was read, and the one that was written
+pub scalar_element : (whole rest name old new : List ℕ) (s given : Scalar) → given ≡ s → whole ≡ text (leaf s) ++ rest → ScalarFits IsUtf8 s → zero_in_scalar s ≡ false
+    → new ≡ old ++ element (leaf given) name (bytes_of (leaf given)) → (t : Tree) × (whole ≡ text t ++ rest) × IsCanonical 0 t × (new ≡ old ++ element t name (bytes_of t))
+scalar_element whole rest name old new s given same is fits none put = (leaf s, is, leaf_canonical s fits none, rw (← same) put)
+
+pub string_element : (whole rest name s old new : List ℕ) → whole ≡ quoted s ++ rest → IsUtf8 s → new ≡ old ++ element (leaf (trees.text s)) name (string s)
+    → (t : Tree) × (whole ≡ text t ++ rest) × IsCanonical 0 t × (new ≡ old ++ element t name (bytes_of t))
+unfolding scalar_text
+string_element whole rest name s old new is utf8 put = scalar_element whole rest name old new (trees.text s) (trees.text s) refl is utf8 refl put
+
+pub packs_canonical : (line rest : List ℕ) (new old : List ℕ) (d : Doc) (e : Bool) (r : Option (Unit {0})) → line ≡ text (doc (fields_of d)) ++ rest
+    → AreCanonicalFields (most_levels - 1) d → length new ≤ longest_document → new ≡ old ++ plain d
+    → e ≡ (length rest == 0) → r ≡ then_some e tt → IfSome r (λ u. (d : Doc) × IsPackable line d × (new ≡ old ++ plain d))
+packs_canonical line rest new old d true r is known short put empty then =
+    let none : length rest ≡ 0 = grind arith in
+    rw then (d, (reads_canonical line rest d is none known, omega (arith, short, ap (λ x. length x) put, length-append old (plain d))), put)
+packs_canonical line rest new old d false r is known short put empty then = rw then tt
+
+-- ---- strings with escapes
+
+pub run_read : (text : List ℕ) (n : ℕ) (o : Option (Bor (List ℕ) × Bor (List ℕ))) → IfSome o (λ x. x.0.now ≡ take n text)
+    → IfSome o (λ x. x.1.now ≡ drop n text) → list_any needs_escape (take n text) ≡ false
+    → IfSome o (λ p. text ≡ escaped p.0.now ++ p.1.now)
+run_read text n None front back none = tt
+run_read text n (Some p) front back none =
+    sym (take-append-drop n text) ∙ ap₂ (λ (x y : List ℕ). x ++ y) (sym (escaped-plain (take n text) none) ∙ ap escaped (sym front)) (sym back)
+
+-- an escape and the run after it
+pub run_goes_on : (text held old after run rest : List ℕ) (byte : ℕ) → text ≡ 34 ∷ (escaped held ++ old) → old ≡ escape_byte byte ++ after
+    → after ≡ escaped run ++ rest → text ≡ 34 ∷ (escaped (held ++ (byte ∷ run)) ++ rest)
+run_goes_on text held old after run rest byte a b c = rw (a, b, c, flat_map-append escape_byte held (byte ∷ run)) (simp append_assoc)
+
+escape_some : (byte : ℕ) → 0 < length (escape_byte byte)
+unfolding escape_byte
+escape_some byte = go (byte == 34 || byte == 92) (byte == 8) (byte == 12) (byte == 10) (byte == 13) (byte == 9) (nat_lt byte 32)
+  where
+    go : (a b c d e f g : Bool)
+        → 0 < length (cond a (92 ∷ byte ∷ []) (cond b (codes "\\b") (cond c (codes "\\f")
+        (cond d (codes "\\n") (cond e (codes "\\r") (cond f (codes "\\t")
+        (cond g (codes "\\u00" ++ (digit_char (byte / 16) ∷ digit_char (byte % 16) ∷ [])) (byte ∷ []))))))))
+    go false false false false false false false = omega arith
+    go _ _ _ _ _ _ _ = omega arith
+
+pub run_shorter : (old after run rest : List ℕ) (byte : ℕ) → old ≡ escape_byte byte ++ after → after ≡ escaped run ++ rest → length rest < length old
+run_shorter old after run rest byte a b = omega (arith, ap (λ x. length x) a, ap (λ x. length x) b, length-append (escape_byte byte) after, length-append (escaped run) rest, escape_some byte)
+
+pub run_ends : (text held old : List ℕ) (o : Option (Bor (List ℕ))) (into new : List ℕ) → text ≡ 34 ∷ (escaped held ++ old) → new ≡ into ++ held → IfSome o (λ rest. old ≡ 34 ∷ rest.now)
+    → IfSome o (λ rest. (held : List ℕ) × (text ≡ quoted held ++ rest.now) × (new ≡ into ++ held))
+unfolding quoted
+run_ends text held old None into new a b c = tt
+run_ends text held old (Some rest) into new a b c = (held, rw (a, c) (simp append_assoc), b)
+
+-- ---- what is pushed to a text
+
+pub pushed : {A E : Type 0} (r : Result A E) (x : A) (new a b : List ℕ) → Some x ≡ result_ok r → new ≡ cond (is_ok r) a b → new ≡ a
+pushed (Ok y) x new a b is e = e
+pushed (Err f) x new a b is e = absurd cc
+
+pub pieces_put : (into old held plain one new encoded : List ℕ) (byte : ℕ) → old ≡ into ++ held → one ≡ old ++ encoded → encoded ≡ byte ∷ []
+    → new ≡ one ++ plain → new ≡ into ++ (held ++ (byte ∷ plain))
+pieces_put into old held plain one new encoded byte a b c d = rw (d, b, a, c) (simp append_assoc)
+
+pub all_more : (bs : List ℕ) (i : ℕ) → i < length bs → all_ascii_digits (take i bs) ≡ true → is_ascii_digit (get_or bs i 0) ≡ true → all_ascii_digits (take (suc i) bs) ≡ true
+all_more [] i lt all one = absurd (omega arith)
+all_more (b ∷ bs) zero lt all one = rw one refl
+all_more (b ∷ bs) (suc i) lt all one =
+    let both = and_parts (is_ascii_digit b) (all_ascii_digits (take i bs)) all in
+    rw (both.0, all_more bs i (omega arith) both.1 one) refl
+
+pub hex_is : {A E : Type 0} (r : Result A E) (digits written bytes : List ℕ) → is_err r ≡ false → OnOk r (written ≡ encode_lower bytes) → bytes_eq digits written ≡ true → digits ≡ hex_text bytes
+unfolding hex_text
+hex_is (Ok _) digits written bytes well hex same = (bytes_eq-Decides digits written).0 same ∙ hex
+hex_is (Err _) digits written bytes well hex same = absurd cc
+
+was_ok : (r : Result (List ℕ) FromHexError) (x : List ℕ) → Some x ≡ result_ok r → r ≡ Ok x
+was_ok (Ok y) x e = cc
+was_ok (Err f) x e = absurd cc
+
+pub id_fits : (s bytes : List ℕ) → Some bytes ≡ result_ok (decode_sized s 12) → IsId bytes
+id_fits s bytes e =
+    let whole = was_ok (decode_sized s 12) bytes e in
+    let size = decode_sized-ok s 12 bytes whole in
+    let all = decode_of-ok s bytes (sym (decode_sized-twice s 12 size) ∙ whole) in
+    (omega (arith, size, all.2), all.3)
+
+-- ---- digits
+
+pub digits_read : (text rest bytes : List ℕ) (n count : ℕ) → bytes ≡ text → count ≤ length bytes → digits_value 10 (take count bytes) ≡ n → all_ascii_digits (take count bytes) ≡ true → n < 2 ^ 64
+    → 0 < count → (1 < count → get_or bytes 0 0 ≡ 48 → ⊥) → rest ≡ drop count text → text ≡ decimal n ++ rest
+digits_read text rest bytes n count same within value all small some lead left =
+    let d = take count bytes in
+    let long : length d ≡ count = length-take-le count bytes within in
+    let first : get_or d 0 0 ≡ get_or bytes 0 0 = get_or-take count bytes 0 0 (omega arith) in
+    let alone : get_or d 0 0 ≡ 48 → length d ≡ 1 = λ e. elim (cases_lt 1 count) [
+      | inl more ↦ absurd (lead more (sym first ∙ e))
+      | inr few ↦ omega (arith, long)
+    ] in
+    let back = decimal-digits_value own d all (omega (arith, long)) alone (omega (arith, value)) in
+    sym (take-append-drop count text) ∙ ap₂ (λ (x y : List ℕ). x ++ y) (ap (take count) (sym same) ∙ sym back ∙ ap decimal value) (sym left)
+
+-- one more digit
+pub digit_more : (bs : List ℕ) (i n m d next : ℕ) → i < length bs → digits_value 10 (take i bs) ≡ n → all_ascii_digits (take i bs) ≡ true
+    → is_ascii_digit (get_or bs i 0) ≡ true → m ≡ n * 10 → d ≡ get_or bs i 0 - 48 → next ≡ m + d
+    → (i + 1 ≤ length bs) × (digits_value 10 (take (i + 1) bs) ≡ next) × (all_ascii_digits (take (i + 1) bs) ≡ true)
+digit_more bs i n m d next lt value all one times digit sum =
+    let low : 48 ≤ get_or bs i 0 = grind arith in
+    let high : get_or bs i 0 ≤ 57 = grind arith in
+    let digit_is = digit_value_digit (get_or bs i 0) (low, high) in
+    let step = digits_value_more 10 bs i lt in
+    let after : i + 1 ≡ suc i = omega arith in (
+      omega arith,
+      step ∙ omega (arith, value, times, digit, sum, digit_is),
+      ap (λ k. all_ascii_digits (take k bs)) after ∙ all_more bs i lt all one,
+    )
+
+escaped-decimal : (n : ℕ) → n < 2 ^ 64 → escaped (decimal n) ≡ decimal n
+escaped-decimal n small = escaped-digits (decimal n) (decimal_is_IsNumeral n small).0.1
+
+pub positive_read : (text inside rest after : List ℕ) (n : ℕ) (z : ℤ) → text ≡ 34 ∷ inside → inside ≡ decimal n ++ rest → n < 2 ^ 64
+    → rest ≡ 34 ∷ after → pos n ≡ z → text ≡ quoted (signed_decimal z) ++ after
+unfolding quoted
+positive_read text inside rest after n z a b small c same = rw (a, b, c, ← same, escaped-decimal n small, append_assoc (decimal n) (34 ∷ []) after) refl
+
+pub negative_read : (text inside digits rest after : List ℕ) (n : ℕ) (z : ℤ) → text ≡ 34 ∷ inside → inside ≡ 45 ∷ digits → digits ≡ decimal n ++ rest
+    → n < 2 ^ 64 → rest ≡ 34 ∷ after → 0 < n → neg_ℤ (pos n) ≡ z
+    → text ≡ quoted (signed_decimal z) ++ after
+unfolding quoted escape_byte
+negative_read text inside digits rest after zero z a m b small c some same = absurd (omega arith)
+negative_read text inside digits rest after (suc n) z a m b small c some same = rw (a, m, b, c, ← same, escaped-decimal (suc n) small, append_assoc (decimal (suc n)) (34 ∷ []) after) refl
+
+-- ---- the test, lane by lane
+
+tested : (a b c : Bool) → top 7 (bit_or (bit_or (cond a 255 0) (cond b 255 0)) (cond c 255 0)) ≡ ((a || b) || c)
+tested true true true = refl
+tested true true false = refl
+tested true false true = refl
+tested true false false = refl
+tested false true true = refl
+tested false true false = refl
+tested false false true = refl
+tested false false false = refl
+
+each_tested : (v : List ℕ) → map (λ x. top 7 (bit_or (bit_or (cond (eqb x 34) 255 0) (cond (eqb x 92) 255 0)) (cond (ltb x 32) 255 0))) v ≡ map needs_escape v
+each_tested [] = refl
+each_tested (x ∷ v) = ap₂ (λ b bs. b ∷ bs) (tested (eqb x 34) (eqb x 92) (ltb x 32)) (each_tested v)
+
+abbrev equal : ℕ → ℕ → ℕ
+equal a b = cond (eqb a b) 255 0
+
+abbrev below : ℕ → ℕ → ℕ
+below a b = cond (ltb a b) 255 0
+
+pub stops_mask : (v : List ℕ) → length v ≡ 32 → mask_l (map (top 7) (zip2 bit_or
+    (zip2 bit_or (zip2 equal v (replicate 32 34)) (zip2 equal v (replicate 32 92))) (zip2 below v (replicate 32 32)))) % 2 ^ 64 ≡ mask_l (map needs_escape v)
+stops_mask v long =
+    let quotes = zip2_splat equal v 32 34 long in
+    let slashes = zip2_splat equal v 32 92 long in
+    let controls = zip2_splat below v 32 32 long in
+    let both = zip2_of_maps bit_or _ _ v quotes slashes in
+    let all = zip2_of_maps bit_or _ _ v both controls in
+    ap (λ ms. mask_l ms % 2 ^ 64) (ap (map (top 7)) all ∙ map-map (top 7) _ v ∙ each_tested v) ∙ mask_l-mod (map needs_escape v) 64 (omega (arith, length-map v needs_escape, long))
+
+-- ---- bytes before the first that stops
+
+none_any : (p : ℕ → Bool) (xs : List ℕ) → ((k : ℕ) → k < length xs → p (get_or xs k 0) ≡ false) → list_any p xs ≡ false
+none_any p [] quiet = refl
+none_any p (x ∷ xs) quiet = rw (quiet 0 (omega arith)) (none_any p xs (λ k lt. quiet (suc k) (omega arith)))
+
+abbrev pub IsQuiet : List ℕ → ℕ → Type 0
+IsQuiet text n = (k : ℕ) → k < n → needs_escape (get_or text k 0) ≡ false
+
+pub quiet_front : (text bytes : List ℕ) (n : ℕ) → bytes ≡ text → n ≤ length bytes → IsQuiet bytes n → list_any needs_escape (take n text) ≡ false
+quiet_front text bytes n same le quiet =
+    let long = length-take-le n bytes le in
+    rw (← same) (none_any needs_escape (take n bytes) (λ k lt. ap needs_escape (get_or-take n bytes k 0 (omega (arith, long))) ∙ quiet k (omega (arith, long))))
+
+module _ (text : List ℕ) (i : ℕ) (room : i + 32 ≤ length text) (before : IsQuiet text i) where
+  pub all_quiet : mask_l (map needs_escape (chunk i 32 text)) ≡ 0 → IsQuiet text (i + 32)
+  all_quiet none k lt = elim (cases_lt k i) [
+    | inl less ↦ before k less
+    | inr more ↦ none_from_empty_mask needs_escape text i 32 0 room none k (omega (arith, more)) lt
+  ]
+
+  -- the first byte that stops is one of the chunk, and those before it are quiet
+  pub stops_within : (r : ℕ) → 0 < mask_l (map needs_escape (chunk i 32 text)) → r ≡ count_trailing_zeros 64 (mask_l (map needs_escape (chunk i 32 text))) → (r ≤ 32) × IsQuiet text (i + r)
+  stops_within r some counted =
+      let long = length-chunk i 32 text room in
+      let first : r ≡ prefix_len (λ x. not (needs_escape x)) (chunk i 32 text) = counted ∙ trailing_mask_l needs_escape 64 (chunk i 32 text) (omega (arith, long)) some in
+      let quiet : IsQuiet text (i + r) = λ k lt. elim (cases_lt k i) [
+        | inl less ↦ before k less
+        | inr more ↦ run_in_chunk_fails needs_escape text i 32 r 0 room first k (omega (arith, more)) lt
+      ] in
+      (omega (arith, first, prefix_len-le-length (λ x. not (needs_escape x)) (chunk i 32 text), long), quiet)

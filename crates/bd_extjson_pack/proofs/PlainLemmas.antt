@@ -1,0 +1,190 @@
+-- What is read of a text can be written: it nests 200 levels at most, and no name and no text of a regular expression has
+-- a zero.
+use Rattle.std.proofs.Common.{◌≡◌, ◌≤◌, ℕ, zero, suc, ◌-◌, ℤ, List, Bool, true, false, ◌||◌, Option, Some, None, refl, sym, ap, ◌∙◌, arith}
+use Rattle.std.specs.Prelude.{codes, option_map, option_and_then, unwrap_or, if◌then◌else◌}
+use Rattle.std.specs.Option.{option_map_or, option_zip}
+use Rattle.std.proofs.lemmas.Bool.{cond_both, or_from}
+use Rattle.bd_value.specs.{Limits.most_levels, Fits.has_zero, Fits.zero_in, Fits.zero_in_scalar, Fits.zero_in_fields, Fits.zero_in_items}
+use Rattle.bd_value.specs.Tree.{depth, fields_depth, items_depth}
+use Rattle.bd_value.specs.Tree.{Scalar, Tree, leaf, doc, array, code_scope, Items, no_items, item, Fields, no_fields, field, Doc, fields_of, pairs_of, fields_of-pairs_of}
+use Rattle.json.specs.{Token.Token, Json.Json, Find.as_bool, Find.as_str}
+use Rattle.json.specs.Json as json
+use Rattle.bd_value.specs.Tree as trees
+use Rattle.bd_extjson_wrapper.specs.{WholeNumber.fits_bits, WholeNumber.whole_64, WholeNumber.whole_32, Wrapper.through, declared.wrapper.Wrapper.Wrapper}
+use Rattle.bd_extjson_wrapper.specs.Wrapper.{wrapper_of, single, name_in, both_in, pair, id_of, data_in, subtype_in, word_in, only, long_in, one}
+use Rattle.bd_extjson.specs.Read.{wrap, wrap_items, wrap_object, wrapped, wrap_fields, bare_number, nested, add_item, add_field, with_scope, two, ReadsAs, document}
+use Rattle.bd_extjson.specs.Read as reads
+use Rattle.bd_extjson_wrapper.specs.declared.wrapper.Wrapper.TheVariants as kinds
+
+-- what stands there nests so deep at most, and has no zero where there may be none
+abbrev IsTree : ℕ → Option Tree → Type 0
+IsTree room None = Unit {0}
+IsTree room (Some t) = (depth t ≤ room) × (zero_in t ≡ false)
+
+abbrev AreItems : ℕ → Option Items → Type 0
+AreItems room None = Unit {0}
+AreItems room (Some ts) = (items_depth ts ≤ room) × (zero_in_items ts ≡ false)
+
+abbrev AreFields : ℕ → Option Fields → Type 0
+AreFields room None = Unit {0}
+AreFields room (Some fs) = (fields_depth fs ≤ room) × (zero_in_fields fs ≡ false)
+
+-- ---- scalars
+
+abbrev IsScalar : Option Scalar → Type 0
+IsScalar None = Unit {0}
+IsScalar (Some s) = zero_in_scalar s ≡ false
+
+mapped : {A : Type 0} (f : A → Scalar) → ((x : A) → zero_in_scalar (f x) ≡ false) → (o : Option A) → IsScalar (option_map f o)
+mapped f h None = tt
+mapped f h (Some x) = h x
+
+abbrev HasNone : Option (List ℕ) → Type 0
+HasNone None = Unit {0}
+HasNone (Some s) = has_zero s ≡ false
+
+none_in : (s : List ℕ) → HasNone (if has_zero s then None else Some s)
+none_in s = cond_both (has_zero s) None (Some s) HasNone (λ e. tt) (λ e. e)
+
+name_plain : (j : Json) → HasNone (name_in j)
+name_plain j = go (as_str j)
+  where
+    go : (o : Option (List ℕ)) → HasNone (option_and_then (λ s. if has_zero s then None else Some s) o)
+    go None = tt
+    go (Some s) = none_in s
+
+regex_plain : (a b : Option (List ℕ)) → HasNone a → HasNone b → IsScalar (option_map (λ p. trees.regex p.0 p.1) (option_zip a b))
+regex_plain (Some s) (Some t) p q = or_from (has_zero s) (has_zero t) p q
+regex_plain _ _ p q = tt
+
+pair_plain : (o : Option (Json × Json)) → IsScalar (option_map (λ p. trees.regex p.0 p.1) (option_and_then (both_in name_in name_in) o))
+pair_plain None = tt
+pair_plain (Some p) = regex_plain (name_in p.0) (name_in p.1) (name_plain p.0) (name_plain p.1)
+
+true_plain : (b : Bool) (s : Scalar) → zero_in_scalar s ≡ false → IsScalar (if b then Some s else None)
+true_plain true s h = h
+true_plain false s h = tt
+
+single_plain : (w : Wrapper) (j : Json) → IsScalar (single w j)
+single_plain kinds.NumberInt j = mapped (λ z. trees.int32 z) (λ z. refl) (option_and_then whole_32 (as_str j))
+single_plain kinds.NumberLong j = mapped (λ z. trees.int64 z) (λ z. refl) (long_in j)
+single_plain kinds.Oid j = mapped (λ b. trees.object_id b) (λ b. refl) (id_of j)
+single_plain kinds.Symbol j = mapped (λ s. trees.symbol s) (λ s. refl) (as_str j)
+single_plain kinds.Binary j = mapped (λ (p : List ℕ × ℕ). trees.binary p.1 p.0) (λ p. refl) (option_and_then (both_in data_in subtype_in) (pair (codes "base64") (codes "subType") j))
+single_plain kinds.Code j = mapped (λ s. trees.code s) (λ s. refl) (as_str j)
+single_plain kinds.Timestamp j = mapped (λ (p : ℕ × ℕ). trees.timestamp p.0 p.1) (λ p. refl) (option_and_then (both_in word_in word_in) (pair (codes "t") (codes "i") j))
+single_plain kinds.RegularExpression j = pair_plain (pair (codes "pattern") (codes "options") j)
+single_plain kinds.DbPointer j = mapped (λ (p : List ℕ × List ℕ). trees.db_pointer p.0 p.1) (λ p. refl)
+    (option_and_then (both_in as_str (λ i. option_and_then id_of (only (codes "$oid") i))) (pair (codes "$ref") (codes "$id") j))
+single_plain kinds.Date j = mapped (λ z. trees.date z) (λ z. refl) (option_and_then long_in (only (codes "$numberLong") j))
+single_plain kinds.MinKey j = true_plain (one j) trees.min_key refl
+single_plain kinds.MaxKey j = true_plain (one j) trees.max_key refl
+single_plain kinds.Undefined j = true_plain (unwrap_or (as_bool j) false) trees.undefined refl
+single_plain _ j = tt
+
+leaf_plain : (room : ℕ) (o : Option Scalar) → IsScalar o → IsTree room (option_map leaf o)
+leaf_plain room None h = tt
+leaf_plain room (Some s) h = (omega arith, h)
+
+number_plain : (room : ℕ) (o : Option ℤ) → IsTree room (bare_number o)
+number_plain room None = tt
+number_plain room (Some z) = cond_both (fits_bits 31 z) (trees.int32 z) (trees.int64 z) (λ s. IsTree room (Some (leaf s))) (λ e. (omega arith, refl)) (λ e. (omega arith, refl))
+
+-- ---- lists
+
+item_plain : (room : ℕ) (t : Option Tree) (ts : Option Items) → IsTree room t → AreItems room ts → AreItems room (add_item t ts)
+item_plain room (Some t) (Some ts) p q = (let a = p.0 in let b = q.0 in omega arith, or_from (zero_in t) (zero_in_items ts) p.1 q.1)
+item_plain room _ _ p q = tt
+
+field_plain : (room : ℕ) (name : List ℕ) (t : Option Tree) (fs : Option Fields) → IsTree room t → AreFields room fs → AreFields room (add_field name t fs)
+field_plain room name (Some t) (Some fs) p q =
+    let a = p.0 in
+    let b = q.0 in
+    cond_both (has_zero name) None (Some (field name t fs)) (AreFields room) (λ e. tt)
+    (λ e. (omega arith, or_from (has_zero name) (zero_in t || zero_in_fields fs) e (or_from (zero_in t) (zero_in_fields fs) p.1 q.1)))
+field_plain room name _ _ p q = tt
+
+array_plain : (room : ℕ) (ts : Option Items) → AreItems (room - 1) ts → IsTree room (nested room (option_map array ts))
+array_plain (suc room) (Some ts) p = (let a = p.0 in omega arith, p.1)
+array_plain _ _ p = tt
+
+doc_plain : (room : ℕ) (fs : Option Fields) → AreFields (room - 1) fs → IsTree room (nested room (option_map doc fs))
+doc_plain (suc room) (Some fs) p = (let a = p.0 in omega arith, p.1)
+doc_plain _ _ p = tt
+
+-- ---- objects that stand for values of other kinds
+
+scope_plain : (room : ℕ) (s : Option (List ℕ)) (t : Option Tree) → IsTree (room - 1) t → IsTree room (nested room (with_scope s t))
+scope_plain (suc room) (Some s) (Some (doc fs)) p = (let a = p.0 in omega arith, p.1)
+scope_plain _ _ _ p = tt
+
+two_plain : (room : ℕ) (w : Wrapper) (j : Json) (t : Option Tree) (v : Option Wrapper) (i : Json) (u : Option Tree) (ms : json.Members)
+    → IsTree (room - 1) t → IsTree (room - 1) u → IsTree room (nested room (two w j t v i u ms))
+two_plain room kinds.Code j t (Some kinds.Scope) i u json.no_members p q = scope_plain room (as_str j) u q
+two_plain room kinds.Scope j t (Some kinds.Code) i u json.no_members p q = scope_plain room (as_str i) t p
+two_plain zero _ j t _ i u _ p q = tt
+two_plain (suc room) _ j t _ i u _ p q = tt
+
+either_plain : (room : ℕ) (o : Option Wrapper) (f : Wrapper → Option Tree) (d : Option Tree) → ((w : Wrapper) → IsTree room (f w)) → IsTree room d → IsTree room (option_map_or f o d)
+either_plain room None f d p q = q
+either_plain room (Some w) f d p q = p w
+
+-- ---- values
+
+mutual
+  wrap_plain : (room : ℕ) (j : Json) → IsTree room (wrap room j)
+  wrap_plain room json.null = (omega arith, refl)
+  wrap_plain room (json.boolean b) = (omega arith, refl)
+  wrap_plain room (json.number s) = number_plain room (whole_64 s)
+  wrap_plain room (json.string s) = (omega arith, refl)
+  wrap_plain room (json.array js) = array_plain room (wrap_items (room - 1) js) (wrap_items_plain (room - 1) js)
+  wrap_plain room (json.object ms) = wrap_object_plain room ms
+
+  wrap_items_plain : (room : ℕ) (js : json.Items) → AreItems room (wrap_items room js)
+  wrap_items_plain room json.no_items = (omega arith, refl)
+  wrap_items_plain room (json.item j js) = item_plain room (wrap room j) (wrap_items room js) (wrap_plain room j) (wrap_items_plain room js)
+
+  wrap_object_plain : (room : ℕ) (ms : json.Members) → IsTree room (wrap_object room ms)
+  wrap_object_plain room json.no_members = doc_plain room (Some no_fields) (omega arith, refl)
+  wrap_object_plain room (json.member name j ms) =
+      either_plain room (wrapper_of name) (λ w. wrapped room w j (wrap (room - 1) j) ms) (nested room (option_map doc (add_field name (wrap (room - 1) j) (wrap_fields (room - 1) ms))))
+      (λ w. wrapped_plain room w j (wrap (room - 1) j) ms (wrap_plain (room - 1) j))
+      (doc_plain room (add_field name (wrap (room - 1) j) (wrap_fields (room - 1) ms))
+      (field_plain (room - 1) name (wrap (room - 1) j) (wrap_fields (room - 1) ms) (wrap_plain (room - 1) j) (wrap_fields_plain (room - 1) ms)))
+
+  wrapped_plain : (room : ℕ) (w : Wrapper) (j : Json) (t : Option Tree) (ms : json.Members) → IsTree (room - 1) t → IsTree room (wrapped room w j t ms)
+  wrapped_plain room w j t json.no_members p = leaf_plain room (single w j) (single_plain w j)
+  wrapped_plain room w j t (json.member name i ms) p = two_plain room w j t (wrapper_of name) i (wrap (room - 1) i) ms p (wrap_plain (room - 1) i)
+
+  wrap_fields_plain : (room : ℕ) (ms : json.Members) → AreFields room (wrap_fields room ms)
+  wrap_fields_plain room json.no_members = (omega arith, refl)
+  wrap_fields_plain room (json.member name j ms) = field_plain room name (wrap room j) (wrap_fields room ms) (wrap_plain room j) (wrap_fields_plain room ms)
+
+-- ---- documents
+
+abbrev IsPlain : Doc → Type 0
+IsPlain d = (depth (doc (fields_of d)) ≤ most_levels) × (zero_in (doc (fields_of d)) ≡ false)
+
+of_tree : (t : Option Tree) (d : Doc) → IsTree most_levels t → option_map pairs_of (option_and_then document t) ≡ Some d → IsPlain d
+of_tree (Some (doc fs)) d p e =
+    let is : pairs_of fs ≡ d = cc in
+    let same : fields_of d ≡ fs = ap fields_of (sym is) ∙ fields_of-pairs_of fs in
+    rw same p
+of_tree _ d p e = absurd cc
+
+pub reads_plain : (text : List ℕ) (d : Doc) → ReadsAs text d → IsPlain d
+reads_plain text d = of_json (reads.json text)
+  where
+    of_json : (o : Option Json) → option_map pairs_of (option_and_then document (option_and_then (wrap most_levels) o)) ≡ Some d → IsPlain d
+    of_json None e = absurd cc
+    of_json (Some j) e = of_tree (wrap most_levels j) d (wrap_plain most_levels j) e
+
+-- ---- parts
+
+kept : (o : Option Tree) (t : Tree) (ts rest : List Token) → option_map {U = Tree × List Token} (λ a. (a, ts)) o ≡ Some (t, rest) → o ≡ Some t
+kept None t ts rest e = absurd cc
+kept (Some u) t ts rest e = ap (λ (x : Option (Tree × List Token)). option_map (λ (p : Tree × List Token). p.0) x) e
+
+pub object_plain : (room : ℕ) (r : Option (json.Members × List Token)) (t : Tree) (rest : List Token) → through (wrap_object room) r ≡ Some (t, rest) → zero_in t ≡ false
+object_plain room None t rest e = absurd cc
+object_plain room (Some p) t rest e = (rw (kept (wrap_object room p.0) t p.1 rest e) at (wrap_object_plain room p.0)).1

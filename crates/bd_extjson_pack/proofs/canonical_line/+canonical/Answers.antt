@@ -1,0 +1,112 @@
+use Rattle.std.proofs.Common.{◌≡◌, ◌+◌, ◌-◌, suc, ◌++◌, ◌∷◌, [], length, length-append, rules, arith, ap, ◌∙◌, append_assoc}
+use Rattle.std.specs.Prelude.{decimal}
+use Rattle.std.proofs.lemmas.Option.{IfSome_then}
+use Rattle.bd_value.specs.Tree.{doc, array, fields_of, items_of}
+use Rattle.bd_bson_write.specs.TreeBytes.{fields_bytes, items_bytes}
+use Rattle.bd_extjson_text.specs.Text.{text, member, items_text, fields_text}
+use Rattle.bd_extjson_pack.proofs.BodyLemmas as bodies
+use Rattle.bd_extjson_pack.proofs.CanonicalLemmas as pieces
+use Rattle.bd_extjson_pack.proofs.canonical_line.+canonical.Goals as goal
+
+-- ---- append_fields
+
+pub append_fields-loop-next-preserved : goal.append_fields-loop-next-preserved
+append_fields-loop-next-preserved t c =
+    let l = c.loop-next in
+    let ps = l.invariant.0 in
+    let k = c.in_ok-name.name.now in
+    let g = c.in_ok-rest-2.ensures in
+    let v = g.0 in
+    let whole = c.args.text.now in
+    let rest = c.in_ok-rest-2.rest.now in
+    let read = c.in_ok-name.ensures in
+    let next = c.after_word-next.result in
+    let at = c.in-Some.at.now in
+    let turn = pieces.goes_on 123 whole (fields_text (fields_of ps)) (member k (text v)) at rest next (rw c.in-Some.is at l.invariant.2)
+    (pieces.member_read at c.in_ok-after_word.field-0.now k v rest (rw c.in_ok-after_word.ensures at read.0) g.1) c.after_word-next.ensures in (
+      ps ++ (k, v) ∷ [],
+      pieces.one_more_canonical_field c.args.room ps k v l.invariant.1 (search rules, read.1, c.may_name_wrapper.ensures c.if-may_name_wrapper.false) g.2,
+      rw (pieces.members_end ps k v) turn,
+      search rules,
+      pieces.within_rest rest next c.after_word-next.ensures,
+      rw (g.3, l.invariant.5, bodies.one_more_field ps k v) (simp append_assoc),
+    )
+
+pub append_fields-end_body-requires : goal.append_fields-end_body-requires
+append_fields-end_body-requires t c =
+    let size = bodies.body_size c.begin_body.result c.in_ok-start.start _ c.args.out.now.items
+    (fields_bytes (fields_of c.loop-next.invariant.0)) c.loop-next.out.items c.in_ok-start.ensures.value
+    c.begin_body.ensures.place c.loop-next.invariant.5 in
+    search rules
+
+pub append_fields-returns-clause-gives : goal.append_fields-returns-clause-gives
+append_fields-returns-clause-gives t c =
+    let l = c.loop-next in
+    let ps = l.invariant.0 in
+    let put = bodies.if_ok _ _ _ _ c.in_ok-ok.ensures.value c.end_body.ensures.ok
+    ∙ bodies.ended c.begin_body.result c.in_ok-start.start _ c.args.out.now.items (fields_bytes (fields_of ps))
+    l.out.items c.in_ok-start.ensures.value c.begin_body.ensures.place l.invariant.5 in
+    IfSome_then c.after_word-2.result c.after_word-2.ensures
+    (λ rest e. (ps, pieces.ended_at 123 125 c.args.text.now (fields_text (fields_of ps)) l.rest.now rest.now (rw c.in_default.is at l.invariant.2) e, l.invariant.1, put))
+
+-- ---- append_items
+
+pub append_items-loop-next-smaller : goal.append_items-loop-next-smaller
+append_items-loop-next-smaller t c =
+    let l = c.loop-next in
+    let g = c.in_ok-rest-2.ensures in
+    omega (arith, rw c.in-Some.is at l.invariant.4, pieces.shorter g.0 _ _ g.1)
+
+pub append_items-loop-next-preserved : goal.append_items-loop-next-preserved
+append_items-loop-next-preserved t c =
+    let l = c.loop-next in
+    let ts = l.invariant.0 in
+    let g = c.in_ok-rest-2.ensures in
+    let v = g.0 in
+    let whole = c.args.text.now in
+    let rest = c.in_ok-rest-2.rest.now in
+    let next = c.after_word-next.result in
+    let name : c.format.result.now ≡ decimal (length ts) = c.format.ensures.text ∙ ap decimal l.invariant.6 in
+    let place : c.in_ok-place.place ≡ l.place + 1 = search rules in
+    let turn = pieces.goes_on 91 whole (items_text (items_of ts)) (text v) c.in-Some.at.now rest next (rw c.in-Some.is at l.invariant.2) g.1 c.after_word-next.ensures in (
+      ts ++ v ∷ [],
+      pieces.one_more_canonical c.args.room ts v l.invariant.1 g.2,
+      rw (pieces.texts_end ts v) turn,
+      search rules,
+      pieces.within_rest rest next c.after_word-next.ensures,
+      rw (g.3, name, l.invariant.5, bodies.one_more_item ts v) (simp append_assoc),
+      omega (arith, place, l.invariant.6, length-append ts (v ∷ [])),
+    )
+
+pub append_items-end_body-requires : goal.append_items-end_body-requires
+append_items-end_body-requires t c =
+    let size = bodies.body_size c.begin_body.result c.in_ok-start.start _ c.args.out.now.items
+    (items_bytes 0 (items_of c.loop-next.invariant.0)) c.loop-next.out.items c.in_ok-start.ensures.value
+    c.begin_body.ensures.place c.loop-next.invariant.5 in
+    search rules
+
+pub append_items-returns : goal.append_items-returns
+append_items-returns t c =
+    let l = c.loop-next in
+    let ts = l.invariant.0 in
+    let put = bodies.if_ok _ _ _ _ c.in_ok-ok.ensures.value c.end_body.ensures.ok
+    ∙ bodies.ended c.begin_body.result c.in_ok-start.start _ c.args.out.now.items (items_bytes 0 (items_of ts))
+    l.out.items c.in_ok-start.ensures.value c.begin_body.ensures.place l.invariant.5 in
+    IfSome_then c.after_word-2.result c.after_word-2.ensures
+    (λ rest e. (ts, pieces.ended_at 91 93 c.args.text.now (items_text (items_of ts)) l.rest.now rest.now (rw c.in_default.is at l.invariant.2) e, l.invariant.1, put))
+
+-- ---- append_next
+
+pub append_next-returns-in_ok-ok-in-123-3 : goal.append_next-returns-in_ok-ok-in-123-3
+append_next-returns-in_ok-ok-in-123-3 t c =
+    let label = (bodies.if_ok _ _ _ _ c.in_ok-ok-in-123-3.ensures.value c.append_label.ensures.ok).0 in
+    let room = c.args.room in
+    IfSome_then c.append_fields.result c.append_fields.ensures.gives
+    (λ rest g. (doc (fields_of g.0), g.1, pieces.roomier (suc (room - 1)) room _ (omega arith) (pieces.doc_known (room - 1) g.0 g.2), rw (g.3, label) (simp append_assoc)))
+
+pub append_next-returns-in_ok-ok-in-91 : goal.append_next-returns-in_ok-ok-in-91
+append_next-returns-in_ok-ok-in-91 t c =
+    let label = (bodies.if_ok _ _ _ _ c.in_ok-ok-in-91.ensures.value c.append_label-in-91.ensures.ok).0 in
+    let room = c.args.room in
+    IfSome_then c.append_items.result c.append_items.ensures
+    (λ rest g. (array (items_of g.0), g.1, pieces.roomier (suc (room - 1)) room _ (omega arith) (pieces.array_known (room - 1) g.0 g.2), rw (g.3, label) (simp append_assoc)))

@@ -1,0 +1,455 @@
+//! The bytes of a document straight from its canonical text, as `dump` writes it. Where a line is spelled in another way, or is no
+//! document, nothing is told but None.
+ghost use Rattle.std.specs.Prelude.{◌≡◌, ◌<◌, ◌≤◌, ◌++◌, ◌∷◌, [], ℕ, List, length, false, None, IfSome, ◌^◌, string_bytes, decimal, get_or, map, IsTrue};
+ghost use Rattle.bd_value.specs.Limits.{longest_document};
+ghost use Rattle.bd_value.specs.Tree.{Tree, Doc, leaf, doc, array, fields_of, items_of};
+ghost use Rattle.bd_bson_view.specs.Spelling.{element};
+ghost use Rattle.bd_bson_write.specs.TreeBytes.{bytes_of};
+ghost use Rattle.bd_extjson_wrapper.specs.Wrapper.{wrapper_of};
+ghost use Rattle.bd_extjson_text.specs.Text.{text as text_of, items_text, fields_text, needs_escape, escape_byte, escaped, quoted, hex_text};
+ghost use Rattle.bd_extjson_pack.specs.Packable.{plain, IsPackable, IsCanonical, AreCanonical, AreCanonicalFields};
+ghost use Rattle.std.specs.Fmt.{signed_decimal};
+ghost use Rattle.std.specs.Simd.Lanes.{mask_l};
+ghost use Rattle.bd_value.specs.Fits.{AreBytes, IsId, has_zero};
+ghost use Rattle.bd_value.specs.Tree as trees;
+
+use crate::elements::{
+    append_binary, append_bool, append_date, append_id, append_int32, append_int64, append_text,
+    push_label,
+};
+use base64::engine::general_purpose::STANDARD;
+use bd_bson_write::{append_label, begin_body, end_body};
+use bd_extjson_wrapper::id_of_text;
+use bd_value::{Kind, MOST_LEVELS};
+use std::alloc::Global;
+use std::simd::prelude::*;
+
+/// Appends the document that all of the text is.
+pub(crate) fn append_canonical(text: &str, out: &mut Vec<u8>) -> Option<()>
+    ensures { IfSome result (λ u. (d : Doc) × IsPackable text.now d × (out.new.items ≡ out.old.items ++ plain d)) }
+{
+    let rest = append_fields(text, MOST_LEVELS - 1, out)?;
+    rest.is_empty().then_some(())
+}
+
+/// Appends the document that the text begins with.
+#[cycle(canonical)]
+#[inline(never)]
+fn append_fields<'a>(text: &'a str, room: usize, out: &mut Vec<u8>) -> Option<&'a str>
+    ensures gives { IfSome result (λ rest. (d : Doc) × (text.now ≡ text_of (doc (fields_of d)) ++ rest.now) × AreCanonicalFields room d
+        × (out.new.items ≡ out.old.items ++ bytes_of (doc (fields_of d)))) }
+    ensures within { IfSome result (λ rest. length out.new.items ≤ longest_document) }
+{
+    let start = begin_body(out).ok()?;
+    let mut rest = after_word(text, b"{")?;
+    let mut next = unless_ended(rest, b'}');
+    while let Some(at) = next {
+        let (name, value) = string(at)?;
+        if may_name_wrapper(name) {
+            return None;
+        }
+        rest = append_next(after_word(value, b":")?, name, room, out)?;
+        next = after_word(rest, b",");
+    }
+    end_body(start, out).ok()?;
+    after_word(rest, b"}")
+}
+
+/// Appends the array that the text begins with.
+#[cycle(canonical)]
+#[inline(never)]
+fn append_items<'a>(text: &'a str, room: usize, out: &mut Vec<u8>) -> Option<&'a str>
+    ensures { IfSome result (λ rest. (ts : List Tree) × (text.now ≡ text_of (array (items_of ts)) ++ rest.now) × AreCanonical room ts
+        × (out.new.items ≡ out.old.items ++ bytes_of (array (items_of ts)))) }
+{
+    let start = begin_body(out).ok()?;
+    let mut rest = after_word(text, b"[")?;
+    let mut place: u32 = 0;
+    let mut next = unless_ended(rest, b']');
+    while let Some(at) = next {
+        let mut digits = itoa::Buffer::new();
+        rest = append_next(at, digits.format(place), room, out)?;
+        place = place.checked_add(1)?;
+        next = after_word(rest, b",");
+    }
+    end_body(start, out).ok()?;
+    after_word(rest, b"]")
+}
+
+/// Appends the element of that name of the value that the text begins with, and gives what follows. At most `room` documents and
+/// arrays stand in one another in it.
+#[cycle(canonical)]
+fn append_next<'a>(text: &'a str, name: &str, room: usize, out: &mut Vec<u8>) -> Option<&'a str>
+    ensures { IfSome result (λ rest. (t : Tree) × (text.now ≡ text_of t ++ rest.now) × IsCanonical room t
+        × (out.new.items ≡ out.old.items ++ element t name.now (bytes_of t))) }
+{
+    match text.as_bytes() {
+        [b'"', ..] => append_string(text, name, out),
+        [b'{', b'"', b'$', ..] => append_wrapper(text, name, out),
+        [b'{' | b'[', ..] if room == 0 => None,
+        [b'{', ..] => {
+            append_label(Kind::Doc, name, out).ok()?;
+            append_fields(text, room - 1, out)
+        }
+        [b'[', ..] => {
+            append_label(Kind::Array, name, out).ok()?;
+            append_items(text, room - 1, out)
+        }
+        _ => append_word(text, name, out),
+    }
+}
+
+/// The text, unless it begins with the bracket that ends what is read.
+#[inline(always)]
+fn unless_ended<'a>(text: &'a str, bracket: u8) -> Option<&'a str>
+    ensures { IfSome result (λ same. same.now ≡ text.now) }
+{
+    match text.as_bytes() {
+        [first, ..] if *first == bracket => None,
+        _ => Some(text),
+    }
+}
+
+/// Whether a name begins as those of all wrappers do.
+#[inline(always)]
+fn may_name_wrapper(name: &str) -> bool
+    ensures { result ≡ false → wrapper_of name.now ≡ None }
+{
+    match name.as_bytes() {
+        [first, ..] => *first == b'$',
+        [] => false,
+    }
+}
+
+/// Appends the element of that name of the wrapper that the text begins with.
+#[inline(always)]
+fn append_wrapper<'a>(text: &'a str, name: &str, out: &mut Vec<u8>) -> Option<&'a str>
+    ensures { IfSome result (λ rest. (t : Tree) × (text.now ≡ text_of t ++ rest.now) × IsCanonical 0 t
+        × (out.new.items ≡ out.old.items ++ element t name.now (bytes_of t))) }
+{
+    // By a byte in which they differ.
+    match text.as_bytes().get(9)? {
+        b'I' => {
+            let (n, rest) = int32(text)?;
+            append_int32(name, n, out)?;
+            Some(rest)
+        }
+        b'L' => {
+            let (n, rest) = whole_number(after_word(text, b"{\"$numberLong\":")?)?;
+            append_int64(name, n, out)?;
+            after_word(rest, b"}")
+        }
+        b'{' => {
+            let (n, rest) = whole_number(after_word(text, b"{\"$date\":{\"$numberLong\":")?)?;
+            append_date(name, n, out)?;
+            after_word(rest, b"}}")
+        }
+        b'"' => {
+            let (subtype, payload, rest) = binary(*out.allocator(), text)?;
+            if subtype == 2 {
+                return None;
+            }
+            append_binary(name, subtype, &payload, out)?;
+            Some(rest)
+        }
+        _ => {
+            let (id, rest) = id_digits(after_word(text, b"{\"$oid\":")?)?;
+            append_id(name, &id, out)?;
+            after_word(rest, b"}")
+        }
+    }
+}
+
+/// Appends the element of that name of the word that the text begins with.
+#[inline(always)]
+fn append_word<'a>(text: &'a str, name: &str, out: &mut Vec<u8>) -> Option<&'a str>
+    ensures { IfSome result (λ rest. (t : Tree) × (text.now ≡ text_of t ++ rest.now) × IsCanonical 0 t
+        × (out.new.items ≡ out.old.items ++ element t name.now (bytes_of t))) }
+{
+    if let Some(rest) = after_word(text, b"true") {
+        append_bool(name, true, out)?;
+        return Some(rest);
+    }
+    if let Some(rest) = after_word(text, b"false") {
+        append_bool(name, false, out)?;
+        return Some(rest);
+    }
+    let rest = after_word(text, b"null")?;
+    push_label(Kind::Null, name, out)?;
+    Some(rest)
+}
+
+/// Appends the element of that name of the string that the text begins with.
+#[inline(always)]
+fn append_string<'a>(text: &'a str, name: &str, out: &mut Vec<u8>) -> Option<&'a str>
+    ensures { IfSome result (λ rest. (t : Tree) × (text.now ≡ text_of t ++ rest.now) × IsCanonical 0 t
+        × (out.new.items ≡ out.old.items ++ element t name.now (bytes_of t))) }
+{
+    match string(text) {
+        Some((inside, rest)) => {
+            append_text(name, inside, out)?;
+            Some(rest)
+        }
+        None => append_escaped(text, name, out),
+    }
+}
+
+/// Appends the element of that name of the string with escapes that the text begins with.
+#[inline(never)]
+fn append_escaped<'a>(text: &'a str, name: &str, out: &mut Vec<u8>) -> Option<&'a str>
+    ensures { IfSome result (λ rest. (t : Tree) × (text.now ≡ text_of t ++ rest.now) × IsCanonical 0 t
+        × (out.new.items ≡ out.old.items ++ element t name.now (bytes_of t))) }
+{
+    let mut inside = String::new(*out.allocator());
+    let rest = append_unescaped(text, &mut inside)?;
+    append_text(name, &inside, out)?;
+    Some(rest)
+}
+
+/// Appends what a string with escapes holds, and gives what follows it.
+#[inline(never)]
+fn append_unescaped<'a>(text: &'a str, into: &mut String) -> Option<&'a str>
+    ensures { IfSome result (λ rest. (held : List ℕ) × (text.now ≡ quoted held ++ rest.now)
+        × (string_bytes into.new ≡ string_bytes into.old ++ held)) }
+{
+    let (plain, mut rest) = plain_run(after_word(text, b"\"")?)?;
+    into.push_str(plain).ok()?;
+    while let Some((byte, after)) = escape(rest) {
+        into.push(char::from(byte)).ok()?;
+        let (plain, after) = plain_run(after)?;
+        into.push_str(plain).ok()?;
+        rest = after;
+    }
+    after_word(rest, b"\"")
+}
+
+/// The byte of an escape of two characters, and what follows it.
+#[inline(always)]
+#[tactic(auto, unfolding(bd_extjson_text::specs::Text::escape_byte))]
+fn escape<'a>(text: &'a str) -> Option<(u8, &'a str)>
+    ensures { IfSome result (λ p. (text.now ≡ escape_byte p.0 ++ p.1.now) × (p.0 < 128)) }
+{
+    match text.as_bytes().get(1)? {
+        b'"' => Some((b'"', after_word(text, b"\\\"")?)),
+        b'\\' => Some((b'\\', after_word(text, b"\\\\")?)),
+        b'b' => Some((8, after_word(text, b"\\b")?)),
+        b'f' => Some((12, after_word(text, b"\\f")?)),
+        b'n' => Some((b'\n', after_word(text, b"\\n")?)),
+        b'r' => Some((b'\r', after_word(text, b"\\r")?)),
+        b't' => Some((b'\t', after_word(text, b"\\t")?)),
+        _ => None,
+    }
+}
+
+/// A string, and what follows it.
+#[inline(always)]
+fn string<'a>(text: &'a str) -> Option<(&'a str, &'a str)>
+    ensures { IfSome result (λ p. (text.now ≡ quoted p.0.now ++ p.1.now) × (has_zero p.0.now ≡ false)) }
+{
+    let inside = after_word(text, b"\"")?;
+    let (inside, rest) = inside.split_at_checked(plain_length(inside.as_bytes()))?;
+    let rest = after_word(rest, b"\"")?;
+    Some((inside, rest))
+}
+
+/// What stands for itself in a string, to the first byte that does not, and what follows.
+#[inline(always)]
+fn plain_run<'a>(text: &'a str) -> Option<(&'a str, &'a str)>
+    ensures { IfSome result (λ p. text.now ≡ escaped p.0.now ++ p.1.now) }
+{
+    text.split_at_checked(plain_length(text.as_bytes()))
+}
+
+/// How many bytes stand for themselves, to the first that does not.
+#[inline(always)]
+fn plain_length(text: &[u8]) -> usize
+    ensures within { result ≤ length text.now }
+    ensures plain { (k : ℕ) → k < result → needs_escape (get_or text.now k 0) ≡ false }
+{
+    let mut passed = 0;
+    while text.len() - passed >= STEP {
+        let found = stops(u8x32::from_slice(&text[passed..]));
+        if found != 0 {
+            return passed + found.trailing_zeros() as usize;
+        }
+        passed += STEP;
+    }
+    plain_length_from(text, passed)
+}
+
+/// The same, looking at one byte after the other, where so many were looked at.
+#[inline(always)]
+fn plain_length_from(text: &[u8], passed: usize) -> usize
+    requires within { passed ≤ length text.now }
+    requires plain { (k : ℕ) → k < passed → needs_escape (get_or text.now k 0) ≡ false }
+    ensures within { result ≤ length text.now }
+    ensures plain { (k : ℕ) → k < result → needs_escape (get_or text.now k 0) ≡ false }
+{
+    let mut passed = passed;
+    while passed < text.len() && !needs_escape(text[passed]) {
+        passed += 1;
+    }
+    passed
+}
+
+/// How many bytes are looked at together.
+const STEP: usize = 32;
+
+/// A bit for each byte that may not stand for itself in a string, the lowest for the first.
+#[inline(always)]
+fn stops(bytes: u8x32) -> u64
+    ensures { result ≡ mask_l (map needs_escape bytes) }
+{
+    (bytes.simd_eq(u8x32::splat(b'"'))
+        | bytes.simd_eq(u8x32::splat(b'\\'))
+        | bytes.simd_lt(u8x32::splat(32))).to_bitmask()
+}
+
+/// Whether a byte may not stand for itself in a string.
+#[inline(always)]
+fn needs_escape(b: u8) -> bool
+    ensures { result ≡ needs_escape b }
+{
+    b == b'"' || b == b'\\' || b < 32
+}
+
+/// An Int32, and what follows it.
+#[inline(always)]
+fn int32<'a>(text: &'a str) -> Option<(i32, &'a str)>
+    ensures { IfSome result (λ p. text.now ≡ text_of (leaf (trees.int32 p.0)) ++ p.1.now) }
+{
+    let (n, rest) = whole_number(after_word(text, b"{\"$numberInt\":")?)?;
+    Some((i32::try_from(n).ok()?, after_word(rest, b"}")?))
+}
+
+/// A whole number in a string, and what follows the string.
+#[inline(always)]
+fn whole_number<'a>(text: &'a str) -> Option<(i64, &'a str)>
+    ensures { IfSome result (λ p. text.now ≡ quoted (signed_decimal p.0) ++ p.1.now) }
+{
+    let inside = after_word(text, b"\"")?;
+    match after_word(inside, b"-") {
+        None => {
+            let (n, rest) = digits(inside)?;
+            Some((i64::try_from(n).ok()?, after_word(rest, b"\"")?))
+        }
+        Some(inside) => {
+            let (n, rest) = digits(inside)?;
+            if n == 0 {
+                return None;
+            }
+            Some((0_i64.checked_sub_unsigned(n)?, after_word(rest, b"\"")?))
+        }
+    }
+}
+
+/// The number that the digits at the front write, as many as a number of 64 bits has, and what follows them.
+#[inline(always)]
+fn digits<'a>(text: &'a str) -> Option<(u64, &'a str)>
+    ensures { IfSome result (λ p. (text.now ≡ decimal p.0 ++ p.1.now) × (p.0 < 2 ^ 64)) }
+{
+    let bytes = text.as_bytes();
+    let mut n: u64 = 0;
+    let mut count = 0;
+    while count < bytes.len() && bytes[count].is_ascii_digit() {
+        n = n
+            .checked_mul(10)?
+            .checked_add(u64::from(bytes[count] - b'0'))?;
+        count += 1;
+    }
+    if !is_led_well(bytes, count) {
+        return None;
+    }
+    let (_, rest) = text.split_at_checked(count)?;
+    Some((n, rest))
+}
+
+/// Whether there are digits, and no zero stands before others.
+#[inline(always)]
+fn is_led_well(digits: &[u8], count: usize) -> bool
+    requires { count ≤ length digits.now }
+    ensures { IsTrue result → (0 < count) × (1 < count → get_or digits.now 0 0 ≡ 48 → ⊥) }
+{
+    match count {
+        0 => false,
+        1 => true,
+        _ => digits[0] != b'0',
+    }
+}
+
+/// The bytes of an id in a string, and what follows the string.
+#[inline(always)]
+fn id_digits<'a>(text: &'a str) -> Option<([u8; 12], &'a str)>
+    ensures { IfSome result (λ p. (text.now ≡ quoted (hex_text p.0) ++ p.1.now) × IsId p.0) }
+{
+    let (digits, rest) = string(text)?;
+    let id = id_of_text(digits)?;
+    if !is_hex_text(&id, digits) {
+        return None;
+    }
+    Some((id, rest))
+}
+
+/// Binary data: its subtype, its bytes, and what follows it.
+#[inline(always)]
+fn binary<'a>(alloc: Global, text: &'a str) -> Option<(u8, Vec<u8>, &'a str)>
+    ensures { IfSome result (λ p. (text.now ≡ text_of (leaf (trees.binary p.0 p.1.items)) ++ p.2.now) × AreBytes p.1.items) }
+{
+    let (digits, rest) = string(after_word(text, b"{\"$binary\":{\"base64\":")?)?;
+    let (subtype, rest) = byte_digits(after_word(rest, b",\"subType\":")?)?;
+    let rest = after_word(rest, b"}}")?;
+    let payload = STANDARD.decode(alloc, digits.as_bytes()).ok()?;
+    Some((subtype, payload, rest))
+}
+
+/// The byte of two digits in a string, and what follows the string.
+#[inline(always)]
+fn byte_digits<'a>(text: &'a str) -> Option<(u8, &'a str)>
+    ensures { IfSome result (λ p. text.now ≡ quoted (hex_text (p.0 ∷ [])) ++ p.1.now) }
+{
+    let (digits, rest) = string(text)?;
+    let byte = u8::from_str_radix(digits, 16).ok()?;
+    if !is_hex_text(&[byte], digits) {
+        return None;
+    }
+    Some((byte, rest))
+}
+
+/// Whether a text is the digits of bytes, two each, in lower case. What reads digits takes upper case too.
+#[inline(always)]
+fn is_hex_text(bytes: &[u8], text: &str) -> bool
+    requires { length bytes.now ≤ 12 }
+    ensures { IsTrue result → text.now ≡ hex_text bytes.now }
+{
+    let mut room = [0; 24];
+    let digits = &mut room[..2 * bytes.len()];
+    if hex::encode_to_slice(bytes, digits).is_err() {
+        return false;
+    }
+    text.as_bytes() == digits
+}
+
+/// What follows the word that a text begins with.
+#[inline(always)]
+fn after_word<'a, const N: usize>(text: &'a str, word: &[u8; N]) -> Option<&'a str>
+    ensures { IfSome result (λ rest. text.now ≡ word.now ++ rest.now) }
+{
+    let (front, _) = text.as_bytes().split_first_chunk::<N>()?;
+    if !is_word(front, word) {
+        return None;
+    }
+    let (_, rest) = text.split_at_checked(N)?;
+    Some(rest)
+}
+
+/// Whether the bytes are those of the word. All are looked at together.
+#[inline(always)]
+fn is_word<const N: usize>(front: &[u8; N], word: &[u8; N]) -> bool
+    ensures { IsTrue result → front.now ≡ word.now }
+{
+    let mut differ = false;
+    for i in 0..N {
+        differ |= front[i] != word[i];
+    }
+    !differ
+}

@@ -1,0 +1,100 @@
+//! A line as the bytes of the document that it is, and laws of what is packed.
+ghost use Rattle.std.specs.Prelude.{◌≡◌, ◌++◌, IfOk, IfSome, OnErr, None, Ok};
+ghost use Rattle.bd_value.specs.Tree.{Doc};
+ghost use Rattle.bd_extjson_pack.specs.Packable.{plain, IsPackable, IsBad};
+
+use crate::tokens::spell_line;
+use bd_bson_write::{WriteFault, write_document};
+use bd_extjson::read_doc_with;
+use bd_extjson_fault::{JsonFault, JsonFaultKind};
+use bd_value::NoMemory;
+use json::Scratch;
+use std::alloc::{AllocError, Global};
+use thiserror::Error;
+
+/// Why a line is not packed.
+#[derive(Clone, Copy, Debug, Drop, PartialEq, Eq, Error)]
+pub enum LineFault {
+    /// It is no document.
+    #[error("{0}")]
+    Unread(JsonFault),
+    /// Its document has more than 16,793,600 bytes.
+    #[error("document too long")]
+    TooLong,
+}
+
+/// Packs lines. It keeps room from line to line, and nothing else.
+#[derive(Drop)]
+pub struct Packer {
+    alloc: Global,
+    scratch: Scratch,
+    /// The bytes of one line: apart, since the limit of a document counts all of the vector that it is written to.
+    spelled: Vec<u8>,
+}
+
+impl Packer {
+    /// A packer that has packed nothing. It takes no memory yet.
+    pub fn new(alloc: Global) -> Packer {
+        Packer {
+            alloc,
+            scratch: Scratch::new(alloc),
+            spelled: Vec::new(alloc),
+        }
+    }
+
+    /// Appends the bytes of the document that the line is (Extended JSON v2, canonical form, and bare whole numbers; BSON 1.1,
+    /// `document`), or tells why there are none and leaves `out` as it was.
+    ///
+    /// # Errors
+    /// `NoMemory` where the allocator gives none. It leaves `out` as it was.
+    pub fn pack_line(
+        &mut self,
+        line: &[u8],
+        out: &mut Vec<u8>,
+    ) -> Result<Option<LineFault>, NoMemory>
+        ensures packed { result ≡ Ok None → (d : Doc) × IsPackable line.now d × (out.new.items ≡ out.old.items ++ plain d) }
+        ensures bad { IfOk result (λ o. IfSome o (λ f. IsBad line.now f × (out.new ≡ out.old))) }
+        ensures err { OnErr result (out.new.items ≡ out.old.items) }
+    {
+        // Of nearly every line the bytes come straight from its tokens. The others are read once more, by a tree.
+        match spell_line(self.alloc, line, &mut self.scratch, &mut self.spelled) {
+            Some(()) => {
+                out.extend_from_slice(&self.spelled)?;
+                Ok(None)
+            }
+            None => pack_tree(self.alloc, line, &mut self.scratch, out),
+        }
+    }
+}
+
+/// Packs a line by a tree of its document, and tells what is wrong with it.
+#[cold]
+fn pack_tree(
+    alloc: Global,
+    line: &[u8],
+    scratch: &mut Scratch,
+    out: &mut Vec<u8>,
+) -> Result<Option<LineFault>, NoMemory>
+    ensures packed { result ≡ Ok None → (d : Doc) × IsPackable line.now d × (out.new.items ≡ out.old.items ++ plain d) }
+    ensures bad { IfOk result (λ o. IfSome o (λ f. IsBad line.now f × (out.new ≡ out.old))) }
+    ensures err { OnErr result (out.new.items ≡ out.old.items) }
+{
+    let document = match read_doc_with(alloc, line, scratch) {
+        Ok(document) => document,
+        Err(fault) if fault.kind == JsonFaultKind::NoMemory => return Err(AllocError),
+        Err(fault) => return Ok(Some(LineFault::Unread(fault))),
+    };
+    match write_document(alloc, &document) {
+        Ok(bytes) => {
+            out.extend_from_slice(&bytes)?;
+            Ok(None)
+        }
+        Err(WriteFault::TooLong) => Ok(Some(LineFault::TooLong)),
+        Err(WriteFault::NoMemory) => Err(AllocError),
+        // No text is read as such a document.
+        Err(WriteFault::TooDeep) => unreachable!(),
+        Err(WriteFault::NulInName) => unreachable!(),
+    }
+}
+
+// The body of each of these is empty: its contract is the law.

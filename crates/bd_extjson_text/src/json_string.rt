@@ -1,0 +1,291 @@
+//! JSON strings: RFC 8259, section 7. Most names and texts need no escape: these are copied and looked at together.
+ghost use Rattle.std.specs.Prelude.{◌≡◌, ◌<◌, ◌≤◌, ◌+◌, ◌++◌, OnOk, OnErr, IfOk, IsTrue, string_bytes, map, if◌then◌else◌, [], ◌∷◌, length, take, false, true};
+ghost use Rattle.std.specs.Char.{digit_char};
+ghost use Rattle.std.specs.List.{list_any, position, join_with_byte};
+ghost use Rattle.bd_extjson_text.specs.Room.{Appends};
+ghost use Rattle.bd_extjson_text.specs.Text.{needs_escape, escape_byte, escaped, quoted};
+
+use crate::room::{End, VALUE, make_room, put, put_byte, put_byte_in, put_known, settle};
+use bd_value::NoMemory;
+
+/// How many bytes are looked at together.
+const STEP: usize = 16;
+
+/// Appends a string with its quotation marks: RFC 8259, section 7.
+///
+/// `NoMemory` leaves `out` as it was.
+pub fn write_string(text: &str, out: &mut Vec<u8>) -> Result<(), NoMemory>
+    ensures ok { OnOk result (out.new.items ≡ out.old.items ++ quoted text.now) }
+    ensures err { OnErr result (out.new.items ≡ out.old.items) }
+{
+    let before = out.len();
+    make_room(out, before, 1)?;
+    let end = append_string(text, out, before);
+    settle(end, before, out)
+}
+
+/// Appends the names of a path, joined by dots, as one string.
+///
+/// `NoMemory` leaves `out` as it was.
+pub fn write_path(path: &[String], out: &mut Vec<u8>) -> Result<(), NoMemory>
+    ensures ok { OnOk result (out.new.items ≡ out.old.items ++ quoted (join_with_byte 46 (map string_bytes path.now))) }
+    ensures err { OnErr result (out.new.items ≡ out.old.items) }
+{
+    let before = out.len();
+    let end = append_path(path, out, before);
+    settle(end, before, out)
+}
+
+/// The same after the text that is there.
+#[tactic(auto, unfolding(crate::specs::Text::quoted))]
+fn append_path(path: &[String], out: &mut Vec<u8>, end: usize) -> End
+    requires { end ≤ length out.old.items }
+    ensures { Appends out.old.items end result out.new.items (quoted (join_with_byte 46 (map string_bytes path.now))) }
+{
+    make_room(out, end, 2)?;
+    let mut at = put_byte_in(b'"', out, end);
+    let mut later = false;
+    for name in path {
+        at = append_separator(later, b'.', out, at)?;
+        at = append_text(name.as_bytes(), 1, out, at)?;
+        later = true;
+    }
+    Ok(put_byte_in(b'"', out, at))
+}
+
+/// Appends a string with its quotation marks: RFC 8259, section 7. There is room for the first of them.
+#[inline(always)]
+#[tactic(auto, unfolding(crate::specs::Text::quoted))]
+pub(crate) fn append_string(text: &str, out: &mut Vec<u8>, end: usize) -> End
+    requires { end < length out.old.items }
+    ensures { Appends out.old.items end result out.new.items (quoted text.now) }
+{
+    let at = put_byte_in(b'"', out, end);
+    let at = append_text(text.as_bytes(), 1, out, at)?;
+    Ok(put_byte_in(b'"', out, at))
+}
+
+/// Appends a name as a string, with a comma before it where it comes `later` than others and a colon after it, and makes room for a
+/// value: `VALUE` bytes.
+#[inline(always)]
+#[tactic(auto, unfolding(crate::specs::Text::quoted))]
+pub(crate) fn append_name(later: bool, name: &str, out: &mut Vec<u8>, end: usize) -> End
+    requires { end ≤ length out.old.items }
+    ensures text { Appends out.old.items end result out.new.items ((if later then 44 ∷ [] else []) ++ (quoted name.now ++ 58 ∷ [])) }
+    ensures room { IfOk result (λ e. e + VALUE ≤ length out.new.items) }
+{
+    make_room(out, end, name.len() + (4 + VALUE))?;
+    let room = out.as_mut_slice();
+    let at = put_separator(later, b',', room, end);
+    let at = put_byte(b'"', room, at);
+    let bytes = name.as_bytes();
+    if copy_plain(bytes, room, at) {
+        return Ok(put_known(*b"\":", room, at + bytes.len()));
+    }
+    let at = append_escaped(bytes, 2 + VALUE, out, at)?;
+    Ok(put_known(*b"\":", out.as_mut_slice(), at))
+}
+
+/// Writes what stands before a piece after the text: the separator, where it comes `later` than others.
+#[inline(always)]
+fn put_separator(later: bool, separator: u8, room: &mut [u8], end: usize) -> usize
+    requires { end < length room.old }
+    ensures put { take result room.new ≡ take end room.old ++ (if later then separator ∷ [] else []) }
+    ensures end { (end ≤ result) × (result ≤ end + 1) }
+{
+    if later {
+        return put_byte(separator, room, end);
+    }
+    end
+}
+
+/// The same in a buffer, which gets room for a value after the separator: `VALUE` bytes.
+#[inline(always)]
+pub(crate) fn append_separator(later: bool, separator: u8, out: &mut Vec<u8>, end: usize) -> End
+    requires { end ≤ length out.old.items }
+    ensures text { Appends out.old.items end result out.new.items (if later then separator ∷ [] else []) }
+    ensures room { IfOk result (λ e. e + VALUE ≤ length out.new.items) }
+{
+    make_room(out, end, 1 + VALUE)?;
+    Ok(put_separator(later, separator, out.as_mut_slice(), end))
+}
+
+/// Appends what stands between the quotation marks of a string, and makes room for `after` bytes more. Most texts need no escape.
+#[inline(always)]
+fn append_text(text: &[u8], after: usize, out: &mut Vec<u8>, end: usize) -> End
+    requires { (end ≤ length out.old.items) × (after ≤ 1000) }
+    ensures text { Appends out.old.items end result out.new.items (escaped text.now) }
+    ensures room { IfOk result (λ e. e + after ≤ length out.new.items) }
+{
+    make_room(out, end, text.len() + after)?;
+    if copy_plain(text, out.as_mut_slice(), end) {
+        return Ok(end + text.len());
+    }
+    append_escaped(text, after, out, end)
+}
+
+/// Copies a text after the text that is there, and tells whether no byte of it needs an escape. Where one does, what is after `end`
+/// is room still.
+#[inline(always)]
+fn copy_plain(text: &[u8], room: &mut [u8], end: usize) -> bool
+    requires { end + length text.now ≤ length room.old }
+    ensures copied { IsTrue result → take (end + length text.now) room.new ≡ take end room.old ++ text.now }
+    ensures plain { IsTrue result → list_any needs_escape text.now ≡ false }
+    ensures kept { take end room.new ≡ take end room.old }
+{
+    if text.len() < 4 {
+        copy_few(text, room, end)
+    } else if text.len() < 8 {
+        copy_ends(4, text, room, end)
+    } else if text.len() < 16 {
+        copy_ends(8, text, room, end)
+    } else {
+        copy_many(text, room, end)
+    }
+}
+
+/// Copies a text byte by byte, and tells whether none needs an escape. Where one does, what was copied is a front of it.
+#[inline(always)]
+fn copy_few(text: &[u8], room: &mut [u8], end: usize) -> bool
+    requires { end + length text.now ≤ length room.old }
+    ensures copied { IsTrue result → take (end + length text.now) room.new ≡ take end room.old ++ text.now }
+    ensures plain { IsTrue result → list_any needs_escape text.now ≡ false }
+    ensures kept { take end room.new ≡ take end room.old }
+{
+    for (i, b) in text.iter().enumerate() {
+        if needs_escape(*b) {
+            return false;
+        }
+        room[end + i] = *b;
+    }
+    true
+}
+
+/// Copies a text of at least `size` and at most twice as many bytes, and tells whether none needs an escape. The first and the last
+/// `size` bytes are copied, so that each copy is of a known length.
+#[inline(always)]
+fn copy_ends(size: usize, text: &[u8], room: &mut [u8], end: usize) -> bool
+    requires size { (size ≤ length text.now) × (length text.now ≤ size + size) }
+    requires room { end + length text.now ≤ length room.old }
+    ensures copied { take (end + length text.now) room.new ≡ take end room.old ++ text.now }
+    ensures plain { IsTrue result → list_any needs_escape text.now ≡ false }
+{
+    let between = text.len() - size;
+    let (first, _) = text.split_at(size);
+    let (_, last) = text.split_at(between);
+    put(first, room, end);
+    put(last, room, end + between);
+    !any_escape(first) && !any_escape(last)
+}
+
+/// Copies a text of at least 16 bytes, and tells whether none needs an escape. Where one does, what was copied is a front of it.
+#[inline(always)]
+fn copy_many(text: &[u8], room: &mut [u8], end: usize) -> bool
+    requires { (16 ≤ length text.now) × (end + length text.now ≤ length room.old) }
+    ensures copied { IsTrue result → take (end + length text.now) room.new ≡ take end room.old ++ text.now }
+    ensures plain { IsTrue result → list_any needs_escape text.now ≡ false }
+    ensures kept { take end room.new ≡ take end room.old }
+{
+    let mut passed = 0;
+    while text.len() - passed > 2 * STEP {
+        let part = &text[passed..passed + STEP];
+        if any_escape(part) {
+            return false;
+        }
+        put(part, room, end + passed);
+        passed += STEP;
+    }
+    copy_ends(STEP, &text[passed..], room, end + passed)
+}
+
+/// The same of a text that needs escapes: what stands between two of them is copied as it is.
+fn append_escaped(text: &[u8], after: usize, out: &mut Vec<u8>, end: usize) -> End
+    requires { (end ≤ length out.old.items) × (after ≤ 1000) }
+    ensures text { Appends out.old.items end result out.new.items (escaped text.now) }
+    ensures room { IfOk result (λ e. e + after ≤ length out.new.items) }
+{
+    let mut rest = text;
+    let mut at = end;
+    while let Some(run) = first_escape(rest) {
+        make_room(out, at, run + 6)?;
+        let room = out.as_mut_slice();
+        at = put(&rest[..run], room, at);
+        at = put_escape(rest[run], room, at);
+        rest = &rest[run + 1..];
+    }
+    make_room(out, at, rest.len() + after)?;
+    Ok(put(rest, out.as_mut_slice(), at))
+}
+
+/// The place of the first byte that may not stand for itself.
+#[inline(always)]
+fn first_escape(text: &[u8]) -> Option<usize>
+    ensures { result ≡ position needs_escape text.now }
+{
+    let mut passed = 0;
+    while text.len() - passed >= STEP && !any_escape(&text[passed..passed + STEP]) {
+        passed += STEP;
+    }
+    let (_, rest) = text.split_at(passed);
+    match first_of_few(rest) {
+        Some(place) => Some(passed + place),
+        None => None,
+    }
+}
+
+#[inline(always)]
+fn first_of_few(text: &[u8]) -> Option<usize>
+    ensures { result ≡ position needs_escape text.now }
+{
+    text.iter().position(|b| needs_escape(*b))
+}
+
+/// Writes the escape of a byte that needs one after the text.
+#[tactic(auto, unfolding(crate::specs::Text::escape_byte))]
+fn put_escape(b: u8, room: &mut [u8], end: usize) -> usize
+    requires escape { IsTrue (needs_escape b) }
+    requires room { end + 6 ≤ length room.old }
+    ensures put { take result room.new ≡ take end room.old ++ escape_byte b }
+    ensures end { result ≤ end + 6 }
+{
+    match b {
+        b'"' | b'\\' => put(&[b'\\', b], room, end),
+        8 => put(b"\\b", room, end),
+        12 => put(b"\\f", room, end),
+        b'\n' => put(b"\\n", room, end),
+        b'\r' => put(b"\\r", room, end),
+        b'\t' => put(b"\\t", room, end),
+        _ => {
+            let digits = [hex_digit(b / 16), hex_digit(b % 16)];
+            let end = put(b"\\u00", room, end);
+            put(&digits, room, end)
+        }
+    }
+}
+
+fn hex_digit(n: u8) -> u8
+    requires { n < 16 }
+    ensures { result ≡ digit_char n }
+{
+    if n < 10 { b'0' + n } else { b'a' + (n - 10) }
+}
+
+/// Whether a byte may not stand for itself in a string.
+#[inline(always)]
+fn needs_escape(b: u8) -> bool
+    ensures { result ≡ needs_escape b }
+{
+    b == b'"' || b == b'\\' || b < 32
+}
+
+/// Whether a byte of these may not stand for itself. No byte ends the look, so that all are looked at together.
+#[inline(always)]
+fn any_escape(bytes: &[u8]) -> bool
+    ensures { result ≡ list_any needs_escape bytes.now }
+{
+    let mut any = false;
+    for b in bytes {
+        any |= needs_escape(*b);
+    }
+    any
+}

@@ -1,0 +1,152 @@
+//! Values, documents and lines as canonical Extended JSON.
+ghost use Rattle.std.specs.Prelude.{◌≡◌, ◌<◌, ◌≤◌, ◌+◌, ◌++◌, ◌∷◌, [], IfOk, OnOk, OnErr, length, take};
+ghost use Rattle.bd_value.specs.View.{kind_of, tree_of, pairs};
+ghost use Rattle.bd_value.specs.Tree.{values_of, doc, array, fields_of, items_of};
+ghost use Rattle.bd_value.specs.declared.node.Kind.TheVariants as kinds;
+ghost use Rattle.bd_extjson_text.specs.Room.{Appends};
+ghost use Rattle.bd_extjson_text.specs.Text.{text};
+
+use crate::json_string::{append_name, append_separator, append_string};
+use crate::room::{End, VALUE, make_room, put_byte_in, settle};
+use crate::scalar::{append_few, append_led, append_scalar};
+use bd_value::{Document, Kind, NoMemory, Reading, Scalar, Tree, Value};
+use std::alloc::Global;
+
+/// Appends the text of what a node stands for: Extended JSON v2, canonical form, without white space.
+///
+/// `NoMemory` leaves `out` as it was.
+pub fn write_node<N: Reading>(node: N, out: &mut Vec<u8>) -> Result<(), NoMemory>
+    ensures ok { OnOk result (out.new.items ≡ out.old.items ++ text (N.tree node)) }
+    ensures err { OnErr result (out.new.items ≡ out.old.items) }
+{
+    let before = out.len();
+    make_room(out, before, VALUE)?;
+    let end = append_node(node, out, before);
+    settle(end, before, out)
+}
+
+/// Appends the text of a value: Extended JSON v2, canonical form, without white space.
+///
+/// `NoMemory` leaves `out` as it was.
+pub fn write_value(value: &Value, out: &mut Vec<u8>) -> Result<(), NoMemory>
+    ensures ok { OnOk result (out.new.items ≡ out.old.items ++ text (tree_of value.now)) }
+    ensures err { OnErr result (out.new.items ≡ out.old.items) }
+{
+    write_node(Tree::Value(value), out)
+}
+
+/// Appends the text of a document: Extended JSON v2, canonical form, without white space.
+///
+/// `NoMemory` leaves `out` as it was.
+pub fn write_doc(document: &Document, out: &mut Vec<u8>) -> Result<(), NoMemory>
+    ensures ok { OnOk result (out.new.items ≡ out.old.items ++ text (doc (fields_of (pairs document.now)))) }
+    ensures err { OnErr result (out.new.items ≡ out.old.items) }
+{
+    write_node(Tree::Doc(document), out)
+}
+
+/// Room for one line after the other, each over the one before. It is made once, and grows where a line is longer.
+#[derive(Debug, Drop)]
+pub struct LineRoom {
+    room: Vec<u8>,
+}
+
+impl LineRoom {
+    /// No room yet.
+    pub fn new(alloc: Global) -> LineRoom {
+        LineRoom {
+            room: Vec::new(alloc),
+        }
+    }
+
+    /// The line of what a node stands for: its text, Extended JSON v2, canonical form, without white space, and a newline.
+    ///
+    /// `NoMemory` where there is too little room and none can be had.
+    #[inline(always)]
+    pub fn line<N: Reading>(&mut self, node: N) -> Result<&[u8], NoMemory>
+        ensures { IfOk result (λ line. line.now ≡ text (N.tree node) ++ 10 ∷ []) }
+    {
+        make_room(&mut self.room, 0, VALUE)?;
+        let end = append_node(node, &mut self.room, 0)?;
+        let end = append_few(b"\n", &mut self.room, end)?;
+        Ok(&self.room[..end])
+    }
+}
+
+/// Appends the text of what a node stands for. There is room for a short one.
+#[cycle(text)]
+#[inline(always)]
+fn append_node<N: Reading>(node: N, out: &mut Vec<u8>, end: usize) -> End
+    requires { end + VALUE ≤ length out.old.items }
+    ensures { Appends out.old.items end result out.new.items (text (N.tree node)) }
+{
+    match node.kind() {
+        Kind::Doc => append_fields::<N>(node.parts(), out, end),
+        Kind::Array => append_items::<N>(node.parts(), out, end),
+        Kind::CodeScope => append_scope(node, out, end),
+        Kind::Text => {
+            let Some(Scalar::Text(text)) = node.leaf() else {
+                unreachable!()
+            };
+            append_string(text, out, end)
+        }
+        _ => append_scalar(node, out, end),
+    }
+}
+
+/// Appends the text of code with scope.
+#[cycle(text)]
+fn append_scope<N: Reading>(node: N, out: &mut Vec<u8>, end: usize) -> End
+    requires kind { kind_of (N.tree node) ≡ kinds.CodeScope }
+    requires room { end ≤ length out.old.items }
+    ensures { Appends out.old.items end result out.new.items (text (N.tree node)) }
+{
+    let Some(Scalar::CodeScope(code)) = node.leaf() else {
+        unreachable!()
+    };
+    let Some(scope) = node.scope() else {
+        unreachable!()
+    };
+    let at = append_led(b"{\"$code\":", code, out, end)?;
+    let at = append_few(b",\"$scope\":", out, at)?;
+    let at = append_node(scope, out, at)?;
+    append_few(b"}", out, at)
+}
+
+/// Appends the text of the document of these pairs. There is room for its first brace.
+#[cycle(text)]
+#[inline(never)]
+fn append_fields<N: Reading>(fields: N::Rest, out: &mut Vec<u8>, end: usize) -> End
+    requires { end < length out.old.items }
+    ensures { Appends out.old.items end result out.new.items (text (doc (fields_of (N.left fields)))) }
+{
+    let mut at = put_byte_in(b'{', out, end);
+    let mut later = false;
+    let mut rest = fields;
+    while let Some((name, node, after)) = N::next(&rest) {
+        at = append_name(later, name, out, at)?;
+        at = append_node(node, out, at)?;
+        later = true;
+        rest = after;
+    }
+    append_few(b"}", out, at)
+}
+
+/// Appends the text of the array of these elements. There is room for its first bracket.
+#[cycle(text)]
+#[inline(never)]
+fn append_items<N: Reading>(items: N::Rest, out: &mut Vec<u8>, end: usize) -> End
+    requires { end < length out.old.items }
+    ensures { Appends out.old.items end result out.new.items (text (array (items_of (values_of (N.left items))))) }
+{
+    let mut at = put_byte_in(b'[', out, end);
+    let mut later = false;
+    let mut rest = items;
+    while let Some((_, node, after)) = N::next(&rest) {
+        at = append_separator(later, b',', out, at)?;
+        at = append_node(node, out, at)?;
+        later = true;
+        rest = after;
+    }
+    append_few(b"]", out, at)
+}

@@ -1,0 +1,49 @@
+use Rattle.std.proofs.Common.{rules, arith, ◌≡◌, ◌++◌, ◌<◌, ◌≤◌, ◌-◌, ◌+◌, length, take, refl}
+use Rattle.std.proofs.KnownBytes.{Consumes-trans}
+use Rattle.bd_io_device.proofs.DevicesLemmas.{reads_none, reads_more, Consumes-more, length-within}
+use Rattle.bd_io_device.proofs.reading.read_all.Goals as goal
+
+pub loop-init : goal.loop-init
+loop-init g c = record {
+  consumed = search rules;
+  reads = reads_none _ _ c.new-bytes.ensures.items;
+  within = search rules;
+  turned = omega arith;
+  called = search rules;
+  well = search rules;
+}
+
+pub loop-preserved : goal.loop-preserved
+loop-preserved g c =
+    let part = take c.in-Ok.n c.read.new.room in
+    let grown : c.extend_from_slice.new.self.items ≡ c.loop.bytes.items ++ part = search rules in
+    let some : 0 < length part = search rules in
+    record {
+      consumed = Consumes-more _ _ _ _ _ _ c.loop.invariant.consumed c.in-Ok.ensures.bytes.0 grown;
+      reads = reads_more _ _ _ _ _ _ _ c.loop.invariant.reads c.in-Ok.ensures.gives some grown;
+      within = search rules;
+      turned = search rules;
+      called = search rules;
+      well = search rules;
+    }
+
+-- what was read with this read's part, which a refusal does not keep
+pub returns-then-limits-len-clause-front : goal.returns-then-limits-len-clause-front
+returns-then-limits-len-clause-front g c =
+    (_, Consumes-trans _ _ _ _ _ c.loop.invariant.consumed c.in-Ok.ensures.bytes.0)
+
+pub returns-then-is_err-clause-front : goal.returns-then-is_err-clause-front
+returns-then-is_err-clause-front g c =
+    (_, Consumes-trans _ _ _ _ _ c.loop.invariant.consumed c.in-Ok.ensures.bytes.0)
+
+pub returns-then-is_err-clause-memory : goal.returns-then-is_err-clause-memory
+returns-then-is_err-clause-memory g c _ =
+    let some : 0 < length (take c.in-Ok.n c.read.new.room) = search rules in
+    let fits : c.in-Ok.n ≤ c.args.limits.bytes - length c.loop.bytes.items = search rules in (
+      c.loop.counter + 1,
+      _,
+      omega arith,
+      length-within _ _ _ c.read.new.room fits c.loop.invariant.within,
+      reads_more _ _ _ _ _ _ _ c.loop.invariant.reads c.in-Ok.ensures.gives some refl,
+      Consumes-trans _ _ _ _ _ c.loop.invariant.consumed c.in-Ok.ensures.bytes.0,
+    )

@@ -1,0 +1,124 @@
+-- Devices before calls and after them, also where their bytes are not known: what was read and what was written.
+use Rattle.std.specs.Prelude.{◌≡◌, ◌≢◌, ℕ, ◌+◌, ◌<◌, ◌⊎◌, min, suc, ◌≤◌, List, [], ◌++◌, length, take, drop, codes}
+use Rattle.std.specs.Prelude.{Option, None, Some, Result, Ok, Err}
+use Rattle.std.specs.Io.KnownBytes.{Appends, Consumes}
+use Rattle.bd_io_device.specs.declared.{input.Tally.Tally, reading.Limits.Limits, reading.ReadFault.ReadFault}
+use Rattle.bd_io_device.specs.declared.reading.ReadFault.TheVariants as reads
+
+-- the count after n more, which stays at the greatest of 64 bits
+abbrev pub greatest : ℕ
+greatest = 18446744073709551615
+
+abbrev pub after_more : ℕ → ℕ → ℕ
+after_more n more = min (n + more) greatest
+
+-- a reader: the bytes that it will still give, where they are known, how many reads were made, and how many failed
+pub record Reader : Type 0 where
+  pub left : Option (List ℕ)
+  pub calls : ℕ
+  pub failures : ℕ
+
+-- a writer: the bytes that it holds, where they are known, how many writes were made, and how many failed
+pub record Writer : Type 0 where
+  pub held : Option (List ℕ)
+  pub calls : ℕ
+  pub failures : ℕ
+
+-- the same with the counts of calls; `min`, since in a law a count is any number
+abbrev pub reader_of : Option (List ℕ) → Tally → Reader
+reader_of left tally = record { left = left; calls = min tally.calls greatest; failures = min tally.failures greatest }
+
+abbrev pub writer_of : Option (List ℕ) → Tally → Writer
+writer_of held tally = record { held = held; calls = min tally.calls greatest; failures = min tally.failures greatest }
+
+-- a device before a run and after it
+pub record Over (Device : Type 0) : Type 0 where
+  pub before : Device
+  pub after : Device
+
+abbrev pub between : {Device : Type 0} → Device → Device → Over Device
+between before after = record { before = before; after = after }
+
+-- the same for a value that has such a device, as the state of it tells
+abbrev pub over : {D Device : Type 0} → (D → Device) → D → D → Over Device
+over state old new = between (state old) (state new)
+
+-- the writer took the whole text, and no write failed; of an empty text there was no write
+abbrev pub TakesText : Over Writer → List ℕ → Type 0
+TakesText out text = Appends out.before.held out.after.held text × (out.after.failures ≡ out.before.failures)
+    × (text ≡ [] → out.after ≡ out.before)
+
+-- the writer took a prefix of the text, and no write failed
+abbrev pub TakesFront : Over Writer → List ℕ → Type 0
+TakesFront out text = (front : List ℕ) × (rest : List ℕ) × (text ≡ front ++ rest) × TakesText out front
+
+-- the writer took the first text whole and a prefix of the second, and then a write of what is left of it failed
+abbrev pub BreaksAfter : Over Writer → List ℕ → List ℕ → Type 0
+BreaksAfter out whole text = (front : List ℕ) × (rest : List ℕ) × (text ≡ front ++ rest) × (rest ≢ [])
+    × Appends out.before.held out.after.held (whole ++ front)
+    × (out.after.failures ≡ after_more out.before.failures 1)
+
+-- the writer took a prefix of the text, and then a write of what is left of it failed
+abbrev pub BreaksWithin : Over Writer → List ℕ → Type 0
+BreaksWithin out text = BreaksAfter out [] text
+
+-- the reader gave no more than so many bytes
+abbrev pub TakesAtMost : ℕ → Over Reader → Type 0
+TakesAtMost limit file = (given : List ℕ) × Consumes file.before.left file.after.left given × (length given ≤ limit)
+
+-- what a read into this room gave: its bytes, or none where it failed
+abbrev pub bytes_given : {E : Type 0} → Result ℕ E → List ℕ → Option (List ℕ)
+bytes_given (Ok n) room = Some (take n room)
+bytes_given (Err _) room = None
+
+-- how many bytes a write took, or none where it failed
+abbrev pub count_taken : {E : Type 0} → Result ℕ E → Option ℕ
+count_taken (Ok n) = Some n
+count_taken (Err _) = None
+
+-- so many reads in a row led from one device to the other; each gave a byte at least, and all of them gave these bytes
+pub data AreReads {S : Type 0} (gives : S → Option (List ℕ) → S → Type 0) : ℕ → S → List ℕ → S → Type 0 where
+  no_read : (s : S) → AreReads gives 0 s [] s
+  more_reads : (n : ℕ) (s t u : S) (front part : List ℕ) → AreReads gives n s front t
+      → gives t (Some part) u → 0 < length part → AreReads gives (suc n) s (front ++ part) u
+
+-- writes in a row led from one device to the other; each was of all that was left of the bytes and took some of them
+pub data AreWrites {S : Type 0} (takes : S → List ℕ → Option ℕ → S → Type 0)
+    (bytes : List ℕ) : S → List ℕ → S → Type 0 where
+  no_write : (s : S) → AreWrites takes bytes s bytes s
+  more_writes : (s t u : S) (rest : List ℕ) (n : ℕ) → AreWrites takes bytes s rest t
+      → takes t rest (Some n) u → 0 < n → AreWrites takes bytes s (drop n rest) u
+
+-- of a reader, whose read may give these bytes, or fail at `None`, and leave this reader
+module _ {S : Type 0} (gives : S → Option (List ℕ) → S → Type 0) where
+  -- so many reads led from one device to the other: all but the last gave these bytes, each one at least,
+  -- and the last one gave this, or failed
+  abbrev pub ReadsUntil : ℕ → S → List ℕ → Option (List ℕ) → S → Type 0
+  ReadsUntil turns s bytes answer t =
+      (n : ℕ) × (last : S) × (turns ≡ suc n) × AreReads gives n s bytes last × gives last answer t
+
+  -- so many reads gave these bytes: they are as many as the room has, or one more read found the end
+  abbrev pub FillsRoom : ℕ → ℕ → S → List ℕ → S → Type 0
+  FillsRoom size turns s bytes t = ((length bytes ≡ size) × AreReads gives turns s bytes t)
+      ⊎ ((length bytes < size) × ReadsUntil turns s bytes (Some []) t)
+
+  -- the reads of a room of that size that was not filled within the limits, and what they gave
+  abbrev pub FailsToFill : (S → Reader) → Limits → ℕ → S → S → ReadFault → Type 0
+  FailsToFill state limits size s t reads.TooLong =
+      (turns : ℕ) × (given : List ℕ) × (last : List ℕ) × (turns ≤ limits.turns) × ReadsUntil turns s given (Some last) t
+      × Consumes (state s).left (state t).left (given ++ last) × (length given ≤ limits.bytes)
+      × (limits.bytes < length given + length last) × (length given + length last ≤ size)
+  FailsToFill state limits size s t reads.Device =
+      (turns : ℕ) × (given : List ℕ) × (turns ≤ limits.turns) × ReadsUntil turns s given None t
+      × Consumes (state s).left (state t).left given × (length given < size) × (length given ≤ limits.bytes)
+  FailsToFill state limits size s t reads.TooManyTurns =
+      (given : List ℕ) × AreReads gives limits.turns s given t
+      × Consumes (state s).left (state t).left given × (length given < size) × (length given ≤ limits.bytes)
+  FailsToFill state limits size s t reads.NoMemory = ⊥
+
+-- why a device was not read to its end, in words
+abbrev pub read_words : ReadFault → List ℕ
+read_words reads.Device = codes "cannot read"
+read_words reads.TooLong = codes "input too long"
+read_words reads.TooManyTurns = codes "too many reads"
+read_words reads.NoMemory = codes "no memory"

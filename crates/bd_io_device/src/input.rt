@@ -1,0 +1,229 @@
+//! What gives bytes, with counts of calls and of failures.
+ghost use Rattle.std.specs.Prelude.{◌≡◌, ℕ, List, Option, None, Some, false, IfOk, IsTrue, OnOk, OnErr, length, ◌++◌, ◌<◌, ◌≤◌, ◌≢◌, min, MatchOption, ⊤};
+ghost use Rattle.std.proofs.Common.{rules};
+ghost use Rattle.std.specs.Io.Buffered.{reader_remaining};
+ghost use Rattle.std.specs.Io.KnownBytes.{Consumes, ReadConsumes};
+ghost use Rattle.bd_io_device.specs.Devices.{Reader, after_more, bytes_given, greatest, reader_of};
+
+use std::io::{BufRead, BufReader, Read};
+use thiserror::Error;
+
+/// A read or a write that failed.
+#[derive(Debug, Clone, Copy, Drop, PartialEq, Eq, Error)]
+#[error("a read or a write failed")]
+pub struct DeviceFault;
+
+/// A device that gives bytes.
+///
+/// Its two counts stay at the greatest number of 64 bits.
+pub trait Input {
+    /// The bytes that reads will still give, where they are known, how many reads were made, and how many failed.
+    ghost state: { Self → Reader };
+
+    /// A read of the first device may give these bytes, or fail at `None`, and leave the second.
+    ghost read_gives: { Self → Option (List ℕ) → Self → Type 0 } = { λ _ _ _. ⊤ };
+
+    /// Reads into the front of `room` and tells how many bytes it gave: none only at the end, or where `room` is empty.
+    /// Where it fails it gives none.
+    fn read(&mut self, room: &mut [u8]) -> Result<usize, DeviceFault>
+        ensures within { IfOk result (λ n. n ≤ length room.new) }
+        ensures bytes { ReadConsumes (state self.old).left (state self.new).left result room.new }
+        ensures gives { read_gives self.old (bytes_given result room.new) self.new }
+        ensures called { (state self.new).calls ≡ after_more (state self.old).calls 1 }
+        ensures well { OnOk result ((state self.new).failures ≡ (state self.old).failures) }
+        ensures failed { OnErr result ((state self.new).failures ≡ after_more (state self.old).failures 1) };
+
+    /// Fills all of `room` by one read, where the device holds so many bytes and the room is not empty; else it does nothing,
+    /// and gives false. A device that holds none gives false always.
+    #[inline(always)]
+    fn read_held(&mut self, room: &mut [u8]) -> bool
+        ensures bytes { IsTrue result → (0 < length room.old) × Consumes (state self.old).left (state self.new).left room.new }
+        ensures gives { IsTrue result → read_gives self.old (Some room.new) self.new }
+        ensures called { IsTrue result → (state self.new).calls ≡ after_more (state self.old).calls 1 }
+        ensures well { (state self.new).failures ≡ (state self.old).failures }
+        ensures none { result ≡ false → (self.new ≡ self.old) × (room.new ≡ room.old) }
+    {
+        false
+    }
+
+    ghost calls_fit: { (s : Self) → (state s).calls ≤ greatest };
+
+    ghost failures_fit: { (s : Self) → (state s).failures ≤ greatest };
+}
+
+/// A reader of the system's, such as a file or standard input.
+#[derive(Drop)]
+pub struct SystemInput<R: Read + Drop> {
+    reader: R,
+    tally: Tally,
+}
+
+impl<R: Read + Drop> SystemInput<R> {
+    /// The device over this reader, with both counts at 0.
+    pub fn new(reader: R) -> SystemInput<R>
+        ensures state { ⟦<SystemInput<R> as Input>⟧.state result ≡ record { left = R.remaining reader; calls = 0; failures = 0 } }
+    {
+        let tally = Tally::default();
+        SystemInput { reader, tally }
+    }
+}
+
+impl<R: Read + Drop> Input for SystemInput<R> {
+    ghost state = { λ s. reader_of (R.remaining s.reader) s.tally };
+
+    ghost calls_fit = { λ s. Prim.search rules };
+
+    ghost failures_fit = { λ s. Prim.search rules };
+
+    fn read(&mut self, room: &mut [u8]) -> Result<usize, DeviceFault> {
+        self.tally.call();
+        let Ok(n) = self.reader.read(room) else {
+            return Err(self.tally.fail());
+        };
+        Ok(n)
+    }
+}
+
+/// A reader of the system's that is read in blocks. A read of bytes that are held already asks the system for nothing.
+#[derive(Drop)]
+pub struct BufferedInput<R: Read + Drop> {
+    device: SystemInput<BufReader<R>>,
+}
+
+impl<R: Read + Drop> BufferedInput<R> {
+    /// The device over this reader, with both counts at 0.
+    pub fn new(reader: BufReader<R>) -> BufferedInput<R>
+        ensures state { ⟦<BufferedInput<R> as Input>⟧.state result ≡ record { left = reader_remaining R.remaining reader; calls = 0; failures = 0 } }
+    {
+        let device = SystemInput::new(reader);
+        BufferedInput { device }
+    }
+}
+
+impl<R: Read + Drop> Input for BufferedInput<R> {
+    ghost state = { λ s. ⟦<SystemInput<BufReader<R>> as Input>⟧.state s.device };
+
+    ghost calls_fit = { λ s. Prim.search rules };
+
+    ghost failures_fit = { λ s. Prim.search rules };
+
+    fn read(&mut self, room: &mut [u8]) -> Result<usize, DeviceFault> {
+        self.device.read(room)
+    }
+
+    #[inline(always)]
+    fn read_held(&mut self, room: &mut [u8]) -> bool {
+        let held = self.device.reader.buffer();
+        if room.is_empty() || held.len() < room.len() {
+            return false;
+        }
+        let (front, _) = held.split_at(room.len());
+        room.copy_from_slice(front);
+        self.device.reader.consume(room.len());
+        self.device.tally.call();
+        true
+    }
+}
+
+/// Bytes in memory, given a few at a time, with one call that may fail.
+#[derive(Drop)]
+pub struct MemoryInput<'a> {
+    /// How many bytes a call gives at most, above 0.
+    pub most: usize,
+    /// The number of the call that fails, counted from 1.
+    pub failing: Option<u64>,
+    bytes: &'a [u8],
+    tally: Tally,
+    ghost gives: { 0 < most },
+}
+
+impl<'a> MemoryInput<'a> {
+    /// The device that gives `bytes`, at most `most` of them a call. The call with the number `failing`, counted from 1,
+    /// fails and gives none. Both counts are at 0.
+    pub fn new(bytes: &'a [u8], most: usize, failing: Option<u64>) -> MemoryInput<'a>
+        requires { 0 < most }
+        ensures state { ⟦<MemoryInput<'a> as Input>⟧.state result ≡ record { left = Some bytes.now; calls = 0; failures = 0 } }
+        ensures most { result.most ≡ most }
+        ensures failing { result.failing ≡ failing }
+    {
+        MemoryInput {
+            most,
+            failing,
+            bytes,
+            tally: Tally::default(),
+        }
+    }
+
+    /// How many reads were made.
+    pub fn calls(&self) -> u64
+        ensures { result ≡ (⟦<MemoryInput<'a> as Input>⟧.state self.now).calls }
+    {
+        self.tally.calls
+    }
+
+    /// How many reads failed.
+    pub fn failures(&self) -> u64
+        ensures { result ≡ (⟦<MemoryInput<'a> as Input>⟧.state self.now).failures }
+    {
+        self.tally.failures
+    }
+}
+
+impl<'a> Input for MemoryInput<'a> {
+    ghost state = { λ s. reader_of (Some s.bytes.now) s.tally };
+
+    ghost read_gives = { λ s answer t. (t.most ≡ s.most) × (t.failing ≡ s.failing) × MatchOption answer
+        (s.failing ≡ Some (after_more s.tally.calls 1))
+        (λ part. (s.failing ≢ Some (after_more s.tally.calls 1)) × (length part ≤ s.most) × (s.bytes.now ≡ part ++ t.bytes.now)) };
+
+    ghost calls_fit = { λ s. Prim.search rules };
+
+    ghost failures_fit = { λ s. Prim.search rules };
+
+    /// All that the room, the device and `most` let a call give.
+    fn read(&mut self, room: &mut [u8]) -> Result<usize, DeviceFault>
+        ensures within { IfOk result (λ n. n ≤ length room.new) }
+        ensures count { IfOk result (λ n. n ≡ min (min (length self.old.bytes.now) (length room.old)) self.old.most) }
+        ensures bytes { ReadConsumes (⟦<MemoryInput<'a> as Input>⟧.state self.old).left (⟦<MemoryInput<'a> as Input>⟧.state self.new).left result room.new }
+        ensures gives { ⟦<MemoryInput<'a> as Input>⟧.read_gives self.old (bytes_given result room.new) self.new }
+        ensures called { (⟦<MemoryInput<'a> as Input>⟧.state self.new).calls ≡ after_more (⟦<MemoryInput<'a> as Input>⟧.state self.old).calls 1 }
+        ensures well { OnOk result ((⟦<MemoryInput<'a> as Input>⟧.state self.new).failures ≡ (⟦<MemoryInput<'a> as Input>⟧.state self.old).failures) }
+        ensures failed { OnErr result ((⟦<MemoryInput<'a> as Input>⟧.state self.new).failures ≡ after_more (⟦<MemoryInput<'a> as Input>⟧.state self.old).failures 1) }
+    {
+        self.tally.call();
+        if self.failing == Some(self.tally.calls) {
+            return Err(self.tally.fail());
+        }
+        let n = self.bytes.len().min(room.len()).min(self.most);
+        let (given, rest) = self.bytes.split_at(n);
+        room[..n].copy_from_slice(given);
+        self.bytes = rest;
+        Ok(n)
+    }
+}
+
+/// How many calls a device took and how many of them failed, at first none. Both stay at the greatest number of 64 bits.
+#[derive(Default, Drop)]
+pub(crate) struct Tally {
+    pub(crate) calls: u64,
+    pub(crate) failures: u64,
+}
+
+impl Tally {
+    /// Counts a call.
+    pub(crate) fn call(&mut self)
+        ensures calls { self.new.calls ≡ after_more self.old.calls 1 }
+        ensures failures { self.new.failures ≡ self.old.failures }
+    {
+        self.calls = self.calls.saturating_add(1);
+    }
+
+    /// Counts a failure of a call that is counted already, and tells it.
+    pub(crate) fn fail(&mut self) -> DeviceFault
+        ensures calls { self.new.calls ≡ self.old.calls }
+        ensures failures { self.new.failures ≡ after_more self.old.failures 1 }
+    {
+        self.failures = self.failures.saturating_add(1);
+        DeviceFault
+    }
+}

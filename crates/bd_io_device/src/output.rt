@@ -1,0 +1,192 @@
+//! What takes bytes, with counts of calls and of failures.
+ghost use Rattle.std.specs.Prelude.{◌≡◌, ◌≢◌, ℕ, List, None, Some, Option, IfOk, OnOk, OnErr, length, take, ◌-◌, ◌<◌, ◌≤◌, MatchOption, min, ⊤, ◌⊎◌, []};
+ghost use Rattle.std.proofs.Common.{rules};
+ghost use Rattle.std.specs.Io.KnownBytes.{WriteAppends, Appends};
+ghost use Rattle.bd_io_device.specs.Devices.{Writer, AreWrites, BreaksWithin, TakesText, after_more, count_taken, greatest, over, writer_of};
+ghost use Rattle.bd_io_device.specs.declared.output.FailingWrite.TheVariants.{Error, Zero};
+
+use crate::input::{DeviceFault, Tally};
+use std::io::Write;
+
+/// A device that takes bytes.
+///
+/// Its two counts stay at the greatest number of 64 bits.
+pub trait Output {
+    /// The bytes that it holds, where they are known, how many writes were made, and how many failed. One that took 0 bytes
+    /// of some is a failure.
+    ghost state: { Self → Writer };
+
+    /// A write of these bytes to the first device may take so many, or fail at `None`, and leave the second.
+    ghost write_takes: { Self → List ℕ → Option ℕ → Self → Type 0 } = { λ _ _ _ _. ⊤ };
+
+    /// Appends a front of `bytes` and tells how many bytes it took. Where it fails it took none.
+    fn write(&mut self, bytes: &[u8]) -> Result<usize, DeviceFault>
+        ensures within { IfOk result (λ n. n ≤ length bytes.now) }
+        ensures bytes { WriteAppends (state self.old).held (state self.new).held result bytes.now }
+        ensures takes { write_takes self.old bytes.now (count_taken result) self.new }
+        ensures called { (state self.new).calls ≡ after_more (state self.old).calls 1 }
+        ensures well { IfOk result (λ n. (0 < n) ⊎ (bytes.now ≡ []) → (state self.new).failures ≡ (state self.old).failures) }
+        ensures none { IfOk result (λ n. n ≡ 0 → bytes.now ≢ [] → (state self.new).failures ≡ after_more (state self.old).failures 1) }
+        ensures failed { OnErr result ((state self.new).failures ≡ after_more (state self.old).failures 1) };
+
+    ghost calls_fit: { (s : Self) → (state s).calls ≤ greatest };
+
+    ghost failures_fit: { (s : Self) → (state s).failures ≤ greatest };
+}
+
+/// A writer of the system's, such as a file or standard output.
+#[derive(Drop)]
+pub struct SystemOutput<W: Write + Drop> {
+    writer: W,
+    tally: Tally,
+}
+
+impl<W: Write + Drop> SystemOutput<W> {
+    /// The device over this writer, with both counts at 0.
+    pub fn new(writer: W) -> SystemOutput<W>
+        ensures state { ⟦<SystemOutput<W> as Output>⟧.state result ≡ record { held = W.contents writer; calls = 0; failures = 0 } }
+    {
+        let tally = Tally::default();
+        SystemOutput { writer, tally }
+    }
+}
+
+impl<W: Write + Drop> Output for SystemOutput<W> {
+    ghost state = { λ s. writer_of (W.contents s.writer) s.tally };
+
+    ghost calls_fit = { λ s. Prim.search rules };
+
+    ghost failures_fit = { λ s. Prim.search rules };
+
+    fn write(&mut self, bytes: &[u8]) -> Result<usize, DeviceFault> {
+        self.tally.call();
+        let Ok(n) = self.writer.write(bytes) else {
+            return Err(self.tally.fail());
+        };
+        if n == 0 && !bytes.is_empty() {
+            self.tally.fail();
+        }
+        Ok(n)
+    }
+}
+
+/// The call of a `MemoryOutput` that fails, by its number, counted from 1, and how it fails.
+#[derive(Debug, Clone, Copy, PartialEq, Eq)]
+pub enum FailingWrite {
+    /// It answers an error.
+    Error(u64),
+    /// It takes 0 bytes.
+    Zero(u64),
+}
+
+/// Room in memory that is filled a few bytes at a time, with one call that may fail. It never grows.
+#[derive(Drop)]
+pub struct MemoryOutput<'a> {
+    /// How many bytes a call takes at most, above 0.
+    pub most: usize,
+    /// The call that fails.
+    pub failing: Option<FailingWrite>,
+    room: &'a mut [u8],
+    filled: usize,
+    tally: Tally,
+    ghost takes: { 0 < most },
+    ghost inside: { filled ≤ length room.now },
+}
+
+impl<'a> MemoryOutput<'a> {
+    /// The device that fills `room` from its start, with at most `most` bytes a call. It takes 0 bytes where the room is
+    /// full. The call that `failing` names takes none. Both counts are at 0.
+    pub fn new(room: &'a mut [u8], most: usize, failing: Option<FailingWrite>) -> MemoryOutput<'a>
+        requires { 0 < most }
+        ensures state { ⟦<MemoryOutput<'a> as Output>⟧.state result ≡ record { held = Some []; calls = 0; failures = 0 } }
+        ensures room { length result.room.now ≡ length room.old }
+        ensures most { result.most ≡ most }
+        ensures failing { result.failing ≡ failing }
+    {
+        MemoryOutput {
+            most,
+            failing,
+            room,
+            filled: 0,
+            tally: Tally::default(),
+        }
+    }
+
+    /// The bytes that it holds.
+    pub fn bytes(&self) -> &[u8]
+        ensures { (⟦<MemoryOutput<'a> as Output>⟧.state self.now).held ≡ Some result.now }
+    {
+        &self.room[..self.filled]
+    }
+
+    /// How many writes were made.
+    pub fn calls(&self) -> u64
+        ensures { result ≡ (⟦<MemoryOutput<'a> as Output>⟧.state self.now).calls }
+    {
+        self.tally.calls
+    }
+
+    /// How many writes failed. One that took 0 bytes of some is a failure.
+    pub fn failures(&self) -> u64
+        ensures { result ≡ (⟦<MemoryOutput<'a> as Output>⟧.state self.now).failures }
+    {
+        self.tally.failures
+    }
+}
+
+impl Output for MemoryOutput<'_> {
+    ghost state = { λ s. writer_of (Some (take s.filled s.room.now)) s.tally };
+
+    ghost write_takes = { λ s bytes answer t. (t.most ≡ s.most) × (t.failing ≡ s.failing)
+        × (length t.room.now ≡ length s.room.now) × MatchOption answer (s.failing ≡ Some (Error (after_more s.tally.calls 1)))
+        (λ n. (s.failing ≢ Some (Error (after_more s.tally.calls 1))) × (n ≤ s.most)
+        × (s.failing ≡ Some (Zero (after_more s.tally.calls 1)) → n ≡ 0) × (s.failing ≢ Some (Zero (after_more s.tally.calls 1)) →
+        n ≡ min (min (length bytes) (length s.room.now - s.filled)) s.most)) };
+
+    ghost calls_fit = { λ s. Prim.search rules };
+
+    ghost failures_fit = { λ s. Prim.search rules };
+
+    fn write(&mut self, bytes: &[u8]) -> Result<usize, DeviceFault> {
+        self.tally.call();
+        if self.failing == Some(FailingWrite::Error(self.tally.calls)) {
+            return Err(self.tally.fail());
+        }
+        let spare = self.room.len() - self.filled;
+        let mut n = bytes.len().min(spare).min(self.most);
+        if self.failing == Some(FailingWrite::Zero(self.tally.calls)) {
+            n = 0;
+        }
+        if n == 0 && !bytes.is_empty() {
+            self.tally.fail();
+        }
+        self.room[self.filled..self.filled + n].copy_from_slice(&bytes[..n]);
+        self.filled += n;
+        Ok(n)
+    }
+}
+
+/// Writes all of `bytes`, in as few calls as the device takes.
+///
+/// No call is made again: an error ends it, and so does a call that takes 0 bytes. What the device took until then is a
+/// front of `bytes`.
+pub fn write_all<W: Output>(writer: &mut W, bytes: &[u8]) -> Result<(), DeviceFault>
+    // What the device holds, where that is known, and its count of failures, which rises by one exactly at an error.
+    ensures written { OnOk result (TakesText (over W.state writer.old writer.new) bytes.now) }
+    ensures broken { OnErr result (BreaksWithin (over W.state writer.old writer.new) bytes.now) }
+
+    // The writes, also of an unknown device: each of all that was left, and none after a failure.
+    ensures writes { OnOk result (AreWrites W.write_takes bytes.now writer.old [] writer.new) }
+    ensures stopped { OnErr result ((rest : List ℕ) × (last : W) × AreWrites W.write_takes bytes.now writer.old rest last
+        × (rest ≢ []) × (W.write_takes last rest None writer.new ⊎ W.write_takes last rest (Some 0) writer.new)) }
+{
+    let mut rest = bytes;
+    while !rest.is_empty() {
+        let n = writer.write(rest)?;
+        if n == 0 {
+            return Err(DeviceFault);
+        }
+        rest = &rest[n..];
+    }
+    Ok(())
+}

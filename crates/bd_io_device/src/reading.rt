@@ -1,0 +1,205 @@
+//! The bytes of a device: all of them, or as many as a room takes.
+ghost use Rattle.std.specs.Prelude.{◌≡◌, ℕ, List, [], Some, None, IfOk, IfSome, IsErrOf, OnErr, OnOk, length, vec_len, ◌+◌, ◌<◌, ◌≤◌, ◌++◌, take, IfErr, ◌-◌};
+ghost use Rattle.std.specs.Io.KnownBytes.{IsAtEnd, Consumes};
+ghost use Rattle.bd_io_device.specs.Devices.{AreReads, FailsToFill, FillsRoom, after_more, over, read_words};
+
+use crate::input::Input;
+use std::alloc::Global;
+use thiserror::Error;
+
+/// What may be taken of a device.
+#[derive(Debug, Clone, Copy, PartialEq, Eq)]
+pub struct Limits {
+    /// How many bytes it may give.
+    pub bytes: u64,
+    /// How many reads may be made, the one that finds the end included.
+    pub turns: u64,
+}
+
+/// Why a device was not read to its end.
+#[derive(Debug, Clone, Copy, Drop, PartialEq, Eq, Error)]
+#[error("{}", self.words())]
+pub enum ReadFault {
+    /// A read failed.
+    Device = 1,
+    /// The device gave more bytes than the limit.
+    TooLong = 2,
+    /// The limit of reads was reached before the end was found.
+    TooManyTurns = 3,
+    /// The allocator gave no memory.
+    NoMemory = 4,
+}
+
+const CANNOT_READ: &str = "cannot read";
+
+const INPUT_TOO_LONG: &str = "input too long";
+
+const TOO_MANY_READS: &str = "too many reads";
+
+const NO_MEMORY: &str = "no memory";
+
+impl ReadFault {
+    /// The fault in the words of the program.
+    pub fn words(self) -> &'static str
+        ensures { result.now ≡ read_words self }
+    {
+        match self {
+            ReadFault::Device => CANNOT_READ,
+            ReadFault::TooLong => INPUT_TOO_LONG,
+            ReadFault::TooManyTurns => TOO_MANY_READS,
+            ReadFault::NoMemory => NO_MEMORY,
+        }
+    }
+}
+
+/// All bytes of a device, to its end. A turn is one read, and no read is made again.
+///
+/// At an error what was taken is a front of the device's bytes. `Device` comes at a read that failed, `TooLong` once more
+/// bytes were given than `limits.bytes`, and `TooManyTurns` where `limits.turns` reads each gave a byte at least, so that
+/// one more is wanted. `NoMemory` comes where the allocator refuses to grow.
+pub fn read_all<R: Input>(
+    alloc: Global,
+    reader: &mut R,
+    limits: Limits,
+) -> Result<Vec<u8>, ReadFault>
+    // All bytes, where they are known, and as the reads gave them.
+    ensures bytes { IfOk result (λ v. IfSome (R.state reader.old).left (λ xs. v.items ≡ xs)) }
+    ensures end { OnOk result (IsAtEnd (R.state reader.new).left) }
+    ensures whole { IfOk result (λ v. (n : ℕ) × (last : R) × (n < limits.turns)
+        × AreReads R.read_gives n reader.old v.items last × R.read_gives last (Some []) reader.new) }
+    ensures short { IfOk result (λ v. vec_len v ≤ limits.bytes) }
+    ensures front { OnErr result ((given : List ℕ) × Consumes (R.state reader.old).left (R.state reader.new).left given) }
+    ensures turns { (R.state reader.new).calls ≤ after_more (R.state reader.old).calls limits.turns }
+
+    // The last read went past the limit of bytes.
+    ensures too_long { IsErrOf result ReadFault.TooLong → (n : ℕ) × (given : List ℕ) × (part : List ℕ) × (last : R) × (n < limits.turns)
+        × (length given ≤ limits.bytes) × (limits.bytes < length given + length part)
+        × AreReads R.read_gives n reader.old given last × R.read_gives last (Some part) reader.new }
+    ensures too_long_known { IsErrOf result ReadFault.TooLong → IfSome (R.state reader.old).left (λ xs. limits.bytes < length xs) }
+
+    // All reads were made, and each gave a byte at least.
+    ensures too_many { IsErrOf result ReadFault.TooManyTurns → (given : List ℕ) × (length given ≤ limits.bytes)
+        × AreReads R.read_gives limits.turns reader.old given reader.new
+        × Consumes (R.state reader.old).left (R.state reader.new).left given }
+    ensures too_many_calls { IsErrOf result ReadFault.TooManyTurns →
+        (R.state reader.new).calls ≡ after_more (R.state reader.old).calls limits.turns }
+
+    // The last read failed, and it alone: exactly then the count of failures rises.
+    ensures device { IsErrOf result ReadFault.Device →
+        (n : ℕ) × (given : List ℕ) × (last : R) × (n < limits.turns) × (length given ≤ limits.bytes)
+        × AreReads R.read_gives n reader.old given last × R.read_gives last None reader.new }
+    ensures failed { IsErrOf result ReadFault.Device → (R.state reader.new).failures ≡ after_more (R.state reader.old).failures 1 }
+    ensures well { ¬ (IsErrOf result ReadFault.Device) → (R.state reader.new).failures ≡ (R.state reader.old).failures }
+
+    // The reads before a refusal of the allocator gave a byte each, and no more than the limit.
+    ensures memory { IsErrOf result ReadFault.NoMemory → (n : ℕ) × (given : List ℕ) × (n ≤ limits.turns) × (length given ≤ limits.bytes)
+        × AreReads R.read_gives n reader.old given reader.new
+        × Consumes (R.state reader.old).left (R.state reader.new).left given }
+{
+    let mut buffer = [0u8; 65536];
+    let mut bytes = Vec::new(alloc);
+    for _ in 0..limits.turns {
+        let Ok(n) = reader.read(&mut buffer) else {
+            return Err(ReadFault::Device);
+        };
+        if n == 0 {
+            return Ok(bytes);
+        }
+        if limits.bytes - (bytes.len() as u64) < n as u64 {
+            return Err(ReadFault::TooLong);
+        }
+        if bytes.extend_from_slice(&buffer[..n]).is_err() {
+            return Err(ReadFault::NoMemory);
+        }
+    }
+    Err(ReadFault::TooManyTurns)
+}
+
+/// What came of filling a room.
+#[derive(Clone, Copy)]
+pub struct FillCounts {
+    /// How many bytes came, the whole room unless the device is at its end.
+    pub bytes: usize,
+    /// How many reads were made.
+    pub turns: u64,
+}
+
+/// Reads until the room is full or the device is at its end, as long as the limits let it. No read is made again.
+#[inline(always)]
+pub fn fill<R: Input>(
+    reader: &mut R,
+    room: &mut [u8],
+    limits: Limits,
+) -> Result<FillCounts, ReadFault>
+    ensures fits { IfOk result (λ f. f.bytes ≤ length room.old) }
+    ensures bytes { IfOk result (λ f. Consumes (R.state reader.old).left (R.state reader.new).left (take f.bytes room.new)) }
+    ensures end { IfOk result (λ f. f.bytes < length room.old → IsAtEnd (R.state reader.new).left) }
+    ensures within { IfOk result (λ f. (f.bytes ≤ limits.bytes) × (f.turns ≤ limits.turns)) }
+    ensures called { IfOk result (λ f. (R.state reader.new).calls ≡ after_more (R.state reader.old).calls f.turns) }
+    ensures turns { (R.state reader.new).calls ≤ after_more (R.state reader.old).calls limits.turns }
+    // The reads, also of an unknown device. Where too many would be needed, all were made and each gave a byte at least.
+    ensures reads { IfOk result (λ f. FillsRoom R.read_gives (length room.old) f.turns reader.old (take f.bytes room.new) reader.new) }
+    ensures unfilled { IfErr result
+        (FailsToFill R.read_gives R.state limits (length room.old) reader.old reader.new) }
+    ensures too_many_calls { IsErrOf result ReadFault.TooManyTurns →
+        (R.state reader.new).calls ≡ after_more (R.state reader.old).calls limits.turns }
+    // The last read failed, and it alone: exactly then the count of failures rises.
+    ensures failed { IsErrOf result ReadFault.Device → (R.state reader.new).failures ≡ after_more (R.state reader.old).failures 1 }
+    ensures well { ¬ (IsErrOf result ReadFault.Device) → (R.state reader.new).failures ≡ (R.state reader.old).failures }
+{
+    let size = room.len();
+    if 0 < limits.turns && size as u64 <= limits.bytes && reader.read_held(room) {
+        return Ok(FillCounts {
+            bytes: size,
+            turns: 1,
+        });
+    }
+    let mut bytes = 0;
+    let mut turns = 0;
+    while bytes < room.len() {
+        if turns == limits.turns {
+            return Err(ReadFault::TooManyTurns);
+        }
+        let Ok(n) = reader.read(&mut room[bytes..]) else {
+            return Err(ReadFault::Device);
+        };
+        turns += 1;
+        if n == 0 {
+            return Ok(FillCounts { bytes, turns });
+        }
+        if limits.bytes - (bytes as u64) < n as u64 {
+            return Err(ReadFault::TooLong);
+        }
+        bytes += n;
+    }
+    Ok(FillCounts { bytes, turns })
+}
+
+/// Puts four bytes at the front of a room, and fills it after them up to `size`, which is at least 4 and no more than the
+/// room's length.
+pub fn fill_after<R: Input>(
+    reader: &mut R,
+    room: &mut [u8],
+    head: [u8; 4],
+    size: usize,
+    limits: Limits,
+) -> Result<FillCounts, ReadFault>
+    requires { (4 ≤ size) × (size ≤ length room.old) }
+    ensures fits { IfOk result (λ f. f.bytes + 4 ≤ size) }
+    ensures gives { IfOk result (λ f. (given : List ℕ) × Consumes (R.state reader.old).left (R.state reader.new).left given
+        × (length given ≡ f.bytes) × (take (4 + f.bytes) room.new ≡ head ++ given)
+        × FillsRoom R.read_gives (size - 4) f.turns reader.old given reader.new) }
+    ensures end { IfOk result (λ f. f.bytes + 4 < size → IsAtEnd (R.state reader.new).left) }
+    ensures within { IfOk result (λ f. (f.bytes ≤ limits.bytes) × (f.turns ≤ limits.turns)) }
+    ensures called { IfOk result (λ f. (R.state reader.new).calls ≡ after_more (R.state reader.old).calls f.turns) }
+    ensures turns { (R.state reader.new).calls ≤ after_more (R.state reader.old).calls limits.turns }
+    ensures unfilled { IfErr result
+        (FailsToFill R.read_gives R.state limits (size - 4) reader.old reader.new) }
+    ensures too_many_calls { IsErrOf result ReadFault.TooManyTurns →
+        (R.state reader.new).calls ≡ after_more (R.state reader.old).calls limits.turns }
+    ensures failed { IsErrOf result ReadFault.Device → (R.state reader.new).failures ≡ after_more (R.state reader.old).failures 1 }
+    ensures well { ¬ (IsErrOf result ReadFault.Device) → (R.state reader.new).failures ≡ (R.state reader.old).failures }
+{
+    room[..4].copy_from_slice(&head);
+    fill(reader, &mut room[4..size], limits)
+}

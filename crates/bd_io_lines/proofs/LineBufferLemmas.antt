@@ -1,0 +1,327 @@
+-- Lemmas on reading the next line of a device.
+use Rattle.std.proofs.Common.{rules, ◌≡◌, ◌<◌, ◌≤◌, ◌+◌, ℕ, List, [], ◌∷◌, ◌++◌, length, Bool, true, false, Option, Some, None, refl, sym, ap, ◌∙◌, subst, append_assoc, append-nil, arith, inl, inr}
+use Rattle.std.proofs.Common.{length-append}
+use Rattle.std.proofs.{Math.Nat.add-suc, lemmas.Bool.cases_Bool}
+use Rattle.std.proofs.KnownBytes.{Consumes-trans, Consumes-nil, Consumes-kept}
+use Rattle.std.specs.Prelude.{◌⊎◌}
+use Rattle.std.specs.Io.KnownBytes.{Consumes, IsAtEnd, Keeps}
+use Rattle.bd_value.specs.Limits.{longest_command}
+use Rattle.bd_io_device.specs.{Devices.after_more, Devices.greatest, declared.reading.Limits.Limits, declared.reading.ReadFault.ReadFault}
+use Rattle.bd_io_device.specs.Devices.{AreReads, no_read, Reader}
+use Rattle.bd_io_device.proofs.DevicesLemmas.{reads_none, reads_more, reads_append}
+use Rattle.bd_io_lines.specs.{Lines.IsLine, Lines.IsPart, declared.line_buffer.LineBuffer.LineBuffer}
+use Rattle.bd_io_lines.specs.LineBuffer.{EndsByOneRead, FailsToReadLine, FindsNoLine, ReadsLine, held_after, GivesBeforeLast, GivesBytes, IsCause, IsLazy, LastRead, ReadsTo, StopsReading}
+use Rattle.bd_io_lines.proofs.LinesLemmas.{line_grows, both_empty}
+use Rattle.bd_io_device.specs.declared.reading.ReadFault.TheVariants as reads
+
+-- one read, which gives nothing at the end and something before it
+pub reads_one : {R : Type 0} (gives : R → Option (List ℕ) → R → Type 0) (ended : Bool) (old new : R) (given : List ℕ) → gives old (Some given) new
+    → (ended ≡ true → given ≡ []) → (ended ≡ false → 0 < length given) → ReadsTo gives ended 1 old given new
+reads_one {R} gives true old new given one none some =
+    (0, old, refl, reads_none old given (none refl), subst (λ (l : List ℕ). gives old (Some l) new) (none refl) one)
+reads_one {R} gives false old new given one none some = reads_more 0 old old new [] given given (no_read old) one (some refl) refl
+
+pub reads_then : {R : Type 0} (gives : R → Option (List ℕ) → R → Type 0) (ended : Bool) (n m : ℕ) (old mid new : R) (front rest : List ℕ)
+    → AreReads gives n old front mid → ReadsTo gives ended m mid rest new → ReadsTo gives ended (n + m) old (front ++ rest) new
+reads_then {R} gives true n m old mid new front rest first (k, last, e, second, none) =
+    (n + k, last, ap (λ i. n + i) e ∙ add-suc n k, reads_append n k old mid last front rest first second, none)
+reads_then {R} gives false n m old mid new front rest first second = reads_append n m old mid new front rest first second
+
+pub adds_calls : (a b c n m : ℕ) → b ≡ after_more a n → c ≡ after_more b m → c ≡ after_more a (n + m)
+adds_calls a b c n m first second = search (rules, first, second)
+
+-- reads, and then those of which the last is told apart
+pub one_read_then : {R : Type 0} {gives : R → Option (List ℕ) → R → Type 0} (n : ℕ) (old mid new : R) (first front part : List ℕ)
+    → AreReads gives n old first mid → EndsByOneRead gives front part mid new → EndsByOneRead gives (first ++ front) part old new
+one_read_then {R} {gives} n old mid new first front part are (turns, last, more, one) =
+    (n + turns, last, reads_append n turns old mid last first front are more, one)
+
+-- why a line was not read, of a reader that gave bytes before
+pub cause_then : {R : Type 0} {gives : R → Option (List ℕ) → R → Type 0} (limit left n : ℕ) (old mid new : R) (before bytes rest : List ℕ) (fault : ReadFault)
+    → AreReads gives n old before mid → left + length before ≡ limit → IsCause gives left bytes rest mid new fault
+    → IsCause gives limit bytes (before ++ rest) old new fault
+cause_then {R} {gives} limit left n old mid new before bytes rest reads.Device are room (part, fits) = (part, omega (arith, room, fits, length-append before rest))
+cause_then {R} {gives} limit left n old mid new before bytes rest reads.TooLong are room (inl (long, fits)) = inl (long, omega (arith, room, fits, length-append before rest))
+cause_then {R} {gives} limit left n old mid new before bytes rest reads.TooLong are room (inr (begun, front, part, split, is, cut, few, more, one)) =
+    inr (
+      begun,
+      before ++ front,
+      part,
+      split,
+      is,
+      ap (λ x. before ++ x) cut ∙ sym (append_assoc before front part),
+      omega (arith, room, few, length-append before front),
+      omega (arith, room, more, length-append before rest),
+      one_read_then n old mid new before front part are one,
+    )
+cause_then {R} {gives} limit left n old mid new before bytes rest reads.TooManyTurns are room (part, fits) = (part, omega (arith, room, fits, length-append before rest))
+cause_then {R} {gives} limit left n old mid new before bytes rest reads.NoMemory are room fits = omega (arith, room, fits, length-append before rest)
+
+-- what the loop keeps: the bytes that were given are the line so far and what is held after it
+pub record SoFar {R : Type 0} (state : R → Reader) (gives : R → Option (List ℕ) → R → Type 0) (before after : LineBuffer) (old new : R) : Type 0 where
+  pub given : List ℕ
+  pub reads : GivesBytes state gives before.left after.left after.ended given old new
+  pub same : held_after before ++ given ≡ after.line.items ++ held_after after
+  pub lazy : IsLazy gives (held_after before) given old new
+
+-- the same of all that they gave
+pub before_last_then : {R : Type 0} {gives : R → Option (List ℕ) → R → Type 0} (n : ℕ) (old mid new : R) (first front given : List ℕ)
+    → AreReads gives n old first mid → GivesBeforeLast gives front mid given new → GivesBeforeLast gives (first ++ front) old (first ++ given) new
+before_last_then {R} {gives} n old mid new first front given are (part, split, one) =
+    (part, ap (λ x. first ++ x) split ∙ sym (append_assoc first front part), one_read_then n old mid new first front part are one)
+
+-- after a part of a line no read was made once its newline was there
+lazy_then : {R : Type 0} {gives : R → Option (List ℕ) → R → Type 0} (n : ℕ) (old mid new : R) (head front line rest : List ℕ) → head ++ front ≡ line
+    → AreReads gives n old front mid → IsLazy gives head front old mid → IsLazy gives line rest mid new → IsLazy gives head (front ++ rest) old new
+lazy_then {R} {gives} n old mid new head front line rest e are before (inl (none, same)) =
+    subst (λ r. IsLazy gives head (front ++ rest) old r) (sym same)
+    (subst (λ x. IsLazy gives head x old mid) (sym (ap (λ x. front ++ x) none ∙ append-nil front)) before)
+lazy_then {R} {gives} n old mid new head front line rest e are before (inr (more, is, last)) = inr (
+  front ++ more,
+  subst IsLine (sym (ap (λ x. x ++ more) e) ∙ append_assoc head front more) is,
+  before_last_then n old mid new front more rest are last,
+)
+
+module _ {R : Type 0} {state : R → Reader} {gives : R → Option (List ℕ) → R → Type 0} where
+  pub gives_none : (limits : Limits) (old : R) → (state old).calls ≤ greatest → GivesBytes state gives limits limits false [] old old
+  gives_none limits old fit = record {
+    turns = 0;
+    gave = Consumes-nil (state old).left;
+    reads = no_read old;
+    room = search rules;
+    turned = search rules;
+    calls = search (rules, fit);
+    well = refl;
+    end = λ e. absurd (search (rules, e));
+  }
+
+  pub gives_then : {limits middle left : Limits} {ended : Bool} {old mid new : R} {front rest : List ℕ}
+      → GivesBytes state gives limits middle false front old mid → GivesBytes state gives middle left ended rest mid new
+      → GivesBytes state gives limits left ended (front ++ rest) old new
+  gives_then {limits} {middle} {left} {ended} {old} {mid} {new} {front} {rest} a b = record {
+    turns = a.turns + b.turns;
+    gave = Consumes-trans (state old).left (state mid).left (state new).left front rest a.gave b.gave;
+    reads = reads_then gives ended a.turns b.turns old mid new front rest a.reads b.reads;
+    room = let x = a.room in let y = b.room in omega (arith, x, y, length-append front rest);
+    turned = let x = a.turned in let y = b.turned in omega (arith, x, y);
+    calls = adds_calls (state old).calls (state mid).calls (state new).calls a.turns b.turns a.calls b.calls;
+    well = b.well ∙ a.well;
+    end = b.end;
+  }
+
+  last_then : (limits middle : Limits) (old mid new : R) (front rest : List ℕ) (fault : ReadFault) → GivesBytes state gives limits middle false front old mid
+      → (n : ℕ) → (a : ℕ) → AreReads gives a old front mid → middle.turns + a ≡ limits.turns → (state mid).calls ≡ after_more (state old).calls a
+      → LastRead state gives middle n mid rest new fault → LastRead state gives limits (a + n) old (front ++ rest) new fault
+  last_then limits middle old mid new front rest reads.Device g n a first turned calls (last, second, none, failures) =
+      (last, reads_append a n old mid last front rest first second, none, failures ∙ ap (λ i. after_more i 1) g.well)
+  last_then limits middle old mid new front rest reads.TooLong g n a first turned calls (second, well) =
+      (reads_append a n old mid new front rest first second, well ∙ g.well)
+  last_then limits middle old mid new front rest reads.TooManyTurns g n a first turned calls (second, well, all, called) = (
+    reads_append a n old mid new front rest first second,
+    well ∙ g.well,
+    omega (arith, turned, all),
+    let e : middle.turns + a ≡ a + middle.turns = omega arith in
+        subst (λ i. (state new).calls ≡ after_more (state old).calls i) (sym e ∙ turned) (adds_calls (state old).calls (state mid).calls (state new).calls a middle.turns calls called),
+  )
+  last_then limits middle old mid new front rest reads.NoMemory g n a first turned calls (second, well) =
+      (reads_append a n old mid new front rest first second, well ∙ g.well)
+
+  pub stops_then : {limits middle : Limits} {old mid new : R} {front rest : List ℕ} {fault : ReadFault}
+      → GivesBytes state gives limits middle false front old mid → StopsReading state gives middle rest mid new fault
+      → StopsReading state gives limits (front ++ rest) old new fault
+  stops_then {limits} {middle} {old} {mid} {new} {front} {rest} {fault} a b = record {
+    turns = a.turns + b.turns;
+    within = let x = a.turned in let y = b.within in omega (arith, x, y);
+    gave = Consumes-trans (state old).left (state mid).left (state new).left front rest a.gave b.gave;
+    reads = last_then limits middle old mid new front rest fault a b.turns a.turns a.reads a.turned a.calls b.reads;
+    calls = let x = a.turned in let y = b.calls in let z = a.calls in search (rules, x, y, z);
+  }
+
+  -- after a part of a line the reader failed
+  fails_then : {limits middle : Limits} {old mid new : R} {head front line : List ℕ} {fault : ReadFault}
+      → GivesBytes state gives limits middle false front old mid → head ++ front ≡ line → IsLazy gives head front old mid
+      → FailsToReadLine state gives middle line mid new fault → FailsToReadLine state gives limits head old new fault
+  fails_then {limits} {middle} {old} {mid} {new} {head} {front} {line} {fault} a e lazy b = record {
+    given = front ++ b.given;
+    stops = stops_then a b.stops;
+    cause = cause_then limits.bytes middle.bytes a.turns old mid new front (head ++ (front ++ b.given)) b.given fault a.reads a.room
+        (subst (λ x. IsCause gives middle.bytes x b.given mid new fault) (sym (ap (λ x. x ++ b.given) e) ∙ append_assoc head front b.given) b.cause);
+    lazy = lazy_then a.turns old mid new head front line b.given e a.reads lazy b.lazy;
+  }
+
+  -- so many reads gave this, and no further one was made
+  stops_by : {limits : Limits} {old new : R} {given : List ℕ} {fault : ReadFault} (turns : ℕ) → turns ≤ limits.turns → Consumes (state old).left (state new).left given
+      → LastRead state gives limits turns old given new fault → (state new).calls ≡ after_more (state old).calls turns → StopsReading state gives limits given old new fault
+  stops_by turns within gave last calls = record { turns = turns; within = within; gave = gave; reads = last; calls = search (rules, within, calls) }
+
+  -- no read may be made
+  pub fails_turns : (limits : Limits) (old : R) (head : List ℕ) → limits.turns ≡ 0 → (state old).calls ≤ greatest → IsPart head
+      → FailsToReadLine state gives limits head old old reads.TooManyTurns
+  fails_turns limits old head none fit part =
+      let same : (state old).calls ≡ after_more (state old).calls limits.turns = search (rules, none, fit) in
+      record {
+        given = [];
+        stops = record {
+          turns = 0;
+          within = omega arith;
+          gave = Consumes-nil (state old).left;
+          reads = (no_read old, refl, sym none, same);
+          calls = search (rules, same);
+        };
+        cause = (subst IsPart (sym (append-nil head)) part, omega arith);
+        lazy = inl (refl, refl);
+      }
+
+  -- the read failed
+  pub fails_device : (limits : Limits) (old new : R) (head : List ℕ) → 0 < limits.turns → IsPart head → Keeps (state old).left (state new).left
+      → gives old None new → (state new).calls ≡ after_more (state old).calls 1 → (state new).failures ≡ after_more (state old).failures 1
+      → FailsToReadLine state gives limits head old new reads.Device
+  fails_device limits old new head some part kept none calls failures = record {
+    given = [];
+    stops = record {
+      turns = 0;
+      within = omega arith;
+      gave = Consumes-kept (state old).left (state old).left (state new).left [] (Consumes-nil (state old).left) kept;
+      reads = (old, no_read old, none, failures);
+      calls = search (rules, some, calls);
+    };
+    cause = (subst IsPart (sym (append-nil head)) part, omega arith);
+    lazy = inr ([], subst IsLine (sym (append-nil head)) part.0, ([], refl, (0, old, no_read old, inr (refl, none))));
+  }
+
+  -- the read gave more than it may
+  pub fails_limit : (limits : Limits) (old new : R) (head last : List ℕ) → 0 < limits.turns → IsPart head → Consumes (state old).left (state new).left last
+      → gives old (Some last) new → (state new).calls ≡ after_more (state old).calls 1 → (state new).failures ≡ (state old).failures
+      → limits.bytes < length last → FailsToReadLine state gives limits head old new reads.TooLong
+  fails_limit limits old new head last some part took one calls well more = record {
+    given = last;
+    stops = stops_by 1 (omega (arith, some)) took (reads_more 0 old old new [] last last (no_read old) one (omega (arith, more)) refl, well) calls;
+    cause = inr (head, [], last, refl, part, refl, omega arith, more, (0, old, no_read old, inl one));
+    lazy = inr ([], subst IsLine (sym (append-nil head)) part.0, (last, refl, (0, old, no_read old, inl one)));
+  }
+
+  -- what the read gave found no room
+  pub fails_room : (limits : Limits) (old new : R) (head last : List ℕ) → 0 < limits.turns → IsLine head → Consumes (state old).left (state new).left last
+      → gives old (Some last) new → (state new).calls ≡ after_more (state old).calls 1 → (state new).failures ≡ (state old).failures
+      → 0 < length last → length last ≤ limits.bytes → FailsToReadLine state gives limits head old new reads.NoMemory
+  fails_room limits old new head last some part took one calls well more fits = record {
+    given = last;
+    stops = stops_by 1 (omega (arith, some)) took (reads_more 0 old old new [] last last (no_read old) one more refl, well) calls;
+    cause = fits;
+    lazy = inr ([], subst IsLine (sym (append-nil head)) part, (last, refl, (0, old, no_read old, inl one)));
+  }
+
+  -- what the read gave was taken
+  pub gives_one : (limits left : Limits) (ended : Bool) (old new : R) (given : List ℕ) → Consumes (state old).left (state new).left given
+      → gives old (Some given) new → (state new).calls ≡ after_more (state old).calls 1 → (state new).failures ≡ (state old).failures
+      → left.bytes + length given ≡ limits.bytes → left.turns + 1 ≡ limits.turns → (ended ≡ true → IsAtEnd (state new).left)
+      → (ended ≡ true → given ≡ []) → (ended ≡ false → 0 < length given) → GivesBytes state gives limits left ended given old new
+  gives_one limits left ended old new given took one calls well room turned end none some = record {
+    turns = 1;
+    gave = took;
+    reads = reads_one gives ended old new given one none some;
+    room = room;
+    turned = turned;
+    calls = calls;
+    well = well;
+    end = end;
+  }
+
+  module _ {before lines : LineBuffer} {old mid : R} (so_far : SoFar state gives before lines old mid) (going : lines.ended ≡ false) (whole : IsLine lines.line.items) where
+    gave : GivesBytes state gives before.left lines.left false so_far.given old mid
+    gave = subst (λ b. GivesBytes state gives before.left lines.left b so_far.given old mid) going so_far.reads
+
+    -- a newline ends the line
+    pub reads_line : (after : LineBuffer) (part : List ℕ) → IsLine part → after.line.items ≡ lines.line.items ++ part → held_after lines ≡ part ++ 10 ∷ held_after after
+        → after.left ≡ lines.left → after.ended ≡ false → ReadsLine state gives before after old mid
+    reads_line after part is grown split left ended = record {
+      given = so_far.given;
+      reads = subst (λ l. GivesBytes state gives before.left l after.ended so_far.given old mid) (sym left)
+          (subst (λ b. GivesBytes state gives before.left lines.left b so_far.given old mid) (sym ended) gave);
+      line = (
+        (subst IsLine (sym grown) (line_grows lines.line.items part whole is), after.short),
+        inl (so_far.same ∙ ap (λ x. lines.line.items ++ x) split ∙ sym (append_assoc lines.line.items part (10 ∷ held_after after))
+            ∙ ap (λ x. x ++ 10 ∷ held_after after) (sym grown)),
+      );
+      lazy = so_far.lazy;
+    }
+
+    -- the line is too long
+    line_too_long : (part rest : List ℕ) → IsLine part → held_after lines ≡ part ++ rest → longest_command < length lines.line.items + length part
+        → FailsToReadLine state gives before.left (held_after before) old mid reads.TooLong
+    line_too_long part rest is split long = record {
+      given = so_far.given;
+      stops = stops_by gave.turns (let x = gave.turned in omega (arith, x)) gave.gave (gave.reads, gave.well) gave.calls;
+      cause = inl (
+        (
+          lines.line.items ++ part,
+          rest,
+          so_far.same ∙ ap (λ x. lines.line.items ++ x) split ∙ sym (append_assoc lines.line.items part rest),
+          line_grows lines.line.items part whole is,
+          omega (arith, long, length-append lines.line.items part),
+        ),
+        let x = gave.room in omega (arith, x),
+      );
+      lazy = so_far.lazy;
+    }
+
+    line_no_memory : FailsToReadLine state gives before.left (held_after before) old mid reads.NoMemory
+    line_no_memory = record {
+      given = so_far.given;
+      stops = stops_by gave.turns (let x = gave.turned in omega (arith, x)) gave.gave (gave.reads, gave.well) gave.calls;
+      cause = let x = gave.room in omega (arith, x);
+      lazy = so_far.lazy;
+    }
+
+    pub line_stops : (fault : ReadFault) → (fault ≡ reads.TooLong) ⊎ (fault ≡ reads.NoMemory)
+        → (fault ≡ reads.TooLong → (part : List ℕ) × (rest : List ℕ) × IsLine part × (held_after lines ≡ part ++ rest) × (longest_command < length lines.line.items + length part))
+        → FailsToReadLine state gives before.left (held_after before) old mid fault
+    line_stops fault (inl is) long =
+        let l = long is in subst (λ f. FailsToReadLine state gives before.left (held_after before) old mid f) (sym is) (line_too_long l.0 l.1 l.2 l.3 l.4)
+    line_stops fault (inr is) long = subst (λ f. FailsToReadLine state gives before.left (held_after before) old mid f) (sym is) line_no_memory
+
+    module _ (is : IsLine (held_after lines)) where
+      head_is : IsLine (held_after before ++ so_far.given)
+      head_is = subst IsLine (sym so_far.same) (line_grows lines.line.items (held_after lines) whole is)
+
+      -- so no newline was held at first
+      module _ (all : List ℕ) (grown : all ≡ lines.line.items ++ held_after lines) where
+        pub line_grown : IsLine all
+        line_grown = subst IsLine (sym grown) (line_grows lines.line.items (held_after lines) whole is)
+
+        pub line_fails : (new : R) (fault : ReadFault) → FailsToReadLine state gives lines.left all mid new fault
+            → FailsToReadLine state gives before.left (held_after before) old new fault
+        line_fails new fault fails = fails_then gave (so_far.same ∙ sym grown) so_far.lazy fails
+
+      pub line_goes_on : (after : LineBuffer) → after.line.items ≡ lines.line.items ++ held_after lines → (new : R)
+          → GivesBytes state gives lines.left after.left after.ended (held_after after) mid new → gives mid (Some (held_after after)) new → SoFar state gives before after old new
+      line_goes_on after grown new more one = record {
+        given = so_far.given ++ held_after after;
+        reads = gives_then gave more;
+        same = sym (append_assoc (held_after before) so_far.given (held_after after)) ∙ ap (λ x. x ++ held_after after) (so_far.same ∙ sym grown);
+        lazy = inr (so_far.given, head_is, (held_after after, refl, (gave.turns, mid, gave.reads, inl one)));
+      }
+
+  pub starts : (lines : LineBuffer) (old : R) → (state old).calls ≤ greatest → lines.ended ≡ false → lines.line.items ≡ [] → SoFar state gives lines lines old old
+  starts lines old fit is empty = record {
+    given = [];
+    reads = subst (λ b. GivesBytes state gives lines.left lines.left b [] old old) (sym is) (gives_none lines.left old fit);
+    same = append-nil (held_after lines) ∙ ap (λ x. x ++ held_after lines) (sym empty);
+    lazy = inl (refl, refl);
+  }
+
+  finds_nothing : {before after : LineBuffer} {old new : R} → after.ended ≡ true → after.line.items ≡ [] → SoFar state gives before after old new
+      → (held_after before ≡ []) × GivesBytes state gives before.left after.left true [] old new
+  finds_nothing {before} {after} {old} {new} is empty so_far =
+      let none : held_after before ++ so_far.given ≡ [] = so_far.same ∙ ap (λ x. x ++ held_after after) empty ∙ after.drained is in
+      let both = both_empty (held_after before) so_far.given none in
+      let gave = subst (λ b. GivesBytes state gives before.left after.left b so_far.given old new) is so_far.reads in
+      (both.0, subst (λ x. GivesBytes state gives before.left after.left true x old new) both.1 gave)
+
+  pub finds_no_line : (before after : LineBuffer) (old new : R) → after.ended ≡ true → after.line.items ≡ []
+      → (before.ended ≡ false → SoFar state gives before after old new) → FindsNoLine state gives before after old new
+  finds_no_line before after old new is empty so_far = record {
+    none = (elim (cases_Bool before.ended) [ inl was ↦ before.drained was | inr was ↦ (finds_nothing is empty (so_far was)).0 ], empty);
+    ended = is;
+    reads = λ was. (finds_nothing is empty (so_far was)).1;
+  }

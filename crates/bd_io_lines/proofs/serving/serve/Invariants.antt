@@ -1,0 +1,13 @@
+use Rattle.std.proofs.Common.{◌≡◌, None, length, drop, ◌+◌}
+use Rattle.bd_io_lines.proofs.ServingLemmas.{Serving}
+use Rattle.bd_io_lines.proofs.serving.serve.Given as goal
+
+abbrev pub invariant-loop-text : goal.invariant-loop-text
+invariant-loop-text g l = record {
+  so_far : Serving g.R.Input.state g.R.Input.read_gives g.S.Replier.replies l.fn.limits l.lines l.initial.reader l.reader
+      (g.O.Output.state l.initial.out) (g.O.Output.state l.out) l.initial.session l.session;
+  works : l.lines.failed ≡ None;
+}
+
+abbrev pub decreases-loop-text : goal.decreases-loop-text
+decreases-loop-text g l = l.lines.left.bytes + length (drop l.lines.start l.lines.block.items)

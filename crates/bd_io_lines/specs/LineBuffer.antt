@@ -1,0 +1,98 @@
+-- What reading the next line of a device does to the device and to the buffer of the line.
+use Rattle.std.specs.Prelude.{◌≡◌, ◌<◌, ◌≤◌, ◌+◌, ◌⊎◌, ℕ, suc, List, [], ◌++◌, length, drop, Bool, true, false, Option}
+use Rattle.std.specs.{Prelude.Some, Prelude.None, Io.KnownBytes.Consumes, Io.KnownBytes.IsAtEnd}
+use Rattle.bd_io_device.specs.{Devices.after_more, Devices.AreReads, Devices.Reader}
+use Rattle.bd_io_device.specs.declared.reading.{Limits.Limits, ReadFault.ReadFault}
+use Rattle.bd_value.specs.Limits.{longest_command}
+use Rattle.bd_io_lines.specs.{Lines.IsFirstLine, Lines.IsLine, Lines.IsPart}
+use Rattle.bd_io_lines.specs.{declared.line_buffer.LineBuffer.LineBuffer}
+
+-- the bytes that the device gave after the line
+abbrev pub held_after : LineBuffer → List ℕ
+held_after lines = drop lines.start lines.block.items
+
+-- of a reader, whose read may give these bytes, or fail, and leave this reader
+module _ {R : Type 0} (gives : R → Option (List ℕ) → R → Type 0) where
+  -- so many reads gave these bytes; where the end was found, the last of them gave none, and each other a byte at least
+  abbrev pub ReadsTo : Bool → ℕ → R → List ℕ → R → Type 0
+  ReadsTo false turns old given new = AreReads gives turns old given new
+  ReadsTo true turns old given new =
+      (n : ℕ) × (last : R) × (turns ≡ suc n) × AreReads gives n old given last × gives last (Some []) new
+
+  -- reads gave this front, and one more gave this part, or it failed and gave none
+  abbrev pub EndsByOneRead : List ℕ → List ℕ → R → R → Type 0
+  EndsByOneRead front part old new = (turns : ℕ) × (last : R) × AreReads gives turns old front last
+      × (gives last (Some part) new ⊎ ((part ≡ []) × gives last None new))
+
+  -- reads gave these bytes, and those before the last one gave this front
+  abbrev pub GivesBeforeLast : List ℕ → R → List ℕ → R → Type 0
+  GivesBeforeLast front old given new = (part : List ℕ) × (given ≡ front ++ part) × EndsByOneRead front part old new
+
+  -- no read was made; or bytes of a line were there before the last one, so none was made once its newline was
+  abbrev pub IsLazy : List ℕ → List ℕ → R → R → Type 0
+  IsLazy head given old new =
+      ((given ≡ []) × (new ≡ old)) ⊎ ((front : List ℕ) × IsLine (head ++ front) × GivesBeforeLast front old given new)
+
+  -- Why the line that these bytes begin was not read,
+  -- where a reader gave `given` and may give as many bytes as the limit.
+  -- `TooLong`: the line is too long; or the last read, while a part of the line was there, went past the limit.
+  abbrev pub IsCause : ℕ → List ℕ → List ℕ → R → R → ReadFault → Type 0
+  IsCause limit bytes given old new ReadFault.TooLong =
+      (((line : List ℕ) × (rest : List ℕ) × (bytes ≡ line ++ rest) × IsLine line × (longest_command < length line))
+      × (length given ≤ limit))
+      ⊎ ((line : List ℕ) × (front : List ℕ) × (part : List ℕ) × (bytes ≡ line ++ part) × IsPart line
+      × (given ≡ front ++ part) × (length front ≤ limit) × (limit < length given) × EndsByOneRead front part old new)
+  IsCause limit bytes given old new ReadFault.NoMemory = length given ≤ limit
+  IsCause limit bytes given old new fault = IsPart bytes × (length given ≤ limit)
+
+-- the same, where this is told of each state of the reader
+module _ {R : Type 0} (state : R → Reader) (gives : R → Option (List ℕ) → R → Type 0) where
+  -- the reader gave these bytes, and what it may still be asked for went down from `limits` to `left`
+  pub record GivesBytes (limits left : Limits) (ended : Bool) (given : List ℕ) (old new : R) : Type 0 where
+    pub turns : ℕ
+    pub gave : Consumes (state old).left (state new).left given
+    pub reads : ReadsTo gives ended turns old given new
+    pub room : left.bytes + length given ≡ limits.bytes
+    pub turned : left.turns + turns ≡ limits.turns
+    pub calls : (state new).calls ≡ after_more (state old).calls turns
+    pub well : (state new).failures ≡ (state old).failures
+    pub end : ended ≡ true → IsAtEnd (state new).left
+
+  -- the next line was read, and no block after the one that ends it
+  pub record ReadsLine (before after : LineBuffer) (old new : R) : Type 0 where
+    pub given : List ℕ
+    pub reads : GivesBytes before.left after.left after.ended given old new
+    pub line : IsFirstLine (held_after before ++ given) after.line.items (held_after after) after.ended
+    pub lazy : IsLazy gives (held_after before) given old new
+
+  -- there is no next line
+  pub record FindsNoLine (before after : LineBuffer) (old new : R) : Type 0 where
+    pub none : (held_after before ≡ []) × (after.line.items ≡ [])
+    pub ended : after.ended ≡ true
+    pub reads : before.ended ≡ false → GivesBytes before.left after.left true [] old new
+
+  -- the last of so many reads that gave these bytes, where a fault of reading came
+  abbrev pub LastRead : Limits → ℕ → R → List ℕ → R → ReadFault → Type 0
+  LastRead limits turns old given new ReadFault.Device =
+      (last : R) × AreReads gives turns old given last × gives last None new
+      × ((state new).failures ≡ after_more (state old).failures 1)
+  LastRead limits turns old given new ReadFault.TooManyTurns =
+      AreReads gives turns old given new × ((state new).failures ≡ (state old).failures)
+      × (turns ≡ limits.turns) × ((state new).calls ≡ after_more (state old).calls limits.turns)
+  LastRead limits turns old given new fault =
+      AreReads gives turns old given new × ((state new).failures ≡ (state old).failures)
+
+  -- the reader gave these bytes up to a fault of reading
+  pub record StopsReading (limits : Limits) (given : List ℕ) (old new : R) (fault : ReadFault) : Type 0 where
+    pub turns : ℕ
+    pub within : turns ≤ limits.turns
+    pub gave : Consumes (state old).left (state new).left given
+    pub reads : LastRead limits turns old given new fault
+    pub calls : (state new).calls ≤ after_more (state old).calls limits.turns
+
+  -- the line that begins with these bytes was not read
+  pub record FailsToReadLine (limits : Limits) (head : List ℕ) (old new : R) (fault : ReadFault) : Type 0 where
+    pub given : List ℕ
+    pub stops : StopsReading limits given old new fault
+    pub cause : IsCause gives limits.bytes (head ++ given) given old new fault
+    pub lazy : IsLazy gives head given old new

@@ -1,0 +1,84 @@
+-- Replies to the commands of a device, each written before a later read.
+use Rattle.std.specs.Prelude.{◌≡◌, ◌≤◌, ◌⊎◌, ℕ, List, [], ◌∷◌, ◌++◌, Bool, true, false, Option}
+use Rattle.std.specs.List.{count_by}
+use Rattle.bd_io_device.specs.declared.reading.{Limits.Limits, ReadFault.ReadFault}
+use Rattle.bd_io_device.specs.Devices.{BreaksAfter, Over, Reader, TakesText, Writer}
+use Rattle.bd_io_lines.specs.Lines.{AreShort, AreWhole, IsFirstLine, commands_of, is_empty_line, is_newline}
+use Rattle.bd_io_lines.specs.LineBuffer.{GivesBeforeLast, GivesBytes, IsCause, StopsReading}
+use Rattle.bd_io_lines.specs.declared.serving.ServeFault.{ServeFault}
+
+-- this text is the replies to these commands in turn, each with a newline after it;
+-- they lead from one state to the other
+abbrev pub RepliesInTurn : {S : Type 0} → (S → List ℕ → List ℕ → S → Type 0) → S → List (List ℕ) → List ℕ → S → Type 0
+RepliesInTurn replies s [] text t = (t ≡ s) × (text ≡ [])
+RepliesInTurn {S} replies s (command ∷ commands) text t =
+    (reply : List ℕ) × (mid : S) × (rest : List ℕ) × replies s command reply mid
+    × RepliesInTurn replies mid commands rest t × (text ≡ reply ++ 10 ∷ rest)
+
+-- memory ran out at this command: it left the state as it was,
+-- or one in which the command has a reply that was not made
+abbrev pub StarvesAt : {S : Type 0} → (S → S → Type 0) → (S → List ℕ → List ℕ → S → Type 0) → S → List ℕ → S → Type 0
+StarvesAt stays replies s command t = stays s t ⊎ ((reply : List ℕ) × replies s command reply t)
+
+-- no read was made; or the reads but the last gave no more newlines than these whole lines have
+abbrev pub IsReadInTime : {R : Type 0} → (R → Option (List ℕ) → R → Type 0) → List ℕ → List ℕ → R → R → Type 0
+IsReadInTime gives whole given old new = ((given ≡ []) × (new ≡ old))
+    ⊎ ((front : List ℕ) × (count_by is_newline front ≤ count_by is_newline whole)
+    × GivesBeforeLast gives front old given new)
+
+-- Of a reader, which of its reads may give what, and which replies a command may have.
+-- The reader goes from one state to the other.
+module _ {R S : Type 0} (state : R → Reader) (gives : R → Option (List ℕ) → R → Type 0)
+    (replies : S → List ℕ → List ℕ → S → Type 0) (limits : Limits) (old new : R) where
+  -- a command was read, this text is the replies to the commands before it, and they led from one state to the other
+  pub record ServesBefore (s : S) (command text : List ℕ) (t : S) : Type 0 where
+    pub whole : List ℕ
+    pub rest : List ℕ
+    pub after : List ℕ
+    pub left : Limits
+    pub ended : Bool
+    pub ends : AreWhole whole
+    pub short : AreShort whole
+    pub reads : GivesBytes state gives limits left ended (whole ++ rest) old new
+    pub in_time : IsReadInTime gives whole (whole ++ rest) old new
+    pub line : IsFirstLine rest command after ended
+    pub is_command : is_empty_line command ≡ false
+    pub replied : RepliesInTurn replies s (commands_of whole) text t
+
+  module _ (out : Over Writer) (s t : S) where
+    -- the reader gave all its bytes, and the replies to all their commands were written
+    pub record ServesAll : Type 0 where
+      pub left : Limits
+      pub given : List ℕ
+      pub text : List ℕ
+      pub short : AreShort given
+      pub reads : GivesBytes state gives limits left true given old new
+      pub replied : RepliesInTurn replies s (commands_of given) text t
+      pub written : TakesText out text
+
+    -- A fault of reading came in the line after some whole lines,
+    -- and the replies to the commands among these were written.
+    pub record StopsUnread (fault : ReadFault) : Type 0 where
+      pub whole : List ℕ
+      pub rest : List ℕ
+      pub text : List ℕ
+      pub ends : AreWhole whole
+      pub short : AreShort whole
+      pub stops : StopsReading state gives limits (whole ++ rest) old new fault
+      pub cause : IsCause gives limits.bytes rest (whole ++ rest) old new fault
+      pub in_time : IsReadInTime gives whole (whole ++ rest) old new
+      pub replied : RepliesInTurn replies s (commands_of whole) text t
+      pub written : TakesText out text
+
+    -- not all commands had a reply, for this reason:
+    -- the replies before it were written, and `stays` tells what is as it was
+    abbrev pub StopsServing : (S → S → Type 0) → ServeFault → Type 0
+    StopsServing stays (ServeFault.Unread fault) = StopsUnread fault
+    -- the reply to a command was not made
+    StopsServing stays ServeFault.NoMemory =
+        (command : List ℕ) × (text : List ℕ) × (mid : S) × ServesBefore s command text mid × TakesText out text
+        × StarvesAt stays replies mid command t
+    -- the reply to a command was not written
+    StopsServing stays ServeFault.Unwritten =
+        (command : List ℕ) × (text : List ℕ) × (reply : List ℕ) × (mid : S) × ServesBefore s command text mid
+        × replies mid command reply t × BreaksAfter out text (reply ++ 10 ∷ [])

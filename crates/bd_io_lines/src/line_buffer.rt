@@ -1,0 +1,204 @@
+//! The next line of a device, in a buffer that the lines share.
+
+ghost use Rattle.std.specs.Prelude.{◌≡◌, ◌++◌, ◌∷◌, [], None, true, IfSome, drop, length, take, ◌+◌, ◌<◌, ◌≤◌};
+ghost use Rattle.bd_value.specs.Limits.{longest_command};
+ghost use Rattle.bd_io_lines.specs.Lines.{IsLine};
+
+use bd_io_device::{Input, Limits, ReadFault};
+use bd_value::LONGEST_COMMAND;
+use memchr::memchr;
+use std::alloc::Global;
+
+/// One line of a device, and the bytes that the device gave after it, which are fewer than those of one read.
+#[derive(Drop)]
+pub struct LineBuffer {
+    /// What the device may still be asked for.
+    left: Limits,
+    line: Vec<u8>,
+    /// The bytes of the last read.
+    block: Vec<u8>,
+    /// Where in them the next line begins.
+    start: usize,
+    /// The end of the device was found.
+    ended: bool,
+    /// The fault that an earlier call met.
+    failed: Option<ReadFault>,
+    ghost inside: { start ≤ length block.items },
+    ghost short: { length line.items ≤ longest_command },
+    ghost held: { length block.items ≤ 65536 },
+    ghost drained: { ended ≡ true → drop start block.items ≡ [] },
+}
+
+impl LineBuffer {
+    ghost use Rattle.std.specs.Prelude.{Ok, Err, false, Some, IfErr, IsErrOf, List, OnErr, OnOk, ℕ, ◌⊎◌};
+    ghost use Rattle.bd_io_lines.specs.LineBuffer.{FailsToReadLine, FindsNoLine, GivesBytes, ReadsLine, held_after};
+
+    /// No line yet. No memory is taken.
+    pub fn new(alloc: Global, limits: Limits) -> LineBuffer
+        ensures empty { (result.left ≡ limits) × (result.line.items ≡ []) × (result.block.items ≡ []) }
+        ensures starts { (result.ended ≡ false) × (result.failed ≡ None) }
+    {
+        LineBuffer {
+            left: limits,
+            line: Vec::new(alloc),
+            block: Vec::new(alloc),
+            start: 0,
+            ended: false,
+            failed: None,
+        }
+    }
+
+    /// The line that was read last, without its newline; empty before the first, at the end and after a fault.
+    pub fn line(&self) -> &[u8]
+        ensures { (result.now ≡ self.now.line.items) × (length result.now ≤ longest_command) }
+    {
+        &self.line
+    }
+
+    /// How many bytes are held: those of a line and those of a read, at most 16,842,752.
+    pub fn held(&self) -> usize
+        ensures { (result ≡ length self.now.line.items + length self.now.block.items) × (result ≤ 16842752) }
+    {
+        self.line.len() + self.block.len()
+    }
+
+    /// Takes the next line of a device into the buffer; false at the end.
+    ///
+    /// A line is the bytes before a newline. The last line needs none where it is not empty. The device is read only
+    /// where no whole line is held, and not after its end was found. All calls are to be handed one device.
+    ///
+    /// # Errors
+    /// - `Device`: a read failed before the line was whole;
+    /// - `TooLong`: the line is longer than 16,777,216 bytes, or the device gave more than the limit of bytes;
+    /// - `TooManyTurns`: one more read was wanted than may be made;
+    /// - `NoMemory`: the allocator gave no memory.
+    ///
+    /// A call after one that met a fault answers the same fault, and reads nothing.
+    pub fn read_next<R: Input>(&mut self, reader: &mut R) -> Result<bool, ReadFault>
+        ensures reads { result ≡ Ok true → ReadsLine R.state R.read_gives self.old self.new reader.old reader.new }
+        ensures end { result ≡ Ok false → FindsNoLine R.state R.read_gives self.old self.new reader.old reader.new }
+        ensures fails { self.old.failed ≡ None → IfErr result
+            (FailsToReadLine R.state R.read_gives self.old.left (held_after self.old) reader.old reader.new) }
+        // After the end no read is made.
+        ensures quiet { self.old.ended ≡ true → (reader.new ≡ reader.old) × (self.new.left ≡ self.old.left) }
+        ensures ends { self.old.ended ≡ true → self.old.failed ≡ None → result ≡ Ok false }
+        // After a fault each call answers it, and reads nothing.
+        ensures again { IfSome self.old.failed (λ f. (result ≡ Err f) × (reader.new ≡ reader.old)) }
+        ensures failed { IfErr result (λ f. (self.new.failed ≡ Some f) × (self.new.line.items ≡ [])) }
+        ensures works { OnOk result (self.new.failed ≡ None) }
+    {
+        self.line.clear();
+        if let Some(fault) = self.failed {
+            return Err(fault);
+        }
+        let result = self.advance(reader);
+        if let Err(fault) = result {
+            self.failed = Some(fault);
+            self.line.clear();
+        }
+        result
+    }
+
+    /// Takes the next line into the buffer, where it holds none; false at the end.
+    fn advance<R: Input>(&mut self, reader: &mut R) -> Result<bool, ReadFault>
+        requires empty { self.old.line.items ≡ [] }
+        ensures reads { result ≡ Ok true → ReadsLine R.state R.read_gives self.old self.new reader.old reader.new }
+        ensures end { result ≡ Ok false → FindsNoLine R.state R.read_gives self.old self.new reader.old reader.new }
+        ensures fails { IfErr result
+            (FailsToReadLine R.state R.read_gives self.old.left (held_after self.old) reader.old reader.new) }
+        ensures quiet { self.old.ended ≡ true → (reader.new ≡ reader.old) × (self.new.left ≡ self.old.left) }
+        ensures ends { self.old.ended ≡ true → result ≡ Ok false }
+        ensures state { self.new.failed ≡ self.old.failed }
+    {
+        while !self.ended {
+            if self.take_part()? {
+                return Ok(true);
+            }
+            self.fetch(reader)?;
+        }
+        Ok(!self.line.is_empty())
+    }
+
+    /// Takes what is held after the line up to a newline into it; false where there is none.
+    fn take_part(&mut self) -> Result<bool, ReadFault>
+        ensures found { result ≡ Ok true → (part : List ℕ) × IsLine part
+            × (self.new.line.items ≡ self.old.line.items ++ part)
+            × (drop self.old.start self.old.block.items ≡ part ++ 10 ∷ drop self.new.start self.new.block.items) }
+        ensures none { result ≡ Ok false → IsLine (drop self.old.start self.old.block.items)
+            × (self.new.line.items ≡ self.old.line.items ++ drop self.old.start self.old.block.items)
+            × (drop self.new.start self.new.block.items ≡ []) }
+        ensures kept { (self.new.left ≡ self.old.left) × (self.new.ended ≡ self.old.ended)
+            × (self.new.failed ≡ self.old.failed) }
+        ensures long { IsErrOf result ReadFault.TooLong → (part : List ℕ) × (rest : List ℕ) × IsLine part
+            × (drop self.old.start self.old.block.items ≡ part ++ rest)
+            × (longest_command < length self.old.line.items + length part) }
+        ensures fault { IfErr result (λ f. (f ≡ ReadFault.TooLong) ⊎ (f ≡ ReadFault.NoMemory)) }
+    {
+        let rest = &self.block[self.start..];
+        match find_newline(rest) {
+            Some(end) => {
+                if LONGEST_COMMAND - self.line.len() < end {
+                    return Err(ReadFault::TooLong);
+                }
+                if self.line.extend_from_slice(&rest[..end]).is_err() {
+                    return Err(ReadFault::NoMemory);
+                }
+                self.start += end + 1;
+                Ok(true)
+            }
+            None => {
+                if LONGEST_COMMAND - self.line.len() < rest.len() {
+                    return Err(ReadFault::TooLong);
+                }
+                if self.line.extend_from_slice(rest).is_err() {
+                    return Err(ReadFault::NoMemory);
+                }
+                self.start = self.block.len();
+                Ok(false)
+            }
+        }
+    }
+
+    /// Reads once, where a part of a line is held and nothing after it.
+    #[tactic(auto, using(crate::proofs::LineBufferLemmas::fails_turns, crate::proofs::LineBufferLemmas::fails_device))]
+    fn fetch<R: Input>(&mut self, reader: &mut R) -> Result<(), ReadFault>
+        requires drained { drop self.old.start self.old.block.items ≡ [] }
+        requires part { IsLine self.old.line.items }
+        ensures gives { OnOk result (GivesBytes R.state R.read_gives self.old.left self.new.left self.new.ended
+            (drop self.new.start self.new.block.items) reader.old reader.new) }
+        ensures one { OnOk result (R.read_gives reader.old (Some (drop self.new.start self.new.block.items)) reader.new) }
+        ensures turned { OnOk result (self.new.left.turns < self.old.left.turns) }
+        ensures fails { IfErr result
+            (FailsToReadLine R.state R.read_gives self.old.left self.old.line.items reader.old reader.new) }
+        ensures kept { (self.new.line ≡ self.old.line) × (self.new.failed ≡ self.old.failed) }
+    {
+        if self.left.turns == 0 {
+            return Err(ReadFault::TooManyTurns);
+        }
+        let mut room = [0u8; 65536];
+        let Ok(n) = reader.read(&mut room) else {
+            return Err(ReadFault::Device);
+        };
+        if self.left.bytes < n as u64 {
+            return Err(ReadFault::TooLong);
+        }
+        self.block.clear();
+        self.start = 0;
+        if self.block.extend_from_slice(&room[..n]).is_err() {
+            return Err(ReadFault::NoMemory);
+        }
+        self.left.turns -= 1;
+        self.left.bytes -= n as u64;
+        self.ended = n == 0;
+        Ok(())
+    }
+}
+
+/// The place of the first newline.
+fn find_newline(bytes: &[u8]) -> Option<usize>
+    ensures found { IfSome result (λ k. (k < length bytes.now) × IsLine (take k bytes.now)
+        × (bytes.now ≡ take k bytes.now ++ 10 ∷ drop (k + 1) bytes.now)) }
+    ensures none { result ≡ None → IsLine bytes.now }
+{
+    memchr(b'\n', bytes)
+}

@@ -1,0 +1,158 @@
+-- Lemmas on what was written, what of it a device has, and what waits.
+use Rattle.std.proofs.Common.{◌≡◌, ℕ, List, [], ◌++◌, take, drop, Option, None, Some, refl, sym, ap, ◌∙◌, subst, append_assoc, append-nil, take-append-drop, ◌⊎◌}
+use Rattle.std.specs.{Prelude.◌≢◌, Prelude.Result, Prelude.Ok, Prelude.Err, Prelude.OnErr, Prelude.OnOk, Prelude.true, Prelude.false, Result.is_err}
+use Rattle.bd_io_device.proofs.DevicesLemmas.{breaks_first as first_breaks, breaks_second, takes_both, takes_none}
+use Rattle.bd_io_device.specs.Devices.{AreWrites, BreaksWithin, TakesText, no_write, more_writes, over}
+use Rattle.bd_io_device.specs.declared.output.Output.{Ghosts as Output}
+use Rattle.bd_io_stdout.specs.Gathering.{AreTaken, Breaks, TakesAllBytes, none_taken, more_taken, Gathers, HandsOn}
+use Rattle.bd_io_stdout.specs.{declared.gathering.Fate.Fate, declared.gathering.Gathering.Gathering}
+use Rattle.bd_io_stdout.specs.declared.gathering.Fate.TheVariants.{Kept, Lost, Told}
+
+pub is_kept : (fate : Fate) → (fate ≢ Kept → ⊥) → fate ≡ Kept
+is_kept Kept none = refl
+is_kept Lost none = absurd (none (λ e. let bad : ⊥ = cc in bad))
+is_kept Told none = absurd (none (λ e. let bad : ⊥ = cc in bad))
+
+-- what a row of writes took is a front of the bytes
+taken_of : {S : Type 0} {takes : S → List ℕ → Option ℕ → S → Type 0} {bytes : List ℕ} (s t : S) (rest : List ℕ) → AreWrites takes bytes s rest t
+    → (taken : List ℕ) × (bytes ≡ taken ++ rest) × AreTaken takes s taken t
+taken_of {S} {takes} {bytes} s t rest (no_write v) = ([], refl, none_taken s)
+taken_of {S} {takes} {bytes} s t rest (more_writes v w x before n writes last some) =
+    let (taken, split, all) = taken_of v w before writes in
+    let more : before ≡ take n before ++ drop n before = sym (take-append-drop n before) in
+    (taken ++ take n before, split ∙ (ap (λ l. taken ++ l) more ∙ sym (append_assoc taken (take n before) (drop n before))), more_taken v w x taken before n all last some)
+
+taken_append : {S : Type 0} {takes : S → List ℕ → Option ℕ → S → Type 0} (s t u : S) (first second : List ℕ) → AreTaken takes s first t → AreTaken takes t second u
+    → AreTaken takes s (first ++ second) u
+taken_append {S} {takes} s t u first second a (none_taken v) = rw (append-nil first) a
+taken_append {S} {takes} s t u first second a (more_taken v w x taken text n all last some) =
+    let P : List ℕ → Type 0 = λ l. AreTaken takes s l x in
+    let one : AreTaken takes s ((first ++ taken) ++ take n text) x = more_taken s w x (first ++ taken) text n (taken_append s v w first taken a all) last some in
+    subst P (append_assoc first taken (take n text)) one
+
+module _ {D : Type 0} (o : Output D) where
+  pub TakesAllBytes-nil : (s : D) → TakesAllBytes o s [] s
+  TakesAllBytes-nil s = record { held = takes_none (o.state s); writes = none_taken s }
+
+  pub TakesAllBytes-writes : (s t : D) (bytes : List ℕ) → TakesText (over o.state s t) bytes → AreWrites o.write_takes bytes s [] t → TakesAllBytes o s bytes t
+  TakesAllBytes-writes s t bytes held writes =
+      let (taken, split, all) = taken_of s t [] writes in
+      let P : List ℕ → Type 0 = λ l. AreTaken o.write_takes s l t in
+      record { held = held; writes = subst P (sym (split ∙ append-nil taken)) all }
+
+  pub TakesAllBytes-trans : (s t u : D) (first second : List ℕ) → TakesAllBytes o s first t → TakesAllBytes o t second u → TakesAllBytes o s (first ++ second) u
+  TakesAllBytes-trans s t u first second a b = record {
+    held = takes_both (o.state s) (o.state t) (o.state u) first second a.held b.held;
+    writes = taken_append s t u first second a.writes b.writes;
+  }
+
+  pub Breaks-writes : (s t : D) (bytes : List ℕ) → BreaksWithin (over o.state s t) bytes
+      → ((rest : List ℕ) × (last : D) × AreWrites o.write_takes bytes s rest last × (rest ≢ []) × (o.write_takes last rest None t ⊎ o.write_takes last rest (Some 0) t))
+      → Breaks o s bytes t
+  Breaks-writes s t bytes held (rest, last, writes, some, failed) =
+      let (taken, split, all) = taken_of s last rest writes in
+      record { held = held; writes = (taken, rest, [], last, split ∙ ap (λ l. taken ++ l) (sym (append-nil rest)), all, some, failed) }
+
+  -- more bytes that come after them
+  pub Breaks-more : (s t : D) (bytes more : List ℕ) → Breaks o s bytes t → Breaks o s (bytes ++ more) t
+  Breaks-more s t bytes more b =
+      let (taken, text, later, last, is, all, some, failed) = b.writes in
+      record {
+        held = first_breaks (o.state s) (o.state t) bytes more b.held;
+        writes = (taken, text, later ++ more, last, ap (λ l. l ++ more) is ∙ (append_assoc taken (text ++ later) more ∙ ap (λ l. taken ++ l) (append_assoc text later more)), all, some, failed);
+      }
+
+  -- bytes before them that the device took
+  pub Breaks-after : (s t u : D) (first bytes : List ℕ) → TakesAllBytes o s first t → Breaks o t bytes u → Breaks o s (first ++ bytes) u
+  Breaks-after s t u first bytes a b =
+      let (taken, text, later, last, is, all, some, failed) = b.writes in
+      record {
+        held = breaks_second (o.state s) (o.state t) (o.state u) first bytes a.held b.held;
+        writes = (first ++ taken, text, later, last, ap (λ l. first ++ l) is ∙ sym (append_assoc first taken (text ++ later)), taken_append s t last first taken a.writes all, some, failed);
+      }
+
+pub on_ok : {X E : Type 0} (r : Result X E) (P Q R : Type 0) → OnOk r P → OnOk r Q → (P → Q → R) → OnOk r R
+on_ok (Ok x) P Q R p q f = f p q
+on_ok (Err e) P Q R p q f = _
+
+pub on_err : {X E : Type 0} (r : Result X E) (P Q R : Type 0) → OnErr r P → OnErr r Q → (P → Q → R) → OnErr r R
+on_err (Ok x) P Q R p q f = _
+on_err (Err e) P Q R p q f = f p q
+
+pub in_ok : {X E : Type 0} (r : Result X E) (P : Type 0) → is_err r ≡ false → OnOk r P → P
+in_ok (Ok x) P is p = p
+in_ok (Err e) P is p = let bad : ⊥ = cc in absurd bad
+
+pub in_err : {X E : Type 0} (r : Result X E) (P : Type 0) → is_err r ≡ true → OnErr r P → P
+in_err (Ok x) P is p = let bad : ⊥ = cc in absurd bad
+in_err (Err e) P is p = p
+
+module _ {D : Type 0} (o : Output D) where
+  -- the bytes wait
+  pub gathers_held : (old new : Gathering D o) (bytes : List ℕ) → new.device ≡ old.device → new.waiting.items ≡ old.waiting.items ++ bytes → Gathers o old bytes new
+  gathers_held old new bytes device waiting =
+      let same : TakesAllBytes o old.device [] new.device = subst (λ d. TakesAllBytes o old.device [] d) (sym device) (TakesAllBytes-nil o old.device) in
+      ([], sym waiting, same)
+
+  -- nothing was written
+  pub gathers_none : (old new : Gathering D o) → new.device ≡ old.device → new.waiting.items ≡ old.waiting.items → Gathers o old [] new
+  gathers_none old new device waiting = gathers_held old new [] device (waiting ∙ sym (append-nil old.waiting.items))
+
+  -- the device took them
+  pub gathers_written : (old new : Gathering D o) (bytes : List ℕ) → old.waiting.items ≡ [] → new.waiting.items ≡ [] → TakesAllBytes o old.device bytes new.device
+      → Gathers o old bytes new
+  gathers_written old new bytes before after taken =
+      (bytes, ap (λ l. l ++ bytes) before ∙ (sym (append-nil bytes) ∙ ap (λ l. bytes ++ l) (sym after)), taken)
+
+  pub gathers_after : (old mid new : Gathering D o) (bytes : List ℕ) → Gathers o old [] mid → Gathers o mid bytes new → Gathers o old bytes new
+  gathers_after old mid new bytes (first, split, a) (second, rest, b) =
+      let start : old.waiting.items ≡ first ++ mid.waiting.items = sym (append-nil old.waiting.items) ∙ split in
+      let joined = ap (λ l. l ++ bytes) start ∙ (append_assoc first mid.waiting.items bytes ∙ (ap (λ l. first ++ l) rest ∙ sym (append_assoc first second new.waiting.items))) in
+      (first ++ second, joined, TakesAllBytes-trans o old.device mid.device new.device first second a b)
+
+  -- what was not held was handed on
+  pub gathers_handed : (old held handed : Gathering D o) → held.device ≡ old.device → held.waiting.items ≡ old.waiting.items → Gathers o held [] handed → Gathers o old [] handed
+  gathers_handed old held handed device waiting rest = gathers_after old held handed [] (gathers_none old held device waiting) rest
+
+  -- the device took all that waited
+  pub takes_all : (old new : Gathering D o) → Gathers o old [] new → new.waiting.items ≡ [] → TakesAllBytes o old.device old.waiting.items new.device
+  takes_all old new (handed, split, taken) none =
+      let is : old.waiting.items ≡ handed = sym (append-nil old.waiting.items) ∙ (split ∙ (ap (λ l. handed ++ l) none ∙ append-nil handed)) in
+      subst (λ l. TakesAllBytes o old.device l new.device) (sym is) taken
+
+  -- nothing waited
+  pub hands_none : (old new : Gathering D o) → new.fate ≡ old.fate → new.device ≡ old.device → new.waiting.items ≡ old.waiting.items → HandsOn o old new
+  hands_none old new fate device waiting = record {
+    kept = λ e. (sym fate ∙ e, gathers_none old new device waiting);
+    broken = λ e not. absurd (not (fate ∙ e));
+    after_loss = λ _. (fate, device);
+  }
+
+  pub hands_all : (old new : Gathering D o) → old.fate ≡ Kept → new.fate ≡ Kept → new.waiting.items ≡ [] → TakesAllBytes o old.device old.waiting.items new.device
+      → HandsOn o old new
+  hands_all old new before after none taken = record {
+    kept = λ _. (before, (old.waiting.items, append-nil old.waiting.items ∙ (sym (append-nil old.waiting.items) ∙ ap (λ l. old.waiting.items ++ l) (sym none)), taken));
+    broken = λ _ not. absurd (not after);
+    after_loss = λ not. absurd (not before);
+  }
+
+  pub hands_broken : (old new : Gathering D o) → old.fate ≡ Kept → new.fate ≡ Lost → Breaks o old.device old.waiting.items new.device → HandsOn o old new
+  hands_broken old new before after breaks = record {
+    kept = λ e. let bad : Lost ≡ Kept = sym after ∙ e in absurd cc;
+    broken = λ _ _. (after, breaks);
+    after_loss = λ not. absurd (not before);
+  }
+
+  -- a write of what waited failed, so the bytes after it were not written either
+  pub breaks_first : (old mid : Gathering D o) (bytes : List ℕ) (end : D) → mid.device ≡ old.device → mid.waiting.items ≡ old.waiting.items
+      → Breaks o mid.device mid.waiting.items end → Breaks o old.device (old.waiting.items ++ bytes) end
+  breaks_first old mid bytes end device waiting breaks =
+      let one = subst (λ d. Breaks o d mid.waiting.items end) device breaks in
+      let two = subst (λ l. Breaks o old.device l end) waiting one in
+      Breaks-more o old.device end old.waiting.items bytes two
+
+  -- a write of the bytes themselves failed
+  pub breaks_later : (old mid : Gathering D o) (bytes : List ℕ) (end : D) → Gathers o old [] mid → mid.waiting.items ≡ [] → Breaks o mid.device bytes end
+      → Breaks o old.device (old.waiting.items ++ bytes) end
+  breaks_later old mid bytes end gathers none breaks =
+      Breaks-after o old.device mid.device end old.waiting.items bytes (takes_all old mid gathers none) breaks

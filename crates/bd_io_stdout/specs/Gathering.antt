@@ -1,0 +1,37 @@
+-- What was written, what of it a device has, and what waits.
+use Rattle.std.specs.Prelude.{◌≡◌, ◌≢◌, ◌<◌, ◌⊎◌, ℕ, List, [], ◌++◌, take, Option, None, Some}
+use Rattle.bd_io_device.specs.Devices.{BreaksWithin, TakesText, over}
+use Rattle.bd_io_device.specs.declared.output.Output.{Ghosts as Output}
+use Rattle.bd_io_stdout.specs.declared.gathering.Fate.TheVariants.{Kept, Lost}
+use Rattle.bd_io_stdout.specs.declared.gathering.Gathering.{Gathering}
+
+-- writes in a row led from one device to the other; each took some bytes, and joined in this order they are these
+pub data AreTaken {S : Type 0} (takes : S → List ℕ → Option ℕ → S → Type 0) : S → List ℕ → S → Type 0 where
+  none_taken : (s : S) → AreTaken takes s [] s
+  more_taken : (s t u : S) (taken text : List ℕ) (n : ℕ) → AreTaken takes s taken t
+      → takes t text (Some n) u → 0 < n → AreTaken takes s (taken ++ take n text) u
+
+-- the device took all of these bytes, in order, and no write failed
+pub record TakesAllBytes {D : Type 0} (o : Output D) (old : D) (bytes : List ℕ) (new : D) : Type 0 where
+  pub held : TakesText (over o.state old new) bytes
+  pub writes : AreTaken o.write_takes old bytes new
+
+-- the device took a front of these bytes; then a write of some that come next failed, and none was made after it
+pub record Breaks {D : Type 0} (o : Output D) (old : D) (bytes : List ℕ) (new : D) : Type 0 where
+  pub held : BreaksWithin (over o.state old new) bytes
+  pub writes : (taken : List ℕ) × (text : List ℕ) × (later : List ℕ) × (last : D)
+      × (bytes ≡ taken ++ (text ++ later)) × AreTaken o.write_takes old taken last × (text ≢ [])
+      × (o.write_takes last text None new ⊎ o.write_takes last text (Some 0) new)
+
+-- These bytes were written, and no write of the device failed:
+-- what it took meanwhile, joined with what waits, is what waited
+-- before, joined with these bytes.
+abbrev pub Gathers : {D : Type 0} (o : Output D) → Gathering D o → List ℕ → Gathering D o → Type 0
+Gathers o old bytes new = (handed : List ℕ) × (old.waiting.items ++ bytes ≡ handed ++ new.waiting.items)
+    × TakesAllBytes o old.device handed new.device
+
+-- bytes that waited were handed on, or a write of them failed; after a loss there is no write
+pub record HandsOn {D : Type 0} (o : Output D) (old new : Gathering D o) : Type 0 where
+  pub kept : new.fate ≡ Kept → (old.fate ≡ Kept) × Gathers o old [] new
+  pub broken : old.fate ≡ Kept → new.fate ≢ Kept → (new.fate ≡ Lost) × Breaks o old.device old.waiting.items new.device
+  pub after_loss : old.fate ≢ Kept → (new.fate ≡ old.fate) × (new.device ≡ old.device)

@@ -1,0 +1,253 @@
+//! Standard output in large writes, tied to what is read and to standard error, as `cin` and `cout` of C++ are tied.
+//!
+//! What is written waits in memory. It is handed to the device when the next write does not fit beside it, before the
+//! system is asked for more input, before anything is told on standard error, and at the end. So whoever reads along sees
+//! each line before the program waits for more, and the lines stand before what is told of them.
+//!
+//! The device can so refuse bytes of a write that was answered as done. Then no input is read any more, and nothing is told
+//! on standard error, until a write is answered by that loss. Where none comes, the end has to tell it.
+ghost use Rattle.std.specs.Prelude.{◌≡◌, ◌≢◌, ◌≤◌, [], length, IfOk, None};
+ghost use Rattle.std.specs.Io.{WritesAtMost};
+ghost use Rattle.std.specs.Io.KnownBytes.{WriteAppends};
+ghost use Rattle.bd_io_stdout.specs.declared.gathering.Fate.TheVariants.{Kept};
+
+use bd_io_device::{DeviceFault, Output, write_all};
+use std::alloc::Global;
+use std::cell::RefCell;
+use std::io;
+use std::io::{ErrorKind, Read, Write};
+
+/// How many bytes wait at most.
+const GATHERED: usize = 65_536;
+
+/// What became of the bytes that were written.
+#[derive(Debug, Clone, Copy, PartialEq, Eq)]
+pub enum Fate {
+    /// They wait, or the device has them.
+    Kept,
+    /// The device refused some of them, and no write was answered by that yet.
+    Lost,
+    /// The device refused some of them, and a write failed by that: who made it tells it.
+    Told,
+}
+
+/// What waits to be handed to a device.
+#[derive(Drop)]
+pub struct Gathering<D: Output + Drop> {
+    waiting: Vec<u8>,
+    device: D,
+    fate: Fate,
+    ghost block: { length waiting.items ≤ 65536 },
+    ghost lost: { fate ≢ Kept → waiting.items ≡ [] },
+}
+
+impl<D: Output + Drop> Gathering<D> {
+    ghost use Rattle.std.specs.Prelude.{◌++◌, IsErr, OnErr, OnOk, false, true};
+    ghost use Rattle.std.specs.Io.{ReadsAtMost, WritesAtMost};
+    ghost use Rattle.std.specs.Io.KnownBytes.{ReadConsumes, WriteAppends};
+    ghost use Rattle.bd_io_stdout.specs.Gathering.{Breaks};
+    ghost use Rattle.bd_io_stdout.specs.Gathering.{Gathers, HandsOn};
+    ghost use Rattle.bd_io_stdout.specs.declared.gathering.Fate.TheVariants.{Lost, Told};
+
+    /// Nothing yet, for this device.
+    pub fn new(alloc: Global, device: D) -> Gathering<D>
+        ensures device { result.device ≡ device }
+        ensures empty { result.waiting.items ≡ [] }
+        ensures kept { result.fate ≡ Kept }
+    {
+        Gathering {
+            waiting: Vec::new(alloc),
+            device,
+            fate: Fate::Kept,
+        }
+    }
+
+    /// Hands on what waits, and tells what became of the bytes so far. After a loss nothing waits.
+    fn hand_on(&mut self) -> Fate
+        ensures fate { result ≡ self.new.fate }
+        ensures handed { HandsOn D.Output self.old self.new }
+        ensures empty { self.new.waiting.items ≡ [] }
+    {
+        if self.waiting.is_empty() {
+            return self.fate;
+        }
+        let written = write_all(&mut self.device, &self.waiting);
+        self.waiting.clear();
+        if written.is_err() {
+            self.fate = Fate::Lost;
+            return Fate::Lost;
+        }
+        self.fate
+    }
+
+    /// Lets bytes wait after those that do, where both fit, the bytes are few and there is memory for them; else it changes
+    /// nothing.
+    fn holds(&mut self, bytes: &[u8]) -> bool
+        requires { self.old.fate ≡ Kept }
+        ensures held { result ≡ true → self.new.waiting.items ≡ self.old.waiting.items ++ bytes.now }
+        ensures not_held { result ≡ false → self.new.waiting.items ≡ self.old.waiting.items }
+        ensures device { self.new.device ≡ self.old.device }
+        ensures fate { self.new.fate ≡ self.old.fate }
+    {
+        bytes.len() < GATHERED
+            && bytes.len() <= GATHERED - self.waiting.len()
+            && self.waiting.extend_from_slice(bytes).is_ok()
+    }
+
+    /// Takes bytes after those that wait; these are handed on before, where both do not fit. The bytes go to the device
+    /// themselves where they are many, or where there is no memory for them.
+    fn gather(&mut self, bytes: &[u8]) -> Result<(), DeviceFault>
+        ensures gathered { OnOk result ((self.old.fate ≡ Kept) × (self.new.fate ≡ Kept) × Gathers D.Output self.old bytes.now self.new) }
+        ensures broken { OnErr result (self.old.fate ≡ Kept →
+            Breaks D.Output self.old.device (self.old.waiting.items ++ bytes.now) self.new.device) }
+        ensures empty { OnErr result (self.new.waiting.items ≡ []) }
+        ensures after_loss { self.old.fate ≢ Kept → self.new.device ≡ self.old.device }
+    {
+        if self.fate != Fate::Kept {
+            return Err(DeviceFault);
+        }
+        if self.holds(bytes) {
+            return Ok(());
+        }
+        let handed = self.hand_on();
+        if handed != Fate::Kept {
+            return Err(DeviceFault);
+        }
+        if self.holds(bytes) {
+            return Ok(());
+        }
+        write_all(&mut self.device, bytes)
+    }
+
+    /// The same; an error answers the bytes by the loss.
+    fn take(&mut self, bytes: &[u8]) -> Result<(), DeviceFault>
+        ensures taken { OnOk result ((self.old.fate ≡ Kept) × (self.new.fate ≡ Kept) × Gathers D.Output self.old bytes.now self.new) }
+        ensures broken { OnErr result (self.old.fate ≡ Kept →
+            Breaks D.Output self.old.device (self.old.waiting.items ++ bytes.now) self.new.device) }
+        ensures told { OnErr result (self.new.fate ≡ Told) }
+        ensures after_loss { self.old.fate ≢ Kept → self.new.device ≡ self.old.device }
+    {
+        let taken = self.gather(bytes);
+        if taken.is_err() {
+            self.fate = Fate::Told;
+        }
+        taken
+    }
+
+    /// Reads after all that waits was handed on. After a loss it fails and asks the reader for nothing, since that could wait
+    /// for bytes that serve no one.
+    #[tactic(auto, using(crate::proofs::GatheringLemmas::hands_none))]
+    fn read_after<R: Read>(&mut self, reader: &mut R, room: &mut [u8]) -> io::Result<usize>
+        ensures handed { HandsOn D.Output self.old self.new }
+        ensures empty { self.new.waiting.items ≡ [] }
+        ensures lost { self.new.fate ≢ Kept → IsErr result × (reader.new ≡ reader.old) × (room.new ≡ room.old) }
+        ensures bound { ReadsAtMost result room.new }
+        ensures bytes { ReadConsumes (R.remaining reader.old) (R.remaining reader.new) result room.new }
+    {
+        if self.hand_on() != Fate::Kept {
+            return Err(refusal());
+        }
+        reader.read(room)
+    }
+
+    /// Writes to another writer after all that waits was handed on. It fails and writes nothing while a loss is untold, so that
+    /// no count is shown of lines that did not arrive.
+    #[tactic(auto, using(crate::proofs::GatheringLemmas::hands_none))]
+    fn write_after<E: Write>(&mut self, writer: &mut E, bytes: &[u8]) -> io::Result<usize>
+        ensures handed { HandsOn D.Output self.old self.new }
+        ensures empty { self.new.waiting.items ≡ [] }
+        ensures untold { self.new.fate ≡ Lost → IsErr result × (writer.new ≡ writer.old) }
+        ensures bound { WritesAtMost result bytes.now }
+        ensures bytes { WriteAppends (E.contents writer.old) (E.contents writer.new) result bytes.now }
+    {
+        if self.hand_on() == Fate::Lost {
+            return Err(refusal());
+        }
+        writer.write(bytes)
+    }
+}
+
+/// The error of a call that is refused for a loss. Its kind is not looked at.
+fn refusal() -> io::Error {
+    io::Error::from(ErrorKind::Other)
+}
+
+// What goes over one `Gathering`, which they share in a cell. No contract knows what a cell holds, so what they do with it is
+// said of the methods of `Gathering`.
+
+/// Hands on what waits, and tells what became of the bytes so far.
+pub fn hand_on<D: Output + Drop>(gathering: &RefCell<Gathering<D>>) -> Fate {
+    match gathering.try_borrow_mut() {
+        Ok(mut gathering) => gathering.hand_on(),
+        Err(_) => Fate::Lost,
+    }
+}
+
+/// Standard output: what is written is gathered.
+#[derive(Drop)]
+pub struct GatheredOutput<'a, D: Output + Drop> {
+    pub gathering: &'a RefCell<Gathering<D>>,
+}
+
+impl<D: Output + Drop> Write for GatheredOutput<'_, D> {
+    /// All bytes are taken, or none.
+    fn write(&mut self, bytes: &[u8]) -> io::Result<usize>
+        ensures bound { WritesAtMost result bytes.now }
+        ensures bytes { WriteAppends None None result bytes.now }
+        ensures whole { IfOk result (λ n. n ≡ length bytes.now) }
+    {
+        let Ok(mut gathering) = self.gathering.try_borrow_mut() else {
+            return Err(refusal());
+        };
+        match gathering.take(bytes) {
+            Ok(()) => Ok(bytes.len()),
+            Err(_) => Err(refusal()),
+        }
+    }
+
+    fn flush(&mut self) -> io::Result<()> {
+        Ok(())
+    }
+}
+
+/// An input: what waits is handed on before a read. After a loss a read fails and asks the system for nothing.
+#[derive(Drop)]
+pub struct TiedInput<'a, R: Read + Drop, D: Output + Drop> {
+    pub reader: R,
+    pub gathering: &'a RefCell<Gathering<D>>,
+}
+
+impl<R: Read + Drop, D: Output + Drop> Read for TiedInput<'_, R, D> {
+    /// The bytes are those of the reader.
+    ghost remaining = { λ s. R.remaining s.reader };
+
+    fn read(&mut self, room: &mut [u8]) -> io::Result<usize> {
+        match self.gathering.try_borrow_mut() {
+            Ok(mut gathering) => gathering.read_after(&mut self.reader, room),
+            Err(_) => Err(refusal()),
+        }
+    }
+}
+
+/// Standard error: what waits is handed on before a write. A write fails while a loss is untold.
+#[derive(Drop)]
+pub struct TiedError<'a, E: Write + Drop, D: Output + Drop> {
+    pub writer: E,
+    pub gathering: &'a RefCell<Gathering<D>>,
+}
+
+impl<E: Write + Drop, D: Output + Drop> Write for TiedError<'_, E, D> {
+    /// The bytes are those of the writer.
+    ghost contents = { λ s. E.contents s.writer };
+
+    fn write(&mut self, bytes: &[u8]) -> io::Result<usize> {
+        match self.gathering.try_borrow_mut() {
+            Ok(mut gathering) => gathering.write_after(&mut self.writer, bytes),
+            Err(_) => Err(refusal()),
+        }
+    }
+
+    fn flush(&mut self) -> io::Result<()> {
+        Ok(())
+    }
+}

@@ -1,0 +1,22 @@
+//! Standard output in large writes, tied to what is read and to standard error.
+//!
+//! What was written, what of it a device has, and what waits: `specs/Gathering.antt`.
+//!
+//! An example, which `bd_io_tests` proves and runs as `examples::gathered`:
+//!
+//! ```
+//! let system = SystemOutput::new(Vec::new(alloc));
+//! let gathering = RefCell::new(Gathering::new(alloc, system));
+//! let mut out = SystemOutput::new(GatheredOutput {
+//!     gathering: &gathering,
+//! });
+//! assert!(rt; write_all(&mut out, b"a line\n").is_ok());
+//! assert!(rt; hand_on(&gathering) == Fate::Kept);
+//! ```
+//!
+//! - `gathering`: `Gathering`, what waits to be written; `GatheredOutput`, `TiedInput` and `TiedError` over one.
+#![tactic(auto)]
+
+mod gathering;
+
+pub use gathering::{Fate, GatheredOutput, Gathering, TiedError, TiedInput, hand_on};

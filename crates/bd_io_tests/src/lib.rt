@@ -1,0 +1,17 @@
+//! Tests of `bd_io_device` and `bd_io_lines`, over their public calls: devices that fail, or give a byte a call.
+#![tactic(auto)]
+
+#[cfg(test)]
+mod examples;
+#[cfg(test)]
+mod line_tests;
+#[cfg(test)]
+mod numbered;
+#[cfg(test)]
+mod reading_tests;
+#[cfg(test)]
+mod serving_tests;
+#[cfg(test)]
+mod system_tests;
+#[cfg(test)]
+mod writing_tests;

@@ -1,5 +1,0 @@
-use Rattle.bd_path.proofs.SortLemmas.{sort_total}
-use Rattle.bd_path.proofs.sort.sorts_order_all_documents.Goals as goal
-
-pub returns : goal.returns
-returns c = sort_total

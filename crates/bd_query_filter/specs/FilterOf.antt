@@ -1,0 +1,202 @@
+-- Which filter a document is (MongoDB manual, "Query and Projection Operators"), and which pair or member of any other
+-- document is the first that is no part of one.
+use Rattle.std.specs.Prelude.{ℕ, zero, ◌+◌, ◌-◌, pos, Bool, true, false, not, ◌||◌, List, [], ◌∷◌, ◌++◌, Option, Some}
+use Rattle.std.specs.Prelude.{None, Result, Ok, Err, if◌then◌else◌, decimal}
+use Rattle.std.specs.{Option.option_and_then, Option.option_map, Ordering.int_eq}
+use Rattle.bd_value.specs.{Limits.most_filter_levels, declared.node.Kind.Kind}
+use Rattle.bd_value.specs.Tree as trees
+use Rattle.bd_value.specs.Tree.{Scalar, Tree, leaf, doc, array, Items, no_items, item, Fields, no_fields, field, Doc}
+use Rattle.bd_value.specs.Tree.{fields_of}
+use Rattle.bd_path.specs.{Reach.Names, Path.path_of, declared.path.PathFault.PathFault}
+use Rattle.bd_query_filter.specs.Fault.{Refusal, deeper, refuse}
+use Rattle.bd_query_filter.specs.declared.filter_of.{LogicalOperator.LogicalOperator, PlainOperator.PlainOperator, Word.Word}
+use Rattle.bd_query_filter.specs.Filter.{Filter, all_of, some_of, none_of, at_path, filters_from, Operator, equals, compares}
+use Rattle.bd_query_filter.specs.Filter.{is_in, has_all, has_type, has_size, exists, negates, has_element, has_document}
+use Rattle.bd_query_filter.specs.Filter.{negation_of, operators_from}
+use Rattle.bd_query_filter.specs.Word.{begins_with_dollar, kinds_named, kinds_numbered, word_of}
+use Rattle.bd_query_filter.specs.declared.fault.FilterFaultKind.TheVariants as faults
+use Rattle.bd_query_filter.specs.declared.filter_of.LogicalOperator.TheVariants as logical
+use Rattle.bd_query_filter.specs.declared.filter_of.PlainOperator.TheVariants as plain
+use Rattle.bd_query_filter.specs.declared.filter_of.Word.TheVariants as words
+
+abbrev pub read_as : {A B : Type 0} → (A → B) → Result A Refusal → Result B Refusal
+read_as f (Ok x) = Ok (f x)
+read_as f (Err r) = Err r
+
+-- the part under a name, or at a position, and those after it; the first refusal counts
+abbrev pub read_at : {A : Type 0} → List ℕ → Result A Refusal → Result (List A) Refusal → Result (List A) Refusal
+read_at name (Err r) rest = Err (deeper name r)
+read_at name (Ok x) (Err r) = Err r
+read_at name (Ok x) (Ok xs) = Ok (x ∷ xs)
+
+-- ---- operands
+
+abbrev pub is_regex : Tree → Bool
+is_regex (leaf (trees.regex p o)) = true
+is_regex t = false
+
+-- below or above all values
+abbrev pub is_bound : Tree → Bool
+is_bound (leaf trees.min_key) = true
+is_bound (leaf trees.max_key) = true
+is_bound t = false
+
+abbrev pub first_is_operator : Fields → Bool
+first_is_operator no_fields = false
+first_is_operator (field n t fs) = begins_with_dollar n
+
+-- a document that begins as operators do
+abbrev pub has_operators : Tree → Bool
+has_operators (doc fs) = first_is_operator fs
+has_operators t = false
+
+-- an operand, unless it is left out
+abbrev pub unless_left_out : Bool → Tree → Result Tree Refusal
+unless_left_out left_out t = if left_out then refuse faults.NotInProfile else Ok t
+
+-- a member of the array of `$in`, `$nin` and `$all`, and the members from this position on
+abbrev pub member_value : Tree → Result Tree Refusal
+member_value t = unless_left_out (is_regex t || has_operators t) t
+
+abbrev pub member_values : ℕ → Items → Result (List Tree) Refusal
+member_values i no_items = Ok []
+member_values i (item t ts) = read_at (decimal i) (member_value t) (member_values (i + 1) ts)
+
+abbrev pub members_of : Tree → Result (List Tree) Refusal
+members_of (array ts) = member_values 0 ts
+members_of t = refuse faults.BadOperand
+
+-- a whole number that is not below zero
+abbrev pub size_value : Tree → Option ℕ
+size_value (leaf (trees.int32 (pos n))) = Some n
+size_value (leaf (trees.int64 (pos n))) = Some n
+size_value t = None
+
+-- a truth value, or a whole number for one
+abbrev pub truth_value : Tree → Option Bool
+truth_value (leaf (trees.boolean b)) = Some b
+truth_value (leaf (trees.int32 z)) = Some (not (int_eq z (pos 0)))
+truth_value (leaf (trees.int64 z)) = Some (not (int_eq z (pos 0)))
+truth_value t = None
+
+-- the kinds of one type, by its name or its number
+abbrev pub type_kinds : Tree → Option (List Kind)
+type_kinds (leaf (trees.text s)) = kinds_named s
+type_kinds (leaf (trees.int32 z)) = kinds_numbered z
+type_kinds (leaf (trees.int64 z)) = kinds_numbered z
+type_kinds t = None
+
+abbrev pub all_kinds : Items → Option (List Kind)
+all_kinds no_items = Some []
+all_kinds (item t ts) = option_and_then (λ kinds. option_map (λ more. kinds ++ more) (all_kinds ts)) (type_kinds t)
+
+-- one type, or some in an array
+abbrev pub operand_kinds : Tree → Option (List Kind)
+operand_kinds (array (item t ts)) = all_kinds (item t ts)
+operand_kinds t = type_kinds t
+
+abbrev pub or_bad_operand : {A : Type 0} → Option A → Result A Refusal
+or_bad_operand None = refuse faults.BadOperand
+or_bad_operand (Some x) = Ok x
+
+-- `$eq` takes any value; no other takes a regular expression, and none that orders takes the bounds of the order
+abbrev pub plain_operator : PlainOperator → Tree → Result Operator Refusal
+plain_operator plain.Equal t = Ok (equals t)
+plain_operator plain.NotEqual t = read_as (λ v. negation_of (equals v)) (unless_left_out (is_regex t) t)
+plain_operator (plain.Order r) t = read_as (compares r) (unless_left_out (is_regex t || is_bound t) t)
+plain_operator plain.In t = read_as is_in (members_of t)
+plain_operator plain.NotIn t = read_as (λ vs. negation_of (is_in vs)) (members_of t)
+plain_operator plain.All t = read_as has_all (members_of t)
+plain_operator plain.Size t = read_as has_size (or_bad_operand (size_value t))
+plain_operator plain.Exists t = read_as exists (or_bad_operand (truth_value t))
+plain_operator plain.Type t = read_as has_type (or_bad_operand (operand_kinds t))
+
+-- ---- filters
+
+abbrev pub logical_filter : LogicalOperator → List Filter → Filter
+logical_filter logical.And fs = all_of (filters_from fs)
+logical_filter logical.Or fs = some_of (filters_from fs)
+logical_filter logical.Nor fs = none_of (filters_from fs)
+
+-- a level more, where there is room for one
+abbrev pub inner_part : {A : Type 0} → ℕ → Result A Refusal → Result A Refusal
+inner_part zero part = refuse faults.TooDeep
+inner_part room part = part
+
+-- operators for an element, and not a filter
+abbrev pub is_value_form : Word → Bool
+is_value_form (words.Logical l) = false
+is_value_form words.Field = false
+is_value_form w = true
+
+abbrev pub has_value_form : Fields → Bool
+has_value_form no_fields = false
+has_value_form (field n t fs) = is_value_form (word_of n)
+
+-- a pair, by its name, of that as a path, and of its value as filters and as what a path is asked
+abbrev pub pair_filter : Word → Result Names PathFault → Result (List Filter) Refusal → Result (List Operator) Refusal
+    → Result Filter Refusal
+pair_filter (words.Logical l) path filters operators = read_as (logical_filter l) filters
+pair_filter words.Field (Err fault) filters operators = refuse faults.Path
+pair_filter words.Field (Ok path) filters operators = read_as (λ os. at_path path (operators_from os)) operators
+pair_filter words.LeftOut path filters operators = refuse faults.NotInProfile
+pair_filter w path filters operators = refuse faults.UnknownOperator
+
+-- a pair among operators, by its name, of its value, and of that as the body of `$not` and of `$elemMatch`
+abbrev pub operator_of : Word → Tree → Result Operator Refusal → Result Operator Refusal → Result Operator Refusal
+operator_of (words.Plain p) t inverse element = plain_operator p t
+operator_of words.Not t inverse element = inverse
+operator_of words.ElemMatch t inverse element = element
+operator_of words.LeftOut t inverse element = refuse faults.NotInProfile
+operator_of words.Field t inverse element = refuse faults.MixedOperators
+operator_of w t inverse element = refuse faults.UnknownOperator
+
+abbrev mutual
+  -- the pairs of a document; so many levels more may stand inside
+  pub filters_of : ℕ → Fields → Result (List Filter) Refusal
+  filters_of room no_fields = Ok []
+  filters_of room (field n t fs) =
+      read_at n (pair_filter (word_of n) (path_of n) (operand_filters room t) (path_operators room t))
+      (filters_of room fs)
+
+  -- the filters of `$and`, `$or`, `$nor`: at least one
+  pub operand_filters : ℕ → Tree → Result (List Filter) Refusal
+  operand_filters room (array (item t ts)) = member_filters room 0 (item t ts)
+  operand_filters room t = refuse faults.BadOperand
+
+  pub member_filters : ℕ → ℕ → Items → Result (List Filter) Refusal
+  member_filters room i no_items = Ok []
+  member_filters room i (item t ts) = read_at (decimal i) (member_filter room t) (member_filters room (i + 1) ts)
+
+  pub member_filter : ℕ → Tree → Result Filter Refusal
+  member_filter room (doc fs) = inner_part room (read_as (λ xs. all_of (filters_from xs)) (filters_of (room - 1) fs))
+  member_filter room t = refuse faults.BadOperand
+
+  -- the value of a path: operators, or a value that is to be equalled
+  pub path_operators : ℕ → Tree → Result (List Operator) Refusal
+  path_operators room (doc fs) = if first_is_operator fs then operators_of room fs else Ok (equals (doc fs) ∷ [])
+  path_operators room t = read_as (λ v. equals v ∷ []) (unless_left_out (is_regex t) t)
+
+  pub operators_of : ℕ → Fields → Result (List Operator) Refusal
+  operators_of room no_fields = Ok []
+  operators_of room (field n t fs) =
+      read_at n (operator_of (word_of n) t (not_operator room t) (element_operator room t)) (operators_of room fs)
+
+  -- `$not` takes operators; the manual has a regular expression there too, which is left out
+  pub not_operator : ℕ → Tree → Result Operator Refusal
+  not_operator room (doc fs) =
+      if first_is_operator fs
+      then inner_part room (read_as (λ xs. negates (operators_from xs)) (operators_of (room - 1) fs))
+      else refuse faults.BadOperand
+  not_operator room t = if is_regex t then refuse faults.NotInProfile else refuse faults.BadOperand
+
+  pub element_operator : ℕ → Tree → Result Operator Refusal
+  element_operator room (doc fs) =
+      if has_value_form fs then inner_part room
+      (read_as (λ xs. has_element (operators_from xs)) (operators_of (room - 1) fs))
+      else inner_part room (read_as (λ xs. has_document (filters_from xs)) (filters_of (room - 1) fs))
+  element_operator room t = refuse faults.BadOperand
+
+-- a filter has fifty levels at most, and its top is one
+abbrev pub filter_of : Doc → Result Filter Refusal
+filter_of d = read_as (λ xs. all_of (filters_from xs)) (filters_of (most_filter_levels - 1) (fields_of d))

@@ -1,0 +1,80 @@
+-- The names that stand for something in a filter (MongoDB manual, "Query and Projection Operators").
+use Rattle.std.specs.Prelude.{ℕ, ℤ, pos, negsuc, Bool, false, ◌==◌, List, [], ◌∷◌, codes, Option, Some, option_map}
+use Rattle.std.specs.Prelude.{if◌then◌else◌, unwrap_or}
+use Rattle.std.specs.{List.find, List.list_any, Ordering.int_eq, Str.bytes_eq}
+use denote.Enum.Bare.{sameb}
+use Rattle.bd_value.specs.{contracts.node.Kind.the_type, declared.node.Kind.Kind}
+use Rattle.bd_value.specs.declared.node.Kind.TheVariants as kinds
+use Rattle.bd_query_filter.specs.declared.filter_of.LogicalOperator.TheVariants as logical
+use Rattle.bd_query_filter.specs.declared.filter_of.PlainOperator.TheVariants as plain
+use Rattle.bd_query_filter.specs.declared.filter_of.Word.{Word}
+use Rattle.bd_query_filter.specs.declared.filter_of.Word.TheVariants as words
+use Rattle.bd_query_filter.specs.declared.operand.Relation.TheVariants as relation
+
+abbrev pub begins_with_dollar : List ℕ → Bool
+begins_with_dollar [] = false
+begins_with_dollar (c ∷ cs) = c == 36
+
+abbrev pub query_operators : List (List ℕ × Word)
+query_operators =
+    (codes "$and", words.Logical logical.And) ∷ (codes "$or", words.Logical logical.Or)
+    ∷ (codes "$nor", words.Logical logical.Nor)
+    ∷ (codes "$eq", words.Plain plain.Equal) ∷ (codes "$ne", words.Plain plain.NotEqual)
+    ∷ (codes "$gt", words.Plain (plain.Order relation.Above))
+    ∷ (codes "$gte", words.Plain (plain.Order relation.AtLeast))
+    ∷ (codes "$lt", words.Plain (plain.Order relation.Below))
+    ∷ (codes "$lte", words.Plain (plain.Order relation.AtMost))
+    ∷ (codes "$in", words.Plain plain.In) ∷ (codes "$nin", words.Plain plain.NotIn)
+    ∷ (codes "$all", words.Plain plain.All)
+    ∷ (codes "$size", words.Plain plain.Size) ∷ (codes "$exists", words.Plain plain.Exists)
+    ∷ (codes "$type", words.Plain plain.Type)
+    ∷ (codes "$not", words.Not) ∷ (codes "$elemMatch", words.ElemMatch) ∷ []
+
+-- the operators of the manual that are left out, and the names of a DBRef
+abbrev pub left_out_names : List (List ℕ)
+left_out_names =
+    codes "$regex" ∷ codes "$options" ∷ codes "$mod" ∷ codes "$expr" ∷ codes "$where"
+    ∷ codes "$text" ∷ codes "$jsonSchema"
+    ∷ codes "$comment" ∷ codes "$geoWithin" ∷ codes "$geoIntersects" ∷ codes "$near"
+    ∷ codes "$nearSphere" ∷ codes "$bitsAllSet"
+    ∷ codes "$bitsAnySet" ∷ codes "$bitsAllClear" ∷ codes "$bitsAnyClear" ∷ codes "$ref"
+    ∷ codes "$id" ∷ codes "$db" ∷ []
+
+unfoldable pub is_left_out : List ℕ → Bool
+is_left_out name = list_any (λ left_out. bytes_eq left_out name) left_out_names
+
+unfoldable pub known_operator : List ℕ → Option Word
+known_operator name = option_map (λ row. row.1) (find (λ row. bytes_eq row.0 name) query_operators)
+
+unfoldable pub word_of : List ℕ → Word
+word_of name =
+    if begins_with_dollar name
+    then unwrap_or (known_operator name) (if is_left_out name then words.LeftOut else words.Unknown)
+    else words.Field
+
+-- the types of `$type` (MongoDB manual, "$type"): number, name, and kinds. Doubles and decimals have none.
+abbrev pub query_types : List (ℤ × List ℕ × List Kind)
+query_types =
+    (pos 1, codes "double", []) ∷ (pos 2, codes "string", kinds.Text ∷ []) ∷ (pos 3, codes "object", kinds.Doc ∷ [])
+    ∷ (pos 4, codes "array", kinds.Array ∷ []) ∷ (pos 5, codes "binData", kinds.Binary ∷ [])
+    ∷ (pos 6, codes "undefined", kinds.Undefined ∷ []) ∷ (pos 7, codes "objectId", kinds.ObjectId ∷ [])
+    ∷ (pos 8, codes "bool", kinds.Bool ∷ []) ∷ (pos 9, codes "date", kinds.Date ∷ [])
+    ∷ (pos 10, codes "null", kinds.Null ∷ [])
+    ∷ (pos 11, codes "regex", kinds.Regex ∷ []) ∷ (pos 12, codes "dbPointer", kinds.DbPointer ∷ [])
+    ∷ (pos 13, codes "javascript", kinds.Code ∷ []) ∷ (pos 14, codes "symbol", kinds.Symbol ∷ [])
+    ∷ (pos 15, codes "javascriptWithScope", kinds.CodeScope ∷ []) ∷ (pos 16, codes "int", kinds.Int32 ∷ [])
+    ∷ (pos 17, codes "timestamp", kinds.Timestamp ∷ []) ∷ (pos 18, codes "long", kinds.Int64 ∷ [])
+    ∷ (pos 19, codes "decimal", [])
+    ∷ (negsuc 0, codes "minKey", kinds.MinKey ∷ []) ∷ (pos 127, codes "maxKey", kinds.MaxKey ∷ []) ∷ []
+
+-- `number` stands for the two whole numbers
+unfoldable pub kinds_named : List ℕ → Option (List Kind)
+kinds_named name = if bytes_eq name (codes "number") then Some (kinds.Int32 ∷ kinds.Int64 ∷ [])
+    else option_map (λ row. row.2) (find (λ row. bytes_eq row.1 name) query_types)
+
+unfoldable pub kinds_numbered : ℤ → Option (List Kind)
+kinds_numbered number = option_map (λ row. row.2) (find (λ row. int_eq row.0 number) query_types)
+
+-- `==` of kinds
+abbrev pub is_kind : Kind → Kind → Bool
+is_kind = sameb the_type

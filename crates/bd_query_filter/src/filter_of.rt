@@ -1,0 +1,361 @@
+//! Documents read as filters.
+
+ghost use Rattle.std.specs.Prelude.{◌≡◌, ◌⊎◌, map, IfOk, IfErr, Ok, Err};
+ghost use Rattle.bd_value.specs.View.{pairs};
+ghost use Rattle.bd_path.specs.Path.{path_of};
+ghost use Rattle.bd_value.specs.Tree.{Doc, fields_of, items_of, values_of};
+ghost use Rattle.bd_query_filter.specs.Fault.{IsStarved, ReadsPart, refusal_of};
+ghost use Rattle.bd_query_filter.specs.Filter as filters;
+ghost use Rattle.bd_query_filter.specs.Filter.{filter_tree, operator_tree};
+ghost use Rattle.bd_query_filter.specs.FilterBad.{IsBadAt};
+ghost use Rattle.bd_query_filter.specs.FilterOf.{element_operator, filter_of, filters_of, has_value_form, member_filter, member_filters, not_operator};
+ghost use Rattle.bd_query_filter.specs.FilterOf.{operand_filters, operator_of, operators_of, pair_filter, path_operators};
+ghost use Rattle.bd_query_filter.specs.Word.{begins_with_dollar, is_left_out, known_operator, word_of};
+
+use crate::fault::{FilterFault, FilterFaultKind, Stop, stop_at, under};
+use crate::filter::{Filter, Operator};
+use crate::operand::{Relation, has_operators, plain_operator, plain_value, under_index};
+use bd_path::{Path, PathFault};
+use bd_value::{Document, Kind, MOST_FILTER_LEVELS, Reading, Tree};
+use std::alloc::Global;
+
+/// The filter that a document is.
+///
+/// MongoDB manual, "Query and Projection Operators". Each member of `$and`, `$or` and `$nor` and each body of `$not` and
+/// `$elemMatch` is a level more, and there are fifty at most.
+///
+/// # Errors
+///
+/// The first pair or member that is no part of a filter, in the order in which they stand, and which rule it breaks; `NoMemory`
+/// where no memory was given.
+pub fn parse(alloc: Global, document: &Document) -> Result<Filter, FilterFault>
+    ensures filter { IfOk result (λ f. filter_of (pairs document.now) ≡ Ok (filter_tree f)) }
+    ensures fault { IfErr result (λ f. IsStarved f ⊎ (filter_of (pairs document.now) ≡ Err (refusal_of f))) }
+    ensures bad { IfErr result (λ f. IsStarved f ⊎ IsBadAt (pairs document.now) (refusal_of f)) }
+{
+    match read_filters::<Tree<'_>>(alloc, MOST_FILTER_LEVELS - 1, Tree::Doc(document).parts()) {
+        Ok(filters) => Ok(Filter::And(filters)),
+        Err(Stop::Fault(fault)) => Err(fault),
+        Err(Stop::NoMemory) => Err(FilterFault {
+            kind: FilterFaultKind::NoMemory,
+            place: Vec::new(alloc),
+        }),
+    }
+}
+
+/// The filters of the pairs of a document.
+#[cycle(parse)]
+fn read_filters<N: Reading>(alloc: Global, room: u32, pairs: N::Rest) -> Result<Vec<Filter>, Stop>
+    ensures { ReadsPart (λ fs. map filter_tree fs.items) result (filters_of room (fields_of (N.left pairs))) }
+{
+    let mut filters = Vec::new(alloc);
+    let mut left = pairs;
+    while let Some(next) = N::next(&left) {
+        match read_pair(alloc, room, next.0, next.1) {
+            Ok(filter) => filters.push(filter)?,
+            Err(stop) => return Err(under(alloc, next.0, stop)),
+        }
+        left = next.2;
+    }
+    Ok(filters)
+}
+
+#[cycle(parse)]
+fn read_pair<N: Reading>(alloc: Global, room: u32, name: &str, value: N) -> Result<Filter, Stop>
+    ensures { ReadsPart filter_tree result
+        (pair_filter (word_of name.now) (path_of name.now) (operand_filters room (N.tree value))
+        (path_operators room (N.tree value))) }
+{
+    match Word::from_name(name) {
+        Word::Logical(logical) => {
+            let filters = read_operand(alloc, room, value)?;
+            Ok(match logical {
+                LogicalOperator::And => Filter::And(filters),
+                LogicalOperator::Or => Filter::Or(filters),
+                LogicalOperator::Nor => Filter::Nor(filters),
+            })
+        }
+        Word::Field => match Path::parse(alloc, name) {
+            Ok(path) => {
+                let operators = read_value(alloc, room, value)?;
+                Ok(Filter::Field { path, operators })
+            }
+            Err(PathFault::NoMemory) => Err(Stop::NoMemory),
+            Err(_) => Err(stop_at(alloc, FilterFaultKind::Path)),
+        },
+        Word::LeftOut => Err(stop_at(alloc, FilterFaultKind::NotInProfile)),
+        _ => Err(stop_at(alloc, FilterFaultKind::UnknownOperator)),
+    }
+}
+
+/// The filters of the operand of `$and`, `$or` and `$nor`.
+#[cycle(parse)]
+fn read_operand<N: Reading>(alloc: Global, room: u32, operand: N) -> Result<Vec<Filter>, Stop>
+    ensures { ReadsPart (λ fs. map filter_tree fs.items) result (operand_filters room (N.tree operand)) }
+{
+    let Kind::Array = operand.kind() else {
+        return Err(stop_at(alloc, FilterFaultKind::BadOperand));
+    };
+    if operand.len() == 0 {
+        return Err(stop_at(alloc, FilterFaultKind::BadOperand));
+    }
+    read_members::<N>(alloc, room, operand.parts())
+}
+
+#[cycle(parse)]
+fn read_members<N: Reading>(alloc: Global, room: u32, members: N::Rest) -> Result<Vec<Filter>, Stop>
+    ensures { ReadsPart (λ fs. map filter_tree fs.items) result (member_filters room 0 (items_of (values_of (N.left members)))) }
+{
+    let mut filters = Vec::new(alloc);
+    let mut left = members;
+    while let Some(next) = N::next(&left) {
+        match read_member(alloc, room, next.1) {
+            Ok(filter) => filters.push(filter)?,
+            Err(stop) => return Err(under_index(alloc, filters.len(), stop)),
+        }
+        left = next.2;
+    }
+    Ok(filters)
+}
+
+#[cycle(parse)]
+fn read_member<N: Reading>(alloc: Global, room: u32, member: N) -> Result<Filter, Stop>
+    ensures { ReadsPart filter_tree result (member_filter room (N.tree member)) }
+{
+    let Kind::Doc = member.kind() else {
+        return Err(stop_at(alloc, FilterFaultKind::BadOperand));
+    };
+    if room == 0 {
+        return Err(stop_at(alloc, FilterFaultKind::TooDeep));
+    }
+    let filters = read_filters::<N>(alloc, room - 1, member.parts())?;
+    Ok(Filter::And(filters))
+}
+
+/// The operators that the value of a path stands for.
+#[cycle(parse)]
+fn read_value<N: Reading>(alloc: Global, room: u32, value: N) -> Result<Vec<Operator>, Stop>
+    ensures { ReadsPart (λ os. map operator_tree os.items) result (path_operators room (N.tree value)) }
+{
+    if has_operators(value) {
+        return read_operators::<N>(alloc, room, value.parts());
+    }
+    let operand = plain_value(alloc, value)?;
+    let mut operators = Vec::new(alloc);
+    operators.push(Operator::Equal(operand))?;
+    Ok(operators)
+}
+
+#[cycle(parse)]
+fn read_operators<N: Reading>(
+    alloc: Global,
+    room: u32,
+    pairs: N::Rest,
+) -> Result<Vec<Operator>, Stop>
+    ensures { ReadsPart (λ os. map operator_tree os.items) result (operators_of room (fields_of (N.left pairs))) }
+{
+    let mut operators = Vec::new(alloc);
+    let mut left = pairs;
+    while let Some(next) = N::next(&left) {
+        match read_operator(alloc, room, next.0, next.1) {
+            Ok(operator) => operators.push(operator)?,
+            Err(stop) => return Err(under(alloc, next.0, stop)),
+        }
+        left = next.2;
+    }
+    Ok(operators)
+}
+
+#[cycle(parse)]
+fn read_operator<N: Reading>(
+    alloc: Global,
+    room: u32,
+    name: &str,
+    operand: N,
+) -> Result<Operator, Stop>
+    ensures { ReadsPart operator_tree result
+        (operator_of (word_of name.now) (N.tree operand) (not_operator room (N.tree operand))
+        (element_operator room (N.tree operand))) }
+{
+    match Word::from_name(name) {
+        Word::Plain(plain) => plain_operator(alloc, plain, operand),
+        Word::Not => read_not(alloc, room, operand),
+        Word::ElemMatch => read_elem_match(alloc, room, operand),
+        Word::LeftOut => Err(stop_at(alloc, FilterFaultKind::NotInProfile)),
+        Word::Field => Err(stop_at(alloc, FilterFaultKind::MixedOperators)),
+        _ => Err(stop_at(alloc, FilterFaultKind::UnknownOperator)),
+    }
+}
+
+#[cycle(parse)]
+fn read_not<N: Reading>(alloc: Global, room: u32, operand: N) -> Result<Operator, Stop>
+    ensures { ReadsPart operator_tree result (not_operator room (N.tree operand)) }
+{
+    if has_operators(operand) {
+        if room == 0 {
+            return Err(stop_at(alloc, FilterFaultKind::TooDeep));
+        }
+        let operators = read_operators::<N>(alloc, room - 1, operand.parts())?;
+        return Ok(Operator::Not(operators));
+    }
+    match operand.kind() {
+        Kind::Regex => Err(stop_at(alloc, FilterFaultKind::NotInProfile)),
+        _ => Err(stop_at(alloc, FilterFaultKind::BadOperand)),
+    }
+}
+
+#[cycle(parse)]
+fn read_elem_match<N: Reading>(alloc: Global, room: u32, operand: N) -> Result<Operator, Stop>
+    ensures { ReadsPart operator_tree result (element_operator room (N.tree operand)) }
+{
+    let Kind::Doc = operand.kind() else {
+        return Err(stop_at(alloc, FilterFaultKind::BadOperand));
+    };
+    if room == 0 {
+        return Err(stop_at(alloc, FilterFaultKind::TooDeep));
+    }
+    let parts = operand.parts();
+    if is_value_form::<N>(&parts) {
+        let operators = read_operators::<N>(alloc, room - 1, parts)?;
+        return Ok(Operator::ElemMatch(operators));
+    }
+    let filters = read_filters::<N>(alloc, room - 1, parts)?;
+    Ok(Operator::ElemMatchDocument(filters))
+}
+
+/// Whether the body of `$elemMatch` is operators for an element, and no filter.
+fn is_value_form<N: Reading>(pairs: &N::Rest) -> bool
+    ensures { result ≡ has_value_form (fields_of (N.left pairs.now)) }
+{
+    let Some((name, _, _)) = N::next(pairs) else {
+        return false;
+    };
+    !matches!(Word::from_name(name), Word::Logical(_) | Word::Field)
+}
+
+/// What a name stands for in a filter.
+#[derive(Clone, Copy)]
+pub enum Word {
+    /// An operator whose operand is an array of filters.
+    Logical(LogicalOperator),
+    /// An operator whose operand is values.
+    Plain(PlainOperator),
+    /// `$not`
+    Not,
+    /// `$elemMatch`
+    ElemMatch,
+    /// An operator of the manual that is left out.
+    LeftOut,
+    /// Another name that begins with a dollar sign.
+    Unknown,
+    /// A path.
+    Field,
+}
+
+/// MongoDB manual, "Logical Query Operators", without `$not`.
+#[derive(Clone, Copy)]
+pub enum LogicalOperator {
+    And,
+    Or,
+    Nor,
+}
+
+/// The operators whose operand is values.
+#[derive(Clone, Copy)]
+pub enum PlainOperator {
+    Equal,
+    NotEqual,
+    Order(Relation),
+    In,
+    NotIn,
+    All,
+    Size,
+    Exists,
+    Type,
+}
+
+/// The operators that are known.
+const OPERATORS: [(&str, Word); 17] = [
+    ("$and", Word::Logical(LogicalOperator::And)),
+    ("$or", Word::Logical(LogicalOperator::Or)),
+    ("$nor", Word::Logical(LogicalOperator::Nor)),
+    ("$eq", Word::Plain(PlainOperator::Equal)),
+    ("$ne", Word::Plain(PlainOperator::NotEqual)),
+    ("$gt", Word::Plain(PlainOperator::Order(Relation::Above))),
+    ("$gte", Word::Plain(PlainOperator::Order(Relation::AtLeast))),
+    ("$lt", Word::Plain(PlainOperator::Order(Relation::Below))),
+    ("$lte", Word::Plain(PlainOperator::Order(Relation::AtMost))),
+    ("$in", Word::Plain(PlainOperator::In)),
+    ("$nin", Word::Plain(PlainOperator::NotIn)),
+    ("$all", Word::Plain(PlainOperator::All)),
+    ("$size", Word::Plain(PlainOperator::Size)),
+    ("$exists", Word::Plain(PlainOperator::Exists)),
+    ("$type", Word::Plain(PlainOperator::Type)),
+    ("$not", Word::Not),
+    ("$elemMatch", Word::ElemMatch),
+];
+
+impl Word {
+    /// What a name stands for.
+    #[tactic(auto, unfolding(crate::specs::Word::word_of))]
+    pub(crate) fn from_name(name: &str) -> Word
+        ensures { result ≡ word_of name.now }
+    {
+        if !begins_with_dollar(name) {
+            return Word::Field;
+        }
+        match known_operator(name) {
+            Some(word) => word,
+            None if is_left_out(name) => Word::LeftOut,
+            None => Word::Unknown,
+        }
+    }
+}
+
+/// What the name of a known operator stands for.
+fn known_operator(name: &str) -> Option<Word>
+    ensures { result ≡ known_operator name.now }
+{
+    OPERATORS.iter().find(|row| row.0 == name).map(|row| row.1)
+}
+
+/// Whether a name begins as an operator does.
+pub(crate) fn begins_with_dollar(name: &str) -> bool
+    ensures { result ≡ begins_with_dollar name.now }
+{
+    match name.as_bytes().first() {
+        Some(byte) => *byte == b'$',
+        None => false,
+    }
+}
+
+/// The operators of the manual that are left out, and the parts of a DBRef.
+const LEFT_OUT: [&str; 19] = [
+    "$regex",
+    "$options",
+    "$mod",
+    "$expr",
+    "$where",
+    "$text",
+    "$jsonSchema",
+    "$comment",
+    "$geoWithin",
+    "$geoIntersects",
+    "$near",
+    "$nearSphere",
+    "$bitsAllSet",
+    "$bitsAnySet",
+    "$bitsAllClear",
+    "$bitsAnyClear",
+    "$ref",
+    "$id",
+    "$db",
+];
+
+/// Whether it is the name of an operator of the manual that is left out, or a part of a DBRef.
+#[tactic(auto, unfolding(crate::specs::Word::is_left_out))]
+fn is_left_out(name: &str) -> bool
+    ensures { result ≡ is_left_out name.now }
+{
+    LEFT_OUT.contains(&name)
+}

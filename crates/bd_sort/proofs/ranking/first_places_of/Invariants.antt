@@ -1,6 +1,0 @@
-use Rattle.std.proofs.Common.{◌≡◌, map, take}
-use Rattle.bd_sort.specs.Ranking.{place_of}
-use Rattle.bd_sort.proofs.ranking.first_places_of.Given as goal
-
-abbrev pub invariant-loop-one : goal.invariant-loop-one
-invariant-loop-one l = l.places.items ≡ map place_of (take l.one-index l.first)

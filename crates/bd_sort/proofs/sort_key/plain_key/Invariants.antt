@@ -1,8 +1,0 @@
-use Rattle.std.proofs.Common.{◌≡◌, false, drop}
-use Rattle.bd_raw.specs.Sound.{stands}
-use Rattle.bd_path.specs.{Key.all_keys, PathNames.names_of}
-use Rattle.bd_sort.proofs.sort_key.plain_key.Given as goal
-
--- the keys of what is left of the path
-abbrev pub invariant-loop-i : goal.invariant-loop-i
-invariant-loop-i l = all_keys false (stands l.document.sound) (names_of l.path) ≡ all_keys false (stands l.value.sound) (drop l.i (names_of l.path))

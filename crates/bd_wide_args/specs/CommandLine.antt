@@ -1,0 +1,61 @@
+-- What the words of a line order, by the parser's own definition of the lines that it takes.
+use Rattle.std.specs.Prelude.{List, [], ◌∷◌, if◌then◌else◌, map, slice_get, codes, string_bytes, unwrap_or, Option, Some, None, option_map, option_and_then, true}
+use Rattle.std.specs.Str.{bytes_eq}
+use Rattle.clap.specs.Lexer.{usize_max}
+use Rattle.clap.specs.Simple.{App, new_app, new_rule, on_top, subcommand_of, with_rule, with_subcommand}
+use Rattle.clap.specs.Walk.{Row, Rule, Text, all_of, first_of}
+use Rattle.clap.specs.declared.builder.action.ArgAction.{ArgAction}
+use Rattle.clap.specs.Faults.{fault_of}
+use Rattle.bd_cli_args.specs.CommandLine.{file_app, refusal_told, with_file_commands}
+use Rattle.bd_cli_args.specs.declared.order.WordsFault.{WordsFault}
+use Rattle.bd_wide_args.specs.declared.command_line.Order.{Order}
+
+-- the line without its commands
+abbrev pub top_app : App
+top_app = on_top (λ s. record s { no_binary_name = true; subcommand_required = true; disable_help_subcommand = true })
+    (new_app (codes "bsonwide"))
+
+-- the argument PATH, of which there may be any number
+abbrev pub paths_rule : Rule
+paths_rule = record (new_rule (codes "path")) {
+  range = Some (record { start_inclusive = 1; end_inclusive = usize_max });
+  action = Some ArgAction.Append;
+}
+
+-- `order`, which takes paths after its file
+abbrev pub order_app : App
+order_app = with_rule (file_app (codes "order")) paths_rule
+
+-- the line: the other commands take a file alone
+abbrev pub line_app : App
+line_app = with_subcommand (with_file_commands top_app (codes "mask" ∷ codes "wrap" ∷ [])) order_app.top
+
+-- what the lines order
+pub data OrderView : Type 0 where
+  mask : Text → OrderView
+  wrap : Text → OrderView
+  order : Text → List Text → OrderView
+
+abbrev pub meant : Order → OrderView
+meant (Order.Mask file) = mask (string_bytes file)
+meant (Order.Wrap file) = wrap (string_bytes file)
+meant (Order.Order file paths) = order (string_bytes file) (map string_bytes paths.items)
+
+-- the texts of an argument, which may be none
+abbrev pub texts_in : Text → List Row → List Text
+texts_in name rows = unwrap_or (all_of name rows) []
+
+-- the order of a command's name and its matches
+abbrev pub ordered_by : Text → List Row → Option OrderView
+ordered_by name rows = if bytes_eq name (codes "mask") then option_map mask (first_of (codes "file") rows)
+    else (if bytes_eq name (codes "wrap") then option_map wrap (first_of (codes "file") rows)
+    else (if bytes_eq name (codes "order")
+    then option_map (λ file. order file (texts_in (codes "path") rows)) (first_of (codes "file") rows) else None))
+
+-- the order of words that are taken
+abbrev pub order_of : List Text → Option OrderView
+order_of words = option_and_then (λ p. ordered_by p.0 p.1) (subcommand_of line_app words)
+
+-- how the parser's refusal is told, or none; where it may be of several kinds, all are told as the first
+abbrev pub fault_for : List Text → Option WordsFault
+fault_for words = option_map refusal_told (slice_get (fault_of line_app words) 0)
