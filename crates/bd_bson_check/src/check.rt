@@ -33,7 +33,8 @@ pub fn check_document<'a>(
     requires { base + length bytes.now ≤ longest_input }
     ensures spelled { IfOk result (λ d. IsDocument (pairs_in (stands d.sound)) bytes.now) }
     ensures kept { IfOk result (λ d. d.bytes.now ≡ bytes.now) }
-    ensures first { MatchResult result (λ _. first_fault base bytes.now ≡ None) (TellsFault number (first_fault base bytes.now)) }
+    ensures first { MatchResult result (λ _.
+        first_fault base bytes.now ≡ None) (TellsFault number (first_fault base bytes.now)) }
 {
     match document(alloc, base + bytes.len() as u64, bytes) {
         Ok(()) => Ok(RawDoc::whole(bytes)),
@@ -50,7 +51,8 @@ pub fn read_document(alloc: Global, bytes: &[u8], base: u64, number: u32) -> Res
     // What is read is what the bytes spell.
     ensures found { IfOk result (λ d. IsDocument (pairs d) bytes.now) }
     // What the bytes spell is read, unless memory runs out.
-    ensures only { (d : Doc) → IsDocument d bytes.now → MatchResult result (λ r. pairs r ≡ d) IsWantOfMemory }
+    ensures only { (d : Doc) →
+        IsDocument d bytes.now → MatchResult result (λ r. pairs r ≡ d) IsWantOfMemory }
     ensures fault { IfErr result (TellsFault number (first_fault base bytes.now)) }
 {
     let raw = check_document(alloc, bytes, base, number)?;
@@ -83,7 +85,8 @@ pub fn next_frame(
     ensures found { IfOk result (λ f. frame_length (drop at bytes.now) ≡ Ok (option_map (λ x. x.length) f)) }
     ensures stands { IfOk result (λ f. IfSome f (λ x. (x.start ≡ at) × (at + x.length ≤ length bytes.now))) }
     ensures fault { IfErr result (λ e. frame_length (drop at bytes.now) ≡ Err e.kind) }
-    ensures place { IfErr result (λ e. (e.document ≡ number) × (e.offset ≡ at) × (e.path.items ≡ [])) }
+    ensures place { IfErr result (λ e. (e.document ≡ number)
+        × (e.offset ≡ at) × (e.path.items ≡ [])) }
 {
     let rest = &bytes[at..];
     if rest.is_empty() {
@@ -137,7 +140,8 @@ fn document(alloc: Global, e: u64, bytes: &[u8]) -> Result<(), Stop>
 #[cycle(checking)]
 fn elements(alloc: Global, room: u32, in_array: bool, e: u64, bytes: &[u8]) -> Result<(), Stop>
     requires { length bytes.now ≤ e }
-    ensures { GivesItem (λ x. tt) result (past_elements (past_nested room) (if in_array then Some 0 else None) (length bytes.now) e bytes.now) }
+    ensures { GivesItem (λ x. tt) result (past_elements
+        (past_nested room) (if in_array then Some 0 else None) (length bytes.now) e bytes.now) }
 {
     let mut place = if in_array { Some(0) } else { None };
     let mut rest = bytes;

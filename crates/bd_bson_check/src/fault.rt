@@ -175,7 +175,8 @@ pub fn want_of_memory(alloc: Global) -> Fault
 
 /// A fault of a document as a whole.
 pub fn frame_fault(alloc: Global, kind: FaultKind, at: usize, number: u32) -> Fault
-    ensures { (result.kind ≡ kind) × (result.document ≡ number) × (result.offset ≡ at) × (result.path.items ≡ []) }
+    ensures { (result.kind ≡ kind)
+        × (result.document ≡ number) × (result.offset ≡ at) × (result.path.items ≡ []) }
 {
     Fault {
         kind,

@@ -11,27 +11,32 @@ ghost use Rattle.bd_bson_check.specs.Dump.{IsDump, AreJoined, IsWalk, FailsAfter
 /// Bytes that are not too many are a dump of documents or have one first fault, never both; and each in one way alone, by
 /// `walks_in_one_way`.
 pub fn dump_or_fault()
-    ensures either { (bytes : List ℕ) → ((i : ℕ) → slice_index bytes i < 256) → length bytes ≤ longest_input →
-        ((ds : List Doc) × IsDump ds bytes) ⊎ ((ds : List Doc) × (f : FaultView) × FailsAfter ds f bytes) }
-    ensures never_both { (bytes : List ℕ) (ds es : List Doc) (f : FaultView) → IsDump ds bytes → FailsAfter es f bytes → ⊥ }
+    ensures either { (bytes : List ℕ) → ((i : ℕ) → slice_index bytes i < 256) →
+        length bytes ≤ longest_input → ((ds : List Doc) × IsDump ds bytes)
+        ⊎ ((ds : List Doc) × (f : FaultView) × FailsAfter ds f bytes) }
+    ensures never_both { (bytes : List ℕ) (ds es : List Doc) (f : FaultView) →
+        IsDump ds bytes → FailsAfter es f bytes → ⊥ }
 {}
 
 /// Any bytes are documents in turn and then end, or fail after these, and in one way alone.
 pub fn walks_in_one_way()
-    ensures some { (bytes : List ℕ) → ((i : ℕ) → slice_index bytes i < 256) → (ds : List Doc) × (end : Option FaultView) × IsWalk ds end bytes }
-    ensures one { (bytes : List ℕ) (ds es : List Doc) (end other : Option FaultView) → IsWalk ds end bytes →
-        IsWalk es other bytes → (ds ≡ es) × (end ≡ other) }
+    ensures some { (bytes : List ℕ) → ((i : ℕ) → slice_index bytes i < 256) →
+        (ds : List Doc) × (end : Option FaultView) × IsWalk ds end bytes }
+    ensures one { (bytes : List ℕ) (ds es : List Doc) (end other : Option FaultView) →
+        IsWalk ds end bytes → IsWalk es other bytes → (ds ≡ es) × (end ≡ other) }
 {}
 
 /// Documents that stand in front are the first of all.
 pub fn walks_on()
-    ensures { (ds : List Doc) (front rest : List ℕ) → ((i : ℕ) → slice_index rest i < 256) → AreJoined ds front →
+    ensures { (ds : List Doc) (front rest : List ℕ) →
+        ((i : ℕ) → slice_index rest i < 256) → AreJoined ds front →
         (more : List Doc) × (end : Option FaultView) × IsWalk (ds ++ more) end (front ++ rest) }
 {}
 
 /// There is no fault exactly where the bytes spell some document.
 pub fn no_fault_where_spelled()
-    ensures none { (base : ℕ) (bytes : List ℕ) (d : Doc) → IsDocument d bytes → first_fault base bytes ≡ None }
+    ensures none { (base : ℕ) (bytes : List ℕ) (d : Doc) →
+        IsDocument d bytes → first_fault base bytes ≡ None }
     ensures spelled { (base : ℕ) (bytes : List ℕ) → ((i : ℕ) → slice_index bytes i < 256) →
         first_fault base bytes ≡ None → (d : Doc) × IsDocument d bytes }
 {}

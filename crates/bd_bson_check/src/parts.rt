@@ -201,7 +201,8 @@ fn text(alloc: Global, at: u64, bytes: &[u8]) -> Result<&str, Stop>
 #[inline(always)]
 pub fn past_scalar(bytes: &[u8]) -> Option<&[u8]>
     requires { 0 < length bytes.now }
-    ensures gives { IfSome result (λ x. (nested : Nested) (place : Option ℕ) (e : ℕ) → past_element nested place e bytes.now ≡ Ok x.now) }
+    ensures gives { IfSome result (λ x. (nested : Nested) (place : Option ℕ) (e : ℕ) →
+        past_element nested place e bytes.now ≡ Ok x.now) }
     ensures after { IfSome result (λ x. length x.now < length bytes.now) }
 {
     let (_, named) = bytes.split_at(1);
@@ -215,7 +216,8 @@ pub fn past_scalar(bytes: &[u8]) -> Option<&[u8]>
 /// The bytes after a value of that kind.
 #[inline(always)]
 fn after_value(kind: Kind, bytes: &[u8]) -> Option<&[u8]>
-    ensures gives { IfSome result (λ x. (nested : Nested) (q e : ℕ) → past_value nested kind q e bytes.now ≡ Ok x.now) }
+    ensures gives { IfSome result (λ x. (nested : Nested) (q e : ℕ) →
+        past_value nested kind q e bytes.now ≡ Ok x.now) }
     ensures after { IfSome result (λ x. length x.now ≤ length bytes.now) }
 {
     match kind {
@@ -269,7 +271,8 @@ fn after(n: usize, bytes: &[u8]) -> Option<&[u8]>
 /// The bytes after an ASCII name.
 #[inline(always)]
 fn after_name(bytes: &[u8]) -> Option<&[u8]>
-    ensures { IfSome result (λ x. (k : ℕ) × (position (λ b. b == 0) bytes.now ≡ Some k) × (is_utf8 (take k bytes.now) ≡ true)
+    ensures { IfSome result (λ x. (k : ℕ)
+        × (position (λ b. b == 0) bytes.now ≡ Some k) × (is_utf8 (take k bytes.now) ≡ true)
         × (k < length bytes.now) × (x.now ≡ drop (k + 1) bytes.now)) }
 {
     let k = ascii_end(bytes)?;

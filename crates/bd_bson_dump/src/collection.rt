@@ -37,7 +37,8 @@ impl Dump {
     /// The document of that number. It takes no memory.
     pub fn document(&self, n: u32) -> RawDoc<'_>
         requires { n < length (documents self.now) }
-        ensures document { slice_get (documents self.now) n ≡ Some (pairs_in (stands result.sound)) }
+        ensures document { slice_get (documents self.now) n
+            ≡ Some (pairs_in (stands result.sound)) }
         ensures kept { result.bytes.now ≡ bytes_of self.now }
     {
         self.reads.set(self.reads.get().saturating_add(1));
@@ -48,7 +49,8 @@ impl Dump {
     /// no read of a document.
     pub fn value_at(&self, at: At) -> RawValue<'_>
         requires { IsPlace (bytes_of self.now) at }
-        ensures value { (tree : Tree) → StandsAt (bytes_of self.now) at tree → stands result.sound ≡ tree }
+        ensures value { (tree : Tree) →
+            StandsAt (bytes_of self.now) at tree → stands result.sound ≡ tree }
         ensures kept { result.bytes.now ≡ bytes_of self.now }
     {
         self.value_reads

@@ -13,8 +13,9 @@ ghost use Rattle.bd_bson_dump.specs.Verdicts.{BeginAs, verdicts, verdicts_at};
 /// bytes is the end, and so is a fault of a length itself.
 pub fn judges_in_turn()
     ensures end { (base : ℕ) → verdicts_at base [] ≡ [] }
-    ensures turn { (base n : ℕ) (bytes : List ℕ) → frame_length bytes ≡ Ok (Some n) →
-        verdicts_at base bytes ≡ first_fault base (take n bytes) ∷ verdicts_at (base + n) (drop n bytes) }
+    ensures turn { (base n : ℕ) (bytes : List ℕ) →
+        frame_length bytes ≡ Ok (Some n) → verdicts_at base bytes
+        ≡ first_fault base (take n bytes) ∷ verdicts_at (base + n) (drop n bytes) }
     ensures last { (base : ℕ) (bytes : List ℕ) (kind : Kind) → frame_length bytes ≡ Err kind →
         verdicts_at base bytes ≡ Some (record { kind = kind; offset = base; path = [] }) ∷ [] }
 {}
@@ -22,7 +23,8 @@ pub fn judges_in_turn()
 /// The first document that is found to have a fault is the one at which a walk ends, and its fault is the walk's. So bytes
 /// are documents joined exactly where no document is found to have a fault.
 pub fn judges_as_the_walk()
-    ensures begin { (ds : List Doc) (end : Option FaultView) (bytes : List ℕ) → IsWalk ds end bytes → BeginAs ds end (verdicts bytes) }
-    ensures whole { (bytes : List ℕ) → ((i : ℕ) → slice_index bytes i < 256) → AllByRecursion (λ v. v ≡ None) (verdicts bytes) →
-        (ds : List Doc) × AreJoined ds bytes }
+    ensures begin { (ds : List Doc) (end : Option FaultView) (bytes : List ℕ) →
+        IsWalk ds end bytes → BeginAs ds end (verdicts bytes) }
+    ensures whole { (bytes : List ℕ) → ((i : ℕ) → slice_index bytes i < 256) →
+        AllByRecursion (λ v. v ≡ None) (verdicts bytes) → (ds : List Doc) × AreJoined ds bytes }
 {}

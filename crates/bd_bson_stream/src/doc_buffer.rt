@@ -29,7 +29,8 @@ pub struct FrameFault {
 impl FrameFault {
     /// The same as a fault of a dump, with no path.
     pub fn to_fault(self, alloc: Global) -> Fault
-        ensures same { (result.kind ≡ self.kind) × (result.document ≡ self.document) × (result.offset ≡ self.offset) }
+        ensures same { (result.kind ≡ self.kind)
+            × (result.document ≡ self.document) × (result.offset ≡ self.offset) }
         ensures path { result.path.items ≡ [] }
     {
         frame_fault(alloc, self.kind, self.offset as usize, self.document)
@@ -84,7 +85,8 @@ impl DocBuffer {
     /// No document yet. No memory is taken. `limits.bytes` is at most 4,294,967,295.
     pub fn new(alloc: Global, limits: Limits) -> DocBuffer
         requires { limits.bytes ≤ longest_input }
-        ensures starts { (result.left ≡ limits) × (result.place ≡ 0) × (result.number ≡ 0) × (result.failed ≡ false) }
+        ensures starts { (result.left ≡ limits)
+            × (result.place ≡ 0) × (result.number ≡ 0) × (result.failed ≡ false) }
         ensures empty { (result.size ≡ 0) × (result.buffer.items ≡ []) }
     {
         DocBuffer {
@@ -109,15 +111,18 @@ impl DocBuffer {
     /// - `DocFault::Failed`: an earlier call met one of these. The device is not read then.
     #[inline(always)]
     pub fn read_next<R: Input>(&mut self, reader: &mut R) -> Result<bool, DocFault>
-        ensures reads { result ≡ Ok true → ReadsDocument R.state R.read_gives self.old self.new reader.old reader.new }
-        ensures end { result ≡ Ok false → FindsEnd R.state R.read_gives self.old self.new reader.old reader.new }
-        ensures fails { self.old.failed ≡ false →
-            IfErr result (FailsToRead R.state R.read_gives [] self.old self.new reader.old reader.new) }
+        ensures reads { result ≡ Ok true →
+            ReadsDocument R.state R.read_gives self.old self.new reader.old reader.new }
+        ensures end { result ≡ Ok false →
+            FindsEnd R.state R.read_gives self.old self.new reader.old reader.new }
+        ensures fails { self.old.failed ≡ false → IfErr result
+            (FailsToRead R.state R.read_gives [] self.old self.new reader.old reader.new) }
         // After a fault, and only then, the call is refused, and reads nothing.
         ensures refused { (result ≡ Err DocFault.Failed) ↔ IsTrue self.old.failed }
         ensures failed { OnErr result (IsTrue self.new.failed) }
         ensures works { OnOk result (self.new.failed ≡ false) }
-        ensures quiet { result ≡ Err DocFault.Failed → (reader.new ≡ reader.old) × HoldsNone self.old self.new × (self.new.buffer ≡ self.old.buffer) }
+        ensures quiet { result ≡ Err DocFault.Failed → (reader.new ≡ reader.old)
+            × HoldsNone self.old self.new × (self.new.buffer ≡ self.old.buffer) }
     {
         if self.failed {
             return Err(DocFault::Failed);
@@ -158,9 +163,12 @@ impl DocBuffer {
     /// Takes the next document into the buffer; false at the end.
     fn advance<R: Input>(&mut self, reader: &mut R) -> Result<bool, DocFault>
         requires works { self.old.failed ≡ false }
-        ensures reads { result ≡ Ok true → ReadsDocument R.state R.read_gives self.old self.new reader.old reader.new }
-        ensures end { result ≡ Ok false → FindsEnd R.state R.read_gives self.old self.new reader.old reader.new }
-        ensures fails { IfErr result (FailsToRead R.state R.read_gives [] self.old self.new reader.old reader.new) }
+        ensures reads { result ≡ Ok true →
+            ReadsDocument R.state R.read_gives self.old self.new reader.old reader.new }
+        ensures end { result ≡ Ok false →
+            FindsEnd R.state R.read_gives self.old self.new reader.old reader.new }
+        ensures fails { IfErr result
+            (FailsToRead R.state R.read_gives [] self.old self.new reader.old reader.new) }
         ensures state { self.new.failed ≡ self.old.failed }
     {
         self.size = 0;
@@ -174,15 +182,19 @@ impl DocBuffer {
     /// Reads the four bytes that the next document begins with, which tell how many bytes it has; none at the end.
     fn read_length<R: Input>(&mut self, reader: &mut R) -> Result<Option<[u8; 4]>, DocFault>
         requires empty { self.old.size ≡ 0 }
-        ensures kept { HoldsNone self.old self.new × (self.new.failed ≡ self.old.failed) × (self.new.buffer ≡ self.old.buffer) }
-        ensures length { IfOk result (λ o. IfSome o (λ head. (5 ≤ length_told head) × (length_told head ≤ longest_document)
-            × (4 ≤ self.old.left.bytes) × Consumes (R.state reader.old).left (R.state reader.new).left head)) }
-        ensures reads { IfOk result (λ o. IfSome o (λ head.
-            AreReads R.read_gives (self.old.left.turns - self.new.left.turns) reader.old head reader.new)) }
+        ensures kept { HoldsNone self.old self.new
+            × (self.new.failed ≡ self.old.failed) × (self.new.buffer ≡ self.old.buffer) }
+        ensures length { IfOk result (λ o. IfSome o (λ head. (5 ≤ length_told head)
+            × (length_told head ≤ longest_document) × (4 ≤ self.old.left.bytes)
+            × Consumes (R.state reader.old).left (R.state reader.new).left head)) }
+        ensures reads { IfOk result (λ o. IfSome o (λ head. AreReads R.read_gives
+            (self.old.left.turns - self.new.left.turns) reader.old head reader.new)) }
         ensures counted { OnOk result (CountsReads self.old self.new (over R.state reader.old reader.new)) }
         ensures well { OnOk result ((R.state reader.new).failures ≡ (R.state reader.old).failures) }
-        ensures end { result ≡ Ok None → FindsEnd R.state R.read_gives self.old self.new reader.old reader.new }
-        ensures fails { IfErr result (FailsToRead R.state R.read_gives [] self.old self.new reader.old reader.new) }
+        ensures end { result ≡ Ok None →
+            FindsEnd R.state R.read_gives self.old self.new reader.old reader.new }
+        ensures fails { IfErr result
+            (FailsToRead R.state R.read_gives [] self.old self.new reader.old reader.new) }
     {
         let mut head = [0; 4];
         let filled = fill(reader, &mut head, self.left)?;
@@ -204,18 +216,24 @@ impl DocBuffer {
     fn read_rest<R: Input>(&mut self, reader: &mut R, head: [u8; 4]) -> Result<(), DocFault>
         requires works { self.old.failed ≡ false }
         requires empty { self.old.size ≡ 0 }
-        requires length { (5 ≤ length_told head) × (length_told head ≤ longest_document) × (4 ≤ self.old.left.bytes) }
+        requires length { (5 ≤ length_told head)
+            × (length_told head ≤ longest_document) × (4 ≤ self.old.left.bytes) }
         ensures frame { OnOk result (IsFrame (held_bytes self.new)) }
-        ensures gives { OnOk result (Consumes (prepend_known head (R.state reader.old).left) (R.state reader.new).left (held_bytes self.new)) }
-        ensures reads { OnOk result ((given : List ℕ) × (held_bytes self.new ≡ head ++ given)
-            × AreReads R.read_gives (self.old.left.turns - self.new.left.turns) reader.old given reader.new) }
-        ensures place { OnOk result ((self.new.place ≡ self.old.place + self.new.size) × (self.new.number ≡ self.old.number + 1)
+        ensures gives { OnOk result (Consumes (prepend_known head (R.state reader.old).left)
+            (R.state reader.new).left (held_bytes self.new)) }
+        ensures reads { OnOk result ((given : List ℕ)
+            × (held_bytes self.new ≡ head ++ given) × AreReads R.read_gives (self.old.left.turns
+            - self.new.left.turns) reader.old given reader.new) }
+        ensures place { OnOk result ((self.new.place ≡ self.old.place + self.new.size)
+            × (self.new.number ≡ self.old.number + 1)
             × (self.new.left.bytes + self.new.size ≡ self.old.left.bytes)) }
         ensures state { self.new.failed ≡ self.old.failed }
         ensures counted { OnOk result (CountsReads self.old self.new (over R.state reader.old reader.new)) }
         ensures well { OnOk result ((R.state reader.new).failures ≡ (R.state reader.old).failures) }
-        ensures grown { OnOk result (HoldsAsMuch (length self.old.buffer.items) (length self.new.buffer.items) self.new.size) }
-        ensures fails { IfErr result (FailsToRead R.state R.read_gives head self.old self.new reader.old reader.new) }
+        ensures grown { OnOk result (HoldsAsMuch
+            (length self.old.buffer.items) (length self.new.buffer.items) self.new.size) }
+        ensures fails { IfErr result
+            (FailsToRead R.state R.read_gives head self.old self.new reader.old reader.new) }
     {
         let length = u32::from_le_bytes(head) as usize;
         make_room(&mut self.buffer, length)?;
@@ -234,8 +252,8 @@ impl DocBuffer {
 
     /// A fault of the next document as a whole.
     fn fault(&self, kind: FaultKind) -> DocFault
-        ensures { (f : FrameFault) × (result ≡ framed f) × (f.kind ≡ kind) × (f.offset ≡ self.now.place)
-            × (f.document ≡ self.now.number) }
+        ensures { (f : FrameFault) × (result ≡ framed f)
+            × (f.kind ≡ kind) × (f.offset ≡ self.now.place) × (f.document ≡ self.now.number) }
     {
         DocFault::Frame(FrameFault {
             kind,
@@ -247,10 +265,13 @@ impl DocBuffer {
     /// Goes past the document of that size, which is in the buffer.
     fn pass(&mut self, size: usize)
         requires works { self.old.failed ≡ false }
-        requires size { (5 ≤ size) × (size ≤ self.old.left.bytes) × (size ≤ length self.old.buffer.items) }
+        requires size { (5 ≤ size)
+            × (size ≤ self.old.left.bytes) × (size ≤ length self.old.buffer.items) }
         ensures held { self.new.size ≡ size }
-        ensures place { (self.new.place ≡ self.old.place + size) × (self.new.number ≡ self.old.number + 1) }
-        ensures left { (self.new.left.bytes + size ≡ self.old.left.bytes) × (self.new.left.turns ≡ self.old.left.turns) }
+        ensures place { (self.new.place ≡ self.old.place + size)
+            × (self.new.number ≡ self.old.number + 1) }
+        ensures left { (self.new.left.bytes + size ≡ self.old.left.bytes)
+            × (self.new.left.turns ≡ self.old.left.turns) }
         ensures kept { (self.new.buffer ≡ self.old.buffer) × (self.new.failed ≡ self.old.failed) }
     {
         self.left.bytes -= size as u64;
@@ -263,7 +284,8 @@ impl DocBuffer {
 /// Makes the buffer at least so long.
 fn make_room(buffer: &mut Vec<u8>, size: usize) -> Result<(), ReadFault>
     ensures room { OnOk result ((size ≤ length buffer.new.items)
-        × ((length buffer.new.items ≡ length buffer.old.items) ⊎ ((length buffer.old.items < size) × (length buffer.new.items ≡ size)))) }
+        × ((length buffer.new.items ≡ length buffer.old.items)
+        ⊎ ((length buffer.old.items < size) × (length buffer.new.items ≡ size)))) }
     ensures kept { OnErr result (buffer.new.items ≡ buffer.old.items) }
     ensures memory { IfErr result (λ f. f ≡ ReadFault.NoMemory) }
 {

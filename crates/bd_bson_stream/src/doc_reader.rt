@@ -36,7 +36,8 @@ impl<R: Input + Drop> DocReader<R> {
     /// The documents of this device from its next byte on. No memory is taken. `limits.bytes` is at most 4,294,967,295.
     pub fn new(alloc: Global, reader: R, limits: Limits) -> DocReader<R>
         requires { limits.bytes ≤ longest_input }
-        ensures reader { (result.reader ≡ reader) × (result.documents.left ≡ limits) × (result.documents.failed ≡ false) }
+        ensures reader { (result.reader ≡ reader)
+            × (result.documents.left ≡ limits) × (result.documents.failed ≡ false) }
         ensures place { (result.documents.place ≡ 0) × (result.documents.number ≡ 0) }
         ensures empty { (result.documents.size ≡ 0) × (result.documents.buffer.items ≡ []) }
     {
@@ -58,12 +59,14 @@ impl<R: Input + Drop> DocReader<R> {
     /// The errors are those of `DocBuffer::read_next`.
     pub fn next(&mut self) -> Result<Option<RawBytes<'_>>, DocFault>
         ensures frame { IfOk result (λ o. IfSome o (λ d. IsFrame d.bytes.now)) }
-        ensures front { IfOk result (λ o. IfSome o (λ d. IfSome (R.state self.old.reader).left (λ xs. StartsWith xs d.bytes.now))) }
-        ensures stands { IfOk result (λ o. IfSome o (λ d. (d.start ≡ self.old.documents.place) × (d.number ≡ self.old.documents.number))) }
+        ensures front { IfOk result (λ o. IfSome o (λ d.
+            IfSome (R.state self.old.reader).left (λ xs. StartsWith xs d.bytes.now))) }
+        ensures stands { IfOk result (λ o. IfSome o (λ d. (d.start ≡ self.old.documents.place)
+            × (d.number ≡ self.old.documents.number))) }
         ensures end { result ≡ Ok None → IsAtEnd (R.state self.old.reader).left }
         ensures refused { (result ≡ Err DocFault.Failed) ↔ IsTrue self.old.documents.failed }
-        ensures* after { sem 𝓛 (Rests (the_row R.row) self.entry (λ new.
-            Leaves R.state R.read_gives self.old.documents self.old.reader result new.documents new.reader)) }
+        ensures* after { sem 𝓛 (Rests (the_row R.row) self.entry (λ new. Leaves R.state
+            R.read_gives self.old.documents self.old.reader result new.documents new.reader)) }
     {
         let start = self.documents.place();
         let number = self.documents.number();
@@ -81,16 +84,18 @@ impl<R: Input + Drop> DocReader<R> {
     ///
     /// It is `next` in two steps: of a reader that still lends a document nothing can be said.
     pub fn advance(&mut self) -> Result<bool, DocFault>
-        ensures reads { result ≡ Ok true →
-            ReadsDocument R.state R.read_gives self.old.documents self.new.documents self.old.reader self.new.reader }
-        ensures end { result ≡ Ok false → FindsEnd R.state R.read_gives self.old.documents self.new.documents self.old.reader self.new.reader }
-        ensures fails { self.old.documents.failed ≡ false → IfErr result
-            (FailsToRead R.state R.read_gives [] self.old.documents self.new.documents self.old.reader self.new.reader) }
+        ensures reads { result ≡ Ok true → ReadsDocument R.state
+            R.read_gives self.old.documents self.new.documents self.old.reader self.new.reader }
+        ensures end { result ≡ Ok false → FindsEnd R.state
+            R.read_gives self.old.documents self.new.documents self.old.reader self.new.reader }
+        ensures fails { self.old.documents.failed ≡ false → IfErr result (FailsToRead R.state
+            R.read_gives [] self.old.documents self.new.documents self.old.reader self.new.reader) }
         ensures refused { (result ≡ Err DocFault.Failed) ↔ IsTrue self.old.documents.failed }
         ensures failed { OnErr result (IsTrue self.new.documents.failed) }
         ensures works { OnOk result (self.new.documents.failed ≡ false) }
-        ensures quiet { result ≡ Err DocFault.Failed → (self.new.reader ≡ self.old.reader)
-            × HoldsNone self.old.documents self.new.documents × (self.new.documents.buffer ≡ self.old.documents.buffer) }
+        ensures quiet { result ≡ Err DocFault.Failed →
+            (self.new.reader ≡ self.old.reader) × HoldsNone self.old.documents self.new.documents
+            × (self.new.documents.buffer ≡ self.old.documents.buffer) }
     {
         self.documents.read_next(&mut self.reader)
     }

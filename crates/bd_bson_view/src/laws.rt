@@ -13,5 +13,6 @@ pub fn spells_one_document()
 
 /// One value at most stands at a place in bytes.
 pub fn one_value_stands()
-    ensures { (bytes : List ℕ) (at : At) (t u : Tree) → StandsAt bytes at t → StandsAt bytes at u → t ≡ u }
+    ensures { (bytes : List ℕ) (at : At) (t u : Tree) →
+        StandsAt bytes at t → StandsAt bytes at u → t ≡ u }
 {}

@@ -55,7 +55,8 @@ impl<'a> RawDoc<'a> {
         requires short { length bytes.now ≤ longest_input }
         requires inside { start ≤ length bytes.now }
         requires sound { Sound kinds.Doc (drop start bytes.now) }
-        ensures stands { (sound : Sound kinds.Doc (drop start bytes.now)) → stands result.sound ≡ stands sound }
+        ensures stands { (sound : Sound kinds.Doc (drop start bytes.now)) →
+            stands result.sound ≡ stands sound }
         ensures kept { result.bytes.now ≡ bytes.now }
     {
         RawDoc { bytes, start }
@@ -64,7 +65,8 @@ impl<'a> RawDoc<'a> {
     /// The document as a value.
     pub fn value(self) -> RawValue<'a>
         ensures value { stands result.sound ≡ stands self.entry.sound }
-        ensures document { stands result.sound ≡ doc (fields_of (pairs_in (stands self.entry.sound))) }
+        ensures document { stands result.sound
+            ≡ doc (fields_of (pairs_in (stands self.entry.sound))) }
         ensures kept { result.bytes.now ≡ self.entry.bytes.now }
     {
         RawValue {
@@ -101,8 +103,10 @@ impl<'a> Elements<'a> {
     /// The name and the value of the next element, and the elements after it.
     #[inline(always)]
     pub fn next(self) -> Option<(&'a str, RawValue<'a>, Elements<'a>)>
-        ensures some { IfSome result (λ x. elements_left self.entry.left ≡ (x.0.now, stands x.1.sound) ∷ elements_left x.2.left) }
-        ensures kept { IfSome result (λ x. (x.1.bytes.now ≡ self.entry.bytes.now) × (x.2.bytes.now ≡ self.entry.bytes.now)) }
+        ensures some { IfSome result (λ x.
+            elements_left self.entry.left ≡ (x.0.now, stands x.1.sound) ∷ elements_left x.2.left) }
+        ensures kept { IfSome result (λ x. (x.1.bytes.now ≡ self.entry.bytes.now)
+            × (x.2.bytes.now ≡ self.entry.bytes.now)) }
         ensures short { IfSome result (λ x. IsShort x.0.now) }
         ensures none { IfNone result (elements_left self.entry.left ≡ []) }
     {

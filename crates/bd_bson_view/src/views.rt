@@ -31,7 +31,8 @@ impl<'a> RawDoc<'a> {
     /// The name and the value of the pair at an index, counted from 0. It goes through those before it.
     pub fn pair(self, i: usize) -> (&'a str, RawValue<'a>)
         requires { i < length (pairs_in (stands self.sound)) }
-        ensures pair { slice_get (pairs_in (stands self.entry.sound)) i ≡ Some (result.0.now, stands result.1.sound) }
+        ensures pair { slice_get (pairs_in (stands self.entry.sound)) i
+            ≡ Some (result.0.now, stands result.1.sound) }
         ensures kept { result.1.bytes.now ≡ self.entry.bytes.now }
         ensures short { IsShort result.0.now }
     {
@@ -40,7 +41,8 @@ impl<'a> RawDoc<'a> {
 
     /// The value of the first pair of that name; none where no pair has it.
     pub fn first(self, name: &str) -> Option<RawValue<'a>>
-        ensures first { option_map (λ v. stands v.sound) result ≡ first_of name.now (pairs_in (stands self.entry.sound)) }
+        ensures first { option_map (λ v. stands v.sound) result
+            ≡ first_of name.now (pairs_in (stands self.entry.sound)) }
         ensures kept { IfSome result (λ v. v.bytes.now ≡ self.entry.bytes.now) }
     {
         self.elements().find(name)
@@ -224,7 +226,8 @@ impl<'a> Elements<'a> {
     /// The name and the value of the element at an index, counted from 0. It goes through those before it.
     pub fn nth(self, i: usize) -> (&'a str, RawValue<'a>)
         requires { i < length (elements_left self.left) }
-        ensures pair { slice_get (elements_left self.entry.left) i ≡ Some (result.0.now, stands result.1.sound) }
+        ensures pair { slice_get (elements_left self.entry.left) i
+            ≡ Some (result.0.now, stands result.1.sound) }
         ensures kept { result.1.bytes.now ≡ self.entry.bytes.now }
         ensures short { IsShort result.0.now }
     {
@@ -245,7 +248,8 @@ impl<'a> Elements<'a> {
 
     /// The value of the first element of that name; none where no element has it.
     pub fn find(self, name: &str) -> Option<RawValue<'a>>
-        ensures first { option_map (λ v. stands v.sound) result ≡ first_of name.now (elements_left self.entry.left) }
+        ensures first { option_map (λ v. stands v.sound) result
+            ≡ first_of name.now (elements_left self.entry.left) }
         ensures kept { IfSome result (λ v. v.bytes.now ≡ self.entry.bytes.now) }
     {
         let mut rest = self;

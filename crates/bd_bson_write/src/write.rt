@@ -26,11 +26,15 @@ use std::alloc::Global;
 pub fn write_document(alloc: Global, document: &Document) -> Result<Vec<u8>, WriteFault>
     ensures written { IfOk result (λ v. SpellsPlainly (pairs document.now) v.items) }
     ensures spelled { IfOk result (λ v. IsDocument (pairs document.now) v.items) }
-    ensures too_deep { IsErrOf result WriteFault.TooDeep ↔ (most_levels < depth_in (doc (fields_of (pairs document.now)))) }
-    ensures zero { IsErrOf result WriteFault.NulInName ↔ ((depth_in (doc (fields_of (pairs document.now))) ≤ most_levels)
+    ensures too_deep { IsErrOf result WriteFault.TooDeep
+        ↔ (most_levels < depth_in (doc (fields_of (pairs document.now)))) }
+    ensures zero { IsErrOf result WriteFault.NulInName
+        ↔ ((depth_in (doc (fields_of (pairs document.now))) ≤ most_levels)
         × (zero_in (doc (fields_of (pairs document.now))) ≡ true)) }
-    ensures too_long { IsErrOf result WriteFault.TooLong → (depth_in (doc (fields_of (pairs document.now))) ≤ most_levels)
-        × (zero_in (doc (fields_of (pairs document.now))) ≡ false) × (longest_document < length (bytes_of (doc (fields_of (pairs document.now))))) }
+    ensures too_long { IsErrOf result WriteFault.TooLong →
+        (depth_in (doc (fields_of (pairs document.now))) ≤ most_levels)
+        × (zero_in (doc (fields_of (pairs document.now))) ≡ false)
+        × (longest_document < length (bytes_of (doc (fields_of (pairs document.now))))) }
 {
     if depth(document) > MOST_LEVELS as u64 {
         return Err(WriteFault::TooDeep);
@@ -67,7 +71,8 @@ pub fn begin_body(out: &mut Vec<u8>) -> Result<usize, NoMemory>
 /// was.
 #[inline(always)]
 pub fn append_label(kind: Kind, name: &str, out: &mut Vec<u8>) -> Result<(), WriteFault>
-    ensures ok { OnOk result ((out.new.items ≡ out.old.items ++ (byte_of kind ∷ (name.now ++ 0 ∷ []))) × (length out.old.items ≤ longest_document)) }
+    ensures ok { OnOk result ((out.new.items ≡ out.old.items
+        ++ (byte_of kind ∷ (name.now ++ 0 ∷ []))) × (length out.old.items ≤ longest_document)) }
     ensures err { IfErr result (OverrunsLimit (length out.old.items)) }
     ensures kept { OnErr result (out.new.items ≡ out.old.items) }
 {
@@ -107,7 +112,8 @@ pub fn append_value<N: Reading>(node: N, out: &mut Vec<u8>) -> Result<(), WriteF
 /// leave `out` as it was, also in the place of the length.
 pub fn end_body(at: usize, out: &mut Vec<u8>) -> Result<(), WriteFault>
     requires { at + 4 ≤ vec_len out.old }
-    ensures ok { OnOk result (out.new.items ≡ take at out.old.items ++ framed (drop (at + 4) out.old.items)) }
+    ensures ok { OnOk result (out.new.items
+        ≡ take at out.old.items ++ framed (drop (at + 4) out.old.items)) }
     ensures within { OnOk result (length out.new.items ≤ longest_document) }
     ensures err { IfErr result (OverrunsLimit (length out.old.items + 1)) }
     ensures kept { OnErr result (out.new.items ≡ out.old.items) }

@@ -63,9 +63,12 @@ pub(crate) fn put_value<N: Reading>(node: N, out: &mut Vec<u8>) -> Result<(), Wr
 #[tactic(auto, using(bd_value::proofs::FrontLemmas::fronts))]
 fn append_fields<N: Reading>(fields: N::Rest, out: &mut Vec<u8>) -> Result<(), WriteFault>
     requires { zero_in_fields (fields_of (N.left fields)) ≡ false }
-    ensures ok { OnOk result (out.new.items ≡ out.old.items ++ framed (fields_bytes (fields_of (N.left fields)))) }
-    ensures spells { OnOk result (AreFields (fields_of (N.left fields)) (fields_bytes (fields_of (N.left fields)))) }
-    ensures err { IfErr result (OverrunsLimit (length out.old.items + length (framed (fields_bytes (fields_of (N.left fields)))))) }
+    ensures ok { OnOk result (out.new.items
+        ≡ out.old.items ++ framed (fields_bytes (fields_of (N.left fields)))) }
+    ensures spells { OnOk result
+        (AreFields (fields_of (N.left fields)) (fields_bytes (fields_of (N.left fields)))) }
+    ensures err { IfErr result (OverrunsLimit (length out.old.items
+        + length (framed (fields_bytes (fields_of (N.left fields)))))) }
     ensures front { OnErr result (StartsWith out.new.items out.old.items) }
 {
     let at = out.len();
@@ -84,9 +87,12 @@ fn append_fields<N: Reading>(fields: N::Rest, out: &mut Vec<u8>) -> Result<(), W
 #[tactic(auto, using(bd_value::proofs::FrontLemmas::fronts))]
 fn append_items<N: Reading>(items: N::Rest, out: &mut Vec<u8>) -> Result<(), WriteFault>
     requires { zero_in_items (items_of (values_of (N.left items))) ≡ false }
-    ensures ok { OnOk result (out.new.items ≡ out.old.items ++ framed (items_bytes 0 (items_of (values_of (N.left items))))) }
-    ensures spells { OnOk result (AreItems (items_of (values_of (N.left items))) (items_bytes 0 (items_of (values_of (N.left items))))) }
-    ensures err { IfErr result (OverrunsLimit (length out.old.items + length (framed (items_bytes 0 (items_of (values_of (N.left items))))))) }
+    ensures ok { OnOk result (out.new.items
+        ≡ out.old.items ++ framed (items_bytes 0 (items_of (values_of (N.left items))))) }
+    ensures spells { OnOk result (AreItems (items_of (values_of (N.left items)))
+        (items_bytes 0 (items_of (values_of (N.left items))))) }
+    ensures err { IfErr result (OverrunsLimit (length out.old.items
+        + length (framed (items_bytes 0 (items_of (values_of (N.left items))))))) }
     ensures front { OnErr result (StartsWith out.new.items out.old.items) }
 {
     let at = out.len();
@@ -112,8 +118,10 @@ fn append_element<N: Reading>(name: &str, node: N, out: &mut Vec<u8>) -> Result<
     ensures ok { OnOk result
         ((out.new.items ≡ out.old.items ++ element (N.tree node) name.now (bytes_of (N.tree node)))
         × (length out.old.items ≤ longest_document)) }
-    ensures spells { OnOk result (IsName name.now × IsValue (N.tree node) (bytes_of (N.tree node))) }
-    ensures err { IfErr result (OverrunsLimit (length out.old.items + length (element (N.tree node) name.now (bytes_of (N.tree node))))) }
+    ensures spells { OnOk result (IsName name.now
+        × IsValue (N.tree node) (bytes_of (N.tree node))) }
+    ensures err { IfErr result (OverrunsLimit (length out.old.items
+        + length (element (N.tree node) name.now (bytes_of (N.tree node))))) }
     ensures front { OnErr result (StartsWith out.new.items out.old.items) }
 {
     put_label(node.kind(), name, out)?;
@@ -148,7 +156,8 @@ fn append_leaf<N: Reading>(node: N, out: &mut Vec<u8>) -> Result<(), WriteFault>
 #[tactic(auto, using(bd_value::proofs::FrontLemmas::fronts))]
 #[inline(always)]
 pub(crate) fn put_label(kind: Kind, name: &str, out: &mut Vec<u8>) -> Result<(), WriteFault>
-    ensures ok { OnOk result ((out.new.items ≡ out.old.items ++ (byte_of kind ∷ (name.now ++ 0 ∷ []))) × (length out.old.items ≤ longest_document)) }
+    ensures ok { OnOk result ((out.new.items ≡ out.old.items
+        ++ (byte_of kind ∷ (name.now ++ 0 ∷ []))) × (length out.old.items ≤ longest_document)) }
     ensures err { IfErr result (OverrunsLimit (length out.old.items)) }
     ensures front { OnErr result (StartsWith out.new.items out.old.items) }
 {
@@ -164,7 +173,8 @@ pub(crate) fn put_label(kind: Kind, name: &str, out: &mut Vec<u8>) -> Result<(),
 #[tactic(auto, unfolding(bd_bson_view::specs::Spelling::number))]
 pub(crate) fn seal(at: usize, out: &mut Vec<u8>) -> Result<(), WriteFault>
     requires { at + 4 ≤ vec_len out.old }
-    ensures ok { OnOk result (out.new.items ≡ take at out.old.items ++ (number (length out.old.items - at) ++ drop (at + 4) out.old.items)) }
+    ensures ok { OnOk result (out.new.items ≡ take at out.old.items
+        ++ (number (length out.old.items - at) ++ drop (at + 4) out.old.items)) }
     ensures within { OnOk result (length out.new.items ≤ longest_document) }
     ensures err { IfErr result (OverrunsLimit (length out.old.items)) }
     ensures kept { OnErr result (out.new.items ≡ out.old.items) }
@@ -184,7 +194,8 @@ fn write_scalar(scalar: Scalar<'_>, out: &mut Vec<u8>) -> Result<(), WriteFault>
     requires { zero_in_own (seen scalar) ≡ false }
     ensures ok { OnOk result (out.new.items ≡ out.old.items ++ own_bytes (seen scalar.entry)) }
     ensures spells { OnOk result (OwnSpells (seen scalar.entry)) }
-    ensures err { IfErr result (OverrunsLimit (length out.old.items + length (own_bytes (seen scalar.entry)))) }
+    ensures err { IfErr result
+        (OverrunsLimit (length out.old.items + length (own_bytes (seen scalar.entry)))) }
     ensures front { OnErr result (StartsWith out.new.items out.old.items) }
 {
     match scalar {
@@ -261,7 +272,8 @@ fn data_length(subtype: u8, payload: &[u8]) -> u32
 #[tactic(auto, using(bd_value::proofs::FrontLemmas::fronts))]
 #[inline(always)]
 pub(crate) fn put_text(text: &str, out: &mut Vec<u8>) -> Result<(), WriteFault>
-    ensures ok { OnOk result ((out.new.items ≡ out.old.items ++ string text.now) × (length text.now ≤ longest_document)) }
+    ensures ok { OnOk result ((out.new.items ≡ out.old.items ++ string text.now)
+        × (length text.now ≤ longest_document)) }
     ensures err { IfErr result (OverrunsLimit (length out.old.items + length (string text.now))) }
     ensures front { OnErr result (StartsWith out.new.items out.old.items) }
 {

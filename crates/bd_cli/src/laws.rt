@@ -22,17 +22,21 @@ ghost use Rattle.bd_cli_find.specs.{Asking.ReadsText, Find.IsShownByFind};
 pub fn shows_one_thing()
     ensures one { (bytes : List ℕ) (fault : Option ReadFault) (shown other : Transcript) →
         IsShownByDump bytes fault shown → IsShownByDump bytes fault other → shown ≡ other }
-    ensures some { (bytes : List ℕ) → ((i : ℕ) → slice_index bytes i < 256) → (shown : Transcript) × IsShownByDump bytes None shown }
+    ensures some { (bytes : List ℕ) → ((i : ℕ) → slice_index bytes i < 256) →
+        (shown : Transcript) × IsShownByDump bytes None shown }
     ensures judged_one { (bytes : List ℕ) (fault : Option ReadFault) (shown other : Transcript) →
         IsShownByCheck bytes fault shown → IsShownByCheck bytes fault other → shown ≡ other }
-    ensures judged_some { (bytes : List ℕ) → (shown : Transcript) × IsShownByCheck bytes None shown }
-    ensures found_one { (words : FindWords) (query sort : Doc) (input : Result (List ℕ) ReadFault) (shown other : Transcript) →
-        ReadsText (codes "query") words.query (Ok query) → ReadsText (codes "sort") words.sort (Ok sort) →
+    ensures judged_some { (bytes : List ℕ) →
+        (shown : Transcript) × IsShownByCheck bytes None shown }
+    ensures found_one { (words : FindWords) (query sort : Doc) (input : Result (List ℕ) ReadFault)
+        (shown other : Transcript) → ReadsText (codes "query") words.query (Ok query) →
+        ReadsText (codes "sort") words.sort (Ok sort) →
         IsShownByFind words input shown → IsShownByFind words input other → shown ≡ other }
-    ensures found_alike { (words : FindWords) (input : Result (List ℕ) ReadFault) (shown other : Transcript) →
-        IsShownByFind words input shown → IsShownByFind words input other → (shown.out ≡ other.out) × (shown.status ≡ other.status) }
-    ensures found_some { (words : FindWords) (bytes : List ℕ) → ((i : ℕ) → slice_index bytes i < 256) →
-        (shown : Transcript) × IsShownByFind words (Ok bytes) shown }
+    ensures found_alike { (words : FindWords) (input : Result (List ℕ) ReadFault)
+        (shown other : Transcript) → IsShownByFind words input shown →
+        IsShownByFind words input other → (shown.out ≡ other.out) × (shown.status ≡ other.status) }
+    ensures found_some { (words : FindWords) (bytes : List ℕ) → ((i : ℕ) →
+        slice_index bytes i < 256) → (shown : Transcript) × IsShownByFind words (Ok bytes) shown }
     ensures packed_one { (text : List ℕ) (ds es : List Doc) (bad other : Option BadLine) →
         PacksLines 1 (text_lines text) ds bad → PacksLines 1 (text_lines text) es other →
         (ds ≡ es) × AreAlike bad other }
@@ -40,10 +44,11 @@ pub fn shows_one_thing()
         IsShownByPack input shown → IsShownByPack input other → (shown.out ≡ other.out)
         × (shown.status ≡ other.status) }
     ensures packed_some { (text : List ℕ) → (shown : Transcript) × IsShownByPack (Ok text) shown }
-    ensures served_one { (bytes : List ℕ) (ds : List Doc) (commands replies other : List ℕ) (s t : State) →
-        All IsReadLine (commands_of commands) →
+    ensures served_one { (bytes : List ℕ) (ds : List Doc)
+        (commands replies other : List ℕ) (s t : State) → All IsReadLine (commands_of commands) →
         RepliesInTurn (RepliesInText bytes ds) new_state (commands_of commands) replies s →
-        RepliesInTurn (RepliesInText bytes ds) new_state (commands_of commands) other t → (replies ≡ other) × (s ≡ t) }
+        RepliesInTurn (RepliesInText bytes ds) new_state (commands_of commands) other t →
+        (replies ≡ other) × (s ≡ t) }
     ensures served_alike { (bytes : List ℕ) (ds : List Doc) (commands replies other : List ℕ) (s t : State) →
         RepliesInTurn (RepliesInText bytes ds) new_state (commands_of commands) replies s →
         RepliesInTurn (RepliesInText bytes ds) new_state (commands_of commands) other t →
@@ -53,13 +58,15 @@ pub fn shows_one_thing()
 /// Of each input `check` and `dump` give the same status: there is a document with a fault where there is a first fault.
 pub fn check_has_the_status_of_dump()
     ensures { (bytes : List ℕ) (fault : Option ReadFault) (shown other : Transcript) →
-        IsShownByDump bytes fault shown → IsShownByCheck bytes fault other → shown.status ≡ other.status }
+        IsShownByDump bytes fault shown →
+        IsShownByCheck bytes fault other → shown.status ≡ other.status }
 {}
 
 /// What `dump` wrote before a write failed, or before memory ran out, is a front of what is to be shown of the input, whatever
 /// bytes follow those that it read. For `check`, `pack` and `find` the clauses of `run` say so themselves.
 pub fn dump_shows_a_front()
-    ensures { (bytes given rest : List ℕ) (shown : Transcript) (ds : List Doc) (front more : List ℕ) →
-        ((i : ℕ) → slice_index bytes i < 256) → bytes ≡ given ++ rest → IsShownByDump bytes None shown → AreJoined ds given →
+    ensures { (bytes given rest : List ℕ) (shown : Transcript)
+        (ds : List Doc) (front more : List ℕ) → ((i : ℕ) → slice_index bytes i < 256) →
+        bytes ≡ given ++ rest → IsShownByDump bytes None shown → AreJoined ds given →
         lines ds ≡ front ++ more → (after : List ℕ) × (shown.out ≡ front ++ after) }
 {}

@@ -82,8 +82,8 @@ fn serve_bytes<C: Input, O: Output, E: Output>(
     err: &mut E,
 ) -> Status
     requires { length bytes.items ≤ longest_input }
-    ensures { ServesRead C.state C.read_gives commands.old commands.new (over O.state out.old out.new)
-        (over E.state err.old err.new) result (Ok bytes.items) }
+    ensures { ServesRead C.state C.read_gives commands.old commands.new
+        (over O.state out.old out.new) (over E.state err.old err.new) result (Ok bytes.items) }
 {
     match read_dump(alloc, bytes) {
         Ok(dump) => serve_dump(alloc, dump, commands, out, err),
@@ -121,8 +121,10 @@ fn serve_dump<C: Input, O: Output, E: Output>(
 /// A request for help prints the usage on `out`, with status 0; words that are not taken print it on `err`, with
 /// status 2; out of memory is reported on `err`, with status 1. A device that fails makes the status 1.
 pub fn report<O: Output, E: Output>(fault: &WordsFault, out: &mut O, err: &mut E) -> Status
-    ensures shown { PrintsShown (over O.state out.old out.new) (over E.state err.old err.new) (shown_report fault.now) result }
-    ensures failed { WriteFails (over O.state out.old out.new) (over E.state err.old err.new) → result ≡ Status.Failed }
+    ensures shown { PrintsShown (over O.state out.old out.new)
+        (over E.state err.old err.new) (shown_report fault.now) result }
+    ensures failed { WriteFails (over O.state out.old out.new) (over E.state err.old err.new) →
+        result ≡ Status.Failed }
 {
     match fault {
         WordsFault::Help => match write_all(out, USAGE.as_bytes()) {

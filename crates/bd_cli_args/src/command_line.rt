@@ -42,16 +42,19 @@ pub fn parse_words(alloc: Global, words: &[String]) -> Result<Order, WordsFault>
     ensures only_taken { IfOk result (λ _. fault_for (words_of words.now) ≡ None) }
     ensures never_of_input { IfOk result (λ o. is_serve_of_input (meant o) ≡ false) }
     ensures fault { IfErr result (λ f. (f ≡ NoMemory) ⊎ (fault_for (words_of words.now) ≡ Some f)) }
-    ensures taken { takes line_app (words_of words.now) ≡ true → serves_input (words_of words.now) ≡ false
-        → IfErr result (λ f. f ≡ NoMemory) }
+    ensures taken { takes line_app (words_of words.now) ≡ true →
+        serves_input (words_of words.now) ≡ false → IfErr result (λ f. f ≡ NoMemory) }
     // A command that takes a file and nothing else: its file as it stands, or after `--`.
-    ensures file { (name file : List ℕ) (order : List ℕ → OrderView) → IsFileCommand name order → IsTrue (is_file_word file)
-        → is_serve_of_input (order file) ≡ false → words_of words.now ≡ name ∷ file ∷ [] → GivesOrder result (order file) }
-    ensures escaped { (name file : List ℕ) (order : List ℕ → OrderView) → IsFileCommand name order
-        → is_serve_of_input (order file) ≡ false → words_of words.now ≡ name ∷ codes "--" ∷ file ∷ []
-        → GivesOrder result (order file) }
-    ensures serve_input { IsTrue (is_serve_input_line (words_of words.now)) → IsErrOf result WordsFault.Usage }
-    ensures help_word { IsTrue (is_help_line (words_of words.now)) → IsErrOf result WordsFault.Usage }
+    ensures file { (name file : List ℕ) (order : List ℕ → OrderView) → IsFileCommand name order →
+        IsTrue (is_file_word file) → is_serve_of_input (order file) ≡ false →
+        words_of words.now ≡ name ∷ file ∷ [] → GivesOrder result (order file) }
+    ensures escaped { (name file : List ℕ) (order : List ℕ → OrderView) →
+        IsFileCommand name order → is_serve_of_input (order file) ≡ false →
+        words_of words.now ≡ name ∷ codes "--" ∷ file ∷ [] → GivesOrder result (order file) }
+    ensures serve_input { IsTrue (is_serve_input_line (words_of words.now)) →
+        IsErrOf result WordsFault.Usage }
+    ensures help_word { IsTrue (is_help_line (words_of words.now)) →
+        IsErrOf result WordsFault.Usage }
 {
     if begins_with_help(words) {
         return Err(WordsFault::Usage);
@@ -87,8 +90,8 @@ fn order_taken(alloc: Global, words: &[String]) -> Result<Order, WordsFault>
     ensures only_taken { IfOk result (λ _. fault_for (words_of words.now) ≡ None) }
     ensures never_of_input { IfOk result (λ o. is_serve_of_input (meant o) ≡ false) }
     ensures fault { IfErr result (λ f. (f ≡ NoMemory) ⊎ (fault_for (words_of words.now) ≡ Some f)) }
-    ensures taken { takes line_app (words_of words.now) ≡ true → serves_input (words_of words.now) ≡ false
-        → IfErr result (λ f. f ≡ NoMemory) }
+    ensures taken { takes line_app (words_of words.now) ≡ true →
+        serves_input (words_of words.now) ≡ false → IfErr result (λ f. f ≡ NoMemory) }
 {
     let order = order_in(alloc, words)?;
     if orders_serve_of_input(&order) {
@@ -107,7 +110,8 @@ fn orders_serve_of_input(order: &Order) -> bool
 fn order_in(alloc: Global, words: &[String]) -> Result<Order, WordsFault>
     ensures order { IfOk result (λ o. order_of (words_of words.now) ≡ Some (meant o)) }
     ensures only_taken { IfOk result (λ _. parser_refusal (words_of words.now) ≡ None) }
-    ensures fault { IfErr result (λ f. (f ≡ NoMemory) ⊎ (parser_refusal (words_of words.now) ≡ Some f)) }
+    ensures fault { IfErr result (λ f. (f ≡ NoMemory)
+        ⊎ (parser_refusal (words_of words.now) ≡ Some f)) }
     ensures taken { takes line_app (words_of words.now) ≡ true → IfErr result (λ f. f ≡ NoMemory) }
 {
     let command = line_command(alloc)?;
@@ -178,7 +182,8 @@ fn options_of(alloc: Global, matches: &ArgMatches<'_>) -> Result<FindOptions, Wo
 /// The text of an option, where it is given.
 #[tactic(auto, using(crate::proofs::LineLemmas::readings))]
 fn text_of(alloc: Global, found: &ArgMatches<'_>, name: &str) -> Result<Option<String>, WordsFault>
-    ensures text { IfOk result (λ o. option_map string_bytes o ≡ first_of name.now (rows_of (found_of found.now))) }
+    ensures text { IfOk result (λ o.
+        option_map string_bytes o ≡ first_of name.now (rows_of (found_of found.now))) }
     ensures fault { IfErr result (λ f. f ≡ NoMemory) }
 {
     match found.get_str(name) {
@@ -221,7 +226,8 @@ const FILE_COMMANDS: [&str; 4] = ["dump", "check", "pack", "serve"];
 /// The line with these commands more, each of which takes a file and nothing else.
 fn with_file_commands<'a>(alloc: Global, line: Command<'a>, names: &[&'a str]) -> Made<'a>
     requires { (fields_of line).has_globals ≡ false }
-    ensures app { IfOk result (λ c. app_of c ≡ with_file_commands (app_of line.entry) (map (λ name. name.now) names.now)) }
+    ensures app { IfOk result (λ c.
+        app_of c ≡ with_file_commands (app_of line.entry) (map (λ name. name.now) names.now)) }
     ensures local { IfOk result (λ c. (fields_of c).has_globals ≡ false) }
 {
     let mut with = line;
@@ -234,7 +240,8 @@ fn with_file_commands<'a>(alloc: Global, line: Command<'a>, names: &[&'a str]) -
 
 /// A command that takes a file and nothing else.
 fn of_file<'a>(alloc: Global, name: &'a str) -> Made<'a>
-    ensures { IfOk result (λ c. (app_of c ≡ file_app name.entry.now) × ((fields_of c).has_globals ≡ false)) }
+    ensures { IfOk result (λ c. (app_of c ≡ file_app name.entry.now)
+        × ((fields_of c).has_globals ≡ false)) }
 {
     let file = file_argument(alloc);
     Command::new(alloc, name).arg(file)
@@ -269,7 +276,8 @@ fn find_command<'a>(alloc: Global) -> Made<'a>
 /// A command with these options more, and whether each takes a number.
 fn with_options<'a>(alloc: Global, command: Command<'a>, options: &[(&'a str, bool)]) -> Made<'a>
     requires { (fields_of command).has_globals ≡ false }
-    ensures app { IfOk result (λ c. app_of c ≡ with_options (app_of command.entry) (map (λ o. (o.0.now, o.1)) options.now)) }
+    ensures app { IfOk result (λ c.
+        app_of c ≡ with_options (app_of command.entry) (map (λ o. (o.0.now, o.1)) options.now)) }
     ensures local { IfOk result (λ c. (fields_of c).has_globals ≡ false) }
 {
     let mut with = command;

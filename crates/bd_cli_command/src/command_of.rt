@@ -28,7 +28,8 @@ pub fn read_command(alloc: Global, document: &Document) -> Result<Command, Comma
     ensures command { IfOk result (λ c. command_of (pairs document.now) ≡ Ok (command_tree c)) }
     ensures fault { IfErr result (λ f. (f ≡ NoMemory) ⊎ (command_of (pairs document.now) ≡ Err f)) }
     // Want of memory hides no fault.
-    ensures starved { IsErrOf result CommandFault.NoMemory → IsCommandDocument (pairs document.now) }
+    ensures starved { IsErrOf result CommandFault.NoMemory →
+        IsCommandDocument (pairs document.now) }
 {
     let Some(name) = first_command(document) else {
         return Err(CommandFault::UnknownCommand);
@@ -144,7 +145,8 @@ fn take_find(alloc: Global, filter: &str, document: &Document) -> Result<FindCom
 
 /// The text of a field; empty without one.
 fn text_at(alloc: Global, document: &Document, field: &str) -> Result<String, NoMemory>
-    ensures { IfOk result (λ s. string_bytes s ≡ field_value text_field [] field.now (pairs document.now)) }
+    ensures { IfOk result (λ s.
+        string_bytes s ≡ field_value text_field [] field.now (pairs document.now)) }
 {
     match document.first(field).and_then(text_in) {
         Some(text) => String::from_str(alloc, text),
@@ -178,7 +180,8 @@ fn count_at(document: &Document, field: &str) -> u64
 
 /// What `use` says; `Auto` without one.
 fn hint_at(alloc: Global, document: &Document) -> Result<Hint, NoMemory>
-    ensures { IfOk result (λ h. hint_tree h ≡ field_value hint_field any_way (codes "use") (pairs document.now)) }
+    ensures { IfOk result (λ h.
+        hint_tree h ≡ field_value hint_field any_way (codes "use") (pairs document.now)) }
 {
     Ok(match document.first("use").and_then(hint_in) {
         Some(HintForm::Scan) => Hint::Scan,

@@ -8,6 +8,7 @@ ghost use Rattle.bd_cli_command.specs.declared.command.CommandFault.{CommandFaul
 
 /// A document is a command exactly where its fields keep the rules, and is refused exactly for the first rule that it breaks.
 pub fn faulty_documents_alone_are_no_commands()
-    ensures commands { (d : Doc) → ((c : CommandTree) × (command_of d ≡ Ok c)) ↔ IsCommandDocument d }
+    ensures commands { (d : Doc) →
+        ((c : CommandTree) × (command_of d ≡ Ok c)) ↔ IsCommandDocument d }
     ensures faults { (d : Doc) (f : Fault) → (command_of d ≡ Err f) ↔ IsFaultOf d f }
 {}

@@ -72,9 +72,9 @@ impl<O: Output> Visitor<O> for Printer {
 
 /// Shows a walk on standard error, after its lines on standard output. Memory is taken only for the path of a fault.
 fn tell_walk<E: Output>(alloc: Global, walk: &Walk, err: &mut E) -> Status
-    ensures { TellsMessage (over E.state err.old err.new) (wrong_line (ending_words walk.now.ending) ++ (decimal walk.now.count ++ objects_found))
-        (wrong_status (ending_words walk.now.ending)) result
-        ⊎ ((fault : Fault) × (walk.now.ending ≡ Ending.Faulty fault)
+    ensures { TellsMessage (over E.state err.old err.new) (wrong_line (ending_words walk.now.ending)
+        ++ (decimal walk.now.count ++ objects_found)) (wrong_status (ending_words walk.now.ending))
+        result ⊎ ((fault : Fault) × (walk.now.ending ≡ Ending.Faulty fault)
         × TellsMessage (over E.state err.old err.new) (error_line no_memory) Failed result) }
 {
     let count = u64::from(walk.count);
@@ -141,7 +141,8 @@ fn tell_findings<E: Output>(
     unread: Option<ReadFault>,
     err: &mut E,
 ) -> Status
-    ensures { TellsMessage (over E.state err.old err.new) (check_message unread documents faulty) (check_status unread faulty) result }
+    ensures { TellsMessage (over E.state err.old err.new)
+        (check_message unread documents faulty) (check_status unread faulty) result }
 {
     let wanted = match (faulty, unread) {
         (0, None) => Status::Done,
@@ -158,8 +159,10 @@ fn write_findings<E: Output>(
     unread: Option<ReadFault>,
     err: &mut E,
 ) -> Result<(), DeviceFault>
-    ensures ok { OnOk result (TakesText (over E.state err.old err.new) (check_message unread documents faulty)) }
-    ensures err { OnErr result (BreaksWithin (over E.state err.old err.new) (check_message unread documents faulty)) }
+    ensures ok { OnOk result
+        (TakesText (over E.state err.old err.new) (check_message unread documents faulty)) }
+    ensures err { OnErr result
+        (BreaksWithin (over E.state err.old err.new) (check_message unread documents faulty)) }
 {
     write_end(words_of(unread), u64::from(documents), DOCUMENTS, err)?;
     write_count(u64::from(faulty), FAULTY, err)
@@ -172,11 +175,13 @@ pub(crate) trait Visitor<O: Output> {
 
     /// Takes a document without a fault.
     fn visit(&mut self, document: RawDoc<'_>, out: &mut O) -> Result<(), OutputFault>
-        ensures { Writes (texts.good (pairs_in (stands document.entry.sound))) (over O.state out.old out.new) result };
+        ensures { Writes (texts.good (pairs_in (stands document.entry.sound)))
+            (over O.state out.old out.new) result };
 
     /// Takes the fault of a document, and says whether the walk goes on.
     fn meet(&mut self, fault: &Fault, out: &mut O) -> Result<bool, OutputFault>
-        ensures { MeetsFault (texts.bad fault.now.document (fault_view fault.now)) (over O.state out.old out.new) result };
+        ensures { MeetsFault (texts.bad fault.now.document (fault_view fault.now))
+            (over O.state out.old out.new) result };
 }
 
 /// Goes over the documents of an input.
@@ -187,8 +192,10 @@ pub(crate) fn walk_documents<R: Input, O: Output, V: Visitor<O>>(
     out: &mut O,
 ) -> Result<Walk, OutputFault>
     ensures few { IfOk result (λ w. (w.count < longest_input) × (w.bad ≤ w.count)) }
-    ensures walks { IfOk result (WalksDocuments V.texts (over R.state input.old input.new) (over O.state out.old out.new)) }
-    ensures stops { IfErr result (StopsWalk V.texts (over R.state input.old input.new) (over O.state out.old out.new)) }
+    ensures walks { IfOk result
+        (WalksDocuments V.texts (over R.state input.old input.new) (over O.state out.old out.new)) }
+    ensures stops { IfErr result
+        (StopsWalk V.texts (over R.state input.old input.new) (over O.state out.old out.new)) }
     ensures further { ReadsNoFurther R.read_gives input.old input.new }
 {
     let mut buffer = DocBuffer::new(alloc, LIMITS);

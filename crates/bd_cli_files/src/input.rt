@@ -20,8 +20,9 @@ pub const LIMITS: Limits = Limits {
 ///
 /// `Device` after a failed read, and no read is made after it; `TooLong` if there is one byte more; `NoMemory`.
 pub fn read_input<R: Input>(alloc: Global, input: &mut R) -> Result<Vec<u8>, ReadFault>
-    ensures input { MatchResult result (λ bytes. ReadsInput (over R.state input.old input.new) (Ok bytes.items))
-        (λ fault. ReadsInput (over R.state input.old input.new) (Err fault)) }
+    ensures input { MatchResult result (λ bytes.
+        ReadsInput (over R.state input.old input.new) (Ok bytes.items)) (λ fault.
+        ReadsInput (over R.state input.old input.new) (Err fault)) }
     ensures further { ReadsNoFurther R.read_gives input.old input.new }
 {
     read_all(alloc, input, LIMITS)

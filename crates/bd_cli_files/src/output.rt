@@ -106,8 +106,10 @@ pub(crate) fn write_end<E: Output>(
     words: &str,
     err: &mut E,
 ) -> Result<(), DeviceFault>
-    ensures ok { OnOk result (TakesText (over E.state err.old err.new) (wrong_line (told_bytes wrong.entry) ++ (decimal count ++ words.now))) }
-    ensures err { OnErr result (BreaksWithin (over E.state err.old err.new) (wrong_line (told_bytes wrong.entry) ++ (decimal count ++ words.now))) }
+    ensures ok { OnOk result (TakesText (over E.state err.old err.new)
+        (wrong_line (told_bytes wrong.entry) ++ (decimal count ++ words.now))) }
+    ensures err { OnErr result (BreaksWithin (over E.state err.old err.new)
+        (wrong_line (told_bytes wrong.entry) ++ (decimal count ++ words.now))) }
 {
     match wrong {
         None => write_count(count, words, err),
@@ -136,8 +138,8 @@ pub(crate) fn tell_end<E: Output>(
     words: &str,
     err: &mut E,
 ) -> Status
-    ensures { TellsMessage (over E.state err.old err.new) (wrong_line (told_bytes wrong.entry) ++ (decimal count ++ words.now))
-        (wrong_status (told_bytes wrong.entry)) result }
+    ensures { TellsMessage (over E.state err.old err.new) (wrong_line (told_bytes wrong.entry)
+        ++ (decimal count ++ words.now)) (wrong_status (told_bytes wrong.entry)) result }
 {
     let wanted = match wrong {
         None => Status::Done,
@@ -186,7 +188,8 @@ pub fn tell_read_fault<E: Output>(fault: ReadFault, err: &mut E) -> Status
 
 /// Tells why an input is no dump.
 pub fn tell_dump_fault<E: Output>(alloc: Global, fault: &Fault, err: &mut E) -> Status
-    ensures { TellsMessage (over E.state err.old err.new) (error_line (fault_text fault.now.document (fault_view fault.now))) Failed result
+    ensures { TellsMessage (over E.state err.old err.new)
+        (error_line (fault_text fault.now.document (fault_view fault.now))) Failed result
         ⊎ TellsMessage (over E.state err.old err.new) (error_line no_memory) Failed result }
 {
     match fault_message(alloc, fault) {
@@ -210,7 +213,8 @@ pub fn push_number(number: u64, text: &mut String) -> Result<(), NoMemory>
 ///
 /// `NoMemory` leaves `text` as it was.
 pub fn push_path(path: &[String], text: &mut String) -> Result<(), NoMemory>
-    ensures ok { OnOk result (string_bytes text.new ≡ string_bytes text.old ++ quoted (join_with_byte 46 (map string_bytes path.now))) }
+    ensures ok { OnOk result (string_bytes text.new
+        ≡ string_bytes text.old ++ quoted (join_with_byte 46 (map string_bytes path.now))) }
     ensures err { OnErr result (string_bytes text.new ≡ string_bytes text.old) }
 {
     let mut quoted = Vec::new(*text.allocator());
@@ -223,7 +227,8 @@ pub fn push_path(path: &[String], text: &mut String) -> Result<(), NoMemory>
 
 /// Appends where a fault stands. `NoMemory` may leave a front of it.
 fn push_place(fault: &Fault, text: &mut String) -> Result<(), NoMemory>
-    ensures { OnOk result (string_bytes text.new ≡ string_bytes text.old ++ place_text fault.now.document fault.now.offset) }
+    ensures { OnOk result (string_bytes text.new
+        ≡ string_bytes text.old ++ place_text fault.now.document fault.now.offset) }
 {
     text.push_str("document ")?;
     push_number(u64::from(fault.document), text)?;
@@ -233,7 +238,8 @@ fn push_place(fault: &Fault, text: &mut String) -> Result<(), NoMemory>
 
 /// Appends a fault: where it stands, the names of its path, and what it is. `NoMemory` may leave a front of it.
 pub(crate) fn push_fault(fault: &Fault, text: &mut String) -> Result<(), NoMemory>
-    ensures { OnOk result (string_bytes text.new ≡ string_bytes text.old ++ fault_text fault.now.document (fault_view fault.now)) }
+    ensures { OnOk result (string_bytes text.new
+        ≡ string_bytes text.old ++ fault_text fault.now.document (fault_view fault.now)) }
 {
     push_place(fault, text)?;
     text.push_str(", path ")?;

@@ -44,8 +44,8 @@ pub fn pack<R: Input, O: Output, E: Output>(
 /// Shows what a text is packed as.
 fn pack_text<O: Output, E: Output>(alloc: Global, text: &[u8], out: &mut O, err: &mut E) -> Status
     requires { length text.now ≤ longest_input }
-    ensures { (shown : Transcript) × IsShownByPack (Ok text.now) shown
-        × PrintsOrStarves (over O.state out.old out.new) (over E.state err.old err.new) shown result }
+    ensures { (shown : Transcript) × IsShownByPack (Ok text.now) shown × PrintsOrStarves
+        (over O.state out.old out.new) (over E.state err.old err.new) shown result }
 {
     match write_lines(text, &mut Packer::new(alloc), &mut Vec::new(alloc), out) {
         Ok(packing) => tell_packing(alloc, &packing, err),
@@ -118,8 +118,8 @@ fn cut_line(text: &[u8]) -> (&[u8], Option<&[u8]>)
 /// Tells how lines were packed, after the bytes on standard output.
 fn tell_packing<E: Output>(alloc: Global, packing: &Packing, err: &mut E) -> Status
     ensures { TellsMessage (over E.state err.old err.new)
-        (wrong_line (option_map bad_line_text packing.now.bad) ++ (decimal packing.now.count ++ objects_packed))
-        (wrong_status (option_map bad_line_text packing.now.bad)) result
+        (wrong_line (option_map bad_line_text packing.now.bad) ++ (decimal packing.now.count
+        ++ objects_packed)) (wrong_status (option_map bad_line_text packing.now.bad)) result
         ⊎ TellsMessage (over E.state err.old err.new) (error_line no_memory) Failed result }
 {
     match &packing.bad {

@@ -60,7 +60,8 @@ impl From<AllocError> for AskingFault {
 pub(crate) fn read_asking(alloc: Global, options: &FindOptions) -> Result<Asking, AskingFault>
     ensures asking { IfOk result (λ a. AsksInWords (find_words_of options.now) (Ok (page_request_of a))) }
     ensures fits { IfOk result (λ a. fits_batch a.size ≡ true) }
-    ensures index { IfOk result (λ a. option_map (λ path. string_bytes path.text) a.index ≡ (find_words_of options.now).index) }
+    ensures index { IfOk result (λ a.
+        option_map (λ path. string_bytes path.text) a.index ≡ (find_words_of options.now).index) }
     ensures fault { IfErr result (TellsAskingFault (AsksInWords (find_words_of options.now))) }
 {
     let query = read_text(alloc, "query", &options.query)?;
@@ -75,10 +76,13 @@ fn read_page(
     sort: Document,
     options: &FindOptions,
 ) -> Result<Asking, AskingFault>
-    ensures page { IfOk result (λ a. page_of (find_words_of options.now) (pairs query) (pairs sort) ≡ Ok (page_request_of a)) }
+    ensures page { IfOk result (λ a.
+        page_of (find_words_of options.now) (pairs query) (pairs sort) ≡ Ok (page_request_of a)) }
     ensures fits { IfOk result (λ a. fits_batch a.size ≡ true) }
-    ensures index { IfOk result (λ a. option_map (λ path. string_bytes path.text) a.index ≡ (find_words_of options.now).index) }
-    ensures fault { IfErr result (TellsAskingFault (λ told. page_of (find_words_of options.now) (pairs query) (pairs sort) ≡ told)) }
+    ensures index { IfOk result (λ a.
+        option_map (λ path. string_bytes path.text) a.index ≡ (find_words_of options.now).index) }
+    ensures fault { IfErr result (TellsAskingFault (λ told.
+        page_of (find_words_of options.now) (pairs query) (pairs sort) ≡ told)) }
 {
     let request = read_request(alloc, query, sort, options)?;
     check_batch(options.batch)?;
@@ -134,8 +138,10 @@ fn read_request(
     sort: Document,
     options: &FindOptions,
 ) -> Result<Request, AskingFault>
-    ensures request { IfOk result (λ r. request_of (pairs query) (pairs sort) options.now.skip options.now.limit ≡ Ok (request_view r)) }
-    ensures fault { IfErr result (TellsReason (request_of (pairs query) (pairs sort) options.now.skip options.now.limit)) }
+    ensures request { IfOk result (λ r. request_of
+        (pairs query) (pairs sort) options.now.skip options.now.limit ≡ Ok (request_view r)) }
+    ensures fault { IfErr result
+        (TellsReason (request_of (pairs query) (pairs sort) options.now.skip options.now.limit)) }
 {
     let (skip, limit) = (u64::from(options.skip), u64::from(options.limit));
     match Request::new(alloc, query, sort, skip, limit) {
@@ -160,8 +166,10 @@ fn check_batch(size: Option<u32>) -> Result<(), AskingFault>
 /// The path of an index's text, where there is one.
 fn read_index(alloc: Global, text: &Option<String>) -> Result<Option<Path>, AskingFault>
     ensures path { OnOk result (named_index (option_map string_bytes text.now) ≡ Ok tt) }
-    ensures text { IfOk result (λ index. option_map (λ path. string_bytes path.text) index ≡ option_map string_bytes text.now) }
-    ensures fault { IfErr result (TellsAskingFault (λ told. told_as index_fault_text (named_index (option_map string_bytes text.now)) ≡ told)) }
+    ensures text { IfOk result (λ index.
+        option_map (λ path. string_bytes path.text) index ≡ option_map string_bytes text.now) }
+    ensures fault { IfErr result (TellsAskingFault (λ told.
+        told_as index_fault_text (named_index (option_map string_bytes text.now)) ≡ told)) }
 {
     let Some(text) = text else {
         return Ok(None);
@@ -224,8 +232,10 @@ pub(crate) fn tell_refused<E: Output>(alloc: Global, refused: &Refused, err: &mu
 /// Writes the line of a refusal.
 #[tactic(auto, using(bd_cli_files::proofs::OutputLemmas::taking))]
 fn write_refused<E: Output>(refused: &Refused, err: &mut E) -> Result<(), DeviceFault>
-    ensures ok { OnOk result (TakesText (over E.state err.old err.new) (error_line (refused_option refused.now ++ refused_words refused.now))) }
-    ensures err { OnErr result (BreaksWithin (over E.state err.old err.new) (error_line (refused_option refused.now ++ refused_words refused.now))) }
+    ensures ok { OnOk result (TakesText (over E.state err.old err.new)
+        (error_line (refused_option refused.now ++ refused_words refused.now))) }
+    ensures err { OnErr result (BreaksWithin (over E.state err.old err.new)
+        (error_line (refused_option refused.now ++ refused_words refused.now))) }
 {
     write_all(err, b"bsonfind: ")?;
     write_words(refused_option(refused), refused.words(), err)?;

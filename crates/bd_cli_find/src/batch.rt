@@ -60,7 +60,8 @@ pub(crate) fn show_found<O: Output, E: Output>(
 /// Opens the first cursor of a session: on an answer, or on what follows a token.
 fn open_first(alloc: Global, session: &mut Session, asking: Asking) -> Result<u64, Refused>
     requires { state_of session.now ≡ new_state }
-    ensures opened { IsOpenedOn (query_of (dump_of session.old) asking.request) asking.token (state_of session.new) result }
+    ensures opened { IsOpenedOn
+        (query_of (dump_of session.old) asking.request) asking.token (state_of session.new) result }
     ensures dump { dump_of session.new ≡ dump_of session.old }
 {
     let choice = choose(alloc, session, asking.index)?;
@@ -75,7 +76,8 @@ fn open_first(alloc: Global, session: &mut Session, asking: Asking) -> Result<u6
 fn choose(alloc: Global, session: &mut Session, index: Option<Path>) -> Result<Choice, Refused>
     requires { state_of session.now ≡ new_state }
     ensures choice { IfOk result (λ choice. AwaitsFirst (state_of session.new) (hint_of choice)) }
-    ensures way { IfOk result (λ choice. way_of choice ≡ index_way (option_map (λ path. string_bytes path.text) index)) }
+    ensures way { IfOk result (λ choice.
+        way_of choice ≡ index_way (option_map (λ path. string_bytes path.text) index)) }
     ensures fault { IfErr result (λ refused. refused ≡ memory) }
     ensures dump { dump_of session.new ≡ dump_of session.old }
 {
@@ -129,8 +131,10 @@ fn write_documents<O: Output>(
     out: &mut O,
 ) -> Result<(), OutputFault>
     requires { All (λ p. p < length (documents dump.now)) places.now }
-    ensures wrote { OnOk result (TakesText (over O.state out.old out.new) (lines (documents_at (documents dump.now) places.now))) }
-    ensures stops { IfErr result (StopsWithin (over O.state out.old out.new) (lines (documents_at (documents dump.now) places.now))) }
+    ensures wrote { OnOk result (TakesText
+        (over O.state out.old out.new) (lines (documents_at (documents dump.now) places.now))) }
+    ensures stops { IfErr result (StopsWithin
+        (over O.state out.old out.new) (lines (documents_at (documents dump.now) places.now))) }
 {
     let mut room = LineRoom::new(alloc);
     for place in places {
@@ -155,7 +159,8 @@ fn tell_batch<E: Output>(alloc: Global, batch: &Batch, err: &mut E) -> Status
 
 /// The line that counts the documents of a batch.
 fn count_line(alloc: Global, batch: &Batch) -> Result<String, NoMemory>
-    ensures { IfOk result (λ s. string_bytes s ≡ find_count_line (length batch.now.places.items) batch.now.end (option_map marked_token batch.now.token)) }
+    ensures { IfOk result (λ s. string_bytes s ≡ find_count_line
+        (length batch.now.places.items) batch.now.end (option_map marked_token batch.now.token)) }
 {
     let mut line = String::new(alloc);
     push_number(batch.places.len() as u64, &mut line)?;
@@ -174,7 +179,8 @@ fn words_of_end(end: bool) -> &'static str
 
 /// Appends a token, where there is one.
 fn push_token(alloc: Global, token: Option<Token>, line: &mut String) -> Result<(), NoMemory>
-    ensures { OnOk result (string_bytes line.new ≡ string_bytes line.old ++ token_words (option_map marked_token token)) }
+    ensures { OnOk result (string_bytes line.new
+        ≡ string_bytes line.old ++ token_words (option_map marked_token token)) }
 {
     let Some(token) = token else {
         return Ok(());

@@ -30,8 +30,8 @@ pub fn find<R: Input, O: Output, E: Output>(
     out: &mut O,
     err: &mut E,
 ) -> Status
-    ensures found { FindsDocuments (find_words_of options.now) (over R.state input.old input.new) (over O.state out.old out.new)
-        (over E.state err.old err.new) result }
+    ensures found { FindsDocuments (find_words_of options.now) (over R.state input.old input.new)
+        (over O.state out.old out.new) (over E.state err.old err.new) result }
     ensures further { ReadsNoFurther R.read_gives input.old input.new }
     ensures unread { AsksNothing (find_words_of options.now) → input.new ≡ input.old }
 {
@@ -57,8 +57,9 @@ fn find_in<O: Output, E: Output>(
 ) -> Status
     requires short { length bytes.items ≤ longest_input }
     requires fits { fits_batch asking.size ≡ true }
-    ensures { (shown : Transcript) × IsShownOfBytes (page_request_of asking) bytes.items shown
-        × PrintsOrStarves (over O.state out.old out.new) (over E.state err.old err.new) shown result }
+    ensures { (shown : Transcript)
+        × IsShownOfBytes (page_request_of asking) bytes.items shown × PrintsOrStarves
+        (over O.state out.old out.new) (over E.state err.old err.new) shown result }
 {
     something_is_shown(&bytes);
     match read_dump(alloc, bytes) {

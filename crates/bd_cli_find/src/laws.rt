@@ -19,16 +19,17 @@ ghost use Rattle.bd_extjson_pack.specs.Packable.{plain};
 /// lines as of the whole, wherever the text of each document is read back as that document. Without a batch and a token these
 /// lines are what `find` prints.
 pub fn parts_show_the_whole()
-    ensures shown { (f : Filter) (ss : List SortPath) (skip limit most : ℕ) (parts : List (List Doc)) →
-        IsEnough (document_request f ss skip limit) most →
+    ensures shown { (f : Filter) (ss : List SortPath) (skip limit most : ℕ)
+        (parts : List (List Doc)) → IsEnough (document_request f ss skip limit) most →
         lines (documents_shown f ss skip limit (flat_map (documents_shown f ss 0 most) parts))
         ≡ lines (documents_shown f ss skip limit (flat_map (λ ds. ds) parts)) }
-    ensures printed { (words : FindWords) (w : PageRequest) (ds : List Doc) (bytes : List ℕ) (shown : Transcript) →
-        words.batch ≡ None → words.after ≡ None → AsksInWords words (Ok w) → IsWalk ds None bytes →
-        IsShownByFind words (Ok bytes) shown →
-        shown.out ≡ lines (documents_shown w.request.filter w.request.sorts w.request.skip w.request.limit ds) }
+    ensures printed { (words : FindWords) (w : PageRequest) (ds : List Doc) (bytes : List ℕ)
+        (shown : Transcript) → words.batch ≡ None → words.after ≡ None → AsksInWords words (Ok w) →
+        IsWalk ds None bytes → IsShownByFind words (Ok bytes) shown → shown.out ≡ lines
+        (documents_shown w.request.filter w.request.sorts w.request.skip w.request.limit ds) }
     ensures joined { (f : Filter) (ss : List SortPath) (most : ℕ) (parts : List (List Doc)) →
-        flat_map (λ ds. lines (documents_shown f ss 0 most ds)) parts ≡ lines (flat_map (documents_shown f ss 0 most) parts) }
+        flat_map (λ ds. lines (documents_shown f ss 0 most ds)) parts
+        ≡ lines (flat_map (documents_shown f ss 0 most) parts) }
     ensures packed { (ds : List Doc) → All IsReadBack ds →
         PacksLines 1 (text_lines (lines ds)) ds None × IsWalk ds None (flat_map plain ds) }
 {}

@@ -52,8 +52,11 @@ pub enum CallFault {
 /// The call that a command is. Of `resume` the token is looked at first, then the filter, the sort, the numbers, and the path of
 /// an index.
 pub(crate) fn call_of(alloc: Global, command: Command) -> Result<Call, CallFault>
-    ensures call { (dump : Dump) → IfOk result (λ c. call_of (bytes_of dump) (documents dump) (command_tree command) ≡ Ok (session_call dump c)) }
-    ensures fault { (dump : Dump) → IfErr result (RefusesPart (call_of (bytes_of dump) (documents dump) (command_tree command))) }
+    ensures call { (dump : Dump) →
+        IfOk result (λ c. call_of (bytes_of dump) (documents dump) (command_tree command)
+        ≡ Ok (session_call dump c)) }
+    ensures fault { (dump : Dump) → IfErr result
+        (RefusesPart (call_of (bytes_of dump) (documents dump) (command_tree command))) }
     ensures known { IfErr result (λ fault. fault ≡ no_memory → MayStarve (command_tree command)) }
 {
     match command {
@@ -99,7 +102,8 @@ fn read_search(alloc: Global, find: FindCommand) -> Result<(Request, Choice), Ca
 fn read_choice(alloc: Global, hint: Hint) -> Result<Choice, CallFault>
     ensures choice { IfOk result (λ choice. way_of choice ≡ way_by (hint_tree hint)) }
     ensures there { OnOk result (named_index (hint_path (hint_tree hint)) ≡ Ok tt) }
-    ensures fault { IfErr result (RefusesPart (told_as path_refusal (named_index (hint_path (hint_tree hint))))) }
+    ensures fault { IfErr result
+        (RefusesPart (told_as path_refusal (named_index (hint_path (hint_tree hint))))) }
 {
     match hint {
         Hint::Auto => Ok(Choice::Auto),

@@ -11,24 +11,28 @@ ghost use Rattle.bd_cli_service.specs.Talk.{OpensInTalk, RepliesInText, ShowsInT
 /// After a line that finds, a cursor gives its answer in batches, as many documents as the lines ask for, and each token leads on
 /// to exactly the rest. So does one that resumes, with the rest after its token.
 pub fn talks_keep_to_the_answer()
-    ensures answer { (bytes : List ℕ) (ds : List Doc) (q : Query) (hint : Option (List ℕ)) (id : ℕ) (lines : List (List ℕ)) (rs : List LineReply) →
-        OpensInTalk bytes ds (find_call q hint) id lines rs → ShowsInTurn bytes ds q id (answer q.selection) lines rs }
-    ensures rest { (bytes : List ℕ) (ds : List Doc) (q : Query) (hint : Option (List ℕ)) (t : MarkedToken) (id : ℕ)
-        (lines : List (List ℕ)) (rs : List LineReply) →
-        OpensInTalk bytes ds (resume_call q hint t) id lines rs → ShowsInTurn bytes ds q id (rest q.selection t.mark) lines rs }
+    ensures answer { (bytes : List ℕ) (ds : List Doc) (q : Query)
+        (hint : Option (List ℕ)) (id : ℕ) (lines : List (List ℕ)) (rs : List LineReply) →
+        OpensInTalk bytes ds (find_call q hint) id lines rs →
+        ShowsInTurn bytes ds q id (answer q.selection) lines rs }
+    ensures rest { (bytes : List ℕ) (ds : List Doc) (q : Query) (hint : Option (List ℕ))
+        (t : MarkedToken) (id : ℕ) (lines : List (List ℕ)) (rs : List LineReply) →
+        OpensInTalk bytes ds (resume_call q hint t) id lines rs →
+        ShowsInTurn bytes ds q id (rest q.selection t.mark) lines rs }
 {}
 
 /// What is written in reply to lines is a talk, a line a reply.
 pub fn texts_are_talks()
-    ensures { (bytes : List ℕ) (ds : List Doc) (s : State) (lines : List (List ℕ)) (text : List ℕ) (t : State) →
-        RepliesInTurn (RepliesInText bytes ds) s lines text t →
+    ensures { (bytes : List ℕ) (ds : List Doc) (s : State) (lines : List (List ℕ))
+        (text : List ℕ) (t : State) → RepliesInTurn (RepliesInText bytes ds) s lines text t →
         (rs : List LineReply) × Talks bytes ds s lines rs t × (text ≡ reply_lines rs) }
 {}
 
 /// Each line may have a reply, in each state. So what was replied to some lines is a front of what may be replied to all of them:
 /// replies that were cut short are a front of a whole text.
 pub fn replies_go_on()
-    ensures { (bytes : List ℕ) (ds : List Doc) (s : State) (lines later : List (List ℕ)) (text : List ℕ) (t : State) →
-        RepliesInTurn (RepliesInText bytes ds) s lines text t →
-        (rest : List ℕ) × (end : State) × RepliesInTurn (RepliesInText bytes ds) s (lines ++ later) (text ++ rest) end }
+    ensures { (bytes : List ℕ)
+        (ds : List Doc) (s : State) (lines later : List (List ℕ)) (text : List ℕ) (t : State) →
+        RepliesInTurn (RepliesInText bytes ds) s lines text t → (rest : List ℕ) × (end : State)
+        × RepliesInTurn (RepliesInText bytes ds) s (lines ++ later) (text ++ rest) end }
 {}

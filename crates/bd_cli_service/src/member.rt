@@ -50,7 +50,8 @@ pub(crate) fn write_members(
 /// Appends a comma and a pair.
 #[tactic(auto, using(bd_value::proofs::FrontLemmas::fronts))]
 fn write_member(name: &str, value: Field<'_, '_, '_>, out: &mut Vec<u8>) -> Result<(), NoMemory>
-    ensures ok { OnOk result (out.new.items ≡ out.old.items ++ 44 ∷ member name.now (text (reply_value value.entry))) }
+    ensures ok { OnOk result (out.new.items
+        ≡ out.old.items ++ 44 ∷ member name.now (text (reply_value value.entry))) }
     ensures err { OnErr result (StartsWith out.new.items out.old.items) }
 {
     out.push(b',')?;
@@ -92,7 +93,8 @@ fn write_truth(truth: bool, out: &mut Vec<u8>) -> Result<(), NoMemory>
 /// Appends what leads to a number, and the number as a string.
 #[tactic(auto, using(bd_value::proofs::FrontLemmas::fronts))]
 fn write_wrapped(lead: &[u8], number: u64, out: &mut Vec<u8>) -> Result<(), NoMemory>
-    ensures ok { OnOk result (out.new.items ≡ out.old.items ++ (lead.now ++ (quoted (decimal number) ++ 125 ∷ []))) }
+    ensures ok { OnOk result (out.new.items
+        ≡ out.old.items ++ (lead.now ++ (quoted (decimal number) ++ 125 ∷ []))) }
     ensures err { OnErr result (StartsWith out.new.items out.old.items) }
 {
     out.extend_from_slice(lead)?;
@@ -105,7 +107,8 @@ fn write_wrapped(lead: &[u8], number: u64, out: &mut Vec<u8>) -> Result<(), NoMe
 /// Appends the documents of a dump with these numbers, as an array. A number after the last document has none.
 #[tactic(auto, using(bd_value::proofs::FrontLemmas::fronts))]
 fn write_documents(dump: &Dump, places: &[u32], out: &mut Vec<u8>) -> Result<(), NoMemory>
-    ensures ok { OnOk result (out.new.items ≡ out.old.items ++ text (documents_value (documents_at (documents dump.now) places.now))) }
+    ensures ok { OnOk result (out.new.items
+        ≡ out.old.items ++ text (documents_value (documents_at (documents dump.now) places.now))) }
     ensures err { OnErr result (StartsWith out.new.items out.old.items) }
 {
     out.push(b'[')?;
@@ -124,7 +127,8 @@ fn write_documents(dump: &Dump, places: &[u32], out: &mut Vec<u8>) -> Result<(),
 #[tactic(auto, using(bd_value::proofs::FrontLemmas::fronts))]
 fn write_document(dump: &Dump, place: u32, later: bool, out: &mut Vec<u8>) -> Result<(), NoMemory>
     requires { place < length (documents dump.now) }
-    ensures ok { OnOk result (out.new.items ≡ out.old.items ++ ((if later then 44 ∷ [] else []) ++ text (document_at (documents dump.now) place))) }
+    ensures ok { OnOk result (out.new.items ≡ out.old.items
+        ++ ((if later then 44 ∷ [] else []) ++ text (document_at (documents dump.now) place))) }
     ensures err { OnErr result (StartsWith out.new.items out.old.items) }
 {
     if later {

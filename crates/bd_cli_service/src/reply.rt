@@ -60,7 +60,8 @@ pub fn write_reply(
     reply: &Reply,
     out: &mut Vec<u8>,
 ) -> Result<(), NoMemory>
-    ensures ok { OnOk result (out.new.items ≡ out.old.items ++ reply_text (line_reply (documents dump.now) reply.now)) }
+    ensures ok { OnOk result (out.new.items
+        ≡ out.old.items ++ reply_text (line_reply (documents dump.now) reply.now)) }
     ensures err { OnErr result (out.new.items ≡ out.old.items) }
 {
     let before = out.len();
@@ -78,7 +79,8 @@ fn append_reply(
     reply: &Reply,
     out: &mut Vec<u8>,
 ) -> Result<(), NoMemory>
-    ensures ok { OnOk result (out.new.items ≡ out.old.items ++ reply_text (line_reply (documents dump.now) reply.now)) }
+    ensures ok { OnOk result (out.new.items
+        ≡ out.old.items ++ reply_text (line_reply (documents dump.now) reply.now)) }
     ensures err { OnErr result (StartsWith out.new.items out.old.items) }
 {
     match reply {
@@ -112,7 +114,8 @@ fn append_batch(
     batch: &Batch,
     out: &mut Vec<u8>,
 ) -> Result<(), NoMemory>
-    ensures ok { OnOk result (out.new.items ≡ out.old.items ++ reply_text (given_reply (documents dump.now) batch.now)) }
+    ensures ok { OnOk result (out.new.items
+        ≡ out.old.items ++ reply_text (given_reply (documents dump.now) batch.now)) }
     ensures err { OnErr result (StartsWith out.new.items out.old.items) }
 {
     let token = token_text(alloc, batch.token)?;
@@ -147,7 +150,8 @@ fn text_or_null<'a>(text: Option<&'a str>) -> Field<'a, 'static, 'static>
 /// Appends the reply that tells how documents are found.
 #[tactic(auto, using(bd_value::proofs::FrontLemmas::fronts))]
 fn append_explanation(explanation: &Explain, out: &mut Vec<u8>) -> Result<(), NoMemory>
-    ensures ok { OnOk result (out.new.items ≡ out.old.items ++ reply_text (explains (told explanation.now))) }
+    ensures ok { OnOk result (out.new.items
+        ≡ out.old.items ++ reply_text (explains (told explanation.now))) }
     ensures err { OnErr result (StartsWith out.new.items out.old.items) }
 {
     let members = [
@@ -172,7 +176,8 @@ fn plan_name(plan: Plan) -> &'static str
 
 /// Appends the reply of a line that has no result.
 fn append_refusal(refusal: &LineRefusal, out: &mut Vec<u8>) -> Result<(), NoMemory>
-    ensures ok { OnOk result (out.new.items ≡ out.old.items ++ reply_text (refuses (told_refusal refusal.now))) }
+    ensures ok { OnOk result (out.new.items
+        ≡ out.old.items ++ reply_text (refuses (told_refusal refusal.now))) }
     ensures err { OnErr result (StartsWith out.new.items out.old.items) }
 {
     match refusal {
@@ -194,8 +199,8 @@ fn append_reason(
     words: &'static str,
     out: &mut Vec<u8>,
 ) -> Result<(), NoMemory>
-    ensures ok { OnOk result (out.new.items ≡ out.old.items
-        ++ reply_text (refuses (record { layer = layer.now; number = number; words = words.now; place = [] }))) }
+    ensures ok { OnOk result (out.new.items ≡ out.old.items ++ reply_text
+        (refuses (record { layer = layer.now; number = number; words = words.now; place = [] }))) }
     ensures err { OnErr result (StartsWith out.new.items out.old.items) }
 {
     let members = [
@@ -234,7 +239,8 @@ fn json_byte(fault: JsonFault) -> Field<'static, 'static, 'static>
 /// Appends the reply of a document that is no filter.
 #[tactic(auto, using(bd_value::proofs::FrontLemmas::fronts))]
 fn append_filter_fault(fault: &FilterFault, out: &mut Vec<u8>) -> Result<(), NoMemory>
-    ensures ok { OnOk result (out.new.items ≡ out.old.items ++ reply_text (refuses (filter_refusal (refusal_of fault.now)))) }
+    ensures ok { OnOk result (out.new.items
+        ≡ out.old.items ++ reply_text (refuses (filter_refusal (refusal_of fault.now)))) }
     ensures err { OnErr result (StartsWith out.new.items out.old.items) }
 {
     let members = [

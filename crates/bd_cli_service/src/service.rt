@@ -48,8 +48,9 @@ impl Service {
 
     /// The reply to a line. It fails only if memory runs out, and then the session is as it was.
     fn answer(&mut self, line: &[u8]) -> Result<Reply, NoMemory>
-        ensures answers { IfOk result (λ r. Answers (bytes_of (service_dump self.old)) (documents (service_dump self.old)) (service_state self.old)
-            line.now (line_reply (documents (service_dump self.old)) r) (service_state self.new)) }
+        ensures answers { IfOk result (λ r. Answers (bytes_of (service_dump self.old))
+            (documents (service_dump self.old)) (service_state self.old) line.now
+            (line_reply (documents (service_dump self.old)) r) (service_state self.new)) }
         ensures unchanged { OnErr result (service_state self.new ≡ service_state self.old) }
         ensures dump { service_dump self.new ≡ service_dump self.old }
     {
@@ -81,7 +82,8 @@ impl Replier for Service {
 
 /// The call that a line is.
 fn read_call(alloc: Global, line: &[u8]) -> Result<Call, CallFault>
-    ensures call { (dump : Dump) → IfOk result (λ c. IsCallIn (bytes_of dump) (documents dump) line.now (Ok (session_call dump c))) }
+    ensures call { (dump : Dump) → IfOk result (λ c.
+        IsCallIn (bytes_of dump) (documents dump) line.now (Ok (session_call dump c))) }
     ensures fault { (dump : Dump) → IfErr result (RefusesLine dump line.now) }
 {
     let document = read_line(alloc, line)?;

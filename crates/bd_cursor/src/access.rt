@@ -67,7 +67,8 @@ impl<'a> Access<'a> {
         choice: &Choice,
     ) -> Result<Access<'a>, NoMemory>
         requires { AreIndexesOf dump.now indexes.now }
-        ensures path { IfOk result (λ a. access_path a ≡ access_of (documents dump.now) (filter_tree request.now.filter)
+        ensures path { IfOk result (λ a.
+            access_path a ≡ access_of (documents dump.now) (filter_tree request.now.filter)
             (sort_paths request.now.sort.items) (way_of choice.now) (map index_mark indexes.now)) }
         ensures leads { IfOk result (IsAccessOf dump.now request.now) }
     {
@@ -101,7 +102,8 @@ impl<'a> Access<'a> {
     ) -> Result<Vec<u32>, NoMemory>
         requires leads { IsAccessOf dump.now request.now self.now }
         requires there { IfSome last (λ p. p < length (documents dump.now)) }
-        ensures { IfOk result (λ v. v.items ≡ at_most most (places_after (selection_of (documents dump.now) request.now) last)) }
+        ensures { IfOk result (λ v. v.items
+            ≡ at_most most (places_after (selection_of (documents dump.now) request.now) last)) }
     {
         match self {
             Access::Scan => {
@@ -130,8 +132,8 @@ fn named_access<'a>(
     request: &'a Request,
 ) -> Result<Access<'a>, NoMemory>
     ensures { IfOk result (λ a. (dump : Dump) → IsIndexOf dump index.now →
-        Reaches dump request.now
-        (named_access (documents dump) (filter_tree request.now.filter) (sort_paths request.now.sort.items) (index_mark index.now)) a) }
+        Reaches dump request.now (named_access (documents dump) (filter_tree request.now.filter)
+        (sort_paths request.now.sort.items) (index_mark index.now)) a) }
 {
     if let Some(bounds) = serving_bounds(alloc, index, &request.filter)? {
         let bounds = Some(bounds);
@@ -170,8 +172,8 @@ fn serving_access<'a>(
 
 /// In the order of the first index that has that of the sort, or without one.
 fn walk_or_scan<'a>(indexes: &'a [Index], request: &Request) -> Access<'a>
-    ensures { (dump : Dump) → AreIndexesOf dump indexes.now →
-        Reaches dump request.now (first_walked (sort_paths request.now.sort.items) (map index_mark indexes.now) scanned) result }
+    ensures { (dump : Dump) → AreIndexesOf dump indexes.now → Reaches dump request.now (first_walked
+        (sort_paths request.now.sort.items) (map index_mark indexes.now) scanned) result }
 {
     for index in indexes {
         if let Some(dir) = walk_dir(index, &request.sort) {
@@ -183,8 +185,10 @@ fn walk_or_scan<'a>(indexes: &'a [Index], request: &Request) -> Access<'a>
 
 /// Which index is on a path: the first of them, where there is one. It takes no memory.
 pub(crate) fn index_on(indexes: &[Index], path: &Path) -> Option<usize>
-    ensures found { result ≡ position (is_on (string_bytes path.now.text)) (map index_mark indexes.now) }
-    ensures there { is_some result ≡ has_index (map index_mark indexes.now) (Some (string_bytes path.now.text)) }
+    ensures found { result
+        ≡ position (is_on (string_bytes path.now.text)) (map index_mark indexes.now) }
+    ensures there { is_some result
+        ≡ has_index (map index_mark indexes.now) (Some (string_bytes path.now.text)) }
 {
     indexes
         .iter()
@@ -197,8 +201,9 @@ fn serving_bounds<'a>(
     index: &Index,
     filter: &'a Filter,
 ) -> Result<Option<Bounds<'a>>, NoMemory>
-    ensures { IfOk result (λ b. (dump : Dump) → IsIndexOf dump index.now →
-        seen_bounds b ≡ serving_bounds (index_mark index.now) (mark_bounds (documents dump) (filter_tree filter.now) (index_mark index.now))) }
+    ensures { IfOk result (λ b. (dump : Dump) →
+        IsIndexOf dump index.now → seen_bounds b ≡ serving_bounds (index_mark index.now)
+        (mark_bounds (documents dump) (filter_tree filter.now) (index_mark index.now))) }
 {
     let Some(bounds) = Bounds::of(alloc, filter, index.path(), index.multikey())? else {
         return Ok(None);
@@ -230,10 +235,12 @@ fn ascending_places<P: PlaceSource + Drop>(
     last: Option<u32>,
     most: Option<u64>,
 ) -> Result<Vec<u32>, NoMemory>
-    requires serves { P.serves source (length (documents dump.now)) (hits_of (documents dump.now) (filter_tree request.now.filter)) }
+    requires serves { P.serves source (length (documents dump.now))
+        (hits_of (documents dump.now) (filter_tree request.now.filter)) }
     requires ascends { IsStrictlyIncreasing (P.left source) }
     requires there { IfSome last (λ p. p < length (documents dump.now)) }
-    ensures { IfOk result (λ v. v.items ≡ at_most most (places_after (selection_of (documents dump.now) request.now) last)) }
+    ensures { IfOk result (λ v. v.items
+        ≡ at_most most (places_after (selection_of (documents dump.now) request.now) last)) }
 {
     if request.sort.is_empty() {
         places_in_order(alloc, dump, request, source, last, most)

@@ -40,8 +40,10 @@ impl Cursor {
         documents: &mut DigestedDump,
         n: u64,
     ) -> Result<Batch, NoMemory>
-        ensures batch { IfOk result (λ batch. given_batch batch ≡ batch_of (open_cursor documents.old.dump self.old) n) }
-        ensures moved { OnOk result (open_cursor documents.old.dump self.new ≡ moved (open_cursor documents.old.dump self.old) n) }
+        ensures batch { IfOk result (λ batch.
+            given_batch batch ≡ batch_of (open_cursor documents.old.dump self.old) n) }
+        ensures moved { OnOk result (open_cursor documents.old.dump self.new
+            ≡ moved (open_cursor documents.old.dump self.old) n) }
         ensures dump { documents.new.dump ≡ documents.old.dump }
         ensures err { OnErr result (self.new ≡ self.old) }
     {
@@ -60,7 +62,8 @@ fn token_after(
     places: &[u32],
 ) -> Option<Token>
     ensures token { option_map marked_token result
-        ≡ token_after (query_of documents.old.dump request.now).digest (option_map marked_token token) places.now }
+        ≡ token_after (query_of documents.old.dump request.now).digest
+        (option_map marked_token token) places.now }
     ensures dump { documents.new.dump ≡ documents.old.dump }
 {
     let Some(last) = places.last() else {
@@ -82,7 +85,8 @@ fn given_before(
     token: Option<Token>,
 ) -> (u64, [u8; 32])
     ensures given { result.0 ≡ given_by (option_map marked_token token) }
-    ensures digest { result.1 ≡ digest_after (query_of documents.old.dump request.now).digest (option_map marked_token token) }
+    ensures digest { result.1 ≡ digest_after
+        (query_of documents.old.dump request.now).digest (option_map marked_token token) }
     ensures dump { documents.new.dump ≡ documents.old.dump }
 {
     match token {
@@ -101,14 +105,16 @@ fn given_before(
 /// The index of a cursor among those that are open.
 #[tactic(auto, using(crate::proofs::SessionLemmas::cursor_at, crate::proofs::SessionLemmas::moved_at, crate::proofs::SessionLemmas::none_before))]
 pub(crate) fn place_of(cursors: &[Cursor], id: u64) -> Option<usize>
-    ensures none { (dump : Dump) → IfNone result (cursor_of id (map (open_cursor dump) cursors.now) ≡ None) }
+    ensures none { (dump : Dump) →
+        IfNone result (cursor_of id (map (open_cursor dump) cursors.now) ≡ None) }
     ensures below { IfSome result (λ i. i < length cursors.now) }
     ensures it { (dump : Dump) →
         IfSome result (λ i. cursor_of id (map (open_cursor dump) cursors.now)
         ≡ slice_get (map (open_cursor dump) cursors.now) i) }
     ensures moved { (dump : Dump) → IfSome result (λ i. (c : OpenCursor) (n : ℕ) →
         cursor_of id (map (open_cursor dump) cursors.now) ≡ Some c →
-        with_moved id n (map (open_cursor dump) cursors.now) ≡ slice_set (map (open_cursor dump) cursors.now) i (moved c n)) }
+        with_moved id n (map (open_cursor dump) cursors.now)
+        ≡ slice_set (map (open_cursor dump) cursors.now) i (moved c n)) }
 {
     for i in 0..cursors.len() {
         if cursors[i].id == id {
@@ -120,15 +126,16 @@ pub(crate) fn place_of(cursors: &[Cursor], id: u64) -> Option<usize>
 
 /// Takes a cursor out.
 pub(crate) fn close(cursors: &mut Vec<Cursor>, id: u64)
-    ensures { (dump : Dump) → map (open_cursor dump) cursors.new.items ≡ without id (map (open_cursor dump) cursors.old.items) }
+    ensures { (dump : Dump) → map (open_cursor dump) cursors.new.items
+        ≡ without id (map (open_cursor dump) cursors.old.items) }
 {
     cursors.retain(|cursor| cursor.id != id);
 }
 
 /// Takes a cursor out that is at its end.
 pub(crate) fn close_at_end(cursors: &mut Vec<Cursor>, id: u64, end: bool)
-    ensures { (dump : Dump) → map (open_cursor dump) cursors.new.items
-        ≡ (if end then without id (map (open_cursor dump) cursors.old.items) else map (open_cursor dump) cursors.old.items) }
+    ensures { (dump : Dump) → map (open_cursor dump) cursors.new.items ≡ (if end then without id
+        (map (open_cursor dump) cursors.old.items) else map (open_cursor dump) cursors.old.items) }
 {
     if end {
         close(cursors, id);
@@ -157,8 +164,9 @@ impl Remainder {
     ) -> Result<Remainder, NoMemory>
         requires indexes { AreIndexesOf dump.now indexes.now }
         requires there { IfSome token (λ t. t.last < length (documents dump.now)) }
-        ensures { IfOk result (λ left. places_left (selection_of (documents dump.now) request.now) left
-            ≡ left_after (selection_of (documents dump.now) request.now) (option_map marked_token token)) }
+        ensures { IfOk result (λ left.
+            places_left (selection_of (documents dump.now) request.now) left ≡ left_after
+            (selection_of (documents dump.now) request.now) (option_map marked_token token)) }
     {
         let access = Access::of(alloc, dump, indexes, request, choice)?;
         if access.is_scan() && request.sort.is_empty() {
@@ -182,8 +190,10 @@ impl Remainder {
         request: &Request,
         n: u64,
     ) -> Result<(Vec<u32>, bool), NoMemory>
-        ensures places { let a = selection_of (documents dump.now) request.now in IfOk result (λ r. r.0.items ≡ take n (places_left a self.old)) }
-        ensures end { let a = selection_of (documents dump.now) request.now in IfOk result (λ r. r.1 ≡ is_empty (drop n (places_left a self.old))) }
+        ensures places { let a = selection_of (documents dump.now) request.now in IfOk result (λ r.
+            r.0.items ≡ take n (places_left a self.old)) }
+        ensures end { let a = selection_of (documents dump.now) request.now in IfOk result (λ r.
+            r.1 ≡ is_empty (drop n (places_left a self.old))) }
         ensures left { let a = selection_of (documents dump.now) request.now in
             IfOk result (λ r. places_left a self.new ≡ drop n (places_left a self.old)) }
         ensures err { OnErr result (self.new ≡ self.old) }
@@ -217,7 +227,8 @@ fn most_left(limit: u64, given: u64) -> Option<u64>
 
 /// How many of the first places an answer needs, with those that it passes over; without a limit all.
 fn most_needed(request: &Request) -> Option<u64>
-    ensures { let skip = request.now.skip in (ps : List ℕ) → length (at_most result ps) < 18446744073709551615 →
+    ensures { let skip = request.now.skip in (ps : List ℕ) →
+        length (at_most result ps) < 18446744073709551615 →
         drop skip (at_most result ps) ≡ cut request.now.limit 0 (drop skip ps) }
 {
     if request.limit == 0 {
@@ -271,7 +282,8 @@ impl ScanPosition {
         n: u64,
     ) -> Result<Vec<u32>, NoMemory>
         ensures places { IfOk result (λ v. v.items ≡ take n (scan_left_in dump.now filter.now self.old)) }
-        ensures left { OnOk result (scan_left_in dump.now filter.now self.new ≡ drop n (scan_left_in dump.now filter.now self.old)) }
+        ensures left { OnOk result (scan_left_in dump.now filter.now self.new
+            ≡ drop n (scan_left_in dump.now filter.now self.old)) }
     {
         let mut places = Vec::new(alloc);
         while (places.len() as u64) < n {
@@ -286,7 +298,8 @@ impl ScanPosition {
     /// Whether nothing is left.
     fn is_empty(&mut self, dump: &Dump, filter: &Filter) -> bool
         ensures empty { result ≡ is_empty (scan_left_in dump.now filter.now self.old) }
-        ensures left { scan_left_in dump.now filter.now self.new ≡ scan_left_in dump.now filter.now self.old }
+        ensures left { scan_left_in dump.now filter.now self.new
+            ≡ scan_left_in dump.now filter.now self.old }
     {
         if self.most == Some(0) {
             return true;
@@ -297,7 +310,8 @@ impl ScanPosition {
 
     /// Gives the next place, where one is left.
     fn next_match(&mut self, dump: &Dump, filter: &Filter) -> Option<u32>
-        ensures { HandsOut result (scan_left_in dump.now filter.now self.old) (scan_left_in dump.now filter.now self.new) }
+        ensures { HandsOut result (scan_left_in dump.now filter.now self.old)
+            (scan_left_in dump.now filter.now self.new) }
     {
         if self.most == Some(0) {
             return None;
@@ -311,7 +325,8 @@ impl ScanPosition {
 
     /// Looks for the next match, unless one was found.
     fn look(&mut self, dump: &Dump, filter: &Filter)
-        ensures left { scan_left_in dump.now filter.now self.new ≡ scan_left_in dump.now filter.now self.old }
+        ensures left { scan_left_in dump.now filter.now self.new
+            ≡ scan_left_in dump.now filter.now self.old }
         ensures most { self.new.most ≡ self.old.most }
         ensures none { self.new.found ≡ None → scan_left_in dump.now filter.now self.new ≡ [] }
     {

@@ -53,7 +53,8 @@ pub(crate) fn explanation_of(
     choice: &Choice,
 ) -> Result<Explain, NoMemory>
     requires { AreIndexesOf dump.now indexes.now }
-    ensures { IfOk result (λ e. told e ≡ explanation_of (documents dump.now) request.now choice.now (map index_mark indexes.now)) }
+    ensures { IfOk result (λ e. told e
+        ≡ explanation_of (documents dump.now) request.now choice.now (map index_mark indexes.now)) }
 {
     let access = Access::of(alloc, dump, indexes, request, choice)?;
     explain_access(alloc, dump, request, &access)
@@ -67,8 +68,8 @@ fn explain_access(
     access: &Access<'_>,
 ) -> Result<Explain, NoMemory>
     requires { IsAccessOf dump.now request.now access.now }
-    ensures { IfOk result (λ e. told e
-        ≡ explained_access (documents dump.now) (length (matching (selection_of (documents dump.now) request.now))) (access_path access.now)) }
+    ensures { IfOk result (λ e. told e ≡ explained_access (documents dump.now) (length
+        (matching (selection_of (documents dump.now) request.now))) (access_path access.now)) }
 {
     match access {
         Access::Scan => Ok(Explain {
@@ -101,7 +102,8 @@ fn explain_access(
 /// How many documents match.
 #[tactic(auto, using(crate::proofs::AccessLemmas::count_more))]
 fn count_matches(dump: &Dump, filter: &Filter) -> u64
-    ensures { result ≡ count_by (hits_of (documents dump.now) (filter_tree filter.now)) (range_with_len 0 (length (documents dump.now))) }
+    ensures { result ≡ count_by (hits_of (documents dump.now) (filter_tree filter.now))
+        (range_with_len 0 (length (documents dump.now))) }
 {
     let mut count = 0;
     for place in 0..dump.len() {

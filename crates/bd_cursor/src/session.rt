@@ -29,7 +29,8 @@ pub struct Session {
     indexes: Vec<Index>,
     next_id: u64,
     cursors: Vec<Cursor>,
-    ghost indexed: { AreIndexesOf documents.dump indexes.items } by { AreIndexesOf-prop documents.dump indexes.items },
+    ghost indexed: { AreIndexesOf
+        documents.dump indexes.items } by { AreIndexesOf-prop documents.dump indexes.items },
 }
 
 impl Session {
@@ -73,7 +74,8 @@ impl Session {
     /// In this order: `IndexThere` where the path has an index, sparse or not, `TooManyIndexes` where there are 16. `NoMemory`
     /// where no memory was given.
     pub fn create_index(&mut self, path: Path) -> Result<Made, Refused>
-        ensures steps { Steps (λ m. made (made_counts m)) (make_index false (dump_of self.old) path) self.old result self.new }
+        ensures steps { Steps (λ m. made (made_counts m))
+            (make_index false (dump_of self.old) path) self.old result self.new }
     {
         self.make(path, false)
     }
@@ -85,7 +87,8 @@ impl Session {
     ///
     /// Those of `create_index`.
     pub fn create_sparse_index(&mut self, path: Path) -> Result<Made, Refused>
-        ensures steps { Steps (λ m. made (made_counts m)) (make_index true (dump_of self.old) path) self.old result self.new }
+        ensures steps { Steps (λ m. made (made_counts m))
+            (make_index true (dump_of self.old) path) self.old result self.new }
     {
         self.make(path, true)
     }
@@ -112,7 +115,8 @@ impl Session {
     ///
     /// `NoIndex` where an index is asked for that is not there. `NoMemory` where no memory was given.
     pub fn explain(&self, request: &Request, choice: &Choice) -> Result<Explain, Refused>
-        ensures steps { Steps (λ e. explained (told e)) (explain_request (dump_of self.now) request.now choice.now) self.now result self.now }
+        ensures steps { Steps (λ e. explained (told e))
+            (explain_request (dump_of self.now) request.now choice.now) self.now result self.now }
     {
         self.has_choice(choice)?;
         let dump = &self.documents.dump;
@@ -128,7 +132,8 @@ impl Session {
     /// In this order: `NoIndex` where an index is asked for that is not there, `TooManyCursors` where 64 are open. `NoMemory`
     /// where no memory was given.
     pub fn find(&mut self, request: Request, choice: Choice) -> Result<u64, Refused>
-        ensures steps { Steps opened (find_call (query_of (dump_of self.old) request) (hint_of choice)) self.old result self.new }
+        ensures steps { Steps opened (find_call
+            (query_of (dump_of self.old) request) (hint_of choice)) self.old result self.new }
     {
         self.open(request, &choice, None)
     }
@@ -198,8 +203,8 @@ impl Session {
     /// Whether the index that is asked for is there.
     fn has_choice(&self, choice: &Choice) -> Result<(), Refused>
         ensures there { OnOk result (IsTrue (has_index (state_of self.now).indexes (hint_of choice.now))) }
-        ensures refused { IfErr result
-            (λ r. (r ≡ Refused.NoIndex) × IsFalse (has_index (state_of self.now).indexes (hint_of choice.now))) }
+        ensures refused { IfErr result (λ r. (r ≡ Refused.NoIndex)
+            × IsFalse (has_index (state_of self.now).indexes (hint_of choice.now))) }
     {
         match choice {
             Choice::Index(path) => match index_on(&self.indexes, path) {
@@ -212,7 +217,8 @@ impl Session {
 
     /// Makes an index, sparse or not.
     fn make(&mut self, path: Path, sparse: bool) -> Result<Made, Refused>
-        ensures steps { Steps (λ m. made (made_counts m)) (make_index sparse (dump_of self.old) path) self.old result self.new }
+        ensures steps { Steps (λ m. made (made_counts m))
+            (make_index sparse (dump_of self.old) path) self.old result self.new }
     {
         self.may_make(&path, sparse)?;
         let index = self.build(path, sparse)?;
@@ -234,8 +240,8 @@ impl Session {
     /// Whether an index may be made, and why not.
     fn may_make(&self, path: &Path, sparse: bool) -> Result<(), Refused>
         ensures granted { OnOk result (IsGranted self.now (path_mark sparse path.now)) }
-        ensures refused { IfErr result
-            (IsRefusedCall (reply (state_of self.now) (make_index sparse (dump_of self.now) path.now))) }
+        ensures refused { IfErr result (IsRefusedCall
+            (reply (state_of self.now) (make_index sparse (dump_of self.now) path.now))) }
     {
         if index_on(&self.indexes, path).is_some() {
             return Err(Refused::IndexThere);
@@ -250,7 +256,8 @@ impl Session {
     fn add(&mut self, index: Index) -> Result<Made, Refused>
         requires index { IsIndexOf (dump_of self.old) index }
         requires granted { IsGranted self.old (index_mark index) }
-        ensures steps { Steps (λ m. made (made_counts m)) (make_of (documents (dump_of self.old)) (index_mark index)) self.old result self.new }
+        ensures steps { Steps (λ m. made (made_counts m))
+            (make_of (documents (dump_of self.old)) (index_mark index)) self.old result self.new }
     {
         let entries = index.entries();
         let multikey = index.multikey();
@@ -261,11 +268,12 @@ impl Session {
     /// Whether a token is one of the request to this dump, and its document is there.
     fn may_resume(&mut self, request: &Request, token: Token) -> Result<(), Refused>
         ensures there { OnOk result (token.last < length (documents (dump_of self.new))) }
-        ensures opens { OnOk result ((hint : Option (List ℕ)) → IsOpening
-            (resume_call (query_of (dump_of self.old) request.now) hint (marked_token token)) (state_of self.new)
+        ensures opens { OnOk result ((hint : Option (List ℕ)) → IsOpening (resume_call
+            (query_of (dump_of self.old) request.now) hint (marked_token token)) (state_of self.new)
             (query_of (dump_of self.new) request.now) hint (Some (marked_token token))) }
-        ensures refused { IfErr result (λ why. (hint : Option (List ℕ)) → IsRefusedCall
-            (reply (state_of self.old) (resume_call (query_of (dump_of self.old) request.now) hint (marked_token token))) why) }
+        ensures refused { IfErr result (λ why. (hint : Option (List ℕ)) →
+            IsRefusedCall (reply (state_of self.old) (resume_call
+            (query_of (dump_of self.old) request.now) hint (marked_token token))) why) }
         ensures same { state_of self.new ≡ state_of self.old }
         ensures dump { dump_of self.new ≡ dump_of self.old }
     {
@@ -297,8 +305,9 @@ impl Session {
     /// Opens a cursor on what a request has left.
     fn open(&mut self, request: Request, by: &Choice, token: Option<Token>) -> Result<u64, Refused>
         requires { IfSome token (λ t. t.last < length (documents (dump_of self.old))) }
-        ensures steps { (call : Call) → IsOpening call (state_of self.old) (query_of (dump_of self.old) request) (hint_of by.now)
-            (option_map marked_token token) → Steps opened call self.old result self.new }
+        ensures steps { (call : Call) → IsOpening call (state_of self.old)
+            (query_of (dump_of self.old) request) (hint_of by.now) (option_map marked_token token) →
+            Steps opened call self.old result self.new }
     {
         self.may_open(by)?;
         let data = &self.documents;

@@ -18,7 +18,8 @@ pub fn places_are_ordered()
 /// An answer is in its order, so that no place comes twice, and before skip and limit it has each match and nothing else.
 pub fn answers_are_ordered()
     ensures ascends { (a : Selection) → IsTotalOrder a.by → IsAscending (before a.by) (ordered a) }
-    ensures matches { (a : Selection) (p : ℕ) → Contains (ordered a) p ↔ ((p < a.count) × (a.hits p ≡ true)) }
+    ensures matches { (a : Selection) (p : ℕ) →
+        Contains (ordered a) p ↔ ((p < a.count) × (a.hits p ≡ true)) }
     ensures answer { (a : Selection) → IsTotalOrder a.by → IsAscending (before a.by) (answer a) }
 {}
 
@@ -31,7 +32,8 @@ pub fn batches_are_the_first()
 /// A mark in what is left after a token, whoever made it, or in the whole answer, tells where it goes on: exactly the rest follows.
 #[tactic(auto, using(crate::proofs::AnswerLemmas::rest_follows))]
 pub fn rests_follow()
-    ensures { (a : Selection) → IsTotalOrder a.by → (most : ℕ) → a.limit ≤ most → (t : Option MarkedToken) (k : ℕ) (m : Mark) →
+    ensures { (a : Selection) → IsTotalOrder a.by →
+        (most : ℕ) → a.limit ≤ most → (t : Option MarkedToken) (k : ℕ) (m : Mark) →
         IsMarkAfter most (given_by t) k (left_after a t) m → rest a m ≡ drop k (left_after a t) }
 {}
 
@@ -39,14 +41,16 @@ pub fn rests_follow()
 /// leads on to exactly the rest, whatever other calls stand between. Calls that are refused because memory ran out are as if they
 /// were not made: the others have the replies that they have without them, and lead to the same state.
 pub fn sessions_keep_to_the_answer()
-    ensures find { (earlier later : List Call) (q : Query) (hint : Option (List ℕ)) (id : ℕ) → IsFair q →
-        let s = state_after_all new_state earlier in
-        reply s (find_call q hint) ≡ opened id →
-        GivesInTurn q id (answer q.selection) later (batches_to id later (replies (state_after s (find_call q hint)) later)) }
-    ensures resume { (earlier later : List Call) (q : Query) (hint : Option (List ℕ)) (t : MarkedToken) (id : ℕ) → IsFair q →
-        let s = state_after_all new_state earlier in
-        reply s (resume_call q hint t) ≡ opened id →
-        GivesInTurn q id (rest q.selection t.mark) later (batches_to id later (replies (state_after s (resume_call q hint t)) later)) }
+    ensures find { (earlier later : List Call) (q : Query) (hint : Option (List ℕ)) (id : ℕ) →
+        IsFair q →
+        let s = state_after_all new_state earlier in reply s (find_call q hint) ≡ opened id →
+        GivesInTurn q id (answer q.selection) later
+        (batches_to id later (replies (state_after s (find_call q hint)) later)) }
+    ensures resume { (earlier later : List Call)
+        (q : Query) (hint : Option (List ℕ)) (t : MarkedToken) (id : ℕ) → IsFair q →
+        let s = state_after_all new_state earlier in reply s (resume_call q hint t) ≡ opened id →
+        GivesInTurn q id (rest q.selection t.mark) later
+        (batches_to id later (replies (state_after s (resume_call q hint t)) later)) }
     ensures starved { (s : State) (attempts : List (Call × Bool)) →
         (state_after_attempts s attempts ≡ state_after_all s (answered_calls attempts))
         × (filter_map (λ r. r) (attempt_replies s attempts) ≡ replies s (answered_calls attempts)) }
@@ -57,10 +61,12 @@ pub fn sessions_keep_to_the_answer()
 /// own. `T` is what documents are, and the answers over them are those at the places of the answer of any such selection.
 #[tactic(auto, using(crate::proofs::PartsLemmas::parts_give, crate::proofs::PartsLemmas::stretch_gives, crate::proofs::PartsLemmas::answer_gives))]
 pub fn parts_give_the_whole<T>()
-    ensures parts { (r : DocumentRequest T) → IsTotalOrder r.by → (limit : ℕ) → IsEnough r limit → (parts : List (List T)) →
-        found_in r (flat_map (λ ds. ds) parts) ≡ found_in r (flat_map (found_in (part_request r limit)) parts) }
-    ensures stretch { (r : DocumentRequest T) → IsTotalOrder r.by → (limit : ℕ) → IsEnough r limit → (front stretch back : List T) →
-        found_in r (front ++ (stretch ++ back)) ≡ found_in r (front ++ (found_in (part_request r limit) stretch ++ back)) }
+    ensures parts { (r : DocumentRequest T) → IsTotalOrder r.by → (limit : ℕ) →
+        IsEnough r limit → (parts : List (List T)) → found_in r (flat_map (λ ds. ds) parts)
+        ≡ found_in r (flat_map (found_in (part_request r limit)) parts) }
+    ensures stretch { (r : DocumentRequest T) → IsTotalOrder r.by → (limit : ℕ) →
+        IsEnough r limit → (front stretch back : List T) → found_in r (front ++ (stretch ++ back))
+        ≡ found_in r (front ++ (found_in (part_request r limit) stretch ++ back)) }
     ensures places { (r : DocumentRequest T) (ds : List T) (a : Selection) → IsSelectionOf r ds a →
         filter_map (slice_get ds) (answer a) ≡ found_in r ds }
 {}

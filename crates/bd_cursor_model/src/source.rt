@@ -16,7 +16,8 @@ pub trait PlaceSource {
         ensures { HandsOut result (left self.old) (left self.new) };
 
     /// No match is missing, and none comes twice.
-    ghost law: { (s : Self) (n : ℕ) (hits : ℕ → Bool) → serves s n hits → IsSource n hits (left s) };
+    ghost law: { (s : Self) (n : ℕ) (hits : ℕ → Bool) →
+        serves s n hits → IsSource n hits (left s) };
 }
 
 /// Every place, ascending.

@@ -49,7 +49,8 @@ impl Request {
         skip: u64,
         limit: u64,
     ) -> Result<Request, Refused>
-        ensures request { IfOk result (λ r. request_of (pairs filter) (pairs sort) skip limit ≡ Ok (request_view r)) }
+        ensures request { IfOk result (λ r.
+            request_of (pairs filter) (pairs sort) skip limit ≡ Ok (request_view r)) }
         ensures refused { IfErr result (IsRefusedPart (request_of (pairs filter) (pairs sort) skip limit)) }
     {
         let parsed = read_filter(alloc, &filter)?;
@@ -104,8 +105,8 @@ fn text_of(
 
 /// Appends a skip and a limit, and the end.
 fn write_counts(skip: u64, limit: u64, text: &mut Vec<u8>) -> Result<(), NoMemory>
-    ensures { OnOk result (text.new.items ≡ text.old.items
-        ++ (codes ",\"skip\":" ++ (decimal skip ++ (codes ",\"limit\":" ++ (decimal limit ++ codes "}"))))) }
+    ensures { OnOk result (text.new.items ≡ text.old.items ++ (codes ",\"skip\":"
+        ++ (decimal skip ++ (codes ",\"limit\":" ++ (decimal limit ++ codes "}"))))) }
 {
     text.extend_from_slice(b",\"skip\":")?;
     write_number(skip, text)?;

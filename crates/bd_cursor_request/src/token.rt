@@ -62,7 +62,8 @@ impl Token {
 }
 
 fn bytes_of(alloc: Global, given: u64, last: u32, digest: &[u8; 32]) -> Result<Vec<u8>, NoMemory>
-    ensures { IfOk result (λ v. v.items ≡ token_bytes (record { given = given; last = last; digest = digest.now })) }
+    ensures { IfOk result (λ v.
+        v.items ≡ token_bytes (record { given = given; last = last; digest = digest.now })) }
 {
     let mut bytes = Vec::new(alloc);
     bytes.push(VERSION)?;
@@ -124,7 +125,8 @@ pub fn dump_digest(bytes: &[u8]) -> [u8; 32]
 /// The digest of the tokens of a request: that of the digest of the dump and the text of the request. It takes no memory.
 pub fn request_digest(dump: &[u8; 32], request: &Request) -> [u8; 32]
     ensures digest { result ≡ sha256 (dump.now ++ request.now.text.items) }
-    ensures of_dump { (bytes : List ℕ) → dump.now ≡ sha256 bytes → result ≡ token_digest bytes request.now.text.items }
+    ensures of_dump { (bytes : List ℕ) →
+        dump.now ≡ sha256 bytes → result ≡ token_digest bytes request.now.text.items }
 {
     let mut hasher = Sha256::new();
     hasher.update(dump.as_slice());

@@ -55,7 +55,8 @@ impl<'d> Mark<'d> {
     pub(crate) fn compare(&self, dump: &Dump, place: u32) -> Ordering
         requires { place < length (documents dump.now) }
         ensures { (ss : List SortPath) → IsMark (documents dump.now) ss self.now →
-            result ≡ ordering_then (order_of_keys (documents dump.now) ss place self.now.place) (nat_cmp place self.now.place) }
+            result ≡ ordering_then (order_of_keys (documents dump.now) ss place self.now.place)
+            (nat_cmp place self.now.place) }
     {
         Mark::compare_keys(&self.keys, dump, place).then(place.cmp(&self.place))
     }

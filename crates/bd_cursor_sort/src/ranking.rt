@@ -28,7 +28,8 @@ pub(crate) fn first_in_order(
     most: usize,
 ) -> Result<Vec<u32>, NoMemory>
     requires { All (λ p. p < length (documents dump.now)) places.now }
-    ensures { IfOk result (λ v. AreFirst (before (order_of_keys (documents dump.now) (sort_paths sort.now))) most places.now v.items) }
+    ensures { IfOk result (λ v. AreFirst (before
+        (order_of_keys (documents dump.now) (sort_paths sort.now))) most places.now v.items) }
 {
     let mut ranked = unranked(alloc, places)?;
     for (path, dir) in sort {
@@ -76,8 +77,9 @@ fn ranked_by(
 ) -> Result<Vec<Ranked>, NoMemory>
     requires below { All (λ r. r.place < length (documents dump.now)) ranked.now }
     requires few { length ranked.now ≤ 4294967295 }
-    ensures { IfOk result (λ v. (ss : List SortPath) (ps : List ℕ) → AreRanked (documents dump.now) ss ps ranked.now →
-        AreRanked (documents dump.now) (ss ++ record { path = names_of path.now; dir = dir } ∷ []) ps v.items) }
+    ensures { IfOk result (λ v. (ss : List SortPath) (ps : List ℕ) →
+        AreRanked (documents dump.now) ss ps ranked.now → AreRanked (documents dump.now) (ss
+        ++ record { path = names_of path.now; dir = dir } ∷ []) ps v.items) }
 {
     let mut rows = Vec::with_capacity(alloc, ranked.len())?;
     for one in ranked {
@@ -135,7 +137,8 @@ pub(crate) struct Row<'d> {
 impl<'d> Row<'d> {
     fn of(dump: &'d Dump, path: &Path, dir: Dir, ranked: Ranked) -> Row<'d>
         requires { ranked.place < length (documents dump.now) }
-        ensures { keyed_row result ≡ keyed (documents dump.now) (record { path = names_of path.now; dir = dir }) ranked }
+        ensures { keyed_row result
+            ≡ keyed (documents dump.now) (record { path = names_of path.now; dir = dir }) ranked }
     {
         Row {
             rank: ranked.rank,
@@ -157,7 +160,8 @@ impl<'d> Row<'d> {
     /// The new rank of the next document: that of the last one where they tie.
     fn rank_after(&self, last: Option<Row<'_>>, rank: u32, dir: Dir) -> u32
         requires { rank < 4294967295 }
-        ensures { result ≡ next_rank dir rank (option_map keyed_row last.entry) (keyed_row self.now) }
+        ensures { result
+            ≡ next_rank dir rank (option_map keyed_row last.entry) (keyed_row self.now) }
     {
         match last {
             Some(last) if last.compare(self, dir).is_lt() => rank + 1,

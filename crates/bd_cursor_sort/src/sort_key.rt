@@ -31,7 +31,8 @@ impl<'d> SortKey<'d> {
     /// That of the document at a place.
     pub(crate) fn of(dump: &'d Dump, place: u32, path: &Path, dir: Dir) -> SortKey<'d>
         requires { place < length (documents dump.now) }
-        ensures { kept_key result.key ≡ sort_key dir (document_at (documents dump.now) place) (names_of path.now) }
+        ensures { kept_key result.key
+            ≡ sort_key dir (document_at (documents dump.now) place) (names_of path.now) }
     {
         let key = key_of(dump.document(place).value(), path, dir);
         SortKey {
@@ -61,7 +62,8 @@ fn key_of<'d>(document: RawValue<'d>, path: &Path, dir: Dir) -> Key<RawValue<'d>
 
 /// The key on a path that meets no array: the one value that it leads to, or null.
 fn plain_key<'d>(document: RawValue<'d>, path: &Path) -> Option<Key<RawValue<'d>>>
-    ensures { IfSome result (λ k. all_keys false (stands document.entry.sound) (names_of path.now) ≡ kept_key k ∷ []) }
+    ensures { IfSome result (λ k.
+        all_keys false (stands document.entry.sound) (names_of path.now) ≡ kept_key k ∷ []) }
 {
     let mut value = document;
     for i in 0..path.len() {
@@ -75,7 +77,8 @@ fn plain_key<'d>(document: RawValue<'d>, path: &Path) -> Option<Key<RawValue<'d>
 
 /// A key, unless a value is an array.
 fn unless_array<'d>(value: RawValue<'d>, key: Key<RawValue<'d>>) -> Option<Key<RawValue<'d>>>
-    ensures { IfSome result (λ k. (k ≡ key.entry) × (kind_of (stands value.entry.sound) ≢ kinds.Array)) }
+    ensures { IfSome result (λ k. (k ≡ key.entry)
+        × (kind_of (stands value.entry.sound) ≢ kinds.Array)) }
 {
     match value.kind() {
         Kind::Array => None,

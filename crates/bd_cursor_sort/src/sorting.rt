@@ -37,9 +37,11 @@ pub fn sorted_places<P: PlaceSource + Drop>(
     last: Option<u32>,
     most: Option<u64>,
 ) -> Result<Vec<u32>, NoMemory>
-    requires serves { P.serves source (length (documents dump.now)) (hits_of (documents dump.now) (filter_tree request.now.filter)) }
+    requires serves { P.serves source (length (documents dump.now))
+        (hits_of (documents dump.now) (filter_tree request.now.filter)) }
     requires there { IfSome last (λ p. p < length (documents dump.now)) }
-    ensures { IfOk result (λ v. v.items ≡ at_most most (places_after (selection_of (documents dump.now) request.now) last)) }
+    ensures { IfOk result (λ v. v.items
+        ≡ at_most most (places_after (selection_of (documents dump.now) request.now) last)) }
 {
     let limit = limit_of(most, dump.len() as usize);
     if limit == 0 {
@@ -59,10 +61,13 @@ pub fn places_in_order<P: PlaceSource + Drop>(
     last: Option<u32>,
     most: Option<u64>,
 ) -> Result<Vec<u32>, NoMemory>
-    requires serves { P.serves source (length (documents dump.now)) (hits_of (documents dump.now) (filter_tree request.now.filter)) }
-    requires order { IsAscending (before (order_of_keys (documents dump.now) (sort_paths request.now.sort.items))) (P.left source) }
+    requires serves { P.serves source (length (documents dump.now))
+        (hits_of (documents dump.now) (filter_tree request.now.filter)) }
+    requires order { IsAscending (before
+        (order_of_keys (documents dump.now) (sort_paths request.now.sort.items))) (P.left source) }
     requires there { IfSome last (λ p. p < length (documents dump.now)) }
-    ensures { IfOk result (λ v. v.items ≡ at_most most (places_after (selection_of (documents dump.now) request.now) last)) }
+    ensures { IfOk result (λ v. v.items
+        ≡ at_most most (places_after (selection_of (documents dump.now) request.now) last)) }
 {
     let mark = last_mark(alloc, dump, &request.sort, last)?;
     let last = &mark;
@@ -133,11 +138,12 @@ fn first_places<P: PlaceSource + Drop>(
     last: &Option<Mark<'_>>,
     most: usize,
 ) -> Result<Vec<u32>, NoMemory>
-    requires serves { P.serves source (length (documents dump.now)) (hits_of (documents dump.now) (filter_tree request.now.filter)) }
+    requires serves { P.serves source (length (documents dump.now))
+        (hits_of (documents dump.now) (filter_tree request.now.filter)) }
     requires last { IfSome last.now (IsMark (documents dump.now) (sort_paths request.now.sort.items)) }
     requires some { 0 < most }
-    ensures { IfOk result (λ v. v.items
-        ≡ take most (places_after (selection_of (documents dump.now) request.now) (mark_place last.now))) }
+    ensures { IfOk result (λ v. v.items ≡ take most
+        (places_after (selection_of (documents dump.now) request.now) (mark_place last.now))) }
 {
     let room = most.saturating_mul(TIMES).max(FEWEST);
     let mut places = Vec::new(alloc);
@@ -164,8 +170,8 @@ fn keep_first<'d>(
 ) -> Result<Option<Mark<'d>>, NoMemory>
     requires below { All (λ p. p < length (documents dump.now)) places.old.items }
     requires some { 0 < most }
-    ensures first { OnOk result
-        (AreFirst (before (order_of_keys (documents dump.now) (sort_paths sort.now))) most places.old.items places.new.items) }
+    ensures first { OnOk result (AreFirst (before (order_of_keys (documents dump.now) (sort_paths sort.now)))
+        most places.old.items places.new.items) }
     ensures mark { IfOk result (λ m. IfSome m (IsMark (documents dump.now) (sort_paths sort.now))) }
     ensures end { IfOk result (λ m. IsEnd most places.new.items (mark_place m)) }
 {
@@ -189,9 +195,9 @@ fn may_be_first(
     requires last { IfSome last.now (IsMark (documents dump.now) (sort_paths request.now.sort.items)) }
     requires end { IfSome end.now (IsMark (documents dump.now) (sort_paths request.now.sort.items)) }
     requires below { place < length (documents dump.now) }
-    ensures { let by = order_of_keys (documents dump.now) (sort_paths request.now.sort.items) in
-        result ≡ (passes (hits_of (documents dump.now) (filter_tree request.now.filter)) by (mark_place last.now) place
-        && is_before_mark (before by) (mark_place end.now) place) }
+    ensures { let by = order_of_keys (documents dump.now) (sort_paths request.now.sort.items)
+        in result ≡ (passes (hits_of (documents dump.now) (filter_tree request.now.filter)) by
+        (mark_place last.now) place && is_before_mark (before by) (mark_place end.now) place) }
 {
     is_wanted(dump, request, last, place) && is_ahead(dump, end, place)
 }
@@ -201,7 +207,8 @@ fn is_wanted(dump: &Dump, request: &Request, last: &Option<Mark<'_>>, place: u32
     requires last { IfSome last.now (IsMark (documents dump.now) (sort_paths request.now.sort.items)) }
     requires below { place < length (documents dump.now) }
     ensures { result ≡ passes (hits_of (documents dump.now) (filter_tree request.now.filter))
-        (order_of_keys (documents dump.now) (sort_paths request.now.sort.items)) (mark_place last.now) place }
+        (order_of_keys (documents dump.now) (sort_paths request.now.sort.items))
+        (mark_place last.now) place }
 {
     is_match(dump, &request.filter, place) && is_past(dump, last, place)
 }
@@ -209,8 +216,8 @@ fn is_wanted(dump: &Dump, request: &Request, last: &Option<Mark<'_>>, place: u32
 /// Whether the document at a place comes after that of a mark.
 fn is_past(dump: &Dump, mark: &Option<Mark<'_>>, place: u32) -> bool
     requires { place < length (documents dump.now) }
-    ensures { (ss : List SortPath) → IfSome mark.now (IsMark (documents dump.now) ss) →
-        result ≡ is_after (before (order_of_keys (documents dump.now) ss)) (mark_place mark.now) place }
+    ensures { (ss : List SortPath) → IfSome mark.now (IsMark (documents dump.now) ss) → result
+        ≡ is_after (before (order_of_keys (documents dump.now) ss)) (mark_place mark.now) place }
 {
     match mark {
         Some(mark) => mark.compare(dump, place).is_gt(),
@@ -221,8 +228,9 @@ fn is_past(dump: &Dump, mark: &Option<Mark<'_>>, place: u32) -> bool
 /// Whether it comes before that of a mark.
 fn is_ahead(dump: &Dump, mark: &Option<Mark<'_>>, place: u32) -> bool
     requires { place < length (documents dump.now) }
-    ensures { (ss : List SortPath) → IfSome mark.now (IsMark (documents dump.now) ss) →
-        result ≡ is_before_mark (before (order_of_keys (documents dump.now) ss)) (mark_place mark.now) place }
+    ensures { (ss : List SortPath) →
+        IfSome mark.now (IsMark (documents dump.now) ss) → result ≡ is_before_mark
+        (before (order_of_keys (documents dump.now) ss)) (mark_place mark.now) place }
 {
     match mark {
         Some(mark) => mark.compare(dump, place).is_lt(),

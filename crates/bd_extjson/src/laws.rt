@@ -24,8 +24,9 @@ pub fn text_determines_document()
 /// and it is at most 200 deep.
 #[tactic(auto, using(crate::proofs::ReadBackLemmas::document_back))]
 pub fn reads_back()
-    ensures { (d : Doc) → Fits (doc (fields_of d)) → IsPlain (doc (fields_of d))
-        → zero_in (doc (fields_of d)) ≡ false → depth (doc (fields_of d)) ≤ most_levels → ReadsAs (text (doc (fields_of d))) d }
+    ensures { (d : Doc) → Fits (doc (fields_of d)) →
+        IsPlain (doc (fields_of d)) → zero_in (doc (fields_of d)) ≡ false →
+        depth (doc (fields_of d)) ≤ most_levels → ReadsAs (text (doc (fields_of d))) d }
 {}
 
 /// The same of a document in memory, whose numbers, texts and names are as that law wants them, since it exists.
@@ -37,9 +38,10 @@ pub fn reads_back()
 /// ```
 #[tactic(auto, using(crate::proofs::ReadBackLemmas::document_back))]
 pub fn document_reads_back(document: &Document)
-    ensures { IsPlain (doc (fields_of (pairs document.now))) → zero_in (doc (fields_of (pairs document.now))) ≡ false
-        → depth (doc (fields_of (pairs document.now))) ≤ most_levels
-        → ReadsAs (text (doc (fields_of (pairs document.now)))) (pairs document.now) }
+    ensures { IsPlain (doc (fields_of (pairs document.now))) →
+        zero_in (doc (fields_of (pairs document.now))) ≡ false →
+        depth (doc (fields_of (pairs document.now))) ≤ most_levels →
+        ReadsAs (text (doc (fields_of (pairs document.now)))) (pairs document.now) }
 {
     document_fits(document);
 }

@@ -34,7 +34,8 @@ pub fn read_doc(alloc: Global, text: &[u8]) -> Result<Document, JsonFault>
     // What is read is what the text is.
     ensures found { IfOk result (λ d. ReadsAs text.now (pairs d)) }
     // A text that is a document is read, unless memory runs out.
-    ensures none { IfErr result (λ f. f.kind ≢ faults.NoMemory → (d : Doc) → ReadsAs text.now d → ⊥) }
+    ensures none { IfErr result (λ f. f.kind ≢ faults.NoMemory →
+        (d : Doc) → ReadsAs text.now d → ⊥) }
     ensures place { IfErr result (IsPlaced (length text.now)) }
     ensures utf8 { IfErr result (TellsBadUtf8 text.now) }
 {
@@ -49,7 +50,8 @@ pub fn read_doc_with(
     scratch: &mut Scratch,
 ) -> Result<Document, JsonFault>
     ensures found { IfOk result (λ d. ReadsAs text.now (pairs d)) }
-    ensures none { IfErr result (λ f. f.kind ≢ faults.NoMemory → (d : Doc) → ReadsAs text.now d → ⊥) }
+    ensures none { IfErr result (λ f. f.kind ≢ faults.NoMemory →
+        (d : Doc) → ReadsAs text.now d → ⊥) }
     ensures place { IfErr result (IsPlaced (length text.now)) }
     ensures utf8 { IfErr result (TellsBadUtf8 text.now) }
 {
@@ -172,8 +174,8 @@ fn read_fields<'a>(
     room: usize,
     depth: usize,
 ) -> Read<Document>
-    ensures gives { Gives (λ d. (fields_of (pairs d), reader.new)) result
-        (through (wrap_fields room) (after_key depth (length reader.old) (option_map (λ s. s.now) first.entry) reader.old)) }
+    ensures gives { Gives (λ d. (fields_of (pairs d), reader.new)) result (through (wrap_fields room)
+        (after_key depth (length reader.old) (option_map (λ s. s.now) first.entry) reader.old)) }
     ensures shorter { OnOk result (length reader.new ≤ length reader.old) }
 {
     let mut read = Document::new(alloc);
@@ -209,7 +211,8 @@ pub fn read_wrapper(
     room: usize,
     depth: usize,
 ) -> Result<Value, Trouble>
-    ensures gives { (name : List ℕ) → wrapper_of name ≡ Some wrapper → Gives (λ v. (tree_of v, reader.new)) result
+    ensures gives { (name : List ℕ) →
+        wrapper_of name ≡ Some wrapper → Gives (λ v. (tree_of v, reader.new)) result
         (through (wrap_object room) (after_key depth (length reader.old) (Some name) reader.old)) }
     ensures shorter { OnOk result (length reader.new < length reader.old) }
 {
@@ -236,8 +239,9 @@ fn read_scope_second(
     room: usize,
     depth: usize,
 ) -> Read<Value>
-    ensures gives { (n : ℕ) (t : Option Tree) → length reader.old ≤ n → Gives (λ v. (tree_of v, reader.new)) result
-        (through (wrapped room kinds.Code (value_view code.now) t) (after_key depth n (Some second.now) reader.old)) }
+    ensures gives { (n : ℕ) (t : Option Tree) → length reader.old ≤ n → Gives (λ v.
+        (tree_of v, reader.new)) result (through (wrapped room kinds.Code (value_view code.now) t)
+        (after_key depth n (Some second.now) reader.old)) }
     ensures shorter { OnOk result (length reader.new < length reader.old) }
 {
     if room == 0 {
@@ -259,7 +263,8 @@ fn read_scope_first(
     room: usize,
     depth: usize,
 ) -> Read<Value>
-    ensures gives { (name : List ℕ) → wrapper_of name ≡ Some kinds.Scope → Gives (λ v. (tree_of v, reader.new)) result
+    ensures gives { (name : List ℕ) →
+        wrapper_of name ≡ Some kinds.Scope → Gives (λ v. (tree_of v, reader.new)) result
         (through (wrap_object room) (after_key depth (length reader.old) (Some name) reader.old)) }
     ensures shorter { OnOk result (length reader.new < length reader.old) }
 {
@@ -276,10 +281,12 @@ fn read_scope_first(
 
 /// The code that follows such a scope, and the brace that ends the object.
 fn read_code<'a>(alloc: Global, reader: &mut Reader<'a>, depth: usize) -> Read<json::Value<'a>>
-    ensures code { IfOk result (λ code. (n room : ℕ) (j : Json) (u : Tree) → length reader.old ≤ n → 0 < room →
+    ensures code { IfOk result (λ code. (n room : ℕ) (j : Json) (u : Tree) →
+        length reader.old ≤ n → 0 < room →
         through (wrapped room kinds.Scope j (Some u)) (members (value depth) n reader.old)
         ≡ option_map (λ t. (t, reader.new)) (with_scope (as_str (value_view code)) (Some u))) }
-    ensures none { IfErr result (λ e. (n room : ℕ) (j : Json) (t : Option Tree) → length reader.old ≤ n →
+    ensures none { IfErr result (λ e. (n room : ℕ) (j : Json) (t : Option Tree) →
+        length reader.old ≤ n →
         Fails e (through (wrapped room kinds.Scope j t) (members (value depth) n reader.old))) }
     ensures shorter { OnOk result (length reader.new < length reader.old) }
 {
@@ -319,7 +326,8 @@ fn read_part<'a>(alloc: Global, reader: &mut Reader<'a>, depth: usize) -> Read<j
 /// The brace that ends an object.
 fn end_object(reader: &mut Reader<'_>) -> Read<()>
     ensures ended { OnOk result (read_key reader.old ≡ Some (None, reader.new)) }
-    ensures refused { IfErr result (λ e. e ≡ troubles.Refused → (r : List JsonToken) → read_key reader.old ≢ Some (None, r)) }
+    ensures refused { IfErr result (λ e. e ≡ troubles.Refused →
+        (r : List JsonToken) → read_key reader.old ≢ Some (None, r)) }
     ensures shorter { OnOk result (length reader.new < length reader.old) }
 {
     match reader.next_key()? {

@@ -26,7 +26,8 @@ use std::simd::prelude::*;
 
 /// Appends the document that all of the text is.
 pub(crate) fn append_canonical(text: &str, out: &mut Vec<u8>) -> Option<()>
-    ensures { IfSome result (λ u. (d : Doc) × IsPackable text.now d × (out.new.items ≡ out.old.items ++ plain d)) }
+    ensures { IfSome result (λ u. (d : Doc)
+        × IsPackable text.now d × (out.new.items ≡ out.old.items ++ plain d)) }
 {
     let rest = append_fields(text, MOST_LEVELS - 1, out)?;
     rest.is_empty().then_some(())
@@ -36,7 +37,8 @@ pub(crate) fn append_canonical(text: &str, out: &mut Vec<u8>) -> Option<()>
 #[cycle(canonical)]
 #[inline(never)]
 fn append_fields<'a>(text: &'a str, room: usize, out: &mut Vec<u8>) -> Option<&'a str>
-    ensures gives { IfSome result (λ rest. (d : Doc) × (text.now ≡ text_of (doc (fields_of d)) ++ rest.now) × AreCanonicalFields room d
+    ensures gives { IfSome result (λ rest. (d : Doc)
+        × (text.now ≡ text_of (doc (fields_of d)) ++ rest.now) × AreCanonicalFields room d
         × (out.new.items ≡ out.old.items ++ bytes_of (doc (fields_of d)))) }
     ensures within { IfSome result (λ rest. length out.new.items ≤ longest_document) }
 {
@@ -59,7 +61,8 @@ fn append_fields<'a>(text: &'a str, room: usize, out: &mut Vec<u8>) -> Option<&'
 #[cycle(canonical)]
 #[inline(never)]
 fn append_items<'a>(text: &'a str, room: usize, out: &mut Vec<u8>) -> Option<&'a str>
-    ensures { IfSome result (λ rest. (ts : List Tree) × (text.now ≡ text_of (array (items_of ts)) ++ rest.now) × AreCanonical room ts
+    ensures { IfSome result (λ rest. (ts : List Tree)
+        × (text.now ≡ text_of (array (items_of ts)) ++ rest.now) × AreCanonical room ts
         × (out.new.items ≡ out.old.items ++ bytes_of (array (items_of ts)))) }
 {
     let start = begin_body(out).ok()?;
@@ -80,8 +83,8 @@ fn append_items<'a>(text: &'a str, room: usize, out: &mut Vec<u8>) -> Option<&'a
 /// arrays stand in one another in it.
 #[cycle(canonical)]
 fn append_next<'a>(text: &'a str, name: &str, room: usize, out: &mut Vec<u8>) -> Option<&'a str>
-    ensures { IfSome result (λ rest. (t : Tree) × (text.now ≡ text_of t ++ rest.now) × IsCanonical room t
-        × (out.new.items ≡ out.old.items ++ element t name.now (bytes_of t))) }
+    ensures { IfSome result (λ rest. (t : Tree) × (text.now ≡ text_of t ++ rest.now)
+        × IsCanonical room t × (out.new.items ≡ out.old.items ++ element t name.now (bytes_of t))) }
 {
     match text.as_bytes() {
         [b'"', ..] => append_string(text, name, out),
@@ -124,8 +127,8 @@ fn may_name_wrapper(name: &str) -> bool
 /// Appends the element of that name of the wrapper that the text begins with.
 #[inline(always)]
 fn append_wrapper<'a>(text: &'a str, name: &str, out: &mut Vec<u8>) -> Option<&'a str>
-    ensures { IfSome result (λ rest. (t : Tree) × (text.now ≡ text_of t ++ rest.now) × IsCanonical 0 t
-        × (out.new.items ≡ out.old.items ++ element t name.now (bytes_of t))) }
+    ensures { IfSome result (λ rest. (t : Tree) × (text.now ≡ text_of t ++ rest.now)
+        × IsCanonical 0 t × (out.new.items ≡ out.old.items ++ element t name.now (bytes_of t))) }
 {
     // By a byte in which they differ.
     match text.as_bytes().get(9)? {
@@ -163,8 +166,8 @@ fn append_wrapper<'a>(text: &'a str, name: &str, out: &mut Vec<u8>) -> Option<&'
 /// Appends the element of that name of the word that the text begins with.
 #[inline(always)]
 fn append_word<'a>(text: &'a str, name: &str, out: &mut Vec<u8>) -> Option<&'a str>
-    ensures { IfSome result (λ rest. (t : Tree) × (text.now ≡ text_of t ++ rest.now) × IsCanonical 0 t
-        × (out.new.items ≡ out.old.items ++ element t name.now (bytes_of t))) }
+    ensures { IfSome result (λ rest. (t : Tree) × (text.now ≡ text_of t ++ rest.now)
+        × IsCanonical 0 t × (out.new.items ≡ out.old.items ++ element t name.now (bytes_of t))) }
 {
     if let Some(rest) = after_word(text, b"true") {
         append_bool(name, true, out)?;
@@ -182,8 +185,8 @@ fn append_word<'a>(text: &'a str, name: &str, out: &mut Vec<u8>) -> Option<&'a s
 /// Appends the element of that name of the string that the text begins with.
 #[inline(always)]
 fn append_string<'a>(text: &'a str, name: &str, out: &mut Vec<u8>) -> Option<&'a str>
-    ensures { IfSome result (λ rest. (t : Tree) × (text.now ≡ text_of t ++ rest.now) × IsCanonical 0 t
-        × (out.new.items ≡ out.old.items ++ element t name.now (bytes_of t))) }
+    ensures { IfSome result (λ rest. (t : Tree) × (text.now ≡ text_of t ++ rest.now)
+        × IsCanonical 0 t × (out.new.items ≡ out.old.items ++ element t name.now (bytes_of t))) }
 {
     match string(text) {
         Some((inside, rest)) => {
@@ -197,8 +200,8 @@ fn append_string<'a>(text: &'a str, name: &str, out: &mut Vec<u8>) -> Option<&'a
 /// Appends the element of that name of the string with escapes that the text begins with.
 #[inline(never)]
 fn append_escaped<'a>(text: &'a str, name: &str, out: &mut Vec<u8>) -> Option<&'a str>
-    ensures { IfSome result (λ rest. (t : Tree) × (text.now ≡ text_of t ++ rest.now) × IsCanonical 0 t
-        × (out.new.items ≡ out.old.items ++ element t name.now (bytes_of t))) }
+    ensures { IfSome result (λ rest. (t : Tree) × (text.now ≡ text_of t ++ rest.now)
+        × IsCanonical 0 t × (out.new.items ≡ out.old.items ++ element t name.now (bytes_of t))) }
 {
     let mut inside = String::new(*out.allocator());
     let rest = append_unescaped(text, &mut inside)?;
@@ -244,7 +247,8 @@ fn escape<'a>(text: &'a str) -> Option<(u8, &'a str)>
 /// A string, and what follows it.
 #[inline(always)]
 fn string<'a>(text: &'a str) -> Option<(&'a str, &'a str)>
-    ensures { IfSome result (λ p. (text.now ≡ quoted p.0.now ++ p.1.now) × (has_zero p.0.now ≡ false)) }
+    ensures { IfSome result (λ p. (text.now ≡ quoted p.0.now ++ p.1.now)
+        × (has_zero p.0.now ≡ false)) }
 {
     let inside = after_word(text, b"\"")?;
     let (inside, rest) = inside.split_at_checked(plain_length(inside.as_bytes()))?;
@@ -393,7 +397,8 @@ fn id_digits<'a>(text: &'a str) -> Option<([u8; 12], &'a str)>
 /// Binary data: its subtype, its bytes, and what follows it.
 #[inline(always)]
 fn binary<'a>(alloc: Global, text: &'a str) -> Option<(u8, Vec<u8>, &'a str)>
-    ensures { IfSome result (λ p. (text.now ≡ text_of (leaf (trees.binary p.0 p.1.items)) ++ p.2.now) × AreBytes p.1.items) }
+    ensures { IfSome result (λ p.
+        (text.now ≡ text_of (leaf (trees.binary p.0 p.1.items)) ++ p.2.now) × AreBytes p.1.items) }
 {
     let (digits, rest) = string(after_word(text, b"{\"$binary\":{\"base64\":")?)?;
     let (subtype, rest) = byte_digits(after_word(rest, b",\"subType\":")?)?;

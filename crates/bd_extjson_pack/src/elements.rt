@@ -11,7 +11,8 @@ use bd_value::{Kind, LONGEST_DOCUMENT};
 /// Appends an element of a text.
 #[inline(always)]
 pub(crate) fn append_text(name: &str, text: &str, out: &mut Vec<u8>) -> Option<()>
-    ensures { IfSome result (λ u. out.new.items ≡ out.old.items ++ element (leaf (trees.text text.now)) name.now (string text.now)) }
+    ensures { IfSome result (λ u. out.new.items
+        ≡ out.old.items ++ element (leaf (trees.text text.now)) name.now (string text.now)) }
 {
     push_label(Kind::Text, name, out)?;
     push_string(text, out)
@@ -30,7 +31,8 @@ pub(crate) fn append_bool(name: &str, truth: bool, out: &mut Vec<u8>) -> Option<
 /// Appends an element of an Int32.
 #[inline(always)]
 pub(crate) fn append_int32(name: &str, n: i32, out: &mut Vec<u8>) -> Option<()>
-    ensures { IfSome result (λ u. out.new.items ≡ out.old.items ++ element (leaf (trees.int32 n)) name.now (bytes_of (leaf (trees.int32 n)))) }
+    ensures { IfSome result (λ u. out.new.items ≡ out.old.items
+        ++ element (leaf (trees.int32 n)) name.now (bytes_of (leaf (trees.int32 n)))) }
 {
     push_label(Kind::Int32, name, out)?;
     push_number(n.cast_unsigned(), out)
@@ -39,7 +41,8 @@ pub(crate) fn append_int32(name: &str, n: i32, out: &mut Vec<u8>) -> Option<()>
 /// Appends an element of an Int64.
 #[inline(always)]
 pub(crate) fn append_int64(name: &str, n: i64, out: &mut Vec<u8>) -> Option<()>
-    ensures { IfSome result (λ u. out.new.items ≡ out.old.items ++ element (leaf (trees.int64 n)) name.now (bytes_of (leaf (trees.int64 n)))) }
+    ensures { IfSome result (λ u. out.new.items ≡ out.old.items
+        ++ element (leaf (trees.int64 n)) name.now (bytes_of (leaf (trees.int64 n)))) }
 {
     push_label(Kind::Int64, name, out)?;
     push_long(n.cast_unsigned(), out)
@@ -48,7 +51,8 @@ pub(crate) fn append_int64(name: &str, n: i64, out: &mut Vec<u8>) -> Option<()>
 /// Appends an element of a date.
 #[inline(always)]
 pub(crate) fn append_date(name: &str, n: i64, out: &mut Vec<u8>) -> Option<()>
-    ensures { IfSome result (λ u. out.new.items ≡ out.old.items ++ element (leaf (trees.date n)) name.now (bytes_of (leaf (trees.date n)))) }
+    ensures { IfSome result (λ u. out.new.items ≡ out.old.items
+        ++ element (leaf (trees.date n)) name.now (bytes_of (leaf (trees.date n)))) }
 {
     push_label(Kind::Date, name, out)?;
     push_long(n.cast_unsigned(), out)
@@ -57,8 +61,8 @@ pub(crate) fn append_date(name: &str, n: i64, out: &mut Vec<u8>) -> Option<()>
 /// Appends an element of an id.
 #[inline(always)]
 pub(crate) fn append_id(name: &str, id: &[u8; 12], out: &mut Vec<u8>) -> Option<()>
-    ensures { IfSome result (λ u. out.new.items ≡ out.old.items
-        ++ element (leaf (trees.object_id id.now)) name.now (bytes_of (leaf (trees.object_id id.now)))) }
+    ensures { IfSome result (λ u. out.new.items ≡ out.old.items ++ element
+        (leaf (trees.object_id id.now)) name.now (bytes_of (leaf (trees.object_id id.now)))) }
 {
     push_label(Kind::ObjectId, name, out)?;
     out.extend_from_slice(id).ok()
@@ -116,7 +120,8 @@ fn push_name(name: &str, out: &mut Vec<u8>) -> Option<()>
 /// Appends what stands before an element's value, its type and its name: BSON 1.1, `element`.
 #[inline(always)]
 pub(crate) fn push_label(kind: Kind, name: &str, out: &mut Vec<u8>) -> Option<()>
-    ensures { IfSome result (λ u. out.new.items ≡ out.old.items ++ (byte_of kind ∷ (name.now ++ 0 ∷ []))) }
+    ensures { IfSome result (λ u.
+        out.new.items ≡ out.old.items ++ (byte_of kind ∷ (name.now ++ 0 ∷ []))) }
 {
     if out.len() > LONGEST_DOCUMENT {
         return None;

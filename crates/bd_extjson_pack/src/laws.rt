@@ -12,8 +12,10 @@ ghost use Rattle.bd_extjson.specs.Read.{ReadsAs};
 /// A document that is read from a line can be written but for its length: it is at most 200 deep, and no name and no part of a
 /// regular expression holds U+0000.
 pub fn reads_within_limits()
-    ensures deep { (line : List ℕ) (d : Doc) → ReadsAs line d → depth (doc (fields_of d)) ≤ most_levels }
-    ensures zeros { (line : List ℕ) (d : Doc) → ReadsAs line d → zero_in (doc (fields_of d)) ≡ false }
+    ensures deep { (line : List ℕ) (d : Doc) →
+        ReadsAs line d → depth (doc (fields_of d)) ≤ most_levels }
+    ensures zeros { (line : List ℕ) (d : Doc) →
+        ReadsAs line d → zero_in (doc (fields_of d)) ≡ false }
 {}
 
 /// So what is packed is the line's document, written within all limits, and spells it by the grammar of BSON.

@@ -52,7 +52,8 @@ impl Packer {
         line: &[u8],
         out: &mut Vec<u8>,
     ) -> Result<Option<LineFault>, NoMemory>
-        ensures packed { result ≡ Ok None → (d : Doc) × IsPackable line.now d × (out.new.items ≡ out.old.items ++ plain d) }
+        ensures packed { result ≡ Ok None →
+            (d : Doc) × IsPackable line.now d × (out.new.items ≡ out.old.items ++ plain d) }
         ensures bad { IfOk result (λ o. IfSome o (λ f. IsBad line.now f × (out.new ≡ out.old))) }
         ensures err { OnErr result (out.new.items ≡ out.old.items) }
     {
@@ -75,7 +76,8 @@ fn pack_tree(
     scratch: &mut Scratch,
     out: &mut Vec<u8>,
 ) -> Result<Option<LineFault>, NoMemory>
-    ensures packed { result ≡ Ok None → (d : Doc) × IsPackable line.now d × (out.new.items ≡ out.old.items ++ plain d) }
+    ensures packed { result ≡ Ok None →
+        (d : Doc) × IsPackable line.now d × (out.new.items ≡ out.old.items ++ plain d) }
     ensures bad { IfOk result (λ o. IfSome o (λ f. IsBad line.now f × (out.new ≡ out.old))) }
     ensures err { OnErr result (out.new.items ≡ out.old.items) }
 {

@@ -51,7 +51,8 @@ fn append_document(
     scratch: &mut Scratch,
     out: &mut Vec<u8>,
 ) -> Option<()>
-    ensures gives { IfSome result (λ u. (fs : Fields) × (option_and_then (wrap most_levels) (json text.now) ≡ Some (doc fs))
+    ensures gives { IfSome result (λ u. (fs : Fields)
+        × (option_and_then (wrap most_levels) (json text.now) ≡ Some (doc fs))
         × (out.new.items ≡ out.old.items ++ bytes_of (doc fs))) }
     ensures within { IfSome result (λ u. length out.new.items ≤ longest_document) }
 {
@@ -83,8 +84,8 @@ fn append_fields<'a>(
     out: &mut Vec<u8>,
 ) -> Option<()>
     ensures gives { IfSome result (λ u. (fs : Fields)
-        × (through (wrap_fields room)
-        (after_key depth (length reader.old) (option_map (λ s. s.now) first.entry) reader.old) ≡ Some (fs, reader.new))
+        × (through (wrap_fields room) (after_key depth (length reader.old) (option_map (λ s.
+        s.now) first.entry) reader.old) ≡ Some (fs, reader.new))
         × (out.new.items ≡ out.old.items ++ bytes_of (doc fs))) }
     ensures shorter { IfSome result (λ u. length reader.new ≤ length reader.old) }
     ensures within { IfSome result (λ u. length out.new.items ≤ longest_document) }
@@ -112,7 +113,8 @@ fn append_next(
     depth: usize,
     out: &mut Vec<u8>,
 ) -> Option<()>
-    ensures gives { IfSome result (λ u. (t : trees.Tree) × (through (wrap room) (value depth reader.old) ≡ Some (t, reader.new))
+    ensures gives { IfSome result (λ u. (t : trees.Tree)
+        × (through (wrap room) (value depth reader.old) ≡ Some (t, reader.new))
         × (out.new.items ≡ out.old.items ++ element t name.now (bytes_of t))) }
     ensures shorter { IfSome result (λ u. length reader.new < length reader.old) }
 {
@@ -143,8 +145,8 @@ fn append_items(
     out: &mut Vec<u8>,
 ) -> Option<()>
     ensures gives { IfSome result (λ u. (ts : Items)
-        × (through (wrap_items room) (items (value depth) (length reader.old) reader.old) ≡ Some (ts, reader.new))
-        × (out.new.items ≡ out.old.items ++ bytes_of (array ts))) }
+        × (through (wrap_items room) (items (value depth) (length reader.old) reader.old)
+        ≡ Some (ts, reader.new)) × (out.new.items ≡ out.old.items ++ bytes_of (array ts))) }
     ensures shorter { IfSome result (λ u. length reader.new < length reader.old) }
 {
     let at = begin_body(out).ok()?;
@@ -169,7 +171,8 @@ fn append_object(
     out: &mut Vec<u8>,
 ) -> Option<()>
     ensures gives { IfSome result (λ u. (t : trees.Tree)
-        × (through (wrap_object room) (members (value depth) (length reader.old) reader.old) ≡ Some (t, reader.new))
+        × (through (wrap_object room) (members (value depth) (length reader.old) reader.old)
+        ≡ Some (t, reader.new))
         × (out.new.items ≡ out.old.items ++ element t name.now (bytes_of t))) }
     ensures shorter { IfSome result (λ u. length reader.new < length reader.old) }
 {
@@ -200,7 +203,9 @@ fn append_wrapped(
 ) -> Option<()>
     requires { (first : List ℕ) × (wrapper_of first ≡ Some wrapper) }
     ensures gives { IfSome result (λ u. (t : trees.Tree)
-        × ((first : List ℕ) → wrapper_of first ≡ Some wrapper → through (wrap_object room) (after_key depth (length reader.old) (Some first) reader.old) ≡ Some (t, reader.new))
+        × ((first : List ℕ) → wrapper_of first ≡ Some wrapper →
+        through (wrap_object room) (after_key depth (length reader.old) (Some first) reader.old)
+        ≡ Some (t, reader.new))
         × (out.new.items ≡ out.old.items ++ element t name.now (bytes_of t))) }
     ensures shorter { IfSome result (λ u. length reader.new < length reader.old) }
 {
@@ -220,7 +225,8 @@ fn append_number(name: &str, text: &str, out: &mut Vec<u8>) -> Option<()>
 /// Appends an element of a value that was read, and lets the value go.
 fn append_read(name: &str, value: Value, out: &mut Vec<u8>) -> Option<()>
     requires { zero_in (tree_of value) ≡ false }
-    ensures { IfSome result (λ u. out.new.items ≡ out.old.items ++ element (tree_of value) name.now (bytes_of (tree_of value))) }
+    ensures { IfSome result (λ u. out.new.items
+        ≡ out.old.items ++ element (tree_of value) name.now (bytes_of (tree_of value))) }
 {
     append_label(value.kind(), name, out).ok()?;
     append_value(Tree::Value(&value), out).ok()
@@ -245,7 +251,9 @@ fn append_short(
     out: &mut Vec<u8>,
 ) -> Option<()>
     ensures gives { IfSome result (λ u. (t : trees.Tree)
-        × ((room : ℕ) (first : List ℕ) → wrapper_of first ≡ Some wrapper → through (wrap_object room) (after_key depth (length reader.old) (Some first) reader.old) ≡ Some (t, reader.new))
+        × ((room : ℕ) (first : List ℕ) → wrapper_of first ≡ Some wrapper →
+        through (wrap_object room) (after_key depth (length reader.old) (Some first) reader.old)
+        ≡ Some (t, reader.new))
         × (out.new.items ≡ out.old.items ++ element t name.now (bytes_of t))) }
     ensures shorter { IfSome result (λ u. length reader.new < length reader.old) }
 {
@@ -275,7 +283,8 @@ fn only_string<'a>(reader: &mut Reader<'a>) -> Option<&'a str>
 /// The string in `{"$numberLong":".."}` after a wrapper's name, where the brace that ends the object follows.
 #[inline(always)]
 fn only_long<'a>(reader: &mut Reader<'a>) -> Option<&'a str>
-    ensures { IfSome result (λ s. reader.old ≡ begin_object ∷ key (codes "$numberLong") ∷ string s.now ∷ end_object ∷ end_object ∷ reader.new) }
+    ensures { IfSome result (λ s. reader.old ≡ begin_object
+        ∷ key (codes "$numberLong") ∷ string s.now ∷ end_object ∷ end_object ∷ reader.new) }
 {
     match reader.next()? {
         Token::BeginObject => {}

@@ -28,7 +28,8 @@ pub fn write_string(text: &str, out: &mut Vec<u8>) -> Result<(), NoMemory>
 ///
 /// `NoMemory` leaves `out` as it was.
 pub fn write_path(path: &[String], out: &mut Vec<u8>) -> Result<(), NoMemory>
-    ensures ok { OnOk result (out.new.items ≡ out.old.items ++ quoted (join_with_byte 46 (map string_bytes path.now))) }
+    ensures ok { OnOk result (out.new.items
+        ≡ out.old.items ++ quoted (join_with_byte 46 (map string_bytes path.now))) }
     ensures err { OnErr result (out.new.items ≡ out.old.items) }
 {
     let before = out.len();
@@ -40,7 +41,8 @@ pub fn write_path(path: &[String], out: &mut Vec<u8>) -> Result<(), NoMemory>
 #[tactic(auto, unfolding(crate::specs::Text::quoted))]
 fn append_path(path: &[String], out: &mut Vec<u8>, end: usize) -> End
     requires { end ≤ length out.old.items }
-    ensures { Appends out.old.items end result out.new.items (quoted (join_with_byte 46 (map string_bytes path.now))) }
+    ensures { Appends out.old.items end result out.new.items
+        (quoted (join_with_byte 46 (map string_bytes path.now))) }
 {
     make_room(out, end, 2)?;
     let mut at = put_byte_in(b'"', out, end);
@@ -71,7 +73,8 @@ pub(crate) fn append_string(text: &str, out: &mut Vec<u8>, end: usize) -> End
 #[tactic(auto, unfolding(crate::specs::Text::quoted))]
 pub(crate) fn append_name(later: bool, name: &str, out: &mut Vec<u8>, end: usize) -> End
     requires { end ≤ length out.old.items }
-    ensures text { Appends out.old.items end result out.new.items ((if later then 44 ∷ [] else []) ++ (quoted name.now ++ 58 ∷ [])) }
+    ensures text { Appends out.old.items end result out.new.items
+        ((if later then 44 ∷ [] else []) ++ (quoted name.now ++ 58 ∷ [])) }
     ensures room { IfOk result (λ e. e + VALUE ≤ length out.new.items) }
 {
     make_room(out, end, name.len() + (4 + VALUE))?;
@@ -90,7 +93,8 @@ pub(crate) fn append_name(later: bool, name: &str, out: &mut Vec<u8>, end: usize
 #[inline(always)]
 fn put_separator(later: bool, separator: u8, room: &mut [u8], end: usize) -> usize
     requires { end < length room.old }
-    ensures put { take result room.new ≡ take end room.old ++ (if later then separator ∷ [] else []) }
+    ensures put { take result room.new
+        ≡ take end room.old ++ (if later then separator ∷ [] else []) }
     ensures end { (end ≤ result) × (result ≤ end + 1) }
 {
     if later {
@@ -129,7 +133,8 @@ fn append_text(text: &[u8], after: usize, out: &mut Vec<u8>, end: usize) -> End
 #[inline(always)]
 fn copy_plain(text: &[u8], room: &mut [u8], end: usize) -> bool
     requires { end + length text.now ≤ length room.old }
-    ensures copied { IsTrue result → take (end + length text.now) room.new ≡ take end room.old ++ text.now }
+    ensures copied { IsTrue result →
+        take (end + length text.now) room.new ≡ take end room.old ++ text.now }
     ensures plain { IsTrue result → list_any needs_escape text.now ≡ false }
     ensures kept { take end room.new ≡ take end room.old }
 {
@@ -148,7 +153,8 @@ fn copy_plain(text: &[u8], room: &mut [u8], end: usize) -> bool
 #[inline(always)]
 fn copy_few(text: &[u8], room: &mut [u8], end: usize) -> bool
     requires { end + length text.now ≤ length room.old }
-    ensures copied { IsTrue result → take (end + length text.now) room.new ≡ take end room.old ++ text.now }
+    ensures copied { IsTrue result →
+        take (end + length text.now) room.new ≡ take end room.old ++ text.now }
     ensures plain { IsTrue result → list_any needs_escape text.now ≡ false }
     ensures kept { take end room.new ≡ take end room.old }
 {
@@ -182,7 +188,8 @@ fn copy_ends(size: usize, text: &[u8], room: &mut [u8], end: usize) -> bool
 #[inline(always)]
 fn copy_many(text: &[u8], room: &mut [u8], end: usize) -> bool
     requires { (16 ≤ length text.now) × (end + length text.now ≤ length room.old) }
-    ensures copied { IsTrue result → take (end + length text.now) room.new ≡ take end room.old ++ text.now }
+    ensures copied { IsTrue result →
+        take (end + length text.now) room.new ≡ take end room.old ++ text.now }
     ensures plain { IsTrue result → list_any needs_escape text.now ≡ false }
     ensures kept { take end room.new ≡ take end room.old }
 {

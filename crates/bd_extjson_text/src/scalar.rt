@@ -155,7 +155,8 @@ fn put_object_id(id: &[u8; 12], room: &mut [u8], end: usize) -> usize
 #[tactic(auto, using(crate::proofs::TextLemmas::timestamp_pieces))]
 fn put_timestamp(seconds: u32, increment: u32, room: &mut [u8], end: usize) -> usize
     requires { end + VALUE ≤ length room.old }
-    ensures put { take result room.new ≡ take end room.old ++ scalar_text (timestamp seconds increment) }
+    ensures put { take result room.new
+        ≡ take end room.old ++ scalar_text (timestamp seconds increment) }
     ensures within { result ≤ end + VALUE }
 {
     let at = put_known(*b"{\"$timestamp\":{\"t\":", room, end);
@@ -181,7 +182,8 @@ fn append_binary(subtype: u8, bytes: &[u8], out: &mut Vec<u8>, end: usize) -> En
 /// Regular Expression: the options as they are stored.
 fn append_regex(pattern: &str, options: &str, out: &mut Vec<u8>, end: usize) -> End
     requires { end ≤ length out.old.items }
-    ensures { Appends out.old.items end result out.new.items (scalar_text (regex pattern.now options.now)) }
+    ensures { Appends out.old.items end result out.new.items
+        (scalar_text (regex pattern.now options.now)) }
 {
     let at = append_led(b"{\"$regularExpression\":{\"pattern\":", pattern, out, end)?;
     let at = append_led(b",\"options\":", options, out, at)?;

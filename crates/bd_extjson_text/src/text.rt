@@ -137,7 +137,8 @@ fn append_fields<N: Reading>(fields: N::Rest, out: &mut Vec<u8>, end: usize) -> 
 #[inline(never)]
 fn append_items<N: Reading>(items: N::Rest, out: &mut Vec<u8>, end: usize) -> End
     requires { end < length out.old.items }
-    ensures { Appends out.old.items end result out.new.items (text (array (items_of (values_of (N.left items))))) }
+    ensures { Appends out.old.items end result out.new.items
+        (text (array (items_of (values_of (N.left items))))) }
 {
     let mut at = put_byte_in(b'[', out, end);
     let mut later = false;

@@ -156,7 +156,8 @@ fn binary_of(alloc: Global, part: &json::Value<'_>) -> Result<Value, Trouble>
 }
 
 fn regex_of(alloc: Global, part: &json::Value<'_>) -> Result<Value, Trouble>
-    ensures { Gives tree_of result (option_map leaf (single kinds.RegularExpression (value_view part.now))) }
+    ensures { Gives tree_of result
+        (option_map leaf (single kinds.RegularExpression (value_view part.now))) }
 {
     let (pattern, options) = pair(part, "pattern", "options").ok_or(Trouble::Refused)?;
     let pattern = text_in(alloc, name_of(pattern))?;
@@ -175,7 +176,8 @@ fn pointer_of(alloc: Global, part: &json::Value<'_>) -> Result<Value, Trouble>
 }
 
 fn milliseconds_of(part: &json::Value<'_>) -> Option<i64>
-    ensures { result ≡ option_and_then long_in (only_in (codes "$numberLong") (value_view part.now)) }
+    ensures { result
+        ≡ option_and_then long_in (only_in (codes "$numberLong") (value_view part.now)) }
 {
     whole(only(part, "$numberLong")?.as_str()?)
 }
@@ -229,7 +231,8 @@ pub fn pair<'v, 'a>(
     a: &str,
     b: &str,
 ) -> Option<(&'v json::Value<'a>, &'v json::Value<'a>)>
-    ensures { option_map (λ p. (value_view p.0.now, value_view p.1.now)) result ≡ pair_in a.now b.now (value_view part.now) }
+    ensures { option_map (λ p. (value_view p.0.now, value_view p.1.now)) result
+        ≡ pair_in a.now b.now (value_view part.now) }
 {
     let members = members_of(part)?;
     if members.len() != 2 {

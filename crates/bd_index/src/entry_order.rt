@@ -46,7 +46,8 @@ impl<'a> EntryOrder<'a> {
     /// All entries, those of the greatest key first.
     pub(crate) fn downward(dump: &'a Dump, index: &'a Index) -> EntryOrder<'a>
         requires { IsIndexOf dump.now index.now }
-        ensures { (h : IsIndexOf dump.now index.now) → entries_ahead result ≡ downward h.keeps.entries }
+        ensures { (h : IsIndexOf dump.now index.now) →
+            entries_ahead result ≡ downward h.keeps.entries }
     {
         EntryOrder {
             dump,

@@ -74,7 +74,8 @@ impl Index {
 
     /// Whether some document has two keys, those for missing fields among them. It takes no memory.
     pub fn multikey(&self) -> bool
-        ensures { (dump : Dump) → IsIndexOf dump self.now → result ≡ is_multikey (names_of self.now.path) (documents dump) }
+        ensures { (dump : Dump) → IsIndexOf dump self.now →
+            result ≡ is_multikey (names_of self.now.path) (documents dump) }
     {
         self.multikey
     }
@@ -142,7 +143,8 @@ fn add_document<'a>(
         count_by test (map found_entry found.new.items)
         ≡ count_by test (map found_entry found.old.items
         ++ keys_at place (distinct (key_trees raw_tree keys.entry.items)))) }
-    ensures kept { OnOk result (All (IsFoundIn (bytes_of dump.now)) found.old.items → All (IsFoundIn (bytes_of dump.now)) found.new.items) }
+    ensures kept { OnOk result (All (IsFoundIn (bytes_of dump.now)) found.old.items →
+        All (IsFoundIn (bytes_of dump.now)) found.new.items) }
 {
     own.clear();
     add_found(dump, &keys, place, own)?;
@@ -161,8 +163,10 @@ fn add_found<'a>(
     found: &mut Vec<FoundKey<'a>>,
 ) -> Result<(), NoMemory>
     requires { AreKeysOf raw_source (bytes_of dump.now) keys.now }
-    ensures added { OnOk result (map found_entry found.new.items ≡ map found_entry found.old.items ++ keys_at place (key_trees raw_tree keys.now)) }
-    ensures kept { All (IsFoundIn (bytes_of dump.now)) found.old.items → All (IsFoundIn (bytes_of dump.now)) found.new.items }
+    ensures added { OnOk result (map found_entry found.new.items
+        ≡ map found_entry found.old.items ++ keys_at place (key_trees raw_tree keys.now)) }
+    ensures kept { All (IsFoundIn (bytes_of dump.now)) found.old.items →
+        All (IsFoundIn (bytes_of dump.now)) found.new.items }
 {
     for key in keys {
         let key = in_dump(dump, *key);
@@ -205,7 +209,8 @@ fn repeats(last: &FoundKey<'_>, next: &FoundKey<'_>) -> bool
 
 /// Where the keys stand.
 fn kept_entries(alloc: Global, found: &[FoundKey<'_>]) -> Result<Vec<Entry>, NoMemory>
-    ensures { (bytes : List ℕ) → All (IsFoundIn bytes) found.now → IfOk result (λ v. KeepsEntries bytes v.items (map found_entry found.now)) }
+    ensures { (bytes : List ℕ) → All (IsFoundIn bytes) found.now →
+        IfOk result (λ v. KeepsEntries bytes v.items (map found_entry found.now)) }
 {
     let mut entries = Vec::with_capacity(alloc, found.len())?;
     for one in found {
@@ -241,7 +246,8 @@ fn are_several<N: Reading>(keys: &[Key<N>]) -> bool
 
 /// Whether one of the keys is not equal to the first.
 fn differ<N: Reading>(first: Key<N>, others: &[Key<N>]) -> bool
-    ensures { result ≡ list_any (λ k. not (equal (key_tree N.tree first) (key_tree N.tree k))) others.now }
+    ensures { result
+        ≡ list_any (λ k. not (equal (key_tree N.tree first) (key_tree N.tree k))) others.now }
 {
     others.iter().any(|key| !compare_keys(first, *key).is_eq())
 }

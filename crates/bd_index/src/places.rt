@@ -38,8 +38,8 @@ impl Index {
         bounds: Option<&Bounds<'_>>,
     ) -> Result<Places, NoMemory>
         requires { IsIndexOf dump.now self.now }
-        ensures { IfOk result (λ x. AreWithin self.now.sparse (names_of self.now.path) (documents dump.now) (lent_bounds bounds.entry)
-            x.places.items x.entries) }
+        ensures { IfOk result (λ x. AreWithin self.now.sparse (names_of self.now.path)
+            (documents dump.now) (lent_bounds bounds.entry) x.places.items x.entries) }
     {
         let spans = self.spans(alloc, dump, bounds)?;
         let mut places = self.places_in(alloc, &spans)?;
@@ -52,7 +52,8 @@ impl Index {
     /// The places of the entries in spans.
     fn places_in(&self, alloc: Global, spans: &[Span]) -> Result<Vec<u32>, NoMemory>
         requires { AreInOrder 0 (length self.now.entries.items) spans.now }
-        ensures { IfOk result (λ v. v.items ≡ pieces (map (λ e. e.place) self.now.entries.items) spans.now) }
+        ensures { IfOk result (λ v.
+            v.items ≡ pieces (map (λ e. e.place) self.now.entries.items) spans.now) }
     {
         let mut places = Vec::new(alloc);
         for span in spans {
@@ -65,8 +66,8 @@ impl Index {
     fn add_places(&self, places: &mut Vec<u32>, span: Span) -> Result<(), NoMemory>
         requires order { span.from ≤ span.to }
         requires bound { span.to ≤ length self.now.entries.items }
-        ensures { OnOk result (places.new.items
-            ≡ places.old.items ++ slice_range (map (λ e. e.place) self.now.entries.items) span.from span.to) }
+        ensures { OnOk result (places.new.items ≡ places.old.items
+            ++ slice_range (map (λ e. e.place) self.now.entries.items) span.from span.to) }
     {
         for entry in &self.entries[span.from..span.to] {
             places.push(entry.place)?;
@@ -103,7 +104,8 @@ impl Index {
         bounds: &Bounds<'_>,
     ) -> Result<Vec<Span>, NoMemory>
         requires { IsIndexOf dump.now self.now }
-        ensures { IfOk result (λ v. (h : IsIndexOf dump.now self.now) → CoverKeys h.keeps.entries (keys_within bounds.now) v.items) }
+        ensures { IfOk result (λ v. (h : IsIndexOf dump.now self.now) →
+            CoverKeys h.keeps.entries (keys_within bounds.now) v.items) }
     {
         match bounds {
             Bounds::Range { from, to } => {
@@ -162,8 +164,9 @@ impl Index {
         requires { IsIndexOf dump.now self.now }
         ensures order { result.from ≤ result.to }
         ensures bound { result.to ≤ length self.now.entries.items }
-        ensures keys { (h : IsIndexOf dump.now self.now) (k : ℕ) (d : KeyAt) → k < length h.keeps.entries →
-            is_in_span k result ≡ keys_between from.entry to.entry (slice_index_or h.keeps.entries k d).0 }
+        ensures keys { (h : IsIndexOf dump.now self.now) (k : ℕ) (d : KeyAt) →
+            k < length h.keeps.entries → is_in_span k result
+            ≡ keys_between from.entry to.entry (slice_index_or h.keeps.entries k d).0 }
     {
         let from = self.count_before(dump, from);
         let to = self.count_before(dump, to).max(from);
@@ -175,7 +178,8 @@ impl Index {
         requires { IsIndexOf dump.now self.now }
         ensures bound { result ≤ length self.now.entries.items }
         ensures parted { (h : IsIndexOf dump.now self.now) →
-            IsPartitionPoint (λ e. is_before cut.entry e.0 ≡ true) (λ e. is_before cut.entry e.0 ≡ false) h.keeps.entries result }
+            IsPartitionPoint (λ e. is_before cut.entry e.0 ≡ true) (λ e.
+            is_before cut.entry e.0 ≡ false) h.keeps.entries result }
     {
         let mut low = 0;
         let mut high = self.entries.len();
@@ -194,7 +198,8 @@ impl Index {
     fn key<'a>(&self, dump: &'a Dump, i: usize) -> RawValue<'a>
         requires indexed { IsIndexOf dump.now self.now }
         requires inside { i < length self.now.entries.items }
-        ensures key { (h : IsIndexOf dump.now self.now) (d : KeyAt) → stands result.sound ≡ (slice_index_or h.keeps.entries i d).0 }
+        ensures key { (h : IsIndexOf dump.now self.now) (d : KeyAt) →
+            stands result.sound ≡ (slice_index_or h.keeps.entries i d).0 }
         ensures kept { result.bytes.now ≡ bytes_of dump.now }
     {
         dump.value_at(self.entries[i].key)
@@ -248,7 +253,8 @@ fn append_gaps(gaps: &mut Vec<Span>, spans: &[Span], count: usize) -> Result<(),
     requires order { AreInOrder 0 count spans.now }
     requires below { All (λ s. s.to ≤ count) gaps.old.items }
     ensures below { OnOk result (All (λ s. s.to ≤ count) gaps.new.items) }
-    ensures added { OnOk result ((k : ℕ) → k < count → is_covered gaps.new.items k ≡ (is_covered gaps.old.items k || not (is_covered spans.now k))) }
+    ensures added { OnOk result ((k : ℕ) → k < count → is_covered gaps.new.items k
+        ≡ (is_covered gaps.old.items k || not (is_covered spans.now k))) }
 {
     let mut from = 0;
     for span in spans {
@@ -264,7 +270,8 @@ fn append_gaps(gaps: &mut Vec<Span>, spans: &[Span], count: usize) -> Result<(),
 fn between_gaps(alloc: Global, gaps: Vec<Span>, count: usize) -> Result<Vec<Span>, NoMemory>
     requires { All (λ s. s.to ≤ count) gaps.items }
     ensures order { IfOk result (λ v. AreInOrder 0 count v.items) }
-    ensures others { IfOk result (λ v. (k : ℕ) → k < count → is_covered v.items k ≡ not (is_covered gaps.items k)) }
+    ensures others { IfOk result (λ v. (k : ℕ) →
+        k < count → is_covered v.items k ≡ not (is_covered gaps.items k)) }
 {
     let outside = in_order(alloc, gaps, count)?;
     let mut spans = Vec::new(alloc);

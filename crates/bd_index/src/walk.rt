@@ -72,7 +72,8 @@ impl Index {
     pub fn walk<'a>(&'a self, alloc: Global, dump: &'a Dump, dir: Dir) -> Result<Walk<'a>, NoMemory>
         requires index { IsIndexOf dump.now self.now }
         requires whole { self.now.sparse ≡ false }
-        ensures { IfOk result (λ walk. WalksAll dir (names_of self.now.path) (documents dump.now) (walk_left walk)) }
+        ensures { IfOk result (λ walk.
+            WalksAll dir (names_of self.now.path) (documents dump.now) (walk_left walk)) }
     {
         let seen = vec![in alloc; false; dump.len() as usize]?;
         let order = match dir {

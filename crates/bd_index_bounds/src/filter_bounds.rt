@@ -33,7 +33,8 @@ impl<'a> Bounds<'a> {
         path: &Path,
         multikey: bool,
     ) -> Result<Option<Bounds<'a>>, NoMemory>
-        ensures { IfOk result (λ b. seen_bounds b ≡ bounds (filter_tree filter.now) (names_of path.now) multikey) }
+        ensures { IfOk result (λ b.
+            seen_bounds b ≡ bounds (filter_tree filter.now) (names_of path.now) multikey) }
     {
         let path = path.components();
         filter_bounds(alloc, filter, &Index { path, multikey })
@@ -52,7 +53,8 @@ pub(crate) struct Index<'p> {
 
 #[cycle(bounding)]
 fn filter_bounds<'a>(alloc: Global, filter: &'a Filter, index: &Index) -> Found<'a>
-    ensures { IfOk result (λ b. seen_bounds b ≡ bounds (filter_tree filter.now) (component_names index.now.path.now) index.now.multikey) }
+    ensures { IfOk result (λ b. seen_bounds b
+        ≡ bounds (filter_tree filter.now) (component_names index.now.path.now) index.now.multikey) }
 {
     match filter {
         Filter::And(filters) => all_bounds(alloc, filters, index),
@@ -133,7 +135,8 @@ fn bounds_at<'a>(alloc: Global, operator: &'a Operator, index: &Index) -> Found<
 
 /// What is left of a path after a beginning of it; None where it begins otherwise.
 fn rest_after<'p>(start: &[Component], path: &'p [Component]) -> Option<&'p [Component]>
-    ensures { option_map (λ path. component_names path.now) result ≡ rest_after (component_names start.now) (component_names path.now) }
+    ensures { option_map (λ path. component_names path.now) result
+        ≡ rest_after (component_names start.now) (component_names path.now) }
 {
     let mut left = path;
     for component in start {
@@ -153,7 +156,8 @@ fn narrow<'a>(
     next: Option<Bounds<'a>>,
     multikey: bool,
 ) -> Result<(), NoMemory>
-    ensures { OnOk result (parts_bounds parts.new.items ≡ conjunction multikey (parts_bounds parts.old.items) (seen_bounds next.entry)) }
+    ensures { OnOk result (parts_bounds parts.new.items
+        ≡ conjunction multikey (parts_bounds parts.old.items) (seen_bounds next.entry)) }
 {
     let Some(bounds) = next else {
         return Ok(());
@@ -177,7 +181,8 @@ fn conjoined(parts: Vec<Bounds<'_>>) -> Option<Bounds<'_>>
 
 /// Bounds of an operand that orders values; unbounded where it is an array, since an array in a document is no key.
 fn unless_array(relation: Relation, operand: &Value) -> Option<Bounds<'_>>
-    ensures { seen_bounds result ≡ (if is_array (tree_of operand.now) then None else Some (is_related relation (tree_of operand.now))) }
+    ensures { seen_bounds result ≡ (if is_array
+        (tree_of operand.now) then None else Some (is_related relation (tree_of operand.now))) }
 {
     match operand {
         Value::Array(_) => None,
@@ -187,7 +192,8 @@ fn unless_array(relation: Relation, operand: &Value) -> Option<Bounds<'_>>
 
 /// `$type`: unbounded where arrays are listed, since an array in a document is no key. It fails only if memory runs out.
 fn type_bounds<'a>(alloc: Global, kinds: &[Kind]) -> Found<'a>
-    ensures { IfOk result (λ b. seen_bounds b ≡ (if is_listed kind.Array kinds.now then None else Some (keys_of_types kinds.now))) }
+    ensures { IfOk result (λ b. seen_bounds b
+        ≡ (if is_listed kind.Array kinds.now then None else Some (keys_of_types kinds.now))) }
 {
     if lists_arrays(kinds) {
         return Ok(None);
@@ -228,7 +234,8 @@ fn bounds_here<'a>(alloc: Global, operator: &'a Operator, multikey: bool) -> Fou
 
 /// The bounds of operators that all hold of one element, which is a key. It fails only if memory runs out.
 fn all_element_bounds<'a>(alloc: Global, operators: &'a [Operator]) -> Found<'a>
-    ensures { IfOk result (λ b. seen_bounds b ≡ all_element_bounds (operators_from (map operator_tree operators.now))) }
+    ensures { IfOk result (λ b.
+        seen_bounds b ≡ all_element_bounds (operators_from (map operator_tree operators.now))) }
 {
     let mut parts = Vec::new(alloc);
     for operator in operators {

@@ -25,18 +25,20 @@ pub fn bounds_lose_no_match()
         IsTrue (multikey || (length (keys d path) == 1)) → IsTrue (matches f d) →
         IsFalse (is_inside f path multikey (trees.leaf trees.null)) →
         IsTrue (list_any (is_inside f path multikey) (sparse_keys d path)) }
-    ensures alike { (f : filters.Filter) (path : Names) (multikey : Bool) (j k : trees.Tree) → IsTrue (equal j k) →
-        is_inside f path multikey j ≡ is_inside f path multikey k }
+    ensures alike { (f : filters.Filter) (path : Names) (multikey : Bool) (j k : trees.Tree) →
+        IsTrue (equal j k) → is_inside f path multikey j ≡ is_inside f path multikey k }
 {}
 
 /// A filter is bounded for a multikey index exactly where it is for another.
 #[tactic(auto, using(crate::proofs::AlikeLemmas::alike_bounds))]
 pub fn bounded_alike()
-    ensures { (f : filters.Filter) (path : Names) → is_some (bounds f path true) ≡ is_some (bounds f path false) }
+    ensures { (f : filters.Filter) (path : Names) →
+        is_some (bounds f path true) ≡ is_some (bounds f path false) }
 {}
 
 /// What is not above a key before a cut is before it too, so that keys in their order are parted by a cut.
 #[tactic(auto, using(crate::proofs::FilterBoundsLemmas::falls_once))]
 pub fn cuts_fall_once()
-    ensures { (cut : cuts.Cut) (j k : trees.Tree) → IsFalse (is_lt (cmp k j)) → IsTrue (is_before cut k) → IsTrue (is_before cut j) }
+    ensures { (cut : cuts.Cut) (j k : trees.Tree) →
+        IsFalse (is_lt (cmp k j)) → IsTrue (is_before cut k) → IsTrue (is_before cut j) }
 {}

@@ -96,7 +96,8 @@ pub(crate) fn equal_bounds<'a>(alloc: Global, value: &'a Value) -> Result<Bounds
 
 /// The keys that equal the first element, or undefined where there is none.
 fn first_range(elements: &[Value]) -> Bounds<'_>
-    ensures { keys_within result ≡ keys_equal_to (get_or (map tree_of elements.now) 0 (leaf trees.undefined)) }
+    ensures { keys_within result
+        ≡ keys_equal_to (get_or (map tree_of elements.now) 0 (leaf trees.undefined)) }
 {
     match elements.first() {
         Some(first) => equal_to(first),
@@ -137,7 +138,8 @@ pub(crate) fn ranges_of_kinds<'a>(
     alloc: Global,
     kinds: &[Kind],
 ) -> Result<Vec<Bounds<'a>>, NoMemory>
-    ensures { IfOk result (λ v. map keys_within v.items ≡ map (λ kind. is_of_class (class_of_kind kind)) kinds.now) }
+    ensures { IfOk result (λ v.
+        map keys_within v.items ≡ map (λ kind. is_of_class (class_of_kind kind)) kinds.now) }
 {
     let mut parts = Vec::new(alloc);
     for kind in kinds {
@@ -152,7 +154,8 @@ pub(crate) fn bounds_of_all<'a>(
     members: &'a [Value],
     multikey: bool,
 ) -> Result<Bounds<'a>, NoMemory>
-    ensures { IfOk result (λ b. keys_within b ≡ keys_of_each multikey (map keys_of_equal (map tree_of members.now))) }
+    ensures { IfOk result (λ b.
+        keys_within b ≡ keys_of_each multikey (map keys_of_equal (map tree_of members.now))) }
 {
     let Some(first) = members.first() else {
         return Ok(Bounds::Or(Vec::new(alloc)));
@@ -165,7 +168,8 @@ pub(crate) fn bounds_of_all<'a>(
 
 /// `$all` of an element by itself: it equals each member; of no member, no key. It fails only if memory runs out.
 pub(crate) fn ranges_of_all<'a>(alloc: Global, members: &'a [Value]) -> Result<Bounds<'a>, NoMemory>
-    ensures { IfOk result (λ b. keys_within b ≡ keys_of_each false (map keys_equal_to (map tree_of members.now))) }
+    ensures { IfOk result (λ b.
+        keys_within b ≡ keys_of_each false (map keys_equal_to (map tree_of members.now))) }
 {
     let ranges = ranges_of_equal(alloc, members)?;
     if ranges.is_empty() {

@@ -83,7 +83,8 @@ fn front_of_text(text: &[u8]) -> TextFront
 /// The order of two keys by their fronts. None where the fronts do not tell it: of keys of different kinds, of a kind that has no
 /// front, and of two longer texts that begin alike. It takes no memory.
 pub fn compare_fronts(a: Front, b: Front) -> Option<Ordering>
-    ensures order { IfSome result (λ o. (x y : Tree) → a ≡ front_of x → b ≡ front_of y → o ≡ cmp x y) }
+    ensures order { IfSome result (λ o. (x y : Tree) →
+        a ≡ front_of x → b ≡ front_of y → o ≡ cmp x y) }
     ensures told { is_some result ≡ tells_order a b }
 {
     match (a, b) {
@@ -97,7 +98,8 @@ pub fn compare_fronts(a: Front, b: Front) -> Option<Ordering>
 
 /// The order of two texts by their fronts. None where both are longer and have one front.
 fn compare_texts(a: TextFront, b: TextFront) -> Option<Ordering>
-    ensures order { IfSome result (λ o. (s t : List ℕ) → a ≡ front_of_text s → b ≡ front_of_text t → o ≡ bytes_cmp s t) }
+    ensures order { IfSome result (λ o. (s t : List ℕ) →
+        a ≡ front_of_text s → b ≡ front_of_text t → o ≡ bytes_cmp s t) }
     ensures told { is_some result ≡ texts_tell a b }
 {
     let (first, second) = (a.bytes, b.bytes);

@@ -37,9 +37,11 @@ pub trait Input {
     /// and gives false. A device that holds none gives false always.
     #[inline(always)]
     fn read_held(&mut self, room: &mut [u8]) -> bool
-        ensures bytes { IsTrue result → (0 < length room.old) × Consumes (state self.old).left (state self.new).left room.new }
+        ensures bytes { IsTrue result →
+            (0 < length room.old) × Consumes (state self.old).left (state self.new).left room.new }
         ensures gives { IsTrue result → read_gives self.old (Some room.new) self.new }
-        ensures called { IsTrue result → (state self.new).calls ≡ after_more (state self.old).calls 1 }
+        ensures called { IsTrue result →
+            (state self.new).calls ≡ after_more (state self.old).calls 1 }
         ensures well { (state self.new).failures ≡ (state self.old).failures }
         ensures none { result ≡ false → (self.new ≡ self.old) × (room.new ≡ room.old) }
     {
@@ -61,7 +63,8 @@ pub struct SystemInput<R: Read + Drop> {
 impl<R: Read + Drop> SystemInput<R> {
     /// The device over this reader, with both counts at 0.
     pub fn new(reader: R) -> SystemInput<R>
-        ensures state { ⟦<SystemInput<R> as Input>⟧.state result ≡ record { left = R.remaining reader; calls = 0; failures = 0 } }
+        ensures state { ⟦<SystemInput<R> as Input>⟧.state result
+            ≡ record { left = R.remaining reader; calls = 0; failures = 0 } }
     {
         let tally = Tally::default();
         SystemInput { reader, tally }
@@ -93,7 +96,8 @@ pub struct BufferedInput<R: Read + Drop> {
 impl<R: Read + Drop> BufferedInput<R> {
     /// The device over this reader, with both counts at 0.
     pub fn new(reader: BufReader<R>) -> BufferedInput<R>
-        ensures state { ⟦<BufferedInput<R> as Input>⟧.state result ≡ record { left = reader_remaining R.remaining reader; calls = 0; failures = 0 } }
+        ensures state { ⟦<BufferedInput<R> as Input>⟧.state result
+            ≡ record { left = reader_remaining R.remaining reader; calls = 0; failures = 0 } }
     {
         let device = SystemInput::new(reader);
         BufferedInput { device }
@@ -142,7 +146,11 @@ impl<'a> MemoryInput<'a> {
     /// fails and gives none. Both counts are at 0.
     pub fn new(bytes: &'a [u8], most: usize, failing: Option<u64>) -> MemoryInput<'a>
         requires { 0 < most }
-        ensures state { ⟦<MemoryInput<'a> as Input>⟧.state result ≡ record { left = Some bytes.now; calls = 0; failures = 0 } }
+        ensures state { ⟦<MemoryInput<'a> as Input>⟧.state result ≡ record {
+          left = Some bytes.now;
+          calls = 0;
+          failures = 0;
+        } }
         ensures most { result.most ≡ most }
         ensures failing { result.failing ≡ failing }
     {
@@ -172,9 +180,10 @@ impl<'a> MemoryInput<'a> {
 impl<'a> Input for MemoryInput<'a> {
     ghost state = { λ s. reader_of (Some s.bytes.now) s.tally };
 
-    ghost read_gives = { λ s answer t. (t.most ≡ s.most) × (t.failing ≡ s.failing) × MatchOption answer
-        (s.failing ≡ Some (after_more s.tally.calls 1))
-        (λ part. (s.failing ≢ Some (after_more s.tally.calls 1)) × (length part ≤ s.most) × (s.bytes.now ≡ part ++ t.bytes.now)) };
+    ghost read_gives = { λ s answer t. (t.most ≡ s.most) × (t.failing ≡ s.failing)
+        × MatchOption answer (s.failing ≡ Some (after_more s.tally.calls 1)) (λ part.
+        (s.failing ≢ Some (after_more s.tally.calls 1))
+        × (length part ≤ s.most) × (s.bytes.now ≡ part ++ t.bytes.now)) };
 
     ghost calls_fit = { λ s. Prim.search rules };
 
@@ -183,12 +192,18 @@ impl<'a> Input for MemoryInput<'a> {
     /// All that the room, the device and `most` let a call give.
     fn read(&mut self, room: &mut [u8]) -> Result<usize, DeviceFault>
         ensures within { IfOk result (λ n. n ≤ length room.new) }
-        ensures count { IfOk result (λ n. n ≡ min (min (length self.old.bytes.now) (length room.old)) self.old.most) }
-        ensures bytes { ReadConsumes (⟦<MemoryInput<'a> as Input>⟧.state self.old).left (⟦<MemoryInput<'a> as Input>⟧.state self.new).left result room.new }
-        ensures gives { ⟦<MemoryInput<'a> as Input>⟧.read_gives self.old (bytes_given result room.new) self.new }
-        ensures called { (⟦<MemoryInput<'a> as Input>⟧.state self.new).calls ≡ after_more (⟦<MemoryInput<'a> as Input>⟧.state self.old).calls 1 }
-        ensures well { OnOk result ((⟦<MemoryInput<'a> as Input>⟧.state self.new).failures ≡ (⟦<MemoryInput<'a> as Input>⟧.state self.old).failures) }
-        ensures failed { OnErr result ((⟦<MemoryInput<'a> as Input>⟧.state self.new).failures ≡ after_more (⟦<MemoryInput<'a> as Input>⟧.state self.old).failures 1) }
+        ensures count { IfOk result (λ n.
+            n ≡ min (min (length self.old.bytes.now) (length room.old)) self.old.most) }
+        ensures bytes { ReadConsumes (⟦<MemoryInput<'a> as Input>⟧.state self.old).left
+            (⟦<MemoryInput<'a> as Input>⟧.state self.new).left result room.new }
+        ensures gives { ⟦<MemoryInput<'a> as Input>⟧.read_gives self.old
+            (bytes_given result room.new) self.new }
+        ensures called { (⟦<MemoryInput<'a> as Input>⟧.state self.new).calls
+            ≡ after_more (⟦<MemoryInput<'a> as Input>⟧.state self.old).calls 1 }
+        ensures well { OnOk result ((⟦<MemoryInput<'a> as Input>⟧.state self.new).failures
+            ≡ (⟦<MemoryInput<'a> as Input>⟧.state self.old).failures) }
+        ensures failed { OnErr result ((⟦<MemoryInput<'a> as Input>⟧.state self.new).failures
+            ≡ after_more (⟦<MemoryInput<'a> as Input>⟧.state self.old).failures 1) }
     {
         self.tally.call();
         if self.failing == Some(self.tally.calls) {

@@ -25,8 +25,10 @@ pub trait Output {
         ensures bytes { WriteAppends (state self.old).held (state self.new).held result bytes.now }
         ensures takes { write_takes self.old bytes.now (count_taken result) self.new }
         ensures called { (state self.new).calls ≡ after_more (state self.old).calls 1 }
-        ensures well { IfOk result (λ n. (0 < n) ⊎ (bytes.now ≡ []) → (state self.new).failures ≡ (state self.old).failures) }
-        ensures none { IfOk result (λ n. n ≡ 0 → bytes.now ≢ [] → (state self.new).failures ≡ after_more (state self.old).failures 1) }
+        ensures well { IfOk result (λ n. (0 < n) ⊎ (bytes.now ≡ []) →
+            (state self.new).failures ≡ (state self.old).failures) }
+        ensures none { IfOk result (λ n. n ≡ 0 →
+            bytes.now ≢ [] → (state self.new).failures ≡ after_more (state self.old).failures 1) }
         ensures failed { OnErr result ((state self.new).failures ≡ after_more (state self.old).failures 1) };
 
     ghost calls_fit: { (s : Self) → (state s).calls ≤ greatest };
@@ -44,7 +46,8 @@ pub struct SystemOutput<W: Write + Drop> {
 impl<W: Write + Drop> SystemOutput<W> {
     /// The device over this writer, with both counts at 0.
     pub fn new(writer: W) -> SystemOutput<W>
-        ensures state { ⟦<SystemOutput<W> as Output>⟧.state result ≡ record { held = W.contents writer; calls = 0; failures = 0 } }
+        ensures state { ⟦<SystemOutput<W> as Output>⟧.state result
+            ≡ record { held = W.contents writer; calls = 0; failures = 0 } }
     {
         let tally = Tally::default();
         SystemOutput { writer, tally }
@@ -98,7 +101,11 @@ impl<'a> MemoryOutput<'a> {
     /// full. The call that `failing` names takes none. Both counts are at 0.
     pub fn new(room: &'a mut [u8], most: usize, failing: Option<FailingWrite>) -> MemoryOutput<'a>
         requires { 0 < most }
-        ensures state { ⟦<MemoryOutput<'a> as Output>⟧.state result ≡ record { held = Some []; calls = 0; failures = 0 } }
+        ensures state { ⟦<MemoryOutput<'a> as Output>⟧.state result ≡ record {
+          held = Some [];
+          calls = 0;
+          failures = 0;
+        } }
         ensures room { length result.room.now ≡ length room.old }
         ensures most { result.most ≡ most }
         ensures failing { result.failing ≡ failing }
@@ -137,10 +144,12 @@ impl<'a> MemoryOutput<'a> {
 impl Output for MemoryOutput<'_> {
     ghost state = { λ s. writer_of (Some (take s.filled s.room.now)) s.tally };
 
-    ghost write_takes = { λ s bytes answer t. (t.most ≡ s.most) × (t.failing ≡ s.failing)
-        × (length t.room.now ≡ length s.room.now) × MatchOption answer (s.failing ≡ Some (Error (after_more s.tally.calls 1)))
-        (λ n. (s.failing ≢ Some (Error (after_more s.tally.calls 1))) × (n ≤ s.most)
-        × (s.failing ≡ Some (Zero (after_more s.tally.calls 1)) → n ≡ 0) × (s.failing ≢ Some (Zero (after_more s.tally.calls 1)) →
+    ghost write_takes = { λ s bytes answer t. (t.most ≡ s.most)
+        × (t.failing ≡ s.failing) × (length t.room.now ≡ length s.room.now)
+        × MatchOption answer (s.failing ≡ Some (Error (after_more s.tally.calls 1))) (λ n.
+        (s.failing ≢ Some (Error (after_more s.tally.calls 1)))
+        × (n ≤ s.most) × (s.failing ≡ Some (Zero (after_more s.tally.calls 1)) → n ≡ 0)
+        × (s.failing ≢ Some (Zero (after_more s.tally.calls 1)) →
         n ≡ min (min (length bytes) (length s.room.now - s.filled)) s.most)) };
 
     ghost calls_fit = { λ s. Prim.search rules };
@@ -177,8 +186,9 @@ pub fn write_all<W: Output>(writer: &mut W, bytes: &[u8]) -> Result<(), DeviceFa
 
     // The writes, also of an unknown device: each of all that was left, and none after a failure.
     ensures writes { OnOk result (AreWrites W.write_takes bytes.now writer.old [] writer.new) }
-    ensures stopped { OnErr result ((rest : List ℕ) × (last : W) × AreWrites W.write_takes bytes.now writer.old rest last
-        × (rest ≢ []) × (W.write_takes last rest None writer.new ⊎ W.write_takes last rest (Some 0) writer.new)) }
+    ensures stopped { OnErr result ((rest : List ℕ)
+        × (last : W) × AreWrites W.write_takes bytes.now writer.old rest last × (rest ≢ [])
+        × (W.write_takes last rest None writer.new ⊎ W.write_takes last rest (Some 0) writer.new)) }
 {
     let mut rest = bytes;
     while !rest.is_empty() {

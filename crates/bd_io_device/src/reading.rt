@@ -65,20 +65,26 @@ pub fn read_all<R: Input>(
     // All bytes, where they are known, and as the reads gave them.
     ensures bytes { IfOk result (λ v. IfSome (R.state reader.old).left (λ xs. v.items ≡ xs)) }
     ensures end { OnOk result (IsAtEnd (R.state reader.new).left) }
-    ensures whole { IfOk result (λ v. (n : ℕ) × (last : R) × (n < limits.turns)
-        × AreReads R.read_gives n reader.old v.items last × R.read_gives last (Some []) reader.new) }
+    ensures whole { IfOk result (λ v. (n : ℕ)
+        × (last : R) × (n < limits.turns) × AreReads R.read_gives n reader.old v.items last
+        × R.read_gives last (Some []) reader.new) }
     ensures short { IfOk result (λ v. vec_len v ≤ limits.bytes) }
-    ensures front { OnErr result ((given : List ℕ) × Consumes (R.state reader.old).left (R.state reader.new).left given) }
-    ensures turns { (R.state reader.new).calls ≤ after_more (R.state reader.old).calls limits.turns }
+    ensures front { OnErr result ((given : List ℕ)
+        × Consumes (R.state reader.old).left (R.state reader.new).left given) }
+    ensures turns { (R.state reader.new).calls
+        ≤ after_more (R.state reader.old).calls limits.turns }
 
     // The last read went past the limit of bytes.
-    ensures too_long { IsErrOf result ReadFault.TooLong → (n : ℕ) × (given : List ℕ) × (part : List ℕ) × (last : R) × (n < limits.turns)
+    ensures too_long { IsErrOf result ReadFault.TooLong →
+        (n : ℕ) × (given : List ℕ) × (part : List ℕ) × (last : R) × (n < limits.turns)
         × (length given ≤ limits.bytes) × (limits.bytes < length given + length part)
         × AreReads R.read_gives n reader.old given last × R.read_gives last (Some part) reader.new }
-    ensures too_long_known { IsErrOf result ReadFault.TooLong → IfSome (R.state reader.old).left (λ xs. limits.bytes < length xs) }
+    ensures too_long_known { IsErrOf result ReadFault.TooLong →
+        IfSome (R.state reader.old).left (λ xs. limits.bytes < length xs) }
 
     // All reads were made, and each gave a byte at least.
-    ensures too_many { IsErrOf result ReadFault.TooManyTurns → (given : List ℕ) × (length given ≤ limits.bytes)
+    ensures too_many { IsErrOf result ReadFault.TooManyTurns →
+        (given : List ℕ) × (length given ≤ limits.bytes)
         × AreReads R.read_gives limits.turns reader.old given reader.new
         × Consumes (R.state reader.old).left (R.state reader.new).left given }
     ensures too_many_calls { IsErrOf result ReadFault.TooManyTurns →
@@ -88,12 +94,15 @@ pub fn read_all<R: Input>(
     ensures device { IsErrOf result ReadFault.Device →
         (n : ℕ) × (given : List ℕ) × (last : R) × (n < limits.turns) × (length given ≤ limits.bytes)
         × AreReads R.read_gives n reader.old given last × R.read_gives last None reader.new }
-    ensures failed { IsErrOf result ReadFault.Device → (R.state reader.new).failures ≡ after_more (R.state reader.old).failures 1 }
-    ensures well { ¬ (IsErrOf result ReadFault.Device) → (R.state reader.new).failures ≡ (R.state reader.old).failures }
+    ensures failed { IsErrOf result ReadFault.Device →
+        (R.state reader.new).failures ≡ after_more (R.state reader.old).failures 1 }
+    ensures well { ¬ (IsErrOf result ReadFault.Device) →
+        (R.state reader.new).failures ≡ (R.state reader.old).failures }
 
     // The reads before a refusal of the allocator gave a byte each, and no more than the limit.
-    ensures memory { IsErrOf result ReadFault.NoMemory → (n : ℕ) × (given : List ℕ) × (n ≤ limits.turns) × (length given ≤ limits.bytes)
-        × AreReads R.read_gives n reader.old given reader.new
+    ensures memory { IsErrOf result ReadFault.NoMemory →
+        (n : ℕ) × (given : List ℕ) × (n ≤ limits.turns)
+        × (length given ≤ limits.bytes) × AreReads R.read_gives n reader.old given reader.new
         × Consumes (R.state reader.old).left (R.state reader.new).left given }
 {
     let mut buffer = [0u8; 65536];
@@ -132,20 +141,26 @@ pub fn fill<R: Input>(
     limits: Limits,
 ) -> Result<FillCounts, ReadFault>
     ensures fits { IfOk result (λ f. f.bytes ≤ length room.old) }
-    ensures bytes { IfOk result (λ f. Consumes (R.state reader.old).left (R.state reader.new).left (take f.bytes room.new)) }
+    ensures bytes { IfOk result (λ f.
+        Consumes (R.state reader.old).left (R.state reader.new).left (take f.bytes room.new)) }
     ensures end { IfOk result (λ f. f.bytes < length room.old → IsAtEnd (R.state reader.new).left) }
     ensures within { IfOk result (λ f. (f.bytes ≤ limits.bytes) × (f.turns ≤ limits.turns)) }
-    ensures called { IfOk result (λ f. (R.state reader.new).calls ≡ after_more (R.state reader.old).calls f.turns) }
-    ensures turns { (R.state reader.new).calls ≤ after_more (R.state reader.old).calls limits.turns }
+    ensures called { IfOk result (λ f.
+        (R.state reader.new).calls ≡ after_more (R.state reader.old).calls f.turns) }
+    ensures turns { (R.state reader.new).calls
+        ≤ after_more (R.state reader.old).calls limits.turns }
     // The reads, also of an unknown device. Where too many would be needed, all were made and each gave a byte at least.
-    ensures reads { IfOk result (λ f. FillsRoom R.read_gives (length room.old) f.turns reader.old (take f.bytes room.new) reader.new) }
+    ensures reads { IfOk result (λ f. FillsRoom R.read_gives
+        (length room.old) f.turns reader.old (take f.bytes room.new) reader.new) }
     ensures unfilled { IfErr result
         (FailsToFill R.read_gives R.state limits (length room.old) reader.old reader.new) }
     ensures too_many_calls { IsErrOf result ReadFault.TooManyTurns →
         (R.state reader.new).calls ≡ after_more (R.state reader.old).calls limits.turns }
     // The last read failed, and it alone: exactly then the count of failures rises.
-    ensures failed { IsErrOf result ReadFault.Device → (R.state reader.new).failures ≡ after_more (R.state reader.old).failures 1 }
-    ensures well { ¬ (IsErrOf result ReadFault.Device) → (R.state reader.new).failures ≡ (R.state reader.old).failures }
+    ensures failed { IsErrOf result ReadFault.Device →
+        (R.state reader.new).failures ≡ after_more (R.state reader.old).failures 1 }
+    ensures well { ¬ (IsErrOf result ReadFault.Device) →
+        (R.state reader.new).failures ≡ (R.state reader.old).failures }
 {
     let size = room.len();
     if 0 < limits.turns && size as u64 <= limits.bytes && reader.read_held(room) {
@@ -186,19 +201,24 @@ pub fn fill_after<R: Input>(
 ) -> Result<FillCounts, ReadFault>
     requires { (4 ≤ size) × (size ≤ length room.old) }
     ensures fits { IfOk result (λ f. f.bytes + 4 ≤ size) }
-    ensures gives { IfOk result (λ f. (given : List ℕ) × Consumes (R.state reader.old).left (R.state reader.new).left given
+    ensures gives { IfOk result (λ f. (given : List ℕ)
+        × Consumes (R.state reader.old).left (R.state reader.new).left given
         × (length given ≡ f.bytes) × (take (4 + f.bytes) room.new ≡ head ++ given)
         × FillsRoom R.read_gives (size - 4) f.turns reader.old given reader.new) }
     ensures end { IfOk result (λ f. f.bytes + 4 < size → IsAtEnd (R.state reader.new).left) }
     ensures within { IfOk result (λ f. (f.bytes ≤ limits.bytes) × (f.turns ≤ limits.turns)) }
-    ensures called { IfOk result (λ f. (R.state reader.new).calls ≡ after_more (R.state reader.old).calls f.turns) }
-    ensures turns { (R.state reader.new).calls ≤ after_more (R.state reader.old).calls limits.turns }
+    ensures called { IfOk result (λ f.
+        (R.state reader.new).calls ≡ after_more (R.state reader.old).calls f.turns) }
+    ensures turns { (R.state reader.new).calls
+        ≤ after_more (R.state reader.old).calls limits.turns }
     ensures unfilled { IfErr result
         (FailsToFill R.read_gives R.state limits (size - 4) reader.old reader.new) }
     ensures too_many_calls { IsErrOf result ReadFault.TooManyTurns →
         (R.state reader.new).calls ≡ after_more (R.state reader.old).calls limits.turns }
-    ensures failed { IsErrOf result ReadFault.Device → (R.state reader.new).failures ≡ after_more (R.state reader.old).failures 1 }
-    ensures well { ¬ (IsErrOf result ReadFault.Device) → (R.state reader.new).failures ≡ (R.state reader.old).failures }
+    ensures failed { IsErrOf result ReadFault.Device →
+        (R.state reader.new).failures ≡ after_more (R.state reader.old).failures 1 }
+    ensures well { ¬ (IsErrOf result ReadFault.Device) →
+        (R.state reader.new).failures ≡ (R.state reader.old).failures }
 {
     room[..4].copy_from_slice(&head);
     fill(reader, &mut room[4..size], limits)

@@ -35,7 +35,8 @@ impl LineBuffer {
 
     /// No line yet. No memory is taken.
     pub fn new(alloc: Global, limits: Limits) -> LineBuffer
-        ensures empty { (result.left ≡ limits) × (result.line.items ≡ []) × (result.block.items ≡ []) }
+        ensures empty { (result.left ≡ limits)
+            × (result.line.items ≡ []) × (result.block.items ≡ []) }
         ensures starts { (result.ended ≡ false) × (result.failed ≡ None) }
     {
         LineBuffer {
@@ -57,7 +58,8 @@ impl LineBuffer {
 
     /// How many bytes are held: those of a line and those of a read, at most 16,842,752.
     pub fn held(&self) -> usize
-        ensures { (result ≡ length self.now.line.items + length self.now.block.items) × (result ≤ 16842752) }
+        ensures { (result ≡ length self.now.line.items + length self.now.block.items)
+            × (result ≤ 16842752) }
     {
         self.line.len() + self.block.len()
     }
@@ -75,16 +77,21 @@ impl LineBuffer {
     ///
     /// A call after one that met a fault answers the same fault, and reads nothing.
     pub fn read_next<R: Input>(&mut self, reader: &mut R) -> Result<bool, ReadFault>
-        ensures reads { result ≡ Ok true → ReadsLine R.state R.read_gives self.old self.new reader.old reader.new }
-        ensures end { result ≡ Ok false → FindsNoLine R.state R.read_gives self.old self.new reader.old reader.new }
-        ensures fails { self.old.failed ≡ None → IfErr result
-            (FailsToReadLine R.state R.read_gives self.old.left (held_after self.old) reader.old reader.new) }
+        ensures reads { result ≡ Ok true →
+            ReadsLine R.state R.read_gives self.old self.new reader.old reader.new }
+        ensures end { result ≡ Ok false →
+            FindsNoLine R.state R.read_gives self.old self.new reader.old reader.new }
+        ensures fails { self.old.failed ≡ None →
+            IfErr result (FailsToReadLine R.state R.read_gives self.old.left
+            (held_after self.old) reader.old reader.new) }
         // After the end no read is made.
-        ensures quiet { self.old.ended ≡ true → (reader.new ≡ reader.old) × (self.new.left ≡ self.old.left) }
+        ensures quiet { self.old.ended ≡ true →
+            (reader.new ≡ reader.old) × (self.new.left ≡ self.old.left) }
         ensures ends { self.old.ended ≡ true → self.old.failed ≡ None → result ≡ Ok false }
         // After a fault each call answers it, and reads nothing.
         ensures again { IfSome self.old.failed (λ f. (result ≡ Err f) × (reader.new ≡ reader.old)) }
-        ensures failed { IfErr result (λ f. (self.new.failed ≡ Some f) × (self.new.line.items ≡ [])) }
+        ensures failed { IfErr result (λ f. (self.new.failed ≡ Some f)
+            × (self.new.line.items ≡ [])) }
         ensures works { OnOk result (self.new.failed ≡ None) }
     {
         self.line.clear();
@@ -102,11 +109,14 @@ impl LineBuffer {
     /// Takes the next line into the buffer, where it holds none; false at the end.
     fn advance<R: Input>(&mut self, reader: &mut R) -> Result<bool, ReadFault>
         requires empty { self.old.line.items ≡ [] }
-        ensures reads { result ≡ Ok true → ReadsLine R.state R.read_gives self.old self.new reader.old reader.new }
-        ensures end { result ≡ Ok false → FindsNoLine R.state R.read_gives self.old self.new reader.old reader.new }
-        ensures fails { IfErr result
-            (FailsToReadLine R.state R.read_gives self.old.left (held_after self.old) reader.old reader.new) }
-        ensures quiet { self.old.ended ≡ true → (reader.new ≡ reader.old) × (self.new.left ≡ self.old.left) }
+        ensures reads { result ≡ Ok true →
+            ReadsLine R.state R.read_gives self.old self.new reader.old reader.new }
+        ensures end { result ≡ Ok false →
+            FindsNoLine R.state R.read_gives self.old self.new reader.old reader.new }
+        ensures fails { IfErr result (FailsToReadLine R.state R.read_gives self.old.left
+            (held_after self.old) reader.old reader.new) }
+        ensures quiet { self.old.ended ≡ true →
+            (reader.new ≡ reader.old) × (self.new.left ≡ self.old.left) }
         ensures ends { self.old.ended ≡ true → result ≡ Ok false }
         ensures state { self.new.failed ≡ self.old.failed }
     {
@@ -121,16 +131,18 @@ impl LineBuffer {
 
     /// Takes what is held after the line up to a newline into it; false where there is none.
     fn take_part(&mut self) -> Result<bool, ReadFault>
-        ensures found { result ≡ Ok true → (part : List ℕ) × IsLine part
-            × (self.new.line.items ≡ self.old.line.items ++ part)
-            × (drop self.old.start self.old.block.items ≡ part ++ 10 ∷ drop self.new.start self.new.block.items) }
-        ensures none { result ≡ Ok false → IsLine (drop self.old.start self.old.block.items)
-            × (self.new.line.items ≡ self.old.line.items ++ drop self.old.start self.old.block.items)
+        ensures found { result ≡ Ok true →
+            (part : List ℕ) × IsLine part × (self.new.line.items ≡ self.old.line.items ++ part)
+            × (drop self.old.start self.old.block.items
+            ≡ part ++ 10 ∷ drop self.new.start self.new.block.items) }
+        ensures none { result ≡ Ok false →
+            IsLine (drop self.old.start self.old.block.items) × (self.new.line.items
+            ≡ self.old.line.items ++ drop self.old.start self.old.block.items)
             × (drop self.new.start self.new.block.items ≡ []) }
         ensures kept { (self.new.left ≡ self.old.left) × (self.new.ended ≡ self.old.ended)
             × (self.new.failed ≡ self.old.failed) }
-        ensures long { IsErrOf result ReadFault.TooLong → (part : List ℕ) × (rest : List ℕ) × IsLine part
-            × (drop self.old.start self.old.block.items ≡ part ++ rest)
+        ensures long { IsErrOf result ReadFault.TooLong → (part : List ℕ) × (rest : List ℕ)
+            × IsLine part × (drop self.old.start self.old.block.items ≡ part ++ rest)
             × (longest_command < length self.old.line.items + length part) }
         ensures fault { IfErr result (λ f. (f ≡ ReadFault.TooLong) ⊎ (f ≡ ReadFault.NoMemory)) }
     {
@@ -164,12 +176,13 @@ impl LineBuffer {
     fn fetch<R: Input>(&mut self, reader: &mut R) -> Result<(), ReadFault>
         requires drained { drop self.old.start self.old.block.items ≡ [] }
         requires part { IsLine self.old.line.items }
-        ensures gives { OnOk result (GivesBytes R.state R.read_gives self.old.left self.new.left self.new.ended
-            (drop self.new.start self.new.block.items) reader.old reader.new) }
-        ensures one { OnOk result (R.read_gives reader.old (Some (drop self.new.start self.new.block.items)) reader.new) }
+        ensures gives { OnOk result (GivesBytes R.state R.read_gives self.old.left self.new.left
+            self.new.ended (drop self.new.start self.new.block.items) reader.old reader.new) }
+        ensures one { OnOk result
+            (R.read_gives reader.old (Some (drop self.new.start self.new.block.items)) reader.new) }
         ensures turned { OnOk result (self.new.left.turns < self.old.left.turns) }
-        ensures fails { IfErr result
-            (FailsToReadLine R.state R.read_gives self.old.left self.old.line.items reader.old reader.new) }
+        ensures fails { IfErr result (FailsToReadLine
+            R.state R.read_gives self.old.left self.old.line.items reader.old reader.new) }
         ensures kept { (self.new.line ≡ self.old.line) × (self.new.failed ≡ self.old.failed) }
     {
         if self.left.turns == 0 {

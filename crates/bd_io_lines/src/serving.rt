@@ -77,8 +77,8 @@ fn answer<O: Output, S: Replier>(
     ensures replied { OnOk result ((written : List ℕ)
         × RepliesInTurn S.replies session.old (not_empty (line.now ∷ [])) written session.new
         × TakesText (over O.state out.old out.new) written) }
-    ensures starved { IsErrOf result ServeFault.NoMemory → (is_empty_line line.now ≡ false) × (out.new ≡ out.old)
-        × StarvesAt S.stays S.replies session.old line.now session.new }
+    ensures starved { IsErrOf result ServeFault.NoMemory → (is_empty_line line.now ≡ false)
+        × (out.new ≡ out.old) × StarvesAt S.stays S.replies session.old line.now session.new }
     ensures broke { IsErrOf result ServeFault.Unwritten → (is_empty_line line.now ≡ false)
         × ((reply : List ℕ) × S.replies session.old line.now reply session.new
         × BreaksWithin (over O.state out.old out.new) (reply ++ 10 ∷ [])) }
@@ -111,10 +111,10 @@ pub fn serve<R: Input, O: Output, S: Replier>(
     session: &mut S,
     out: &mut O,
 ) -> Result<(), ServeFault>
-    ensures serves { OnOk result (ServesAll R.state R.read_gives S.replies limits reader.old reader.new
-        (over O.state out.old out.new) session.old session.new) }
-    ensures stops { IfErr result (StopsServing R.state R.read_gives S.replies limits reader.old reader.new
-        (over O.state out.old out.new) session.old session.new S.stays) }
+    ensures serves { OnOk result (ServesAll R.state R.read_gives S.replies
+        limits reader.old reader.new (over O.state out.old out.new) session.old session.new) }
+    ensures stops { IfErr result (StopsServing R.state R.read_gives S.replies limits
+        reader.old reader.new (over O.state out.old out.new) session.old session.new S.stays) }
 {
     let mut lines = LineBuffer::new(alloc, limits);
     let mut text = Vec::new(alloc);

@@ -84,7 +84,8 @@ impl<D: Output + Drop> Gathering<D> {
     /// nothing.
     fn holds(&mut self, bytes: &[u8]) -> bool
         requires { self.old.fate ≡ Kept }
-        ensures held { result ≡ true → self.new.waiting.items ≡ self.old.waiting.items ++ bytes.now }
+        ensures held { result ≡ true →
+            self.new.waiting.items ≡ self.old.waiting.items ++ bytes.now }
         ensures not_held { result ≡ false → self.new.waiting.items ≡ self.old.waiting.items }
         ensures device { self.new.device ≡ self.old.device }
         ensures fate { self.new.fate ≡ self.old.fate }
@@ -97,7 +98,8 @@ impl<D: Output + Drop> Gathering<D> {
     /// Takes bytes after those that wait; these are handed on before, where both do not fit. The bytes go to the device
     /// themselves where they are many, or where there is no memory for them.
     fn gather(&mut self, bytes: &[u8]) -> Result<(), DeviceFault>
-        ensures gathered { OnOk result ((self.old.fate ≡ Kept) × (self.new.fate ≡ Kept) × Gathers D.Output self.old bytes.now self.new) }
+        ensures gathered { OnOk result ((self.old.fate ≡ Kept)
+            × (self.new.fate ≡ Kept) × Gathers D.Output self.old bytes.now self.new) }
         ensures broken { OnErr result (self.old.fate ≡ Kept →
             Breaks D.Output self.old.device (self.old.waiting.items ++ bytes.now) self.new.device) }
         ensures empty { OnErr result (self.new.waiting.items ≡ []) }
@@ -121,7 +123,8 @@ impl<D: Output + Drop> Gathering<D> {
 
     /// The same; an error answers the bytes by the loss.
     fn take(&mut self, bytes: &[u8]) -> Result<(), DeviceFault>
-        ensures taken { OnOk result ((self.old.fate ≡ Kept) × (self.new.fate ≡ Kept) × Gathers D.Output self.old bytes.now self.new) }
+        ensures taken { OnOk result ((self.old.fate ≡ Kept)
+            × (self.new.fate ≡ Kept) × Gathers D.Output self.old bytes.now self.new) }
         ensures broken { OnErr result (self.old.fate ≡ Kept →
             Breaks D.Output self.old.device (self.old.waiting.items ++ bytes.now) self.new.device) }
         ensures told { OnErr result (self.new.fate ≡ Told) }
@@ -140,7 +143,8 @@ impl<D: Output + Drop> Gathering<D> {
     fn read_after<R: Read>(&mut self, reader: &mut R, room: &mut [u8]) -> io::Result<usize>
         ensures handed { HandsOn D.Output self.old self.new }
         ensures empty { self.new.waiting.items ≡ [] }
-        ensures lost { self.new.fate ≢ Kept → IsErr result × (reader.new ≡ reader.old) × (room.new ≡ room.old) }
+        ensures lost { self.new.fate ≢ Kept →
+            IsErr result × (reader.new ≡ reader.old) × (room.new ≡ room.old) }
         ensures bound { ReadsAtMost result room.new }
         ensures bytes { ReadConsumes (R.remaining reader.old) (R.remaining reader.new) result room.new }
     {

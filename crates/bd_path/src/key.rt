@@ -42,7 +42,8 @@ pub fn key_nodes<N: Reading>(alloc: Global, doc: N, path: &Path) -> Result<Vec<K
 
 /// The same without a null for a field that is missing: what a sparse index has. It fails only if memory runs out.
 pub fn sparse_keys<N: Reading>(alloc: Global, doc: N, path: &Path) -> Result<Vec<Key<N>>, NoMemory>
-    ensures trees { IfOk result (λ ks. key_trees N.tree ks.items ≡ sparse_keys_of (N.tree doc) (names_of path.now)) }
+    ensures trees { IfOk result (λ ks.
+        key_trees N.tree ks.items ≡ sparse_keys_of (N.tree doc) (names_of path.now)) }
     ensures kept { IfOk result (λ ks. AreKeysOf N.source (N.source doc) ks.items) }
     ensures there { IfOk result (λ ks. AreKeysAt true (stops (N.tree doc) (names_of path.now)) ks.items) }
 {
@@ -59,7 +60,8 @@ pub fn all_key_nodes<N: Reading>(
     path: &Path,
     sparse: bool,
 ) -> Result<Vec<Key<N>>, NoMemory>
-    ensures distinct { IfOk result (λ ks. distinct (key_trees N.tree ks.items) ≡ indexed_keys sparse (N.tree doc) (names_of path.now)) }
+    ensures distinct { IfOk result (λ ks. distinct (key_trees N.tree ks.items)
+        ≡ indexed_keys sparse (N.tree doc) (names_of path.now)) }
     ensures kept { IfOk result (λ ks. AreKeysOf N.source (N.source doc) ks.items) }
     ensures there { IfOk result (λ ks. AreKeysAt sparse (stops (N.tree doc) (names_of path.now)) ks.items) }
 {
@@ -102,9 +104,9 @@ impl<N: Reading> Gatherer<N> for KeyGatherer {
     /// It goes on until memory runs out.
     fn take(&self, keys: &mut Vec<Key<N>>, stop: Stop<N>) -> bool
         ensures { (bytes : List ℕ) → IsStopOf N.source bytes stop →
-            TakesOrEnds (λ ks. AreKeysFrom N.tree N.source self.now.sparse ks.items)
-            (λ ks. gives_new self.now.sparse (key_trees N.tree ks.items)) (λ _. true) result bytes keys.old keys.new
-            (stop_tree N.tree stop ∷ []) }
+            TakesOrEnds (λ ks. AreKeysFrom N.tree N.source self.now.sparse ks.items) (λ ks.
+            gives_new self.now.sparse (key_trees N.tree ks.items)) (λ _.
+            true) result bytes keys.old keys.new (stop_tree N.tree stop ∷ []) }
     {
         match stop {
             Stop::Value(node) => add_end(node, keys).is_ok(),
@@ -116,9 +118,10 @@ impl<N: Reading> Gatherer<N> for KeyGatherer {
 /// Appends what stands for a field that is missing.
 fn add_missing<N: Reading>(sparse: bool, keys: &mut Vec<Key<N>>) -> Result<(), NoMemory>
     ensures added { OnOk result (AddsKeys N.tree keys.old.items keys.new.items (missing_key sparse)) }
-    ensures kept { (bytes : List ℕ) → AreKeysOf N.source bytes keys.old.items → AreKeysOf N.source bytes keys.new.items }
-    ensures there { OnOk result ((ss : Stops) → list_any is_no_value ss ≡ true → AreKeysAt sparse ss keys.old.items →
-        AreKeysAt sparse ss keys.new.items) }
+    ensures kept { (bytes : List ℕ) →
+        AreKeysOf N.source bytes keys.old.items → AreKeysOf N.source bytes keys.new.items }
+    ensures there { OnOk result ((ss : Stops) → list_any is_no_value ss ≡ true →
+        AreKeysAt sparse ss keys.old.items → AreKeysAt sparse ss keys.new.items) }
 {
     if sparse {
         return Ok(());
@@ -129,7 +132,8 @@ fn add_missing<N: Reading>(sparse: bool, keys: &mut Vec<Key<N>>) -> Result<(), N
 /// Appends a value, or the elements of an array.
 fn add_end<N: Reading>(node: N, keys: &mut Vec<Key<N>>) -> Result<(), NoMemory>
     ensures added { OnOk result (AddsKeys N.tree keys.old.items keys.new.items (end_keys (N.tree node))) }
-    ensures kept { AreKeysOf N.source (N.source node) keys.old.items → AreKeysOf N.source (N.source node) keys.new.items }
+    ensures kept { AreKeysOf N.source (N.source node) keys.old.items →
+        AreKeysOf N.source (N.source node) keys.new.items }
     ensures there { OnOk result ((sparse : Bool) (ss : Stops) →
         (is_empty_array (Stop.Value (N.tree node)) ≡ true → list_any is_empty_array ss ≡ true) →
         AreKeysAt sparse ss keys.old.items → AreKeysAt sparse ss keys.new.items) }
@@ -147,8 +151,10 @@ fn add_end<N: Reading>(node: N, keys: &mut Vec<Key<N>>) -> Result<(), NoMemory>
 fn add_elements<N: Reading>(node: N, keys: &mut Vec<Key<N>>) -> Result<(), NoMemory>
     requires { kind_of (N.tree node) ≡ kinds.Array }
     ensures added { OnOk result (AddsKeys N.tree keys.old.items keys.new.items (elements_in (N.tree node))) }
-    ensures kept { AreKeysOf N.source (N.source node) keys.old.items → AreKeysOf N.source (N.source node) keys.new.items }
-    ensures there { (sparse : Bool) (ss : Stops) → AreKeysAt sparse ss keys.old.items → AreKeysAt sparse ss keys.new.items }
+    ensures kept { AreKeysOf N.source (N.source node) keys.old.items →
+        AreKeysOf N.source (N.source node) keys.new.items }
+    ensures there { (sparse : Bool) (ss : Stops) →
+        AreKeysAt sparse ss keys.old.items → AreKeysAt sparse ss keys.new.items }
 {
     let mut left = node.parts();
     while let Some(next) = N::next(&left) {
@@ -161,8 +167,10 @@ fn add_elements<N: Reading>(node: N, keys: &mut Vec<Key<N>>) -> Result<(), NoMem
 /// Appends a key, where it does not equal the last.
 fn add_next<N: Reading>(keys: &mut Vec<Key<N>>, key: Key<N>) -> Result<(), NoMemory>
     ensures added { OnOk result (AddsKeys N.tree keys.old.items keys.new.items (key_tree N.tree key ∷ [])) }
-    ensures kept { (bytes : List ℕ) → AreKeysOf N.source bytes keys.old.items → IsKeyOf N.source bytes key → AreKeysOf N.source bytes keys.new.items }
-    ensures there { (sparse : Bool) (ss : Stops) → AreKeysAt sparse ss keys.old.items → IsKeyAt sparse ss key → AreKeysAt sparse ss keys.new.items }
+    ensures kept { (bytes : List ℕ) → AreKeysOf N.source bytes keys.old.items →
+        IsKeyOf N.source bytes key → AreKeysOf N.source bytes keys.new.items }
+    ensures there { (sparse : Bool) (ss : Stops) → AreKeysAt sparse ss keys.old.items →
+        IsKeyAt sparse ss key → AreKeysAt sparse ss keys.new.items }
 {
     match keys.last() {
         Some(last) if compare_keys(*last, key).is_eq() => Ok(()),
@@ -176,8 +184,10 @@ fn add_next<N: Reading>(keys: &mut Vec<Key<N>>, key: Key<N>) -> Result<(), NoMem
 /// The keys, without one that equals an earlier one. Each is compared with those before it.
 fn distinct_keys<N: Reading>(alloc: Global, all: &[Key<N>]) -> Result<Vec<Key<N>>, NoMemory>
     ensures trees { IfOk result (λ ks. key_trees N.tree ks.items ≡ distinct (key_trees N.tree all.now)) }
-    ensures kept { (bytes : List ℕ) → AreKeysOf N.source bytes all.now → IfOk result (λ ks. AreKeysOf N.source bytes ks.items) }
-    ensures there { (sparse : Bool) (ss : Stops) → AreKeysAt sparse ss all.now → IfOk result (λ ks. AreKeysAt sparse ss ks.items) }
+    ensures kept { (bytes : List ℕ) →
+        AreKeysOf N.source bytes all.now → IfOk result (λ ks. AreKeysOf N.source bytes ks.items) }
+    ensures there { (sparse : Bool) (ss : Stops) →
+        AreKeysAt sparse ss all.now → IfOk result (λ ks. AreKeysAt sparse ss ks.items) }
 {
     let mut keys = Vec::new(alloc);
     for key in all {
@@ -188,9 +198,12 @@ fn distinct_keys<N: Reading>(alloc: Global, all: &[Key<N>]) -> Result<Vec<Key<N>
 
 /// Appends a key, where it equals none before it.
 fn add_key<N: Reading>(keys: &mut Vec<Key<N>>, key: Key<N>) -> Result<(), NoMemory>
-    ensures added { OnOk result (key_trees N.tree keys.new.items ≡ with_key (key_trees N.tree keys.old.items) (key_tree N.tree key)) }
-    ensures kept { (bytes : List ℕ) → AreKeysOf N.source bytes keys.old.items → IsKeyOf N.source bytes key → AreKeysOf N.source bytes keys.new.items }
-    ensures there { (sparse : Bool) (ss : Stops) → AreKeysAt sparse ss keys.old.items → IsKeyAt sparse ss key → AreKeysAt sparse ss keys.new.items }
+    ensures added { OnOk result (key_trees N.tree keys.new.items
+        ≡ with_key (key_trees N.tree keys.old.items) (key_tree N.tree key)) }
+    ensures kept { (bytes : List ℕ) → AreKeysOf N.source bytes keys.old.items →
+        IsKeyOf N.source bytes key → AreKeysOf N.source bytes keys.new.items }
+    ensures there { (sparse : Bool) (ss : Stops) → AreKeysAt sparse ss keys.old.items →
+        IsKeyAt sparse ss key → AreKeysAt sparse ss keys.new.items }
 {
     if has_equal(keys, key) {
         return Ok(());

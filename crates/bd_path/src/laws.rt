@@ -13,8 +13,10 @@ ghost use Rattle.bd_path.specs.Sort.{SortPath, sort_cmp};
 /// reaches no value.
 pub fn keys_are_there()
     ensures some { (t : trees.Tree) (path : Names) → keys t path ≢ [] }
-    ensures missing { (t : trees.Tree) (path : Names) → Contains (reach t path) None → Contains (keys t path) (trees.leaf trees.null) }
-    ensures nothing { (t : trees.Tree) (path : Names) → list_any is_some (reach t path) ≡ false → Contains (keys t path) (trees.leaf trees.null) }
+    ensures missing { (t : trees.Tree) (path : Names) →
+        Contains (reach t path) None → Contains (keys t path) (trees.leaf trees.null) }
+    ensures nothing { (t : trees.Tree) (path : Names) →
+        list_any is_some (reach t path) ≡ false → Contains (keys t path) (trees.leaf trees.null) }
 {}
 
 /// A sparse index leaves out nulls alone: a key that does not equal null is a sparse key.

@@ -29,7 +29,8 @@ impl Path {
     pub fn parse(alloc: Global, text: &str) -> Result<Path, PathFault>
         ensures path { IfOk result (λ p. path_of text.now ≡ Ok (names_of p)) }
         ensures text { IfOk result (λ p. string_bytes p.text ≡ text.now) }
-        ensures fault { IfErr result (λ fault. (fault ≡ faults.NoMemory) ⊎ (path_of text.now ≡ Err fault)) }
+        ensures fault { IfErr result (λ fault. (fault ≡ faults.NoMemory)
+            ⊎ (path_of text.now ≡ Err fault)) }
     {
         let names = cut(alloc, text)?;
         if names.len() > MOST_NAMES {

@@ -128,7 +128,8 @@ fn earliest_end<N: Reading>(node: N, dir: Dir) -> Key<N>
 
 /// The earlier of two keys; the first of two that are equal, the second where there is no first.
 fn earlier<N: Reading>(dir: Dir, first: Option<Key<N>>, second: Key<N>) -> Key<N>
-    ensures tree { Some (key_tree N.tree result) ≡ earlier_key dir (option_map (key_tree N.tree) first) (Some (key_tree N.tree second)) }
+    ensures tree { Some (key_tree N.tree result)
+        ≡ earlier_key dir (option_map (key_tree N.tree) first) (Some (key_tree N.tree second)) }
     ensures either { (Some result ≡ first) ⊎ (result ≡ second) }
 {
     match first {

@@ -60,7 +60,8 @@ impl<N: Reading, T: EndTest> Gatherer<N> for EndGatherer<'_, T> {
     fn take(&self, _found: &mut (), stop: Stop<N>) -> bool
         ensures { (bytes : List ℕ) → IsStopOf N.source bytes stop →
             TakesOrEnds (λ _ _ _. Unit {0}) (λ _. is_passed (T.passes self.now.test.now))
-            (is_passed (T.passes self.now.test.now)) result bytes _found.old _found.new (stop_tree N.tree stop ∷ []) }
+            (is_passed (T.passes self.now.test.now)) result bytes _found.old _found.new
+            (stop_tree N.tree stop ∷ []) }
     {
         match stop {
             Stop::Value(node) => !self.test.test(Some(node)),
@@ -84,8 +85,9 @@ pub(crate) trait Gatherer<N: Reading> {
 
     /// Takes a stop in, and says whether the walk goes on.
     fn take(&self, found: &mut Self::Found, stop: Stop<N>) -> bool
-        ensures { (bytes : List ℕ) → IsStopOf N.source bytes stop
-            → TakesOrEnds (amounts self.now) (is_new self.now) (ends self.now) result bytes found.old found.new (stop_tree N.tree stop ∷ []) };
+        ensures { (bytes : List ℕ) →
+            IsStopOf N.source bytes stop → TakesOrEnds (amounts self.now) (is_new self.now)
+            (ends self.now) result bytes found.old found.new (stop_tree N.tree stop ∷ []) };
 }
 
 /// Walks down a path, and says whether it came to the end.
@@ -96,8 +98,8 @@ pub(crate) fn walk<N: Reading, G: Gatherer<N>>(
     path: &Path,
 ) -> bool
     requires { KeepsKnown (G.amounts gatherer.now) (G.is_new gatherer.now) }
-    ensures { TakesOrEnds (G.amounts gatherer.now) (G.is_new gatherer.now) (G.ends gatherer.now) result (N.source node) found.old found.new
-        (stops (N.tree node) (names_of path.now)) }
+    ensures { TakesOrEnds (G.amounts gatherer.now) (G.is_new gatherer.now) (G.ends gatherer.now)
+        result (N.source node) found.old found.new (stops (N.tree node) (names_of path.now)) }
 {
     let components = path.components();
     walk_from(gatherer, found, node, components, 0, &Visits::Nowhere)
@@ -119,8 +121,10 @@ fn walk_from<N: Reading, G: Gatherer<N>>(
     requires few { length path.now ≤ most_names }
     requires at { k ≤ length path.now }
     requires known { KeepsKnown (G.amounts gatherer.now) (G.is_new gatherer.now) }
-    requires vain { GathersNone (G.is_new gatherer.now found.old) stopping (N.tree node) (component_names path.now) walked.now }
-    ensures { TakesOrEnds (G.amounts gatherer.now) (G.is_new gatherer.now) (G.ends gatherer.now) result (N.source node) found.old found.new
+    requires vain { GathersNone (G.is_new gatherer.now found.old) stopping
+        (N.tree node) (component_names path.now) walked.now }
+    ensures { TakesOrEnds (G.amounts gatherer.now)
+        (G.is_new gatherer.now) (G.ends gatherer.now) result (N.source node) found.old found.new
         (stops (N.tree node) (drop k (component_names path.now))) }
 {
     if walked.has(k) {
@@ -160,11 +164,13 @@ fn walk_documents<N: Reading, G: Gatherer<N>>(
     requires at { k < length path.now }
     requires kind { kind_of (N.tree node) ≡ kinds.Array }
     requires known { KeepsKnown (G.amounts gatherer.now) (G.is_new gatherer.now) }
-    requires vain { GathersNone (G.is_new gatherer.now found.old) stopping (N.tree node) (component_names path.now) walked.now }
-    ensures taken { TakesOrEnds (G.amounts gatherer.now) (G.is_new gatherer.now) (G.ends gatherer.now)
-        (is_some result) (N.source node) found.old found.new
+    requires vain { GathersNone (G.is_new gatherer.now found.old) stopping
+        (N.tree node) (component_names path.now) walked.now }
+    ensures taken { TakesOrEnds (G.amounts gatherer.now) (G.is_new gatherer.now)
+        (G.ends gatherer.now) (is_some result) (N.source node) found.old found.new
         (document_gathering stopping (N.tree node) (drop k (component_names path.now))) }
-    ensures has { IfSome result (λ has_document. has_document ≡ list_any is_document (elements_in (N.tree node))) }
+    ensures has { IfSome result (λ has_document.
+        has_document ≡ list_any is_document (elements_in (N.tree node))) }
 {
     let mut has_document = false;
     let mut left = node.parts();
@@ -201,10 +207,12 @@ fn walk_index<N: Reading, G: Gatherer<N>>(
     requires at { k < length path.now }
     requires kind { kind_of (N.tree node) ≡ kinds.Array }
     requires known { KeepsKnown (G.amounts gatherer.now) (G.is_new gatherer.now) }
-    requires vain { GathersNone (G.is_new gatherer.now found.old) stopping (N.tree node) (component_names path.now) walked.now }
+    requires vain { GathersNone (G.is_new gatherer.now found.old) stopping
+        (N.tree node) (component_names path.now) walked.now }
     requires documents { list_any (G.is_new gatherer.now found.old)
         (document_gathering stopping (N.tree node) (drop k (component_names path.now))) ≡ false }
-    ensures { TakesOrEnds (G.amounts gatherer.now) (G.is_new gatherer.now) (G.ends gatherer.now) result (N.source node) found.old found.new
+    ensures { TakesOrEnds (G.amounts gatherer.now)
+        (G.is_new gatherer.now) (G.ends gatherer.now) result (N.source node) found.old found.new
         (later_stops has_document (N.tree node) (drop k (component_names path.now))) }
 {
     match indexed_element(node, &path[k]) {
@@ -219,10 +227,12 @@ fn walk_index<N: Reading, G: Gatherer<N>>(
 /// The element of an array whose index a component is, with the index.
 fn indexed_element<N: Reading>(node: N, component: &Component) -> Option<(usize, N)>
     requires { kind_of (N.tree node) ≡ kinds.Array }
-    ensures index { IfSome result (λ x. (x.0 < usize.MAX) × (index_of (string_bytes component.now.name) ≡ Some x.0)) }
+    ensures index { IfSome result (λ x. (x.0 < usize.MAX)
+        × (index_of (string_bytes component.now.name) ≡ Some x.0)) }
     ensures element { IfSome result (λ x. slice_get (elements_in (N.tree node)) x.0 ≡ Some (N.tree x.1)) }
     ensures kept { IfSome result (λ x. N.source x.1 ≡ N.source node) }
-    ensures none { IfNone result (IfSome (index_of (string_bytes component.now.name)) (λ i. length (elements_in (N.tree node)) ≤ i)) }
+    ensures none { IfNone result (IfSome (index_of (string_bytes component.now.name)) (λ i.
+        length (elements_in (N.tree node)) ≤ i)) }
 {
     match component.index {
         Some(i) if i < node.len() => Some((i, node.element(i))),
@@ -283,7 +293,8 @@ impl Visits {
     /// Where the first field of a name was walked, when the document was.
     pub fn at_field(&self, path: &[Component], name: &str) -> Visits
         requires { length path.now ≤ most_names }
-        ensures { (j : ℕ) → IsWalked result j → LedTo (steps.Field name.entry) (component_names path.now) self.now j }
+        ensures { (j : ℕ) → IsWalked result j →
+            LedTo (steps.Field name.entry) (component_names path.now) self.now j }
     {
         match self {
             Visits::Nowhere => Visits::Nowhere,
@@ -294,7 +305,8 @@ impl Visits {
     /// Where a document in an array was walked, when the array was.
     pub fn at_document(&self, path: &[Component], index: usize) -> Visits
         requires { length path.now ≤ most_names }
-        ensures { (j : ℕ) → IsWalked result j → LedTo (steps.Element index) (component_names path.now) self.now j
+        ensures { (j : ℕ) →
+            IsWalked result j → LedTo (steps.Element index) (component_names path.now) self.now j
             ⊎ (j < length path.now) × IsWalked self.now j }
     {
         match self {
@@ -307,7 +319,8 @@ impl Visits {
     pub fn at_index(&self, path: &[Component], k: usize, index: usize, is_document: bool) -> Visits
         requires few { length path.now ≤ most_names }
         requires at { k < length path.now }
-        ensures { (j : ℕ) → IsWalked result j → LedTo (steps.Element index) (component_names path.now) self.now j
+        ensures { (j : ℕ) →
+            IsWalked result j → LedTo (steps.Element index) (component_names path.now) self.now j
             ⊎ (is_document ≡ true) × ((j ≡ k) ⊎ (j < length path.now) × IsWalked self.now j) }
     {
         let mut inside = match self {
@@ -385,8 +398,10 @@ impl Positions {
     fn leads(&self, path: &[Component], k: usize, step: Step) -> bool
         requires few { length path.now ≤ most_names }
         requires at { k < length path.now }
-        ensures yes { IsTrue result → Leads step.entry (component_names path.now) (From self.now) k }
-        ensures no { IsFalse result → Leads step.entry (component_names path.now) (From self.now) k → ⊥ }
+        ensures yes { IsTrue result →
+            Leads step.entry (component_names path.now) (From self.now) k }
+        ensures no { IsFalse result →
+            Leads step.entry (component_names path.now) (From self.now) k → ⊥ }
     {
         self.has(k) && step.is_of(&path[k])
     }
@@ -394,8 +409,10 @@ impl Positions {
     /// Those after a step.
     fn after(&self, path: &[Component], step: Step) -> Positions
         requires { length path.now ≤ most_names }
-        ensures all { (k : ℕ) → Leads step.entry (component_names path.now) (From self.now) k → IsOpen result (suc k) }
-        ensures only { (k : ℕ) → IsOpen result k → LedTo step.entry (component_names path.now) (From self.now) k }
+        ensures all { (k : ℕ) →
+            Leads step.entry (component_names path.now) (From self.now) k → IsOpen result (suc k) }
+        ensures only { (k : ℕ) →
+            IsOpen result k → LedTo step.entry (component_names path.now) (From self.now) k }
     {
         let mut next = Positions::none();
         for k in 0..path.len() {
@@ -411,7 +428,8 @@ impl Positions {
         requires { end ≤ most_names }
         ensures kept { (j : ℕ) → IsOpen self.old j → IsOpen self.new j }
         ensures all { (j : ℕ) → j < end → IsOpen others.now j → IsOpen self.new j }
-        ensures only { (j : ℕ) → IsOpen self.new j → IsOpen self.old j ⊎ (j < end) × IsOpen others.now j }
+        ensures only { (j : ℕ) →
+            IsOpen self.new j → IsOpen self.old j ⊎ (j < end) × IsOpen others.now j }
     {
         for k in 0..end {
             if others.has(k) {
@@ -423,11 +441,14 @@ impl Positions {
     /// Those at an element of an array. A document in an array is gone into from the same positions too.
     pub fn at_element(&self, path: &[Component], index: usize, is_document: bool) -> Positions
         requires { length path.now ≤ most_names }
-        ensures stays { is_document ≡ true → (k : ℕ) → k < length path.now → IsOpen self.now k → IsOpen result k }
-        ensures all { (k : ℕ) → Leads (steps.Element index) (component_names path.now) (From self.now) k → IsOpen result (suc k) }
+        ensures stays { is_document ≡ true →
+            (k : ℕ) → k < length path.now → IsOpen self.now k → IsOpen result k }
+        ensures all { (k : ℕ) →
+            Leads (steps.Element index) (component_names path.now) (From self.now) k →
+            IsOpen result (suc k) }
         ensures only { (k : ℕ) → IsOpen result k →
-            LedTo (steps.Element index) (component_names path.now) (From self.now) k ⊎ (is_document ≡ true)
-            × (k < length path.now) × IsOpen self.now k }
+            LedTo (steps.Element index) (component_names path.now) (From self.now) k
+            ⊎ (is_document ≡ true) × (k < length path.now) × IsOpen self.now k }
     {
         let mut next = self.after(path, Step::Element(index));
         if is_document {

@@ -46,7 +46,8 @@ impl<T: ValueTest> EndTest for ValueCandidateTest<T> {
 
 /// Whether it passes or, where it is an array, an element does.
 fn any_inside<N: Reading, T: ValueTest>(node: N, test: &T) -> bool
-    ensures { result ≡ (T.accepts test.now (N.tree node) || list_any (T.accepts test.now) (elements_in (N.tree node))) }
+    ensures { result ≡ (T.accepts test.now (N.tree node)
+        || list_any (T.accepts test.now) (elements_in (N.tree node))) }
 {
     test.test(node) || any_element(node, test)
 }
@@ -90,8 +91,8 @@ impl EndTest for PresenceTest {
 
 /// Whether each member is equalled by a candidate, and there is one.
 pub(crate) fn equals_all<N: Reading>(members: &[Value], path: &Path, node: N) -> bool
-    ensures { result ≡ (is_nonempty (map tree_of members.now)
-        && list_all (any_equal (reach (N.tree node) (names_of path.now))) (map tree_of members.now)) }
+    ensures { result ≡ (is_nonempty (map tree_of members.now) && list_all
+        (any_equal (reach (N.tree node) (names_of path.now))) (map tree_of members.now)) }
 {
     match members {
         [] => false,
@@ -101,7 +102,8 @@ pub(crate) fn equals_all<N: Reading>(members: &[Value], path: &Path, node: N) ->
 
 /// Whether each member is equalled by a candidate.
 fn are_equalled<N: Reading>(members: &[Value], path: &Path, node: N) -> bool
-    ensures { result ≡ list_all (λ v. any_equal (reach (N.tree node) (names_of path.now)) (tree_of v)) members.now }
+    ensures { result ≡ list_all (λ v.
+        any_equal (reach (N.tree node) (names_of path.now)) (tree_of v)) members.now }
 {
     members.iter().all(|member| any_end(node, path, &CandidateTest(EqualityTest(member))))
 }
@@ -113,7 +115,8 @@ pub(crate) fn any_related<N: Reading>(
     path: &Path,
     node: N,
 ) -> bool
-    ensures { result ≡ any_candidate (λ e. is_related relation (tree_of operand.now) (value_or_null e)) (reach (N.tree node) (names_of path.now)) }
+    ensures { result ≡ any_candidate (λ e. is_related relation
+        (tree_of operand.now) (value_or_null e)) (reach (N.tree node) (names_of path.now)) }
 {
     any_end(
         node,
@@ -124,14 +127,16 @@ pub(crate) fn any_related<N: Reading>(
 
 /// Whether a candidate equals a member. The path is walked once, whatever the number of members.
 pub(crate) fn any_member<N: Reading>(members: &Members, path: &Path, node: N) -> bool
-    ensures { result ≡ list_any (any_equal (reach (N.tree node) (names_of path.now))) (trees_in members.now) }
+    ensures { result
+        ≡ list_any (any_equal (reach (N.tree node) (names_of path.now))) (trees_in members.now) }
 {
     any_end(node, path, &CandidateTest(MemberTest(members)))
 }
 
 /// Whether a candidate that is a value is of one of the kinds.
 pub(crate) fn any_of_type<N: Reading>(kinds: &[Kind], path: &Path, node: N) -> bool
-    ensures { result ≡ any_candidate (is_value (is_of_type kinds.now)) (reach (N.tree node) (names_of path.now)) }
+    ensures { result ≡ any_candidate
+        (is_value (is_of_type kinds.now)) (reach (N.tree node) (names_of path.now)) }
 {
     any_end(node, path, &ValueCandidateTest(KindTest(kinds)))
 }

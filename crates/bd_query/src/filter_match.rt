@@ -65,7 +65,8 @@ fn some_match<N: Reading>(filters: &[Filter], node: N) -> bool
 /// Whether operators hold of what a path reaches.
 #[cycle(matching)]
 fn all_hold<N: Reading>(operators: &[Operator], path: &Path, node: N) -> bool
-    ensures { result ≡ all_hold (operators_from (map operator_tree operators.now)) (reach (N.tree node) (names_of path.now)) }
+    ensures { result ≡ all_hold (operators_from (map operator_tree operators.now))
+        (reach (N.tree node) (names_of path.now)) }
 {
     for operator in operators {
         if !holds(operator, path, node) {
@@ -77,7 +78,8 @@ fn all_hold<N: Reading>(operators: &[Operator], path: &Path, node: N) -> bool
 
 #[cycle(matching)]
 fn holds<N: Reading>(operator: &Operator, path: &Path, node: N) -> bool
-    ensures { result ≡ holds (operator_tree operator.now) (reach (N.tree node) (names_of path.now)) }
+    ensures { result
+        ≡ holds (operator_tree operator.now) (reach (N.tree node) (names_of path.now)) }
 {
     match operator {
         Operator::Equal(operand) => any_end(node, path, &CandidateTest(EqualityTest(operand))),
@@ -114,8 +116,10 @@ fn reaches_suited<N: Reading>(node: N, path: &Path, body: &Body) -> bool
 fn any_end_suits<N: Reading>(node: N, k: usize, walked: &Visits, walk: &Walk) -> bool
     requires few { length walk.now.path.now ≤ most_names }
     requires at { k ≤ length walk.now.path.now }
-    requires vain { GathersNone (is_suited walk.now.body.now) ends (N.tree node) (component_names walk.now.path.now) walked.now }
-    ensures { result ≡ list_any (is_suited walk.now.body.now) (reach (N.tree node) (drop k (component_names walk.now.path.now))) }
+    requires vain { GathersNone (is_suited walk.now.body.now) ends
+        (N.tree node) (component_names walk.now.path.now) walked.now }
+    ensures { result ≡ list_any (is_suited walk.now.body.now)
+        (reach (N.tree node) (drop k (component_names walk.now.path.now))) }
 {
     let path = walk.path;
     if walked.has(k) {
@@ -140,8 +144,10 @@ fn any_end_suits_in_field<N: Reading>(node: N, k: usize, walked: &Visits, walk: 
     requires few { length walk.now.path.now ≤ most_names }
     requires at { k < length walk.now.path.now }
     requires kind { kind_of (N.tree node) ≡ kinds.Doc }
-    requires vain { GathersNone (is_suited walk.now.body.now) ends (N.tree node) (component_names walk.now.path.now) walked.now }
-    ensures { result ≡ list_any (is_suited walk.now.body.now) (reach (N.tree node) (drop k (component_names walk.now.path.now))) }
+    requires vain { GathersNone (is_suited walk.now.body.now) ends
+        (N.tree node) (component_names walk.now.path.now) walked.now }
+    ensures { result ≡ list_any (is_suited walk.now.body.now)
+        (reach (N.tree node) (drop k (component_names walk.now.path.now))) }
 {
     let path = walk.path;
     let name = path[k].name.as_str();
@@ -160,8 +166,10 @@ fn any_end_suits_in_documents<N: Reading>(node: N, k: usize, walked: &Visits, wa
     requires few { length walk.now.path.now ≤ most_names }
     requires at { k < length walk.now.path.now }
     requires kind { kind_of (N.tree node) ≡ kinds.Array }
-    requires vain { GathersNone (is_suited walk.now.body.now) ends (N.tree node) (component_names walk.now.path.now) walked.now }
-    ensures { result ≡ list_any (is_suited walk.now.body.now) (document_gathering ends (N.tree node) (drop k (component_names walk.now.path.now))) }
+    requires vain { GathersNone (is_suited walk.now.body.now) ends
+        (N.tree node) (component_names walk.now.path.now) walked.now }
+    ensures { result ≡ list_any (is_suited walk.now.body.now)
+        (document_gathering ends (N.tree node) (drop k (component_names walk.now.path.now))) }
 {
     let mut left = node.parts();
     for i in 0..usize::MAX {
@@ -187,10 +195,12 @@ fn any_end_suits_at_index<N: Reading>(node: N, k: usize, walked: &Visits, walk: 
     requires few { length walk.now.path.now ≤ most_names }
     requires at { k < length walk.now.path.now }
     requires kind { kind_of (N.tree node) ≡ kinds.Array }
-    requires vain { GathersNone (is_suited walk.now.body.now) ends (N.tree node) (component_names walk.now.path.now) walked.now }
-    requires documents { list_any (is_suited walk.now.body.now)
-        (document_gathering ends (N.tree node) (drop k (component_names walk.now.path.now))) ≡ false }
-    ensures { result ≡ list_any (is_suited walk.now.body.now) (index_gathering ends (N.tree node) (drop k (component_names walk.now.path.now))) }
+    requires vain { GathersNone (is_suited walk.now.body.now) ends
+        (N.tree node) (component_names walk.now.path.now) walked.now }
+    requires documents { list_any (is_suited walk.now.body.now) (document_gathering ends
+        (N.tree node) (drop k (component_names walk.now.path.now))) ≡ false }
+    ensures { result ≡ list_any (is_suited walk.now.body.now)
+        (index_gathering ends (N.tree node) (drop k (component_names walk.now.path.now))) }
 {
     let path = walk.path;
     match path[k].index {
@@ -234,7 +244,8 @@ fn suits<N: Reading>(element: N, body: &Body) -> bool
 /// Whether operators hold of an element by itself.
 #[cycle(matching)]
 fn all_accept<N: Reading>(operators: &[Operator], element: N) -> bool
-    ensures { result ≡ all_accept (operators_from (map operator_tree operators.now)) (N.tree element) }
+    ensures { result
+        ≡ all_accept (operators_from (map operator_tree operators.now)) (N.tree element) }
 {
     for operator in operators {
         if !accepts(operator, element) {

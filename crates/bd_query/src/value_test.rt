@@ -108,7 +108,8 @@ pub(crate) fn any_element<N: Reading, T: ValueTest>(node: N, test: &T) -> bool
 
 /// Whether it equals each member, and there is one.
 pub(crate) fn equals_each<N: Reading>(members: &[Value], node: N) -> bool
-    ensures { result ≡ (is_nonempty (map tree_of members.now) && list_all (equal (N.tree node)) (map tree_of members.now)) }
+    ensures { result ≡ (is_nonempty (map tree_of members.now)
+        && list_all (equal (N.tree node)) (map tree_of members.now)) }
 {
     match members {
         [] => false,

@@ -30,7 +30,8 @@ use std::alloc::Global;
 /// where no memory was given.
 pub fn parse(alloc: Global, document: &Document) -> Result<Filter, FilterFault>
     ensures filter { IfOk result (λ f. filter_of (pairs document.now) ≡ Ok (filter_tree f)) }
-    ensures fault { IfErr result (λ f. IsStarved f ⊎ (filter_of (pairs document.now) ≡ Err (refusal_of f))) }
+    ensures fault { IfErr result (λ f. IsStarved f
+        ⊎ (filter_of (pairs document.now) ≡ Err (refusal_of f))) }
     ensures bad { IfErr result (λ f. IsStarved f ⊎ IsBadAt (pairs document.now) (refusal_of f)) }
 {
     match read_filters::<Tree<'_>>(alloc, MOST_FILTER_LEVELS - 1, Tree::Doc(document).parts()) {
@@ -46,7 +47,8 @@ pub fn parse(alloc: Global, document: &Document) -> Result<Filter, FilterFault>
 /// The filters of the pairs of a document.
 #[cycle(parse)]
 fn read_filters<N: Reading>(alloc: Global, room: u32, pairs: N::Rest) -> Result<Vec<Filter>, Stop>
-    ensures { ReadsPart (λ fs. map filter_tree fs.items) result (filters_of room (fields_of (N.left pairs))) }
+    ensures { ReadsPart (λ fs.
+        map filter_tree fs.items) result (filters_of room (fields_of (N.left pairs))) }
 {
     let mut filters = Vec::new(alloc);
     let mut left = pairs;
@@ -104,7 +106,8 @@ fn read_operand<N: Reading>(alloc: Global, room: u32, operand: N) -> Result<Vec<
 
 #[cycle(parse)]
 fn read_members<N: Reading>(alloc: Global, room: u32, members: N::Rest) -> Result<Vec<Filter>, Stop>
-    ensures { ReadsPart (λ fs. map filter_tree fs.items) result (member_filters room 0 (items_of (values_of (N.left members)))) }
+    ensures { ReadsPart (λ fs. map filter_tree fs.items) result
+        (member_filters room 0 (items_of (values_of (N.left members)))) }
 {
     let mut filters = Vec::new(alloc);
     let mut left = members;
@@ -152,7 +155,8 @@ fn read_operators<N: Reading>(
     room: u32,
     pairs: N::Rest,
 ) -> Result<Vec<Operator>, Stop>
-    ensures { ReadsPart (λ os. map operator_tree os.items) result (operators_of room (fields_of (N.left pairs))) }
+    ensures { ReadsPart (λ os.
+        map operator_tree os.items) result (operators_of room (fields_of (N.left pairs))) }
 {
     let mut operators = Vec::new(alloc);
     let mut left = pairs;

@@ -9,6 +9,7 @@ ghost use Rattle.bd_query_filter.specs.FilterOf.{filter_of};
 
 /// A document has no filter exactly where some pair or member of it breaks a rule.
 pub fn bad_documents_alone_are_refused()
-    ensures taken { (d : Doc) (f : filters.Filter) → filter_of d ≡ Ok f → (r : Refusal) → IsBadAt d r → ⊥ }
+    ensures taken { (d : Doc) (f : filters.Filter) →
+        filter_of d ≡ Ok f → (r : Refusal) → IsBadAt d r → ⊥ }
     ensures refused { (d : Doc) (r : Refusal) → filter_of d ≡ Err r → IsBadAt d r }
 {}

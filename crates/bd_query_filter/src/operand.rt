@@ -62,7 +62,8 @@ pub(crate) fn plain_value<N: Reading>(alloc: Global, operand: N) -> Result<Value
 
 /// A value that is above some and below others, and no regular expression.
 pub(crate) fn ordered_value<N: Reading>(alloc: Global, operand: N) -> Result<Value, Stop>
-    ensures { ReadsPart tree_of result (unless_left_out (is_regex (N.tree operand) || is_bound (N.tree operand)) (N.tree operand)) }
+    ensures { ReadsPart tree_of result (unless_left_out (is_regex (N.tree operand)
+        || is_bound (N.tree operand)) (N.tree operand)) }
 {
     match operand.kind() {
         Kind::Regex | Kind::MinKey | Kind::MaxKey => {
@@ -184,7 +185,8 @@ fn add_members<N: Reading>(
 
 /// Appends the kinds of a type.
 fn add_type<N: Reading>(alloc: Global, operand: N, kinds: &mut Vec<Kind>) -> Result<(), Stop>
-    ensures { ReadsPart (λ _. kinds.new.items) result (or_bad_operand (option_map (λ more. kinds.old.items ++ more) (type_kinds (N.tree operand)))) }
+    ensures { ReadsPart (λ _. kinds.new.items) result (or_bad_operand (option_map (λ more.
+        kinds.old.items ++ more) (type_kinds (N.tree operand)))) }
 {
     match kinds_of_type(operand) {
         Some(more) => Ok(kinds.extend_from_slice(more)?),

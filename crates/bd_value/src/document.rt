@@ -97,7 +97,8 @@ impl Document {
     ///
     /// `NoMemory` leaves the document as it was, and drops the name and the value.
     pub fn push(&mut self, name: String, value: Value) -> Result<(), NoMemory>
-        ensures ok { OnOk result (pairs self.new ≡ pairs self.old ++ (string_bytes name, tree_of value) ∷ []) }
+        ensures ok { OnOk result (pairs self.new
+            ≡ pairs self.old ++ (string_bytes name, tree_of value) ∷ []) }
         ensures err { OnErr result (pairs self.new ≡ pairs self.old) }
     {
         self.pairs.push((name, value))?;

@@ -19,14 +19,17 @@ pub fn equals_have_one_class()
 
 /// Numbers of 32 and of 64 bits are one line of whole numbers.
 pub fn numbers_are_one_line()
-    ensures { (a b : trees.Tree) (m n : ℤ) → (a ≡ leaf (int32 m)) ⊎ (a ≡ leaf (int64 m)) → (b ≡ leaf (int32 n)) ⊎ (b ≡ leaf (int64 n))
-        → cmp a b ≡ int_cmp m n }
+    ensures { (a b : trees.Tree) (m n : ℤ) → (a ≡ leaf (int32 m)) ⊎ (a ≡ leaf (int64 m)) →
+        (b ≡ leaf (int32 n)) ⊎ (b ≡ leaf (int64 n)) → cmp a b ≡ int_cmp m n }
 {}
 
 /// Documents compare pair by pair: the class of the value, then the name, then the value; one with no further pair is less.
 pub fn pairs_compare_in_turn()
-    ensures turns { (m n : List ℕ) (a b : trees.Tree) (fs gs : Fields) → cmp (doc (field m a fs)) (doc (field n b gs))
-        ≡ ordering_then (class_cmp a b) (ordering_then (bytes_cmp m n) (ordering_then (cmp a b) (cmp (doc fs) (doc gs)))) }
-    ensures shorter { (name : List ℕ) (t : trees.Tree) (fs : Fields) → cmp (doc no_fields) (doc (field name t fs)) ≡ Less }
-    ensures longer { (name : List ℕ) (t : trees.Tree) (fs : Fields) → cmp (doc (field name t fs)) (doc no_fields) ≡ Greater }
+    ensures turns { (m n : List ℕ) (a b : trees.Tree) (fs gs : Fields) →
+        cmp (doc (field m a fs)) (doc (field n b gs)) ≡ ordering_then (class_cmp a b)
+        (ordering_then (bytes_cmp m n) (ordering_then (cmp a b) (cmp (doc fs) (doc gs)))) }
+    ensures shorter { (name : List ℕ) (t : trees.Tree) (fs : Fields) →
+        cmp (doc no_fields) (doc (field name t fs)) ≡ Less }
+    ensures longer { (name : List ℕ) (t : trees.Tree) (fs : Fields) →
+        cmp (doc (field name t fs)) (doc no_fields) ≡ Greater }
 {}

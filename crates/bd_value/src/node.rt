@@ -45,7 +45,8 @@ pub trait Reading: Copy {
     /// The name and the value of the pair of a document at an index, counted from 0, as long as the node is held.
     fn field(&self, i: usize) -> (&str, Self)
         requires { i < length (pairs_in (tree self.now)) }
-        ensures field { slice_get (pairs_in (tree self.now)) i ≡ Some (result.0.now, tree result.1) }
+        ensures field { slice_get (pairs_in (tree self.now)) i
+            ≡ Some (result.0.now, tree result.1) }
         ensures kept { source result.1 ≡ source self.now };
 
     /// The element of an array at an index, counted from 0.
@@ -82,7 +83,8 @@ pub trait Node<'a>: Reading {
     /// The name and the value of the pair of a document at an index, counted from 0.
     fn pair(self, i: usize) -> (&'a str, Self)
         requires { i < length (pairs_in (Self.tree self)) }
-        ensures pair { slice_get (pairs_in (Self.tree self)) i ≡ Some (result.0.now, Self.tree result.1) }
+        ensures pair { slice_get (pairs_in (Self.tree self)) i
+            ≡ Some (result.0.now, Self.tree result.1) }
         ensures kept { Self.source result.1 ≡ Self.source self };
 }
 

@@ -133,7 +133,8 @@ fn compare_documents<M: Reading, N: Reading>(first: M::Rest, second: N::Rest) ->
 /// The order of two arrays.
 #[cycle(order)]
 fn compare_arrays<M: Reading, N: Reading>(first: M::Rest, second: N::Rest) -> Ordering
-    ensures { result ≡ items_cmp (items_of (values_of (M.left first))) (items_of (values_of (N.left second))) }
+    ensures { result
+        ≡ items_cmp (items_of (values_of (M.left first))) (items_of (values_of (N.left second))) }
 {
     let mut left = first;
     let mut right = second;
