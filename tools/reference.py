@@ -4,7 +4,8 @@
 usage: tools/reference.py [--missing]
 
 All words come from the sources: `//!` of the root of a crate, `--` above definitions, `///` above functions. With --missing it
-writes nothing, and lists what has no such line: definitions, public items, and lemmas that more than one file uses.
+writes nothing, and lists what has no such line: definitions, public items, and lemmas that more than one other file uses. A name
+with `-prop` at its end needs none: it says that a definition has one proof at most.
 """
 
 import re
@@ -23,9 +24,9 @@ HEAD = """\
 
 `make reference` writes this page from the sources. For each crate it has the files of definitions, with the definitions that
 public contracts cite, and the public functions with their clauses. A line below a function is a clause: its name, and what holds
-after the call, or before it if it begins with `requires`. Of an argument `x` that is `&mut`, `x.old` is its value before the call
-and `x.new` after it. A function changes nothing else, except what a `RefCell` has. [PROVED.md](PROVED.md) has the laws in words,
-[ARCHITECTURE.md](ARCHITECTURE.md) draws the crates."""
+after the call; before it after `requires`; after `*` once the result is dropped. Of an argument `x` that is `&mut`, `x.old` is its
+value before the call and `x.new` after it. A function changes nothing else, except what a `RefCell` has. [PROVED.md](PROVED.md)
+has the laws in words, [ARCHITECTURE.md](ARCHITECTURE.md) draws the crates."""
 IMPORT = re.compile(r"^ *(?:pub |ghost )*use ([\w.]+?)(?:\.\{([^}]*)\}| as (\w+))?;?$", re.M)
 # The start of a definition, of a block of methods, of an item of code and of a clause; the rest of the head of a function.
 DEFINED = re.compile(r" *(?:abbrev |unfoldable )?pub (?!mod |use )(?:record |data )?([^\s:]+)")
@@ -75,9 +76,9 @@ def comment_above(lines: list[str], at: int, mark: str) -> str:
     while at and re.match(r" *#\[.*|.*\)\]$|(abbrev )?mutual$", lines[at - 1]):
         at -= 1
     end = at
-    while at and re.match(rf" *{mark}(?! --)", lines[at - 1]):
+    while at and lines[at - 1].lstrip().startswith(mark):
         at -= 1
-    return "\n".join(it.strip()[len(mark) + 1 :] for it in lines[at:end])
+    return "\n".join(it.strip()[len(mark) :].lstrip(" -") for it in lines[at:end])
 
 
 def first_comment(file: Path, mark: str) -> str:
@@ -247,16 +248,18 @@ def page() -> str:
 
 
 def missing() -> Iterator[tuple[str, str]]:
-    """Yield what has no line, with its crate: definitions, public items, and lemmas that more than one file uses."""
-    yield from ((it.crate, path) for path, it in definitions("specs").items() if not it.comment)
+    """Yield what has no line, with its crate: definitions, public items, and lemmas that more than one other file uses."""
     for file, own in code().items():
         yield from ((file.parts[-3], f"{file.relative_to(ROOT)}: {it.owner} {it.name}") for it in own if not it.comment)
+    lemmas = definitions("proofs")
     uses = {(path, it.file) for folder in ("proofs", "specs") for it in definitions(folder).values() for path in it.cites}
     for file in (it for _, crate in crates() for it in files_of(crate, "src/**/*.rt")):
         names = re.findall(r"\bcrate(::proofs(?:::\w+)+)", file.read_text(encoding="utf-8"))
         uses |= {(f"Rattle.{file.parts[-3]}{it.replace('::', '.')}", file) for it in names}
-    users = Counter(path for path, _ in uses)
-    yield from ((it.crate, path) for path, it in definitions("proofs").items() if users[path] > 1 and not it.comment)
+    users = Counter(path for path, file in uses if path in lemmas and file != lemmas[path].file)
+    for path, it in [*definitions("specs").items(), *(one for one in lemmas.items() if users[one[0]] > 1)]:
+        if not it.comment and not path.endswith("-prop"):
+            yield it.crate, path
 
 
 def main() -> None:
