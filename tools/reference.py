@@ -203,31 +203,24 @@ def code() -> dict[Path, list[Item]]:
 
 
 @cache
-def cited() -> tuple[set[str], set[str]]:
-    """Return the paths of the definitions that public contracts cite, and of these with those that they cite in turn."""
-    every = definitions("specs")
-    named: set[str] = set()
+def cited() -> set[str]:
+    """Return the paths that public contracts cite."""
+    found: set[str] = set()
     for file, own in code().items():
         known = known_in(file.read_text(encoding="utf-8"))
-        named |= cites(" ".join(text for it in own for text in (it.head, *it.clauses.values())), known) & every.keys()
-    reached: set[str] = set()
-    todo = set(named)
-    while todo:
-        path = todo.pop()
-        reached.add(path)
-        todo |= (every[path].cites & every.keys()) - reached
-    return named, reached
+        found |= cites(" ".join(text for it in own for text in (it.head, *it.clauses.values())), known)
+    return found
 
 
 def blocks(crate: str) -> Iterator[str]:
     """Yield the parts of the section of a crate: what it is, a list for each file of definitions, a block for each of code."""
     yield sentence(first_comment((files_of(crate, "src/lib.rt") or files_of(crate, "src/main.rt"))[0], "//!"))
-    named, reached = cited()
     for file in files_of(crate, "specs/**/*.antt"):
-        own = [path for path, it in definitions("specs").items() if it.file == file]
-        lines = [f"- `{it.rpartition('.')[2]}`: {sentence(definitions('specs')[it].comment)}".rstrip() for it in own if it in named]
-        if reached & set(own):
-            yield "\n".join([f"[{file.name}](../{file.relative_to(ROOT)}): {sentence(first_comment(file, '--'))}", *lines])
+        lines = [f"[{file.name}](../{file.relative_to(ROOT)}): {sentence(first_comment(file, '--'))}"]
+        for path, it in definitions("specs").items():
+            if it.file == file and path in cited():
+                lines.append(f"- `{path.rpartition('.')[2]}`: {sentence(it.comment)}".rstrip())
+        yield "\n".join(lines)
     for file in files_of(crate, "src/**/*.rt"):
         lines = [f"[{file.name}](../{file.relative_to(ROOT)})", "```"]
         for it in code().get(file, ()):
