@@ -59,7 +59,8 @@ impl<'a> RawDoc<'a> {
 impl<'a> RawValue<'a> {
     /// The elements of a document or an array; every other value has none.
     pub fn elements(self) -> Option<Elements<'a>>
-        ensures some { IfSome result (λ x. AreParts (stands self.entry.sound) (elements_left x.left)) }
+        ensures some { IfSome result (λ x.
+            AreParts (stands self.entry.sound) (elements_left x.left)) }
         ensures kept { IfSome result (λ x. x.bytes.now ≡ self.entry.bytes.now) }
         ensures none { IfNone result (HoldsNoParts (stands self.entry.sound)) }
     {

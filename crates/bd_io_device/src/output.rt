@@ -29,7 +29,8 @@ pub trait Output {
             (state self.new).failures ≡ (state self.old).failures) }
         ensures none { IfOk result (λ n. n ≡ 0 →
             bytes.now ≢ [] → (state self.new).failures ≡ after_more (state self.old).failures 1) }
-        ensures failed { OnErr result ((state self.new).failures ≡ after_more (state self.old).failures 1) };
+        ensures failed { OnErr result ((state self.new).failures
+            ≡ after_more (state self.old).failures 1) };
 
     ghost calls_fit: { (s : Self) → (state s).calls ≤ greatest };
 
