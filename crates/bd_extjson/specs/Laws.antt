@@ -5,6 +5,7 @@ use Rattle.std.specs.Prelude.{◌≡◌, None}
 use Rattle.bd_value.specs.Tree.{Tree, leaf, doc, array, code_scope, Items, no_items, item, Fields, no_fields, field}
 use Rattle.bd_extjson_wrapper.specs.Wrapper.{wrapper_of}
 
+-- The first name of a document is no wrapper name such as `$oid`; an empty document is plain.
 abbrev pub IsPlainFirst : Fields → Type 0
 IsPlainFirst no_fields = Unit {0}
 IsPlainFirst (field n t fs) = wrapper_of n ≡ None
