@@ -17,13 +17,15 @@ pub record Code : Type 0 where
   pub becomes : ℤ → ℤ
   pub occurs : ℤ → Bool
 
+-- a code for each path
 abbrev pub Codes : Type 0
 Codes = Names → Code
 
--- those under a name, and those below all names of a path
+-- the codes below a name
 abbrev pub under : List ℕ → Codes → Codes
 under name c = λ names. c (name ∷ names)
 
+-- the codes below all names of a path
 abbrev pub below : Names → Codes → Codes
 below path c = λ names. c (path ++ names)
 
@@ -32,6 +34,7 @@ abbrev pub IsIncreasing : Code → Type 0
 IsIncreasing c = (m n : ℤ) → IsTrue (c.occurs m) → IsTrue (c.occurs n) → m <ℤ n →
     c.becomes m <ℤ c.becomes n
 
+-- At each path the code keeps the order of the numbers that occur there.
 abbrev pub AreIncreasing : Codes → Type 0
 AreIncreasing c = (path : Names) → IsIncreasing (c path)
 
@@ -53,11 +56,14 @@ abbrev pub PassOverIndexes : Codes → Type 0
 PassOverIndexes c = (before : Names) (name : List ℕ) (after : Names) → IsTrue (is_index name) →
     c (before ++ name ∷ after) ≡ c (before ++ after)
 
+-- Each path of a sort reads alike.
 abbrev pub SortsReadAlike : Codes → List SortPath → Type 0
 SortsReadAlike c ss = All (λ s. ReadsAlike c s.path) ss
 
 -- ---- values
 
+-- an int32 or an int64 as the int64 that the code makes of it;
+-- any other scalar stays, a date and a timestamp too
 abbrev pub renumber_scalar : Code → Scalar → Scalar
 renumber_scalar c (int32 n) = int64 (c.becomes n)
 renumber_scalar c (int64 n) = int64 (c.becomes n)
@@ -83,33 +89,39 @@ abbrev mutual
   renumber_fields c no_fields = no_fields
   renumber_fields c (field n t fs) = field n (renumber (under n c) t) (renumber_fields c fs)
 
+-- a document with another number in place of each number, at any level; names stay
 abbrev pub renumber_document : Codes → Doc → Doc
 renumber_document c d = map (λ p. (p.0, renumber (under p.0 c) p.1)) d
 
+-- the documents of a dump, each with its numbers replaced
 abbrev pub renumber_documents : Codes → List Doc → List Doc
 renumber_documents c ds = map (renumber_document c) ds
 
--- each number in a value is one that may occur at its path
+-- If a scalar is an int32 or an int64, it is a number that may occur.
 abbrev pub ScalarIsOf : Code → Scalar → Type 0
 ScalarIsOf c (int32 n) = IsTrue (c.occurs n)
 ScalarIsOf c (int64 n) = IsTrue (c.occurs n)
 ScalarIsOf c _ = Unit {0}
 
 abbrev mutual
+  -- Each number in a value, at any level, may occur at its path.
   pub IsOf : Codes → Tree → Type 0
   IsOf c (leaf s) = ScalarIsOf (c []) s
   IsOf c (doc fs) = FieldsAreOf c fs
   IsOf c (array ts) = ItemsAreOf c ts
   IsOf c (code_scope s fs) = FieldsAreOf (under scope_name c) fs
 
+  -- Each number in the elements of an array may occur at the array's path: positions are no part of a path.
   pub ItemsAreOf : Codes → Items → Type 0
   ItemsAreOf c no_items = Unit {0}
   ItemsAreOf c (item t ts) = IsOf c t × ItemsAreOf c ts
 
+  -- Each number in the fields of a document may occur at its path.
   pub FieldsAreOf : Codes → Fields → Type 0
   FieldsAreOf c no_fields = Unit {0}
   FieldsAreOf c (field n t fs) = IsOf (under n c) t × FieldsAreOf c fs
 
+-- Each number in the documents of a dump may occur at its path.
 abbrev pub DocumentsAreOf : Codes → List Doc → Type 0
 DocumentsAreOf c ds = All (λ d. IsOf c (doc (fields_of d))) ds
 
