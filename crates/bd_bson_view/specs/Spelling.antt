@@ -115,6 +115,8 @@ IsScalar _ bytes = bytes ≡ []
 
 -- The bytes spell the value. An array is spelled as a document whose names are any names.
 abbrev mutual
+  -- The bytes spell the value after its type byte and name (BSON 1.1, `element`);
+  -- of a document they are all of its bytes.
   pub IsValue : Tree → List ℕ → Type 0
   IsValue (leaf s) bytes = IsScalar s bytes
   IsValue (doc fs) bytes = (body : List ℕ) × AreFields fs body × (bytes ≡ framed body)

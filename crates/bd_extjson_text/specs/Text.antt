@@ -96,6 +96,7 @@ scalar_text max_key = wrapper_text (codes "$maxKey") (codes "1")
 
 -- The same for the values that hold values: each of these by its own text, in the stored order.
 abbrev mutual
+  -- the canonical Extended JSON v2 of any value, without white space
   pub text : Tree → List ℕ
   text (leaf s) = scalar_text s
   text (doc fs) = object (fields_text fs)
@@ -103,10 +104,12 @@ abbrev mutual
   text (code_scope s fs) =
       object (member (codes "$code") (quoted s) ∷ member (codes "$scope") (object (fields_text fs)) ∷ [])
 
+  -- the texts of the elements of an array, in order
   pub items_text : Items → List (List ℕ)
   items_text no_items = []
   items_text (item t ts) = text t ∷ items_text ts
 
+  -- the members of a document's text, in stored order; a name that repeats is written each time
   pub fields_text : Fields → List (List ℕ)
   fields_text no_fields = []
   fields_text (field n t fs) = member n (text t) ∷ fields_text fs

@@ -18,6 +18,7 @@ mutual
     none_of : Filters → Filter
     at_path : Names → Operators → Filter
 
+  -- a list of filters
   pub data Filters : Type 0 where
     no_filters : Filters
     filter : Filter → Filters → Filters
@@ -35,6 +36,7 @@ mutual
     has_element : Operators → Operator
     has_document : Filters → Operator
 
+  -- a list of operators of one path
   pub data Operators : Type 0 where
     no_operators : Operators
     operator : Operator → Operators → Operators

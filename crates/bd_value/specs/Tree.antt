@@ -28,16 +28,20 @@ pub data Scalar : Type 0 where
 
 -- A list of trees inside a tree has to be a type of its own: `Items` and `Fields` are the lists below.
 mutual
+  -- a value: a scalar, a document, an array, or code with scope,
+  -- which has its code and the fields of its scope
   pub data Tree : Type 0 where
     leaf : Scalar → Tree
     doc : Fields → Tree
     array : Items → Tree
     code_scope : List ℕ → Fields → Tree
 
+  -- the elements of an array, in order
   pub data Items : Type 0 where
     no_items : Items
     item : Tree → Items → Items
 
+  -- the fields of a document, in stored order: a name, its value, and the others
   pub data Fields : Type 0 where
     no_fields : Fields
     field : List ℕ → Tree → Fields → Fields
@@ -147,32 +151,39 @@ first_of name (p ∷ ps) = if bytes_eq p.0 name then Some p.1 else first_of name
 -- How deep documents and arrays nest: each is one deeper than the deepest value in it, and code with scope one deeper
 -- than its scope.
 abbrev mutual
+  -- how deep documents and arrays nest in a value: 0 for a scalar, 1 for `{}` and `[]`;
+  -- the scope of code counts as a document inside it
   pub depth : Tree → ℕ
   depth (leaf s) = 0
   depth (doc fs) = suc (fields_depth fs)
   depth (array ts) = suc (items_depth ts)
   depth (code_scope s fs) = suc (suc (fields_depth fs))
 
+  -- the depth of the deepest value among the fields; 0 without any
   pub fields_depth : Fields → ℕ
   fields_depth no_fields = 0
   fields_depth (field n t fs) = max (depth t) (fields_depth fs)
 
+  -- the depth of the deepest element; 0 without any
   pub items_depth : Items → ℕ
   items_depth no_items = 0
   items_depth (item t ts) = max (depth t) (items_depth ts)
 
 -- how many values stand in it
 abbrev mutual
+  -- how many values are inside a value, at all levels; the scope of code counts as one
   pub tree_size : Tree → ℕ
   tree_size (leaf s) = 0
   tree_size (doc fs) = suc (fields_size fs)
   tree_size (array ts) = suc (items_size ts)
   tree_size (code_scope s fs) = suc (suc (fields_size fs))
 
+  -- how many values the elements are, those inside them too
   pub items_size : Items → ℕ
   items_size no_items = 0
   items_size (item t ts) = suc (tree_size t) + items_size ts
 
+  -- how many values the fields have, those inside them too
   pub fields_size : Fields → ℕ
   fields_size no_fields = 0
   fields_size (field n t fs) = suc (tree_size t) + fields_size fs

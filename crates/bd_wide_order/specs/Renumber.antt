@@ -75,16 +75,19 @@ scope_name = codes "$scope"
 
 -- a value, with each number in it; names stay, and so do dates and timestamps
 abbrev mutual
+  -- a value with another number in place of each int32 and int64, at any level
   pub renumber : Codes → Tree → Tree
   renumber c (leaf s) = leaf (renumber_scalar (c []) s)
   renumber c (doc fs) = doc (renumber_fields c fs)
   renumber c (array ts) = array (renumber_items c ts)
   renumber c (code_scope s fs) = code_scope s (renumber_fields (under scope_name c) fs)
 
+  -- the elements of an array with other numbers; an index is no part of a path
   pub renumber_items : Codes → Items → Items
   renumber_items c no_items = no_items
   renumber_items c (item t ts) = item (renumber c t) (renumber_items c ts)
 
+  -- the fields of a document with other numbers, each by the codes under its name
   pub renumber_fields : Codes → Fields → Fields
   renumber_fields c no_fields = no_fields
   renumber_fields c (field n t fs) = field n (renumber (under n c) t) (renumber_fields c fs)
@@ -130,16 +133,19 @@ DocumentsAreOf c ds = All (λ d. IsOf c (doc (fields_of d))) ds
 -- A filter, with each value that it compares by: its numbers have the codes of the path that it asks, and of their
 -- own names below that. A size is a count of elements, and stays.
 abbrev mutual
+  -- a filter with other numbers in the values that it compares by
   pub renumber_filter : Codes → Filter → Filter
   renumber_filter c (all_of fs) = all_of (renumber_filters c fs)
   renumber_filter c (some_of fs) = some_of (renumber_filters c fs)
   renumber_filter c (none_of fs) = none_of (renumber_filters c fs)
   renumber_filter c (at_path path os) = at_path path (renumber_operators (below path c) os)
 
+  -- each of the filters with other numbers
   pub renumber_filters : Codes → Filters → Filters
   renumber_filters c no_filters = no_filters
   renumber_filters c (filter f fs) = filter (renumber_filter c f) (renumber_filters c fs)
 
+  -- an operator with other numbers; `$size`, `$exists` and `$type` stay
   pub renumber_operator : Codes → Operator → Operator
   renumber_operator c (equals v) = equals (renumber c v)
   renumber_operator c (compares r v) = compares r (renumber c v)
@@ -152,6 +158,7 @@ abbrev mutual
   renumber_operator c (has_element os) = has_element (renumber_operators c os)
   renumber_operator c (has_document fs) = has_document (renumber_filters c fs)
 
+  -- each of the operators of a path with other numbers
   pub renumber_operators : Codes → Operators → Operators
   renumber_operators c no_operators = no_operators
   renumber_operators c (operator o os) = operator (renumber_operator c o) (renumber_operators c os)
@@ -164,16 +171,20 @@ TakeNumbersAlike ks =
 -- Each path of a filter reads alike, each number that it compares by may occur there, and no `$type` tells int32 from
 -- int64.
 abbrev mutual
+  -- A filter asks only what renumbering keeps: paths that read alike, numbers that may occur there,
+  -- and no `$type` that tells int32 from int64.
   pub AsksOf : Codes → Filter → Type 0
   AsksOf c (all_of fs) = AllAskOf c fs
   AsksOf c (some_of fs) = AllAskOf c fs
   AsksOf c (none_of fs) = AllAskOf c fs
   AsksOf c (at_path path os) = ReadsAlike c path × OperatorsAskOf (below path c) os
 
+  -- Each of the filters asks only what renumbering keeps.
   pub AllAskOf : Codes → Filters → Type 0
   AllAskOf c no_filters = Unit {0}
   AllAskOf c (filter f fs) = AsksOf c f × AllAskOf c fs
 
+  -- An operator asks only what renumbering keeps.
   pub OperatorAsksOf : Codes → Operator → Type 0
   OperatorAsksOf c (equals v) = IsOf c v
   OperatorAsksOf c (compares r v) = IsOf c v
@@ -186,6 +197,7 @@ abbrev mutual
   OperatorAsksOf c (has_element os) = OperatorsAskOf c os
   OperatorAsksOf c (has_document fs) = AllAskOf c fs
 
+  -- Each of the operators of a path asks only what renumbering keeps.
   pub OperatorsAskOf : Codes → Operators → Type 0
   OperatorsAskOf c no_operators = Unit {0}
   OperatorsAskOf c (operator o os) = OperatorAsksOf c o × OperatorsAskOf c os
