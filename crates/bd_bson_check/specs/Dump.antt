@@ -24,6 +24,8 @@ framed_fault base bytes (Ok None) = None
 framed_fault base bytes (Ok (Some n)) = first_fault base (take n bytes)
 framed_fault base bytes (Err kind) = Some (record { kind = kind; offset = base; path = [] })
 
+-- the first fault of the document at the start of bytes, the first of which is at this offset of the dump;
+-- None if it is well-formed, and at the end of the bytes
 abbrev pub frame_fault : ℕ → List ℕ → Option Fault
 frame_fault base bytes = framed_fault base bytes (frame_length bytes)
 

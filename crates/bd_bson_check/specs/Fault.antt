@@ -3,6 +3,8 @@ use Rattle.std.specs.Prelude.{◌≡◌, ◌⊎◌, ℕ, List, [], ◌∷◌, ma
 use Rattle.std.specs.Prelude.{string_bytes, codes, MatchResult}
 use Rattle.bd_bson_check.specs.declared.fault.{Fault.Fault as HeldFault, Finding.Finding, FaultKind.FaultKind, Stop.Stop}
 
+-- The first check of BSON that fails: its kind, its byte offset from the start of the dump, and the path of
+-- names, array indexes and `$scope` from the top to the item; empty for a fault of the document itself.
 pub record Fault : Type 0 where
   pub kind : FaultKind
   pub offset : ℕ
@@ -21,11 +23,13 @@ abbrev pub TellsStop : Stop → Fault → Type 0
 TellsStop Stop.NoMemory f = Unit {0}
 TellsStop (Stop.Found g) f = f ≡ found_fault g
 
--- its answer, seen by a view, is what going past the item gives, or memory ran out
+-- a reader stopped at the fault that the item has, or memory ran out
 abbrev pub FailsAtItem : {Y : Type 0} → Stop → Result Y Fault → Type 0
 FailsAtItem Stop.NoMemory given = Unit {0}
 FailsAtItem (Stop.Found f) given = given ≡ Err (found_fault f)
 
+-- a reader's answer, seen by the view, is what the definition gives for the item,
+-- its value or its fault; or memory ran out
 abbrev pub GivesItem : {X Y : Type 0} → (X → Y) → Result X Stop → Result Y Fault → Type 0
 GivesItem view answer given = MatchResult answer (λ x. given ≡ Ok (view x)) (λ e. FailsAtItem e given)
 
@@ -49,6 +53,8 @@ pub record HasNoPlace (fault : FaultKind) (e : HeldFault) : Type 0 where
 abbrev pub IsWantOfMemory : HeldFault → Type 0
 IsWantOfMemory e = HasNoPlace FaultKind.NoMemory e
 
+-- the fault that is answered for the document of that number after such a stop:
+-- the one found, or out of memory
 abbrev pub IsOf : Stop → ℕ → HeldFault → Type 0
 IsOf Stop.NoMemory number e = IsWantOfMemory e
 IsOf (Stop.Found g) number e = IsFault number (found_fault g) e

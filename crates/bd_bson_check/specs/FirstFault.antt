@@ -15,10 +15,12 @@ use Rattle.bd_bson_check.specs.declared.fault.FaultKind.TheVariants.{BadStringLe
 use Rattle.bd_bson_check.specs.declared.fault.FaultKind.TheVariants.{BadBinaryLength, BadScopeLength, TooDeep, ValueShort}
 
 infixl 10 ◌>>=◌
+-- what follows an item without a fault; after a fault nothing more is looked at
 abbrev pub ◌>>=◌ : {A B : Type 0} → Result A Fault → (A → Result B Fault) → Result B Fault
 (Ok x) >>= f = f x
 (Err e) >>= f = Err e
 
+-- the fault of that kind at that byte offset, with the empty path: names are added on the way up
 abbrev pub fault : {A : Type 0} → FaultKind → ℕ → Result A Fault
 fault kind at = Err (record { kind = kind; offset = at; path = [] })
 
@@ -68,12 +70,15 @@ past_regex e bytes = do
   options ← past_name StringUnended e pattern.1
   Ok options.1
 
--- binary: the count of the data, the subtype, the data, which in subtype 02 begin with the count of the others
+-- the data of binary, whose first byte is five after `at`:
+-- of subtype 02 (binary, old) they begin with an int32 that counts the others
 abbrev pub past_data : ℕ → ℕ → ℕ → List ℕ → Result (List ℕ) Fault
 past_data at subtype count bytes = if subtype == 2 && nat_lt count 4 then fault BadBinaryLength at
     else (if subtype == 2 && not (number_of bytes == count - 4) then fault BadBinaryLength (at + 5)
     else Ok (drop count bytes))
 
+-- binary (element 0x05): the count of the data,
+-- which is not negative and does not go past e, the subtype, the data
 unfoldable pub past_binary : ℕ → List ℕ → Result (List ℕ) Fault
 past_binary e bytes = if nat_lt (length bytes) 5 then fault ValueShort (e - length bytes)
     else (if nat_lt 2147483647 (number_of bytes) || nat_lt (length bytes) (5 + number_of bytes)
@@ -101,6 +106,8 @@ past_code_frame e bytes = do
 abbrev pub Nested : Type 0
 Nested = Holder → ℕ → ℕ → List ℕ → Result (List ℕ) Fault
 
+-- a value of that kind, after its name; q is the offset of its element's type byte,
+-- where a value too deep is reported
 abbrev pub past_value : Nested → Kind → ℕ → ℕ → List ℕ → Result (List ℕ) Fault
 past_value nested Kind.MinKey q e bytes = Ok bytes
 past_value nested Kind.Undefined q e bytes = Ok bytes
@@ -132,6 +139,7 @@ past_typed nested (ElementType.Kept kind) q e bytes = past_value nested kind q e
 abbrev pub label : Option ℕ → List ℕ → List ℕ
 label place name = option_map_or decimal place name
 
+-- the same result, with the name put before the path of a fault in it
 abbrev pub within : {A : Type 0} → List ℕ → Result A Fault → Result A Fault
 within name (Ok x) = Ok x
 within name (Err f) = Err (longer name f)

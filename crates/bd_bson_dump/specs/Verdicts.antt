@@ -22,6 +22,7 @@ verdicts_from (suc turns) base bytes =
 unfoldable pub verdicts_at : ℕ → List ℕ → List (Option Fault)
 verdicts_at base bytes = verdicts_from (length bytes) base bytes
 
+-- for each document of a dump in turn its first fault, or None if it is well-formed
 abbrev pub verdicts : List ℕ → List (Option Fault)
 verdicts bytes = verdicts_at 0 bytes
 

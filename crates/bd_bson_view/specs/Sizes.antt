@@ -9,20 +9,23 @@ use Rattle.bd_value.specs.Tree as trees
 use Rattle.bd_value.specs.declared.node.Kind.{Kind}
 use Rattle.bd_value.specs.declared.node.Kind.TheVariants as kinds
 
+-- BSON 1.1, `int32`: the first four bytes as an unsigned number, least byte first; below 2^32
 abbrev pub number_of : List ℕ → ℕ
 number_of bytes = from_le_bytes w32 (take 4 bytes)
 
+-- BSON 1.1, `int64` and `uint64`: the first eight bytes as an unsigned number, least byte first; below 2^64
 abbrev pub long_of : List ℕ → ℕ
 long_of bytes = from_le_bytes w64 (take 8 bytes)
 
--- where the first zero stands
+-- the offset of the first zero byte; if there is none, the number of bytes
 abbrev pub zero_at : List ℕ → ℕ
 zero_at bytes = position_or_len (λ b. b == 0) bytes
 
--- a text that ends before the first zero, and what stands after that zero
+-- BSON 1.1, `cstring`: the text at the start, up to the first zero
 abbrev pub name_of : List ℕ → List ℕ
 name_of bytes = take (zero_at bytes) bytes
 
+-- what follows the `cstring` at the start: the bytes after the first zero
 abbrev pub after_name : List ℕ → List ℕ
 after_name bytes = drop (zero_at bytes + 1) bytes
 
@@ -35,6 +38,8 @@ abbrev pub payload_of : List ℕ → List ℕ
 payload_of bytes =
     let all = take (number_of bytes) (drop 5 bytes) in if slice_index_or bytes 4 0 == 2 then drop 4 all else all
 
+-- How many bytes a value of this kind takes at the start of bytes, by BSON 1.1; lengths are taken as they are
+-- written, so it may be more than there are. Null, undefined, MinKey and MaxKey take none.
 abbrev pub size_of : Kind → List ℕ → ℕ
 size_of kinds.Int32 bytes = 4
 size_of kinds.Int64 bytes = 8
@@ -88,6 +93,8 @@ pub record BinaryAt (bytes : List ℕ) : Type 0 where
   pub inside : 5 + number_of bytes ≤ length bytes
   pub inner : slice_index_or bytes 4 0 ≡ 2 → 4 ≤ number_of bytes
 
+-- The bytes begin with what must be there to read a value of this kind without a check: all of a scalar,
+-- with texts in UTF-8; of a document, an array or code with scope only the four bytes of its length.
 abbrev pub HasBytesOf : Kind → List ℕ → Type 0
 HasBytesOf kinds.Text bytes = TextAt bytes
 HasBytesOf kinds.Symbol bytes = TextAt bytes

@@ -36,6 +36,7 @@ Begins-prop type bytes t p q = let e = one p q in
       short = over_path (λ (v : List ℕ). length v ≤ longest_document) (λ v. le_prop) e.1 p.short q.short i;
     }
 
+-- The bytes begin with a well-formed value of this kind, whatever follows it: what a checked view carries.
 pub record Sound (kind : Kind) (bytes : List ℕ) : Type 0 where
   pub tree : Tree
   pub begins : Begins (type_byte kind) bytes tree
@@ -79,14 +80,17 @@ extent s = length s.begins.value
 unfoldable pub elements_left : {bytes : List ℕ} → Left bytes → Doc
 elements_left s = pairs_of s.fields
 
+-- any two proofs that bytes begin with a value of a kind name the same value
 pub stands_is : {kind : Kind} {bytes : List ℕ} (s t : Sound kind bytes) → stands s ≡ t.tree
 unfolding stands
 stands_is {kind} {bytes} s t = ap (λ (x : Sound kind bytes). x.tree) (Sound-prop kind bytes s t)
 
+-- any two proofs that bytes begin with a value of a kind give that value the same number of bytes
 pub extent_is : {kind : Kind} {bytes : List ℕ} (s t : Sound kind bytes) → extent s ≡ length t.begins.value
 unfolding extent
 extent_is {kind} {bytes} s t = ap (λ (x : Sound kind bytes). length x.begins.value) (Sound-prop kind bytes s t)
 
+-- any two proofs that bytes begin with the elements of a document name the same elements
 pub left_is : {bytes : List ℕ} (s t : Left bytes) → elements_left s ≡ pairs_of t.fields
 unfolding elements_left
 left_is {bytes} s t = ap (λ (x : Left bytes). pairs_of x.fields) (Left-prop bytes s t)

@@ -61,6 +61,7 @@ holds _ = false
 unfoldable pub number : ℕ → List ℕ
 number n = to_le_bytes w32 n
 
+-- `int64`, `uint64`: eight bytes, least first
 unfoldable pub long : ℕ → List ℕ
 long n = to_le_bytes w64 n
 
@@ -92,6 +93,8 @@ element t name value = type_byte (kind_of t) ∷ (name ++ 0 ∷ value)
 abbrev pub IsText : List ℕ → Type 0
 IsText s = IsUtf8 s × (length s + 1 < 2 ^ 32)
 
+-- The bytes are the scalar as BSON 1.1 spells it after type byte and name:
+-- numbers within their types, least byte first. Null, undefined, MinKey and MaxKey have no bytes.
 abbrev pub IsScalar : Scalar → List ℕ → Type 0
 IsScalar (trees.int32 z) bytes = FitsSigned w32 z × (bytes ≡ number (cast_unsigned w32 z))
 IsScalar (trees.int64 z) bytes = FitsSigned w64 z × (bytes ≡ long (cast_unsigned w64 z))
@@ -112,6 +115,8 @@ IsScalar _ bytes = bytes ≡ []
 
 -- The bytes spell the value. An array is spelled as a document whose names are any names.
 abbrev mutual
+  -- The bytes spell the value after its type byte and name (BSON 1.1, `element`);
+  -- of a document they are all of its bytes.
   pub IsValue : Tree → List ℕ → Type 0
   IsValue (leaf s) bytes = IsScalar s bytes
   IsValue (doc fs) bytes = (body : List ℕ) × AreFields fs body × (bytes ≡ framed body)
@@ -137,6 +142,7 @@ pub record IsDocument (d : Doc) (bytes : List ℕ) : Type 0 where
   pub short : length bytes ≤ longest_document
   pub shallow : depth (doc (fields_of d)) ≤ most_levels
 
+-- The text is no longer than a document may be: 16,793,600 bytes.
 abbrev pub IsShort : List ℕ → Type 0
 IsShort text = length text ≤ longest_document
 

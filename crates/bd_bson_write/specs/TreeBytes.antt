@@ -10,6 +10,8 @@ use Rattle.bd_bson_write.specs.declared.writing.WriteFault.{WriteFault}
 use Rattle.bd_bson_write.specs.declared.writing.WriteFault.TheVariants as faults
 use Rattle.bd_bson_view.specs.Spelling.{number, long, string, framed, data_of, scoped, element, IsText, IsScalar}
 
+-- the bytes of a scalar after its type byte and name (BSON 1.1), least byte first;
+-- none for null, undefined, MinKey and MaxKey
 abbrev pub scalar_bytes : Scalar → List ℕ
 scalar_bytes (trees.int32 z) = number (cast_unsigned w32 z)
 scalar_bytes (trees.int64 z) = long (cast_unsigned w64 z)
@@ -27,12 +29,15 @@ scalar_bytes (trees.binary subtype payload) = number (length (data_of subtype pa
 scalar_bytes _ = []
 
 abbrev mutual
+  -- the bytes of a value after its type byte and name;
+  -- of a document all of its bytes, the length and the final zero included
   pub bytes_of : Tree → List ℕ
   bytes_of (leaf s) = scalar_bytes s
   bytes_of (doc fs) = framed (fields_bytes fs)
   bytes_of (array ts) = framed (items_bytes 0 ts)
   bytes_of (code_scope s fs) = scoped s (framed (fields_bytes fs))
 
+  -- the elements of a document, in stored order
   pub fields_bytes : Fields → List ℕ
   fields_bytes no_fields = []
   fields_bytes (field name t fs) = element t name (bytes_of t) ++ fields_bytes fs
@@ -47,6 +52,7 @@ abbrev pub own_bytes : Own → List ℕ
 own_bytes (own s) = scalar_bytes s
 own_bytes (own_code s) = string s
 
+-- The scalar or the code is within its BSON type, so that its bytes spell it.
 abbrev pub OwnSpells : Own → Type 0
 OwnSpells (own s) = IsScalar s (scalar_bytes s)
 OwnSpells (own_code s) = IsText s

@@ -53,6 +53,8 @@ module _ {C : Type 0} (state : C → Reader) (gives : C → Option (List ℕ) �
       × StopsServing state gives (RepliesInText bytes ds) command_limits old new out new_state t IsKept fault
       × TellsMessage err (error_line (serve_words fault)) Failed status
 
+  -- Over a well-formed dump: each command had its reply,
+  -- or those before a fault had theirs and the fault is reported.
   abbrev pub ServesDump : List ℕ → List Doc → Type 0
   ServesDump bytes ds = ServesToTheEnd bytes ds ⊎ ServesToAFault bytes ds
 
@@ -64,6 +66,7 @@ module _ {C : Type 0} (state : C → Reader) (gives : C → Option (List ℕ) �
       × ServesNothing old new out err status (fault_text (length ds) fault))
       ⊎ ((ds : List Doc) × IsWalk ds None bytes × ServesDump bytes ds))
 
+  -- `serve` ran: its file was read whole or not, and then its commands were served or it is reported why not.
   abbrev pub ServesInput : Over Reader → Type 0
   ServesInput file = (input : Result (List ℕ) ReadFault) × ReadsInput file input × ServesRead input
 

@@ -50,12 +50,14 @@ abbrev pub with_file_commands : App → List Text → App
 with_file_commands app [] = app
 with_file_commands app (name ∷ names) = with_file_commands (with_subcommand app (file_app name).top) names
 
+-- the command lines that `bsonfind` accepts: `dump`, `check`, `pack` or `serve` with one file,
+-- and `find` with one file and its options
 abbrev pub line_app : App
 line_app = with_subcommand
     (with_file_commands top_app (codes "dump" ∷ codes "check" ∷ codes "pack" ∷ codes "serve" ∷ []))
     find_app.top
 
--- what they order
+-- a command: what the arguments ask for, with texts as their bytes
 pub data OrderView : Type 0 where
   dump : Text → OrderView
   check : Text → OrderView
@@ -68,6 +70,7 @@ abbrev pub IsFileCommand : Text → (Text → OrderView) → Type 0
 IsFileCommand name order = ((name ≡ codes "dump") × (order ≡ dump)) ⊎ ((name ≡ codes "check") × (order ≡ check))
     ⊎ ((name ≡ codes "pack") × (order ≡ pack)) ⊎ ((name ≡ codes "serve") × (order ≡ serve))
 
+-- the command that an `Order` in memory stands for
 abbrev pub meant : Order → OrderView
 meant (Order.Dump file) = dump (string_bytes file)
 meant (Order.Check file) = check (string_bytes file)
@@ -75,6 +78,7 @@ meant (Order.Pack file) = pack (string_bytes file)
 meant (Order.Find file options) = find (string_bytes file) (find_words_of options)
 meant (Order.Serve file) = serve (string_bytes file)
 
+-- arguments in memory, each as its UTF-8 bytes
 abbrev pub words_of : {Z : Type 0} → List (String Z) → List Text
 words_of = map string_bytes
 

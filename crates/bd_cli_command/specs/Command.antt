@@ -29,18 +29,19 @@ pub data Command : Type 0 where
   kills_cursor : ℕ → Command
   explains : FindCommand → Command
 
--- what a hint in memory stands for; and a command, below
+-- what the field `use` in memory asks for
 abbrev pub hint_tree : HeldHint → Hint
 hint_tree HeldHint.Auto = any_way
 hint_tree HeldHint.Scan = by_scan
 hint_tree (HeldHint.Index path) = by_index (string_bytes path)
 
--- the same, with a path that is borrowed
+-- what the field `use` asks for, with a path that is borrowed
 abbrev pub hint_read : HintForm → Hint
 hint_read HintForm.Auto = any_way
 hint_read HintForm.Scan = by_scan
 hint_read (HintForm.Index path) = by_index path.now
 
+-- what is to be found, by a command in memory
 abbrev pub find_tree : HeldFind → FindCommand
 find_tree f = record {
   filter = pairs f.filter;
@@ -50,6 +51,7 @@ find_tree f = record {
   hint = hint_tree f.hint;
 }
 
+-- the command that one in memory stands for
 abbrev pub command_tree : HeldCommand → Command
 command_tree (HeldCommand.CreateIndex path sparse) = creates_index (string_bytes path) sparse
 command_tree (HeldCommand.DropIndex path) = drops_index (string_bytes path)

@@ -46,10 +46,12 @@ abbrev pub text_field : Tree → Option (List ℕ)
 text_field (leaf (Scalar.text s)) = Some s
 text_field t = None
 
+-- a boolean; no number stands for one here
 abbrev pub truth_field : Tree → Option Bool
 truth_field (leaf (Scalar.boolean b)) = Some b
 truth_field t = None
 
+-- the fields of a document; an array is none
 abbrev pub document_field : Tree → Option Doc
 document_field (doc fs) = Some (pairs_of fs)
 document_field t = None

@@ -62,6 +62,8 @@ abbrev pub StarvesAfterDocuments : Over Reader → Over Writer → Type 0
 StarvesAfterDocuments file out = (ds : List Doc) × (given : List ℕ) × AreJoined ds given × StopsWithinOne given file
     × (file.after.failures ≡ file.before.failures) × TakesText out (lines ds)
 
+-- `dump` ran: it printed what is to be shown of its input;
+-- or standard output failed within the line of a document, or memory ran out, and standard error says so.
 abbrev pub DumpsInput : Over Reader → Over Writer → Over Writer → Status → Type 0
 DumpsInput file out err status = (shown : Transcript)
     × TellsEnd (DumpsWhole file out shown) (BreaksAtDocument file out) (StarvesAfterDocuments file out) err shown status
@@ -85,6 +87,7 @@ check_message unread documents faulty =
     (wrong_line (option_map read_words unread) ++ (decimal documents ++ codes " documents, "))
     ++ (decimal faulty ++ (codes " faulty" ++ 10 ∷ []))
 
+-- the status of `check`: done if each document is well-formed and the input was read whole, else failed (1)
 abbrev pub check_status : Option ReadFault → ℕ → Status
 check_status None zero = Done
 check_status _ faulty = Failed
@@ -106,6 +109,7 @@ AreVerdicts bytes (Some fault) vs =
     (frames : List (List ℕ)) × (front : List ℕ) × (part : List ℕ) × AreFrames frames front × IsCut part
     × (bytes ≡ front ++ part) × (vs ≡ verdicts front)
 
+-- This is what `check` shows of all bytes of an input, or of those before a failed read.
 abbrev pub IsShownByCheck : List ℕ → Option ReadFault → Transcript → Type 0
 IsShownByCheck bytes fault shown =
     (vs : List (Option Fault)) × AreVerdicts bytes fault vs × (shown ≡ shown_check vs fault)
@@ -140,10 +144,11 @@ pub record Texts : Type 0 where
   pub good : Doc → List ℕ
   pub bad : ℕ → Fault → Option (List ℕ)
 
--- `dump` writes the line of each document up to the first fault, and `check` the line of each fault
+-- `dump` writes the line of each document, and ends at the first fault
 abbrev pub dump_texts : Texts
 dump_texts = record { good = λ d. lines (d ∷ []); bad = λ number f. None }
 
+-- `check` writes nothing of a well-formed document, and the line of each fault
 abbrev pub check_texts : Texts
 check_texts = record { good = λ d. []; bad = λ number f. Some (verdict_line number (Some f)) }
 

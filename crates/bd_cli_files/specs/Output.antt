@@ -25,25 +25,30 @@ abbrev pub lines : List Doc → List ℕ
 lines [] = []
 lines (d ∷ ds) = text (doc (fields_of d)) ++ 10 ∷ lines ds
 
+-- a line of standard error: `bsonfind: `, the message, a newline
 abbrev pub error_line : List ℕ → List ℕ
 error_line message = codes "bsonfind: " ++ (message ++ 10 ∷ [])
 
--- a fault: the number of its document and its byte, the names of its path joined by dots, and what it is
+-- where a fault is: its document number, and its byte offset from the start of the dump
 abbrev pub place_text : ℕ → ℕ → List ℕ
 place_text number offset = codes "document " ++ (decimal number ++ (codes ", byte " ++ decimal offset))
 
+-- the message of a dump fault: where it is, its path,
+-- the names joined by dots as a JSON string, and what is wrong
 abbrev pub fault_text : ℕ → Fault → List ℕ
 fault_text number f =
     place_text number f.offset
     ++ (codes ", path " ++ (quoted (join_with_byte 46 f.path) ++ (codes ": " ++ fault_words f.kind)))
 
--- why a run ends where memory ran out, and where standard output failed
+-- the message of a run that ran out of memory
 abbrev pub no_memory : List ℕ
 no_memory = codes "no memory"
 
+-- the message of a run whose write to standard output failed
 abbrev pub cannot_write : List ℕ
 cannot_write = codes "cannot write"
 
+-- the message of a run that could not write all of its output
 abbrev pub stop_words : OutputFault → List ℕ
 stop_words NoMemory = no_memory
 stop_words Unwritten = cannot_write
@@ -54,11 +59,12 @@ stop_words Unwritten = cannot_write
 abbrev pub shown_refusal : List ℕ → Transcript
 shown_refusal message = record { out = []; err = error_line message; status = Failed }
 
--- the first line of standard error, and the status: a message tells what is wrong, or nothing is
+-- the first line of standard error, if there is a message of what is wrong
 abbrev pub wrong_line : Option (List ℕ) → List ℕ
 wrong_line None = []
 wrong_line (Some message) = error_line message
 
+-- the exit status: done if nothing is wrong, else failed (1)
 abbrev pub wrong_status : Option (List ℕ) → Status
 wrong_status None = Done
 wrong_status (Some message) = Failed

@@ -25,15 +25,17 @@ PacksLines number (line ∷ lines) ds bad = (IsTrue (is_empty_line line) × Pack
     ⊎ (IsFalse (is_empty_line line)
     × ((fault : LineFault) × IsBad line fault × (ds ≡ []) × (bad ≡ Some (record { number = number; fault = fault }))))
 
--- the place of a fault, after these words; a document as a whole has none
+-- the byte offset of a fault in a line, after these words; none if the line as a whole is no document
 abbrev pub byte_text : List ℕ → JsonFaultKind → ℕ → List ℕ
 byte_text words kinds.NotADocument at = []
 byte_text words _ at = words ++ decimal at
 
+-- what is wrong with a line of `pack`, and at which byte of the line
 abbrev pub line_fault_text : LineFault → List ℕ
 line_fault_text (faults.Unread f) = byte_text (codes ", byte ") f.kind f.at ++ (codes ": " ++ json_fault_words f.kind)
 line_fault_text faults.TooLong = codes ": document too long"
 
+-- the message of a bad line of `pack`: its number, from 1, and what is wrong
 abbrev pub bad_line_text : BadLine → List ℕ
 bad_line_text bad = codes "line " ++ (decimal bad.number ++ line_fault_text bad.fault)
 
@@ -41,6 +43,8 @@ bad_line_text bad = codes "line " ++ (decimal bad.number ++ line_fault_text bad.
 abbrev pub objects_packed : List ℕ
 objects_packed = codes " objects packed" ++ 10 ∷ []
 
+-- what `pack` shows: the BSON of the documents before the first bad line, the message of that line,
+-- and how many were packed
 abbrev pub shown_pack : List Doc → Option BadLine → Transcript
 shown_pack ds bad = shown_before (flat_map plain ds) (option_map bad_line_text bad)
     (decimal (length ds) ++ objects_packed)
@@ -65,10 +69,12 @@ PacksInput file out err status =
 
 -- ---- line by line
 
+-- the lines that remain to be packed; None is the end of the text
 abbrev pub lines_left : Option (List ℕ) → List (List ℕ)
 lines_left None = []
 lines_left (Some text) = text_lines text
 
+-- how much remains to be packed: less after each line, and 0 at the end of the text
 abbrev pub left_size : Option (List ℕ) → ℕ
 left_size None = 0
 left_size (Some text) = suc (length text)

@@ -38,6 +38,7 @@ abbrev pub refusal_text : Refusal → List ℕ
 refusal_text r = codes "query: place "
     ++ (quoted (join_with_byte 46 r.place) ++ (codes ": " ++ filter_fault_words r.kind))
 
+-- the message of an option `--index` that is no path
 abbrev pub index_fault_text : PathFault → List ℕ
 index_fault_text fault = codes "index: " ++ path_fault_words fault
 
@@ -69,6 +70,7 @@ abbrev pub fits_batch : Option ℕ → Bool
 fits_batch None = true
 fits_batch (Some n) = nat_le n greatest_count
 
+-- the option `--batch`, refused if it is above 2,147,483,647
 abbrev pub batch_part : Option ℕ → Result (Unit {0}) Reason
 batch_part size = if fits_batch size then Ok tt else Err (plain reasons.Range)
 
@@ -101,9 +103,11 @@ AsksInWords words asked = IsRefusedOr (λ message. asked ≡ Err message) (Reads
     IsRefusedOr (λ message. asked ≡ Err message) (ReadsText (codes "sort") words.sort) (λ sort.
     page_of words query sort ≡ asked))
 
+-- The options of `find` are refused, whatever the file holds.
 abbrev pub AsksNothing : FindWords → Type 0
 AsksNothing words = (w : PageRequest) → ¬ (AsksInWords words (Ok w))
 
+-- what is asked for by an `Asking` in memory
 abbrev pub page_request_of : Asking → PageRequest
 page_request_of a = record { request = request_view a.request; batch = a.size; token = a.token }
 

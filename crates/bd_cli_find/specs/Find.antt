@@ -79,6 +79,7 @@ token_words (Some t) = codes ", token " ++ marked_text t
 abbrev pub end_words : Bool → List ℕ
 end_words ends = if ends then codes " documents, end" else codes " documents, more"
 
+-- the line of counts after a batch: how many documents, `end` or `more`, and the token if there is one
 abbrev pub find_count_line : ℕ → Bool → Option MarkedToken → List ℕ
 find_count_line count ends token = decimal count ++ (end_words ends ++ (token_words token ++ 10 ∷ []))
 
@@ -96,6 +97,7 @@ abbrev pub shown_places : List ℕ → List Doc → PageRequest → Result (List
 shown_places bytes ds w (Ok ps) = shown_batch w.batch ds (cursor_for 1 (query_to bytes ds w.request) w.token ps)
 shown_places bytes ds w (Err why) = shown_refusal (refused_text why)
 
+-- what `find` shows of a well-formed dump: the first batch, or why the token is refused
 abbrev pub shown_of_dump : List ℕ → List Doc → PageRequest → Transcript
 shown_of_dump bytes ds w = shown_places bytes ds w (places_from (query_to bytes ds w.request) w.token)
 
@@ -131,6 +133,7 @@ FindsDocuments words file out err status =
     × IsRefusedOr (λ message. file.after ≡ file.before) (AsksInWords words) (λ w. ReadsInput file input)
     × IsShownByFind words input shown × PrintsInput input out err shown status)
 
+-- the request of a filter, a sort, a skip and a limit, in terms of documents instead of their numbers
 abbrev pub document_request : Filter → List SortPath → ℕ → ℕ → DocumentRequest Doc
 document_request f ss skip limit = record {
   matches = λ d. matches f (doc (fields_of d));

@@ -39,6 +39,7 @@ pub data LineReply : Type 0 where
   explains : Doc → LineReply
   refuses : ToldRefusal → LineReply
 
+-- documents as a BSON array, in order
 abbrev pub documents_value : List Doc → Tree
 documents_value ds = array (items_of (map (λ d. doc (fields_of d)) ds))
 
@@ -61,6 +62,7 @@ abbrev pub is_result : LineReply → Bool
 is_result (refuses r) = false
 is_result _ = true
 
+-- a reply as a document: `ok` first, true for a result and false for a refusal, then the other fields
 abbrev pub reply_document : LineReply → Doc
 reply_document r = (codes "ok", leaf (trees.boolean (is_result r))) ∷ reply_pairs r
 
@@ -75,6 +77,8 @@ abbrev pub json_fault_byte : JsonFaultKind → ℕ → Tree
 json_fault_byte json.NotADocument at = leaf trees.null
 json_fault_byte _ at = count_value at
 
+-- the refusal of a line that is no Extended JSON document:
+-- layer `json`, with the byte offset in the line as `at`
 abbrev pub json_refusal : JsonFault → ToldRefusal
 json_refusal f = record {
   layer = codes "json";
@@ -83,6 +87,7 @@ json_refusal f = record {
   place = (codes "at", json_fault_byte f.kind f.at) ∷ [];
 }
 
+-- the refusal of a document that is no command: layer `command`
 abbrev pub command_refusal : CommandFault → ToldRefusal
 command_refusal f = record {
   layer = codes "command";
@@ -100,6 +105,7 @@ filter_refusal r = record {
   place = (codes "place", leaf (trees.text (join_with_byte 46 r.place))) ∷ [];
 }
 
+-- the refusal of the path of an index: layer `path`
 abbrev pub path_refusal : PathFault → ToldRefusal
 path_refusal f = record { layer = codes "path"; number = path_fault_number f; words = path_fault_words f; place = [] }
 
@@ -111,6 +117,7 @@ session_refusal (plain r) =
 
 -- ---- one in memory
 
+-- the refusal that one in memory reports
 abbrev pub told_refusal : LineRefusal → ToldRefusal
 told_refusal (refusals.Json fault) = json_refusal fault
 told_refusal (refusals.Command fault) = command_refusal fault
@@ -130,6 +137,7 @@ line_reply ds (replies.Made m) = makes (made_counts m)
 line_reply ds (replies.Explained e) = explains (told e)
 line_reply ds (replies.Refused refusal) = refuses (told_refusal refusal)
 
+-- the value that a field of a reply in memory stands for
 abbrev pub reply_value : Field → Tree
 reply_value fields.Null = leaf trees.null
 reply_value (fields.Truth b) = leaf (trees.boolean b)
@@ -139,5 +147,6 @@ reply_value (fields.Text s) = leaf (trees.text s.now)
 reply_value (fields.Names names) = leaf (trees.text (join_with_byte 46 (map string_bytes names.now)))
 reply_value (fields.Documents dump places) = documents_value (documents_at (documents dump.now) places.now)
 
+-- the name and the value of a field of a reply in memory
 abbrev pub member_pair : Bor (List ℕ) × Field → Pair
 member_pair m = (m.0.now, reply_value m.1)

@@ -35,9 +35,11 @@ abbrev pub IsPerformed : machine.Call → Session → Result Reply AllocError �
 IsPerformed call old (Ok r) new = Performs call old r new
 IsPerformed call old (Err e) new = IsRefused reasons.NoMemory call old new
 
+-- the state of the machine that the session of a service is in
 abbrev pub service_state : Service → State
 service_state s = state_of s.session
 
+-- the dump whose documents a service gives
 abbrev pub service_dump : Service → Dump
 service_dump s = dump_of s.session
 

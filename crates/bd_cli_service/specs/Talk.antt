@@ -32,6 +32,7 @@ way_by any_way = by_any
 way_by by_scan = by_none
 way_by (by_index path) = by_one path
 
+-- the path of the index that `use` names; None for `"auto"` and `"scan"`
 abbrev pub hint_path : Hint → Option (List ℕ)
 hint_path hint = path_named (way_by hint)
 
@@ -85,6 +86,7 @@ IsCallIn bytes ds line part = ((d : Doc) × ReadsAs line d × (part ≡ document
     × ((f : JsonFault) × IsPlaced (length line) f × TellsBadUtf8 line f × (f.kind ≢ json.NoMemory)
     × (part ≡ Err (json_refusal f))))
 
+-- the reply to a line: that of the session to its call, or the refusal of a line that is no call
 abbrev pub reply_to : List Doc → State → Result Call ToldRefusal → LineReply
 reply_to ds s (Ok call) = shown_reply ds (machine.reply s call)
 reply_to ds s (Err why) = refuses why
@@ -155,6 +157,7 @@ abbrev pub given_in : LineReply → List LineReply
 given_in (gives ds ends token) = gives ds ends token ∷ []
 given_in _ = []
 
+-- the reply to a call, if it asks the cursor of this number for a batch and gets one
 abbrev pub batch_shown : ℕ → Option Call → LineReply → List LineReply
 batch_shown id (Some (next_call i n)) r = if i == id then given_in r else []
 batch_shown id _ r = []

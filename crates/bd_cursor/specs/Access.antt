@@ -23,6 +23,7 @@ pub data Way : Type 0 where
   by_none : Way
   by_one : List ℕ → Way
 
+-- which index a `Choice` asks for: any, none, or the one on its path
 abbrev pub way_of : Choice → Way
 way_of choices.Scan = by_none
 way_of choices.Auto = by_any
@@ -34,9 +35,11 @@ pub data AccessPath : Type 0 where
   bounded : IndexMark → KeyBounds → AccessPath
   walked : IndexMark → Dir → AccessPath
 
+-- the path of an index in memory, and whether it is sparse
 abbrev pub index_mark : Index → IndexMark
 index_mark i = record { path = string_bytes i.path.text; is_sparse = i.sparse }
 
+-- the names of the path that an index is on
 abbrev pub mark_names : IndexMark → Names
 mark_names i = components_of i.path
 
@@ -55,20 +58,23 @@ walk_dir i [] = None
 walk_dir i (s ∷ []) = if not i.is_sparse && pointwise bytes_eq s.path (mark_names i) then Some s.dir else None
 walk_dir i (s ∷ t ∷ ss) = None
 
--- by bounds, or in an order, where there is one, or else another way
+-- by the bounds of an index, or without bounds another way
 abbrev pub bounded_or : IndexMark → KeyBounds → AccessPath → AccessPath
 bounded_or i None other = other
 bounded_or i (Some keys) other = bounded i (Some keys)
 
+-- by a walk of an index, if it has the order of the sort in some direction, else another way
 abbrev pub walk_or : IndexMark → Option Dir → AccessPath → AccessPath
 walk_or i None other = other
 walk_or i (Some dir) other = walked i dir
 
--- the first index that serves by its bounds, or that has the order of the sort
+-- the first index, in the order in which they were made, that serves by its bounds; without one another way
 abbrev pub first_bounded : List Doc → Filter → List IndexMark → AccessPath → AccessPath
 first_bounded ds f [] other = other
 first_bounded ds f (i ∷ is) other = bounded_or i (serving_bounds i (mark_bounds ds f i)) (first_bounded ds f is other)
 
+-- the first index, in the order in which they were made, that has the order of the sort;
+-- without one another way
 abbrev pub first_walked : List SortPath → List IndexMark → AccessPath → AccessPath
 first_walked ss [] other = other
 first_walked ss (i ∷ is) other = walk_or i (walk_dir i ss) (first_walked ss is other)
@@ -79,6 +85,7 @@ abbrev pub named_access : List Doc → Filter → List SortPath → IndexMark �
 named_access ds f ss i = bounded_or i (serving_bounds i (mark_bounds ds f i))
     (if i.is_sparse then scanned else walk_or i (walk_dir i ss) (bounded i None))
 
+-- by the index on that path; by a scan if there is none
 abbrev pub access_on : List Doc → Filter → List SortPath → List ℕ → List IndexMark → AccessPath
 access_on ds f ss path [] = scanned
 access_on ds f ss path (i ∷ is) = if is_on path i then named_access ds f ss i else access_on ds f ss path is
@@ -91,6 +98,7 @@ access_of ds f ss (by_one path) is = access_on ds f ss path is
 
 -- ---- one in hand
 
+-- the access path that an `Access` in memory stands for
 abbrev pub access_path : Access → AccessPath
 access_path ways.Scan = scanned
 access_path (ways.Bounded index bounds) = bounded (index_mark index.now) (seen_bounds bounds)

@@ -31,6 +31,7 @@ abbrev pub places_within : List Doc → IndexMark → KeyBounds → List ℕ
 places_within ds i b = filter (λ p. list_any (is_among b) (indexed_keys i.is_sparse (document_at ds p) (mark_names i)))
     (range_with_len 0 (length ds))
 
+-- the name of a plan in the reply to `explain`
 abbrev pub plan_name : Plan → List ℕ
 plan_name plans.Scan = codes "scan"
 plan_name plans.Index = codes "index"
@@ -62,5 +63,6 @@ explanation_for ds r way indexes =
     explained_access ds (length (matching (selection_for ds r.filter r.sorts r.skip r.limit)))
     (access_of ds r.filter r.sorts way indexes)
 
+-- what `explain` reports of a request in memory to these documents, with these indexes
 abbrev pub explanation_of : List Doc → declared.Request → Choice → List IndexMark → Doc
 explanation_of ds r choice = explanation_for ds (request_view r) (way_of choice)

@@ -21,9 +21,11 @@ use Rattle.bd_cursor_request.specs.{declared.results.Refused.Refused, declared.t
 use Rattle.bd_cursor.specs.declared.cursor.Remainder.TheVariants as remainders
 use Rattle.bd_cursor_request.specs.declared.results.Refused.TheVariants as reasons
 
+-- the position in an answer that a token in memory has
 abbrev pub mark_of : Token → Mark
 mark_of t = record { given = t.given; last = t.last }
 
+-- the token that one in memory stands for
 abbrev pub marked_token : Token → MarkedToken
 marked_token t = record { mark = mark_of t; digest = t.digest }
 
@@ -34,6 +36,7 @@ abbrev pub scan_left : ℕ → (ℕ → Bool) → ScanPosition → List ℕ
 scan_left count hits a =
     at_most a.most (cons_option a.found (drop a.skip (filter hits (range_with_len a.next (count - a.next)))))
 
+-- the matches of a filter in a dump that a scanning cursor has yet to give
 abbrev pub scan_left_in : Dump → Filter → ScanPosition → List ℕ
 scan_left_in dump filter a = scan_left (length (documents dump)) (hits_of (documents dump) (filter_tree filter)) a
 
@@ -42,6 +45,7 @@ abbrev pub places_left : Selection → Remainder → List ℕ
 places_left a (remainders.Scanned position) = scan_left a.count a.hits position
 places_left a (remainders.Listed ps) = ps
 
+-- the cursor of the machine that one in memory stands for
 abbrev pub open_cursor : Dump → Cursor → OpenCursor
 open_cursor dump c = record {
   id = c.id;
@@ -50,6 +54,7 @@ open_cursor dump c = record {
   left = places_left (query_of dump c.request).selection c.left;
 }
 
+-- the state of the machine that a session in memory is in
 abbrev pub state_of : Session → State
 state_of s = record {
   indexes = map index_mark s.indexes.items;
@@ -64,9 +69,11 @@ abbrev pub path_named : Way → Option (List ℕ)
 path_named (by_one path) = Some path
 path_named _ = None
 
+-- the path of the index that a `Choice` names, if it names one
 abbrev pub hint_of : Choice → Option (List ℕ)
 hint_of choice = path_named (way_of choice)
 
+-- the index on this path, sparse or not
 abbrev pub path_mark : Bool → Path → IndexMark
 path_mark sparse path = record { path = string_bytes path.text; is_sparse = sparse }
 

@@ -8,6 +8,8 @@ use Rattle.bd_cursor_model.specs.Answer.{Selection, Mark, answer, batches, rest}
 use Rattle.bd_cursor_model.specs.Session.{Call, GivenBatch, Query, Reply, State, gave, kill_call, most_given}
 use Rattle.bd_cursor_model.specs.Session.{next_call, reply, state_after}
 
+-- a strict total order: nothing comes before itself, it is transitive,
+-- and of two different ones one comes first
 pub record IsStrictOrder (lt : ℕ → ℕ → Bool) : Type 0 where
   pub irreflexive : (x : ℕ) → lt x x ≡ false
   pub transitive : (x y z : ℕ) → lt x y ≡ true → lt y z ≡ true → lt x z ≡ true
@@ -33,6 +35,7 @@ pub record DocumentRequest (A : Type 0) : Type 0 where
   pub skip : ℕ
   pub limit : ℕ
 
+-- whether there is a document, and it passes the test
 abbrev pub matches_some : {A : Type 0} → (A → Bool) → Option A → Bool
 matches_some test None = false
 matches_some test (Some d) = test d
@@ -70,18 +73,22 @@ pub record IsSelectionOf {A : Type 0} (r : DocumentRequest A) (ds : List A) (a :
 
 -- ---- sessions
 
+-- a new session: no index, no open cursor, and cursor numbers start at 1
 abbrev pub new_state : State
 new_state = record { indexes = []; next_id = 1; cursors = [] }
 
+-- the state of a session after some calls, one after the other
 abbrev pub state_after_all : State → List Call → State
 state_after_all s [] = s
 state_after_all s (c ∷ cs) = state_after_all (state_after s c) cs
 
+-- the replies to calls made one after the other, each in the state that those before it left
 abbrev pub replies : State → List Call → List Reply
 replies s [] = []
 replies s (c ∷ cs) = reply s c ∷ replies (state_after s c) cs
 
--- the sizes that the calls ask of a cursor, until it is killed; those that are too great are left out
+-- the batch sizes that the calls ask of a cursor, until it is killed;
+-- those above 2,147,483,647 are refused and left out
 abbrev pub sizes_to : ℕ → List Call → List ℕ
 sizes_to id [] = []
 sizes_to id (next_call i n ∷ cs) =
@@ -89,15 +96,17 @@ sizes_to id (next_call i n ∷ cs) =
 sizes_to id (kill_call i ∷ cs) = if i == id then [] else sizes_to id cs
 sizes_to id (call ∷ cs) = sizes_to id cs
 
--- the batches that the replies give to a cursor
+-- the batch that a reply gives, if it gives one
 abbrev pub batch_in : Reply → List GivenBatch
 batch_in (gave b) = b ∷ []
 batch_in r = []
 
+-- the batch that a call gets from the cursor of this number, if it asks that cursor and is not refused
 abbrev pub batch_to : ℕ → Call → Reply → List GivenBatch
 batch_to id (next_call i n) r = if i == id then batch_in r else []
 batch_to id c r = []
 
+-- the batches that calls get from the cursor of this number, in turn
 abbrev pub batches_to : ℕ → List Call → List Reply → List GivenBatch
 batches_to id calls rs = flat_map (λ p. batch_to id p.0 p.1) (zip calls rs)
 
@@ -116,15 +125,17 @@ GivesInTurn q id ps calls given =
 abbrev pub IsFair : Query → Type 0
 IsFair q = IsTotalOrder q.selection.by × (q.selection.limit ≤ most_given)
 
--- calls, each with whether it was refused because memory ran out: then it changed nothing, and has no reply
+-- the state after calls, each with whether it ran out of memory: such a call changes nothing
 abbrev pub state_after_attempts : State → List (Call × Bool) → State
 state_after_attempts s [] = s
 state_after_attempts s (a ∷ later) = state_after_attempts (if a.1 then s else state_after s a.0) later
 
+-- the replies to calls of which some ran out of memory: for these None
 abbrev pub attempt_replies : State → List (Call × Bool) → List (Option Reply)
 attempt_replies s [] = []
 attempt_replies s (a ∷ later) =
     (if a.1 then None else Some (reply s a.0)) ∷ attempt_replies (if a.1 then s else state_after s a.0) later
 
+-- the calls that did not run out of memory, in turn
 abbrev pub answered_calls : List (Call × Bool) → List Call
 answered_calls = filter_map (λ a. if a.1 then None else Some a.0)

@@ -10,6 +10,8 @@ pub record Query : Type 0 where
   pub selection : Selection
   pub digest : List ℕ
 
+-- a token: how many documents were given up to it and the number of the last one,
+-- and the digest that ties it to a dump and a request
 pub record MarkedToken : Type 0 where
   pub mark : Mark
   pub digest : List ℕ
@@ -54,11 +56,14 @@ pub data Call : Type 0 where
   drop_call : List ℕ → Call
   explain_call : Option (List ℕ) → (List IndexMark → Doc) → Call
 
+-- a batch of a cursor: the document numbers, the token after them (None if no document was ever given),
+-- and whether nothing remains
 pub record GivenBatch : Type 0 where
   pub places : List ℕ
   pub token : Option MarkedToken
   pub ends : Bool
 
+-- the reply to a call: what was opened, given, made or explained, or why it is refused, which changes nothing
 pub data Reply : Type 0 where
   opened : ℕ → Reply
   gave : GivenBatch → Reply
@@ -79,13 +84,16 @@ pub data Reply : Type 0 where
 abbrev pub most_given : ℕ
 most_given = 2 ^ 64 - 1
 
+-- the open cursor of that number, if there is one
 abbrev pub cursor_of : ℕ → List OpenCursor → Option OpenCursor
 cursor_of id [] = None
 cursor_of id (c ∷ cs) = if c.id == id then Some c else cursor_of id cs
 
+-- the open cursors except the one of that number
 abbrev pub without : ℕ → List OpenCursor → List OpenCursor
 without id cs = filter (λ (c : OpenCursor). not (c.id == id)) cs
 
+-- how many documents were given up to a token; 0 without one
 abbrev pub given_by : Option MarkedToken → ℕ
 given_by None = 0
 given_by (Some t) = t.mark.given
@@ -103,6 +111,7 @@ token_after digest t (p ∷ ps) = Some (record {
   digest = digest_after digest t;
 })
 
+-- whether an index is on the path of that text
 abbrev pub is_on : List ℕ → IndexMark → Bool
 is_on path i = bytes_eq path i.path
 
@@ -115,10 +124,14 @@ has_index indexes (Some path) = list_any (is_on path) indexes
 abbrev pub is_full : State → Bool
 is_full s = not (nat_lt (length s.cursors) most_cursors) || nat_lt (2 ^ 63 - 1) s.next_id
 
+-- the reply to a call that opens a cursor: refused if the named index is not there,
+-- then if there are too many cursors
 abbrev pub open_reply : State → Option (List ℕ) → Reply
 open_reply s hint =
     if has_index s.indexes hint then (if is_full s then too_many_cursors else opened s.next_id) else no_index
 
+-- the state with one more cursor, which has these document numbers to give;
+-- the next cursor gets the next number
 abbrev pub with_open : State → List ℕ → Option MarkedToken → List ℕ → State
 with_open s digest t ps = record s {
   next_id = s.next_id + 1;
@@ -134,6 +147,7 @@ batch_of c n =
       ends = is_empty (drop n c.left);
     }
 
+-- a cursor once it has given n more documents
 abbrev pub moved : OpenCursor → ℕ → OpenCursor
 moved c n = record c { token = token_after c.digest c.token (take n c.left); left = drop n c.left }
 
@@ -142,6 +156,7 @@ abbrev pub with_moved : ℕ → ℕ → List OpenCursor → List OpenCursor
 with_moved id n [] = []
 with_moved id n (c ∷ cs) = if c.id == id then moved c n ∷ cs else c ∷ with_moved id n cs
 
+-- the reply to a call for n documents: refused if there is no such cursor, then if n is above 2,147,483,647
 abbrev pub next_reply : Option OpenCursor → ℕ → Reply
 next_reply None n = no_cursor
 next_reply (Some c) n = if nat_lt greatest_count n then out_of_range else gave (batch_of c n)
@@ -170,5 +185,6 @@ changed_by (made counts) (make_call i _) s = record s { indexes = s.indexes ++ i
 changed_by dropped (drop_call path) s = record s { indexes = filter (λ (i : IndexMark). not (is_on path i)) s.indexes }
 changed_by reply call s = s
 
+-- the state of a session after one call
 abbrev pub state_after : State → Call → State
 state_after s call = changed_by (reply s call) call s

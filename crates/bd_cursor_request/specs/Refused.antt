@@ -40,6 +40,7 @@ pub data Reason : Type 0 where
   bad_filter : Refusal → Reason
   plain : Refused → Reason
 
+-- the reason that a `Refused` in memory stands for
 abbrev pub reason_of : Refused → Reason
 reason_of (reasons.BadFilter fault) = bad_filter (refusal_of fault)
 reason_of refused = plain refused

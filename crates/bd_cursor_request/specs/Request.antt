@@ -15,15 +15,18 @@ use Rattle.bd_cursor_request.specs.{Token.token_of, declared.token.Token.Token}
 use Rattle.bd_cursor_request.specs.declared.results.Refused.TheVariants as reasons
 use Rattle.bd_cursor_request.specs.declared.request.Request as declared
 
+-- the direction of a sort: 1 is up, -1 is down, and no other number is one
 abbrev pub direction_numbered : ℤ → Option Dir
 direction_numbered (pos n) = if n == 1 then Some Up else None
 direction_numbered (negsuc n) = if n == 0 then Some Down else None
 
+-- the direction that a value in a sort is: an int32 or int64 of 1 or -1
 abbrev pub direction_of : Tree → Option Dir
 direction_of (leaf (trees.int32 z)) = direction_numbered z
 direction_of (leaf (trees.int64 z)) = direction_numbered z
 direction_of t = None
 
+-- one path and direction before the others of a sort; None if the name is no path, or the value no direction
 abbrev pub sort_with : Result Names PathFault → Option Dir → Option (List SortPath) → Option (List SortPath)
 sort_with (Ok path) (Some dir) (Some ss) = Some (record { path = path; dir = dir } ∷ ss)
 sort_with _ _ _ = None
@@ -38,9 +41,12 @@ abbrev pub are_distinct : List (List ℕ) → Bool
 are_distinct [] = true
 are_distinct (name ∷ names) = not (list_any (bytes_eq name) names) && are_distinct names
 
+-- the names of a document's fields, in order
 abbrev pub pair_names : Doc → List (List ℕ)
 pair_names d = map (λ p. p.0) d
 
+-- the sort that a document asks for: at most four different paths, each with 1 or -1;
+-- of `{}` no path; None if it is no sort
 abbrev pub sort_of : Doc → Option (List SortPath)
 sort_of d = if nat_le (length d) 4 && are_distinct (pair_names d) then sort_pairs d else None
 
@@ -50,6 +56,7 @@ direction_number (Some Up) = pos 1
 direction_number (Some Down) = negsuc 0
 direction_number None = pos 0
 
+-- the sort with each direction as an int32, as the text of a request has it
 abbrev pub sort_written : Doc → Doc
 sort_written d = map (λ p. (p.0, leaf (trees.int32 (direction_number (direction_of p.1))))) d
 
@@ -60,6 +67,8 @@ request_text filter sort skip limit =
     ++ (codes ",\"sort\":" ++ (text (doc (fields_of (sort_written sort)))
     ++ (codes ",\"skip\":" ++ (decimal skip ++ (codes ",\"limit\":" ++ (decimal limit ++ codes "}")))))))
 
+-- a request: what matches, the sort, how many are skipped, the limit (0:
+-- none), and the text that its tokens are tied to
 pub record Request : Type 0 where
   pub filter : Filter
   pub sorts : List SortPath
@@ -67,6 +76,7 @@ pub record Request : Type 0 where
   pub limit : ℕ
   pub text : List ℕ
 
+-- the request with this filter and sort, and its text
 abbrev pub request_with : Doc → Doc → ℕ → ℕ → Filter → List SortPath → Request
 request_with filter sort skip limit f ss =
     record { filter = f; sorts = ss; skip = skip; limit = limit; text = request_text filter sort skip limit }

@@ -8,6 +8,7 @@ use Rattle.bd_cursor_request.specs.{Token.token_text, declared.results.Made.Made
 abbrev pub marked_text : MarkedToken → List ℕ
 marked_text t = token_text (record { given = t.mark.given; last = t.mark.last; digest = t.digest })
 
+-- the counts that `Made` in memory reports of a new index
 abbrev pub made_counts : Made → IndexCounts
 made_counts m = record { entries = m.entries; is_multikey = m.multikey }
 
@@ -15,6 +16,7 @@ made_counts m = record { entries = m.entries; is_multikey = m.multikey }
 abbrev pub count_value : ℕ → Tree
 count_value n = leaf (int64 (pos n))
 
+-- a BSON string of this text, or null without one
 abbrev pub text_or_null : Option (List ℕ) → Tree
 text_or_null None = leaf null
 text_or_null (Some s) = leaf (text s)

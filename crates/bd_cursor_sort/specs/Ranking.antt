@@ -18,9 +18,11 @@ pub record Keyed : Type 0 where
   pub place : ℕ
   pub key : Tree
 
+-- the document, rank and key that a row in memory stands for
 abbrev pub keyed_row : Row → Keyed
 keyed_row r = record { rank = r.rank; place = r.place; key = kept_key r.key.key }
 
+-- a ranked document with its sort key on the next path
 abbrev pub keyed : List Doc → SortPath → Ranked → Keyed
 keyed ds s r = record { rank = r.rank; place = r.place; key = sort_key s.dir (document_at ds r.place) s.path }
 
@@ -44,6 +46,7 @@ ranks_from dir rank last (y ∷ ys) =
     record { rank = next_rank dir rank last y; place = y.place }
     ∷ ranks_from dir (next_rank dir rank last y) (Some y) ys
 
+-- the document number of a ranked document
 abbrev pub place_of : Ranked → ℕ
 place_of r = r.place
 

@@ -22,6 +22,7 @@ abbrev pub selection_for : List Doc → Filter → List SortPath → ℕ → ℕ
 selection_for ds f ss skip limit =
     record { count = length ds; hits = hits_of ds f; by = order_of_keys ds ss; skip = skip; limit = limit }
 
+-- what a request in memory selects of these documents
 abbrev pub selection_of : List Doc → declared.Request → Selection
 selection_of ds r = selection_for ds (filter_tree r.filter) (sort_paths r.sort.items) r.skip r.limit
 
@@ -30,5 +31,6 @@ abbrev pub query_to : List ℕ → List Doc → Request → Query
 query_to bytes ds r =
     record { selection = selection_for ds r.filter r.sorts r.skip r.limit; digest = token_digest bytes r.text }
 
+-- a request in memory to a dump, with the digest that ties its tokens to both
 abbrev pub query_of : Dump → declared.Request → Query
 query_of dump r = query_to (bytes_of dump) (documents dump) (request_view r)

@@ -143,6 +143,7 @@ with_item_is : (t : Tree) (r : Option (Items × List Token)) → with_one add_it
 with_item_is t None = refl
 with_item_is t (Some q) = refl
 
+-- elements of an array that were read, before those still to be read
 abbrev pub items_before : List Tree → Items → Items
 items_before [] rest = rest
 items_before (t ∷ ts) rest = item t (items_before ts rest)
@@ -180,6 +181,7 @@ with_field_is : (k : List ℕ) (t : Tree) (r : Option (Fields × List Token)) �
 with_field_is k t None e = refl
 with_field_is k t (Some q) e = rw e refl
 
+-- fields of a document that were read, before those still to be read
 abbrev pub fields_before : Doc → Fields → Fields
 fields_before [] rest = rest
 fields_before (p ∷ ps) rest = field p.0 p.1 (fields_before ps rest)
@@ -296,6 +298,7 @@ last (Some (j, ts)) t e = let p = whole (wrap most_levels j) t ts e in rw p.1 p.
 pub json_is : (text : List ℕ) → is_utf8 text ≡ true → json text ≡ option_and_then (λ p. if_last p.0 p.1) (value most_brackets (tokens text))
 json_is text e = rw e refl
 
+-- a text whose tokens give a JSON value, with none left over, is the value that this stands for
 pub whole_text : (text : List ℕ) (ts rest : List Token) (t : Tree) → IsUtf8 text → ts ≡ tokens text
     → through (wrap most_levels) (value most_brackets ts) ≡ Some (t, rest) → rest ≡ [] → option_and_then (wrap most_levels) (json text) ≡ Some t
 whole_text text ts rest t u e r n =

@@ -8,9 +8,11 @@ abbrev pub begins_digits : List ℕ → Bool
 begins_digits [] = false
 begins_digits (c ∷ cs) = if c == 48 then length cs == 0 else is_ascii_digit c
 
+-- RFC 8259, section 6, `int`: at least one digit, nothing else, and no zero before others
 abbrev pub are_digits : List ℕ → Bool
 are_digits ds = begins_digits ds && all_ascii_digits ds
 
+-- the number that such digits write, however great; None for any other text
 abbrev pub digits_number : List ℕ → Option ℕ
 digits_number ds = if are_digits ds then Some (digits_value 10 ds) else None
 
@@ -21,18 +23,20 @@ whole (c ∷ cs) =
     if c == 45 then option_map (λ n. neg_ℤ (pos n)) (digits_number cs)
     else option_map (λ n. pos n) (digits_number (c ∷ cs))
 
--- whether z is a number of the signed type of k + 1 bits
+-- whether z is within the signed type of k + 1 bits: from -2^k to 2^k - 1
 abbrev pub fits_bits : ℕ → ℤ → Bool
 fits_bits k (pos n) = nat_lt n (2 ^ k)
 fits_bits k (negsuc n) = nat_lt n (2 ^ k)
 
+-- the number, if it is within the signed type of k + 1 bits
 abbrev pub if_fits : ℕ → ℤ → Option ℤ
 if_fits k z = if fits_bits k z then Some z else None
 
--- where it is one of 64 bits, or of 32
+-- the int64 that a text writes in decimal; None if it is no such text or out of range
 abbrev pub whole_64 : List ℕ → Option ℤ
 whole_64 s = option_and_then (if_fits 63) (whole s)
 
+-- the int32 that a text writes in decimal; None if it is no such text or out of range
 abbrev pub whole_32 : List ℕ → Option ℤ
 whole_32 s = option_and_then (if_fits 31) (whole s)
 

@@ -25,6 +25,7 @@ wrappers = (codes "$numberInt", kinds.NumberInt) ∷ (codes "$numberLong", kinds
     ∷ (codes "$dbPointer", kinds.DbPointer) ∷ (codes "$date", kinds.Date) ∷ (codes "$minKey", kinds.MinKey)
     ∷ (codes "$maxKey", kinds.MaxKey) ∷ (codes "$undefined", kinds.Undefined) ∷ []
 
+-- the wrapper that this table has for a name, if it has one
 abbrev pub wrapper_in : List (List ℕ × Wrapper) → List ℕ → Option Wrapper
 wrapper_in [] name = None
 wrapper_in (w ∷ ws) name = if bytes_eq name w.0 then Some w.1 else wrapper_in ws name
@@ -33,14 +34,17 @@ wrapper_in (w ∷ ws) name = if bytes_eq name w.0 then Some w.1 else wrapper_in 
 unfoldable pub wrapper_of : List ℕ → Option Wrapper
 wrapper_of name = wrapper_in wrappers name
 
+-- whether the wrapper that a name has is `$code`
 abbrev pub is_code_name : Option Wrapper → Bool
 is_code_name (Some kinds.Code) = true
 is_code_name _ = false
 
+-- whether the wrapper that a name has is `$scope`
 abbrev pub is_scope_name : Option Wrapper → Bool
 is_scope_name (Some kinds.Scope) = true
 is_scope_name _ = false
 
+-- the value of an object's one member, if there is no other and it has that name
 abbrev pub only_member : List ℕ → Members → Option Json
 only_member name (json.member k j json.no_members) = if bytes_eq k name then Some j else None
 only_member _ _ = None
@@ -49,6 +53,7 @@ only_member _ _ = None
 unfoldable pub only : List ℕ → Json → Option Json
 only name j = option_and_then (only_member name) (as_object j)
 
+-- the values of an object's two members, that of the name a first, if these are their names in either order
 abbrev pub pair_members : List ℕ → List ℕ → Members → Option (Json × Json)
 pair_members a b (json.member k j (json.member l i json.no_members)) =
     if bytes_eq k a && bytes_eq l b then Some (j, i) else if bytes_eq k b && bytes_eq l a then Some (i, j) else None
@@ -58,6 +63,7 @@ pair_members _ _ _ = None
 unfoldable pub pair : List ℕ → List ℕ → Json → Option (Json × Json)
 pair a b j = option_and_then (pair_members a b) (as_object j)
 
+-- two values, each read by its own rule; None if one of them cannot be read
 abbrev pub both_in : {A B : Type 0} → (Json → Option A) → (Json → Option B) → Json × Json → Option (A × B)
 both_in f g p = option_zip (f p.0) (g p.1)
 
@@ -75,6 +81,7 @@ digits_in (a ∷ []) = hex_digit_value a
 digits_in (a ∷ b ∷ []) = option_map (λ p. p.0 * 16 + p.1) (option_zip (hex_digit_value a) (hex_digit_value b))
 digits_in _ = None
 
+-- the subtype of binary, 0 to 255: a JSON string of one or two hexadecimal digits
 abbrev pub subtype_in : Json → Option ℕ
 subtype_in j = option_and_then digits_in (as_str j)
 
@@ -83,6 +90,7 @@ abbrev pub if_word : ℤ → Option ℕ
 if_word (pos n) = if nat_lt n 4294967296 then Some n else None
 if_word z = None
 
+-- `t` and `i` of `$timestamp`: a bare JSON number, whole, from 0 to 4,294,967,295
 abbrev pub word_in : Json → Option ℕ
 word_in j = option_and_then (λ s. option_and_then if_word (whole_64 s)) (as_number j)
 
@@ -90,6 +98,7 @@ word_in j = option_and_then (λ s. option_and_then if_word (whole_64 s)) (as_num
 abbrev pub name_in : Json → Option (List ℕ)
 name_in j = option_and_then (λ s. if has_zero s then None else Some s) (as_str j)
 
+-- the text of `$numberLong`: a JSON string that writes an int64 in decimal
 abbrev pub long_in : Json → Option ℤ
 long_in j = option_and_then whole_64 (as_str j)
 
@@ -98,6 +107,7 @@ abbrev pub is_one : Option ℤ → Bool
 is_one (Some (pos n)) = n == 1
 is_one _ = false
 
+-- whether it is the bare JSON number 1, as after `$minKey` and `$maxKey`
 abbrev pub one : Json → Bool
 one j = is_one (option_and_then whole_64 (as_number j))
 

@@ -10,6 +10,7 @@ use Rattle.bd_path.specs.{Key.indexed_keys, Key.keys, Reach.Names}
 abbrev pub KeyAt : Type 0
 KeyAt = Tree × ℕ
 
+-- an entry for each of these keys, all at one document
 abbrev pub keys_at : ℕ → List Tree → List KeyAt
 keys_at place ks = map (λ k. (k, place)) ks
 
@@ -19,9 +20,12 @@ entries_from sparse path place [] = []
 entries_from sparse path place (d ∷ ds) =
     keys_at place (indexed_keys sparse (doc (fields_of d)) path) ++ entries_from sparse path (place + 1) ds
 
+-- the entries of an index on a path, sparse or not:
+-- one for each key of each document, in the order of the documents
 abbrev pub entries_of : Bool → Names → List Doc → List KeyAt
 entries_of sparse path ds = entries_from sparse path 0 ds
 
+-- whether a document has more than one key on the path, so that an index there is multikey
 abbrev pub has_two_keys : Names → Tree → Bool
 has_two_keys path t = nat_lt 1 (length (keys t path))
 

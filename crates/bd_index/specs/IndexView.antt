@@ -16,6 +16,7 @@ use Rattle.bd_index.specs.{declared.entry.Entry.Entry, declared.entry.FoundKey.F
 abbrev pub KeepsEntry : List ℕ → Entry → KeyAt → Type 0
 KeepsEntry bytes kept e = StandsAt bytes kept.key e.0 × (kept.place ≡ e.1)
 
+-- The entries in memory are these, in the same order, each with its key in the bytes of the dump.
 abbrev pub KeepsEntries : List ℕ → List Entry → List KeyAt → Type 0
 KeepsEntries bytes kept es = AllZip (KeepsEntry bytes) kept es
 
@@ -75,12 +76,15 @@ AreIndexesOf dump indexes = All (IsIndexOf dump) indexes
 pub AreIndexesOf-prop : (dump : Dump) (indexes : List Index) → IsProp (AreIndexesOf dump indexes)
 AreIndexesOf-prop dump indexes = hlevel IsIndexOf-prop
 
+-- the value that a view into the bytes of a dump stands for
 abbrev pub raw_tree : RawValue → Tree
 raw_tree v = stands v.sound
 
+-- the bytes that a view is into
 abbrev pub raw_source : RawValue → List ℕ
 raw_source v = v.bytes.now
 
+-- the entry that was found: the value of its key, and its document number
 abbrev pub found_entry : FoundKey → KeyAt
 found_entry f = (stands f.key.sound, f.place)
 

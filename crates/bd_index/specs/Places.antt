@@ -12,6 +12,7 @@ use Rattle.bd_index.specs.{Entries.KeyAt, Entries.entries_of, declared.places.Sp
 abbrev pub lent_bounds : Option (Bor Bounds) → KeyBounds
 lent_bounds bounds = option_map (λ b. keys_within b.now) bounds
 
+-- whether the key of an entry is inside bounds
 abbrev pub has_key_in : KeyBounds → KeyAt → Bool
 has_key_in bounds e = is_among bounds e.0
 
@@ -23,9 +24,11 @@ pub record AreWithin (sparse : Bool) (path : Names) (ds : List Doc) (bounds : Ke
       ≡ list_any (λ e. has_key_in bounds e && (e.1 == p)) (entries_of sparse path ds)
   pub counted : entries ≡ count_by (has_key_in bounds) (entries_of sparse path ds)
 
+-- whether position k of the entries is in a span: from its start on, and before its end
 abbrev pub is_in_span : ℕ → Span → Bool
 is_in_span k s = not (nat_lt k s.from) && nat_lt k s.to
 
+-- whether position k of the entries is in one of the spans
 abbrev pub is_covered : List Span → ℕ → Bool
 is_covered spans k = list_any (is_in_span k) spans
 

@@ -34,6 +34,7 @@ contained : (ps : List ℕ) (q : ℕ) → list_any (λ m. m == q) ps ≡ true �
 contained ps q h = let a = Any-from_list_any (λ m. m == q) ps h in
     (a.0, a.2, subst (λ (m : ℕ). get_or ps a.0 m ≡ m) (eqb-true a.1 q a.4) a.3)
 
+-- the document numbers of an index walk are a source: no match is missing, and none comes twice
 pub walk_law : (n : ℕ) (hits : ℕ → Bool) (ps : List ℕ) → WalksEach n ps → IsSource n hits ps
 walk_law n hits ps w = record {
   below = λ k d lt. let p = get_or ps k d in
@@ -52,9 +53,13 @@ walk_law n hits ps w = record {
       ∙ lt-ltb p (length w.documents) (let c = w.count in omega arith));
 }
 
+-- the entries that a walk has not come to yet, in its order:
+-- the rest of the current run, then downward those below
 abbrev pub entries_ahead : EntryOrder → List KeyAt
 entries_ahead o = slice_range o.indexed.keeps.entries o.next o.end ++ downward (take o.below o.indexed.keeps.entries)
 
+-- the document numbers of the entries that a walk has not come to yet;
+-- a document comes once for each of its entries
 abbrev pub places_ahead : EntryOrder → List ℕ
 places_ahead o = map (λ e. e.1) (entries_ahead o)
 

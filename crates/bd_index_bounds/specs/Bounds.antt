@@ -16,6 +16,7 @@ use Rattle.bd_query_filter.specs.{FilterMatch.is_array, FilterMatch.is_related, 
 
 -- ---- sets of keys
 
+-- a set of index keys: for each key whether it is inside; equal keys are both inside or both outside
 abbrev pub KeySet : Type 0
 KeySet = Tree → Bool
 
@@ -23,18 +24,23 @@ KeySet = Tree → Bool
 abbrev pub KeyBounds : Type 0
 KeyBounds = Option KeySet
 
+-- the empty set: no key is inside, so no document can match
 abbrev pub no_key : KeySet
 no_key k = false
 
+-- the keys that compare as equal to a value
 abbrev pub keys_equal_to : Tree → KeySet
 keys_equal_to v k = equal k v
 
+-- the keys of one class of the comparison order, such as all numbers
 abbrev pub is_of_class : Class → KeySet
 is_of_class class k = class_rank (class_of k) == class_rank class
 
+-- the keys in at least one of the sets; of no set, no key
 abbrev pub union : List KeySet → KeySet
 union sets k = list_any (λ set. set k) sets
 
+-- the keys in each of the sets; of no set, every key
 abbrev pub intersection : List KeySet → KeySet
 intersection sets k = list_all (λ set. set k) sets
 
@@ -60,6 +66,7 @@ conjunction multikey (Some first) None = Some first
 conjunction true (Some first) (Some second) = Some first
 conjunction false (Some first) (Some second) = Some (λ k. first k && second k)
 
+-- `$or` of two: the keys inside either; unbounded if one of them is
 abbrev pub disjunction : KeyBounds → KeyBounds → KeyBounds
 disjunction None second = None
 disjunction (Some first) None = None
@@ -74,10 +81,12 @@ element_bounds (has_all vs) = Some (keys_of_each false (map keys_equal_to vs))
 element_bounds (has_type types) = Some (keys_of_types types)
 element_bounds _ = None
 
+-- the operators of `$elemMatch`: the intersection of those that bound a key; unbounded if none does
 abbrev pub all_element_bounds : Operators → KeyBounds
 all_element_bounds no_operators = None
 all_element_bounds (operator o os) = conjunction false (element_bounds o) (all_element_bounds os)
 
+-- whether a kind is among the types of `$type`
 abbrev pub is_listed : Kind → List Kind → Bool
 is_listed kind types = list_any (λ k. is_kind k kind) types
 
@@ -103,16 +112,21 @@ rest_after (name ∷ start) [] = None
 rest_after (name ∷ start) (other ∷ path) = if bytes_eq name other then rest_after start path else None
 
 abbrev mutual
+  -- The bounds that a filter gives to an index on this path, multikey or not:
+  -- each document that matches has a key inside. None is unbounded: the filter says nothing of the keys.
   pub bounds : Filter → Names → Bool → KeyBounds
   bounds (all_of fs) path multikey = all_bounds fs path multikey
   bounds (some_of fs) path multikey = some_bounds fs path multikey
   bounds (none_of fs) path multikey = None
   bounds (at_path start os) path multikey = operator_bounds os (rest_after start path) multikey
 
+  -- `$and`, and the pairs of a document: the intersection of the bounded members,
+  -- in a multikey index only the first of them; unbounded if none is bounded
   pub all_bounds : Filters → Names → Bool → KeyBounds
   all_bounds no_filters path multikey = None
   all_bounds (filter f fs) path multikey = conjunction multikey (bounds f path multikey) (all_bounds fs path multikey)
 
+  -- `$or`: the union of its members; unbounded if one of them is
   pub some_bounds : Filters → Names → Bool → KeyBounds
   some_bounds no_filters path multikey = Some no_key
   some_bounds (filter f fs) path multikey = disjunction (bounds f path multikey) (some_bounds fs path multikey)
@@ -130,6 +144,7 @@ abbrev mutual
   bounds_at (has_document fs) (Some path) multikey = all_bounds fs path multikey
   bounds_at _ _ _ = None
 
+-- whether a key is inside bounds; without bounds each key is
 abbrev pub is_among : KeyBounds → Tree → Bool
 is_among None k = true
 is_among (Some set) k = set k

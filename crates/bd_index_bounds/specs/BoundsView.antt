@@ -12,9 +12,11 @@ abbrev pub edge_cmp : Tree → Edge → Ordering
 edge_cmp k (edges.Value v) = cmp k (tree_of v.now)
 edge_cmp k (edges.Class class) = nat_cmp (class_rank (class_of k)) (class_rank class)
 
+-- whether a key is below a cut: less than its edge, or equal to it if the cut is after the edge
 abbrev pub is_before : Cut → Tree → Bool
 is_before cut k = if cut.after then is_le (edge_cmp k cut.edge) else is_lt (edge_cmp k cut.edge)
 
+-- the keys from one cut to another: not below the first, and below the second
 abbrev pub keys_between : Cut → Cut → KeySet
 keys_between from to k = not (is_before from k) && is_before to k
 
@@ -24,9 +26,11 @@ keys_step (Bounds-F.Range from to) = keys_between from to
 keys_step (Bounds-F.And parts) = intersection parts.items
 keys_step (Bounds-F.Or parts) = union parts.items
 
+-- the set of keys that bounds in memory stand for
 abbrev pub keys_within : Bounds → KeySet
 keys_within = fold-Bounds KeySet keys_step
 
+-- the bounds that bounds in memory stand for; None is unbounded
 abbrev pub seen_bounds : Option Bounds → KeyBounds
 seen_bounds b = option_map keys_within b
 

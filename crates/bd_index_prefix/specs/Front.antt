@@ -33,10 +33,13 @@ front_of_scalar (date z) = fronts.Date z
 front_of_scalar (object_id id) = fronts.Id id
 front_of_scalar _ = fronts.Other
 
+-- the prefix of a scalar; documents, arrays and code with scope have none (`Other`)
 abbrev pub front_of_own : Option Own → Front
 front_of_own (Some (own s)) = front_of_scalar s
 front_of_own _ = fronts.Other
 
+-- the prefix of a key, by which most keys compare without a look at their bytes;
+-- `Other` for a kind that has none
 abbrev pub front_of : Tree → Front
 front_of t = front_of_own (own_of t)
 

@@ -5,10 +5,11 @@ use Rattle.std.specs.Io.KnownBytes.{Appends, Consumes}
 use Rattle.bd_io_device.specs.declared.{input.Tally.Tally, reading.Limits.Limits, reading.ReadFault.ReadFault}
 use Rattle.bd_io_device.specs.declared.reading.ReadFault.TheVariants as reads
 
--- the count after n more, which stays at the greatest of 64 bits
+-- the greatest count of 64 bits, 2^64 - 1
 abbrev pub greatest : ℕ
 greatest = 18446744073709551615
 
+-- the count n after `more` further calls; it stays at the greatest of 64 bits
 abbrev pub after_more : ℕ → ℕ → ℕ
 after_more n more = min (n + more) greatest
 
@@ -28,6 +29,8 @@ pub record Writer : Type 0 where
 abbrev pub reader_of : Option (List ℕ) → Tally → Reader
 reader_of left tally = record { left = left; calls = min tally.calls greatest; failures = min tally.failures greatest }
 
+-- a writer that took these bytes (None: not known) after these counts of
+-- writes and of failures, each at most 2^64 - 1
 abbrev pub writer_of : Option (List ℕ) → Tally → Writer
 writer_of held tally = record { held = held; calls = min tally.calls greatest; failures = min tally.failures greatest }
 
@@ -36,6 +39,7 @@ pub record Over (Device : Type 0) : Type 0 where
   pub before : Device
   pub after : Device
 
+-- the two states of a device around a run: the one before it and the one after it
 abbrev pub between : {Device : Type 0} → Device → Device → Over Device
 between before after = record { before = before; after = after }
 

@@ -90,15 +90,18 @@ module _ {A : Type 0} (g : Gathering A) where
   at_index (x ∷ es) zero u r e = let same : x ≡ u = cc in ap (λ (y : Tree). gathering g y r) same
   at_index (x ∷ es) (suc i) u r e = at_index es i u r e
 
+-- The value is a member of the list.
 abbrev pub In : {A : Type 0} → A → List A → Type 0
 In x [] = ⊥
 In x (y ∷ ys) = (x ≡ y) ⊎ In x ys
 
+-- a member of the first of two lists is one of both joined
 pub in_left : {A : Type 0} (x : A) (xs ys : List A) → In x xs → In x (xs ++ ys)
 in_left x [] ys h = absurd h
 in_left x (z ∷ xs) ys (inl e) = inl e
 in_left x (z ∷ xs) ys (inr h) = inr (in_left x xs ys h)
 
+-- a member of the second of two lists is one of both joined
 pub in_right : {A : Type 0} (x : A) (xs ys : List A) → In x ys → In x (xs ++ ys)
 in_right x [] ys h = h
 in_right x (z ∷ xs) ys h = inr (in_right x xs ys h)
@@ -113,6 +116,7 @@ pub in_either : {A B : Type 0} (t : Bool) (x : A) (y : B) (ws vs : List A) (bs c
 in_either true x y ws vs bs cs f g h = f h
 in_either false x y ws vs bs cs f g h = g h
 
+-- if a member passes a test, some member does
 pub any_at : {A : Type 0} (test : A → Bool) (xs : List A) (x : A) → In x xs → test x ≡ true → list_any test xs ≡ true
 any_at test [] x h e = absurd h
 any_at test (y ∷ ys) x (inl p) e = or_left (test y) (list_any test ys) (ap test (sym p) ∙ e)
@@ -129,6 +133,7 @@ pub record Found {A : Type 0} (test : A → Bool) (xs : List A) : Type 0 where
   pub is_in : In it xs
   pub passes : test it ≡ true
 
+-- if some member passes a test, there is such a member
 pub found_from : {A : Type 0} (test : A → Bool) (xs : List A) → list_any test xs ≡ true → Found test xs
 found_from test [] h = absurd (false≢true h)
 found_from test (x ∷ xs) h = elim (or_cases (test x) (list_any test xs) h) [
@@ -142,6 +147,7 @@ contains_from x [] h = absurd h
 contains_from x (y ∷ ys) (inl e) = (0, omega arith, sym e)
 contains_from x (y ∷ ys) (inr h) = let r = contains_from x ys h in (suc r.0, omega (arith, r.1), r.2)
 
+-- a list that contains a value has it as a member
 pub in_from : {A : Type 0} (x : A) (xs : List A) → Contains xs x → In x xs
 in_from {A} x xs h = go xs h.0 h.1 h.2
   where

@@ -279,6 +279,7 @@ key_parts sparse [] = sym (append-nil (missing_key sparse))
 key_parts true (s ∷ ss) = grind arith
 key_parts false (s ∷ ss) = some_keys s (flat_map (stop_keys false) ss) (missing_key false)
 
+-- the keys of a document are those of the stops of a walk, in turn
 pub keys_are : (sparse : Bool) (t : Tree) (p : Names) → all_keys sparse t p ≡ flat_map (stop_keys sparse) (stops t p)
 keys_are sparse t p = gathered (key_gathering (missing_key sparse)) (stop_keys sparse) (λ t. refl) refl (key_parts sparse) t p
 

@@ -12,6 +12,7 @@ abbrev pub missing_key : Bool → List Tree
 missing_key true = []
 missing_key false = leaf null ∷ []
 
+-- the first list, or if it is empty the second
 abbrev pub or_else : List Tree → List Tree → List Tree
 or_else [] ys = ys
 or_else (x ∷ xs) ys = x ∷ xs
@@ -33,10 +34,12 @@ all_keys sparse t path = gathering (key_gathering (missing_key sparse)) t path
 abbrev pub with_key : List Tree → Tree → List Tree
 with_key ks k = if list_any (λ x. equal x k) ks then ks else ks ++ k ∷ []
 
+-- the keys with some more after them, each of these dropped if it equals an earlier one
 abbrev pub with_keys : List Tree → List Tree → List Tree
 with_keys ks [] = ks
 with_keys ks (t ∷ ts) = with_keys (with_key ks t) ts
 
+-- the keys without those that equal an earlier one: of an int32 5 and an int64 5 the first stays
 abbrev pub distinct : List Tree → List Tree
 distinct ks = with_keys [] ks
 
@@ -44,19 +47,25 @@ distinct ks = with_keys [] ks
 abbrev pub indexed_keys : Bool → Tree → Names → List Tree
 indexed_keys sparse t path = distinct (all_keys sparse t path)
 
+-- The keys of a document on a path, never none, of equal ones the first: the values that the path reaches,
+-- of an array its elements, null for a missing field, and undefined for an empty array.
 abbrev pub keys : Tree → Names → List Tree
 keys t path = indexed_keys false t path
 
+-- the keys that a sparse index has of a document:
+-- those of `keys` without the nulls of missing fields; there may be none
 abbrev pub sparse_keys : Tree → Names → List Tree
 sparse_keys t path = indexed_keys true t path
 
 -- ---- keys in memory
 
+-- the value of a key in memory: that of its node, or null or undefined
 abbrev pub key_tree : {N : Type 0} → (N → Tree) → Key N → Tree
 key_tree tree (Node n) = tree n
 key_tree tree Null = leaf null
 key_tree tree Undefined = leaf undefined
 
+-- the values of some keys in memory, in order
 abbrev pub key_trees : {N : Type 0} → (N → Tree) → List (Key N) → List Tree
 key_trees tree ks = map (key_tree tree) ks
 
@@ -65,6 +74,7 @@ abbrev pub IsKeyOf : {N : Type 0} → (N → List ℕ) → List ℕ → Key N �
 IsKeyOf source bytes (Node n) = source n ≡ bytes
 IsKeyOf source bytes _ = Unit {0}
 
+-- Each node among the keys is a value in these bytes.
 abbrev pub AreKeysOf : {N : Type 0} → (N → List ℕ) → List ℕ → List (Key N) → Type 0
 AreKeysOf source bytes ks = All (IsKeyOf source bytes) ks
 
@@ -73,6 +83,7 @@ abbrev pub is_no_value : Stop Tree → Bool
 is_no_value (Value t) = false
 is_no_value _ = true
 
+-- whether a walk stops here at an empty array
 abbrev pub is_empty_array : Stop Tree → Bool
 is_empty_array (Value (array no_items)) = true
 is_empty_array _ = false
@@ -84,6 +95,7 @@ IsKeyAt sparse ss (Node n) = Unit {0}
 IsKeyAt sparse ss Null = (sparse ≡ false) × (list_any is_no_value ss ≡ true)
 IsKeyAt sparse ss Undefined = list_any is_empty_array ss ≡ true
 
+-- Each of the keys comes from one of these stops.
 abbrev pub AreKeysAt : {N : Type 0} → Bool → Stops → List (Key N) → Type 0
 AreKeysAt sparse ss ks = All (IsKeyAt sparse ss) ks
 
@@ -102,6 +114,7 @@ AddsKeys tree before after more = distinct (key_trees tree after) ≡ distinct (
 abbrev pub is_new : List Tree → Tree → Bool
 is_new ks k = not (list_any (λ x. equal x k) ks)
 
+-- whether a stop gives a key that equals none of those found so far
 abbrev pub gives_new : Bool → List Tree → Stop Tree → Bool
 gives_new sparse ks s = list_any (is_new (distinct ks)) (stop_keys sparse s)
 

@@ -5,9 +5,12 @@ use Rattle.bd_value.specs.Limits.{most_names}
 use Rattle.bd_path.specs.{Reach.Names, declared.component.Component.Component, declared.path.PathFault.PathFault}
 use Rattle.bd_path.specs.declared.path.PathFault.TheVariants.{EmptyComponent, TooLong, NoMemory}
 
+-- the components of a path in dot notation (MongoDB manual): the parts between dots;
+-- of the empty text one empty part
 abbrev pub components_of : List ℕ → Names
 components_of text = slice_split (λ c. c == 46) text
 
+-- the names of components in memory, in order
 abbrev pub component_names : List Component → Names
 component_names components = map (λ c. string_bytes c.name) components
 

@@ -15,6 +15,8 @@ is_index [] = false
 is_index (c ∷ []) = is_ascii_digit c
 is_index (c ∷ d ∷ cs) = if c == 48 then false else all_ascii_digits (c ∷ d ∷ cs)
 
+-- the array index that a name is, such as 0 of `a.0`; None if it is no such number.
+-- It may be past the end of every array.
 abbrev pub index_of : List ℕ → Option ℕ
 index_of name = if is_index name then Some (digits_value 10 name) else None
 
@@ -22,6 +24,7 @@ index_of name = if is_index name then Some (digits_value 10 name) else None
 abbrev pub held_index : List ℕ → Option ℕ
 held_index name = option_map (λ i. min i 18446744073709551615) (index_of name)
 
+-- whether a value is a document; an array is none
 abbrev pub is_document : Tree → Bool
 is_document (doc fs) = true
 is_document _ = false
@@ -35,6 +38,8 @@ pub record Gathering (A : Type 0) : Type 0 where
   pub of_array : List A → List A
 
 abbrev mutual
+  -- What is gathered from a value down a path. A name leads from a document to its first field of that name,
+  -- and from an array into each document in it; a name that is an index leads to that element too.
   pub gathering : {A : Type 0} → Gathering A → Tree → Names → List A
   gathering g t [] = g.at_end t
   gathering g (leaf s) (name ∷ rest) = g.missing
@@ -65,16 +70,21 @@ abbrev mutual
 abbrev pub End : Type 0
 End = Option Tree
 
+-- gathers each value that a path reaches, and None for each field that is missing
 abbrev pub ends : Gathering End
 ends = record { at_end = λ t. Some t ∷ []; missing = None ∷ []; of_array = λ es. es }
 
+-- what a path reaches from a value, in stored order: values, and None for each missing field;
+-- an array with no document in it may give nothing
 abbrev pub reach : Tree → Names → List End
 reach t path = gathering ends t path
 
--- what is gathered from the documents in an array, and from the element whose index the first component is
+-- what is gathered from the documents in an array, with the whole path
 abbrev pub document_gathering : {A : Type 0} → Gathering A → Tree → Names → List A
 document_gathering g t path = each_gathering g (items_of (elements_in t)) path
 
+-- what is gathered from the element whose index the first name of the path is;
+-- nothing if there is no such element
 abbrev pub index_gathering : {A : Type 0} → Gathering A → Tree → Names → List A
 index_gathering g t [] = []
 index_gathering g t (name ∷ rest) = gathering_at g (items_of (elements_in t)) (index_of name) rest

@@ -8,6 +8,7 @@ use Rattle.bd_path.specs.{Key.IsKeyAt, Key.IsKeyOf, Key.key_tree, Key.keys, Key.
 use Rattle.bd_path.specs.{Reach.Names, Walk.Stops, declared.key.Key.Key, declared.path.Path.Path, declared.sort.Dir.Dir}
 use Rattle.bd_path.specs.{declared.sort.Dir.TheVariants.Up, declared.sort.Dir.TheVariants.Down, declared.walk.Stop.Stop}
 
+-- the order of two keys in a direction of a sort: for 1 (Up) the comparison order, for -1 (Down) the reverse
 abbrev pub dir_cmp : Dir → Tree → Tree → Ordering
 dir_cmp Up a b = cmp a b
 dir_cmp Down a b = ordering_reverse (cmp a b)
@@ -18,11 +19,13 @@ earlier_key dir None b = b
 earlier_key dir (Some a) None = Some a
 earlier_key dir (Some a) (Some b) = if is_lt (dir_cmp dir b a) then Some b else Some a
 
+-- the key that comes first in the direction: the least for 1, the greatest for -1; of equal ones the first
 abbrev pub earliest_key : Dir → List Tree → Option Tree
 earliest_key dir [] = None
 earliest_key dir (k ∷ ks) = earlier_key dir (Some k) (earliest_key dir ks)
 
--- the least of the keys, or the greatest; a document has a key on each path
+-- the key by which a document is sorted: the least of its keys on the path for 1,
+-- the greatest for -1 (MongoDB manual, "Sort")
 abbrev pub sort_key : Dir → Tree → Names → Tree
 sort_key dir t path = unwrap_or (earliest_key dir (keys t path)) (leaf null)
 
@@ -37,6 +40,7 @@ sort_cmp [] a b = Equal
 sort_cmp (s ∷ ss) a b =
     ordering_then (dir_cmp s.dir (sort_key s.dir a s.path) (sort_key s.dir b s.path)) (sort_cmp ss a b)
 
+-- the paths and directions of a sort in memory, in order
 abbrev pub sort_paths : List (Path × Dir) → List SortPath
 sort_paths sort = map (λ s. record { path = names_of s.0; dir = s.1 }) sort
 

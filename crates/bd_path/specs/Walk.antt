@@ -9,9 +9,11 @@ use Rattle.bd_path.specs.declared.walk.Step.TheVariants.{Field, Element}
 use Rattle.bd_path.specs.declared.walk.Stop.TheVariants.{Value, Missing, NoBranch}
 use Rattle.bd_path.specs.declared.walk.Visits.TheVariants.{Nowhere, From}
 
+-- whether position k is among these positions of a path; 0 is before the first name
 abbrev pub is_open : Positions → ℕ → Bool
 is_open p k = slice_index_or p.are_open k false
 
+-- Position k is among these positions of a path.
 abbrev pub IsOpen : Positions → ℕ → Type 0
 IsOpen p k = is_open p k ≡ true
 
@@ -25,6 +27,7 @@ abbrev pub is_walked : Visits → ℕ → Bool
 is_walked Nowhere k = false
 is_walked (From p) k = is_open p k
 
+-- The walk went into the value from position k of the path.
 abbrev pub IsWalked : Visits → ℕ → Type 0
 IsWalked w k = is_walked w k ≡ true
 
@@ -45,9 +48,12 @@ pub record LedTo (step : Step) (path : Names) (w : Visits) (k : ℕ) : Type 0 wh
 abbrev pub GathersNone : {A : Type 0} → (A → Bool) → Gathering A → Tree → Names → Visits → Type 0
 GathersNone test g t path w = (k : ℕ) → IsWalked w k → list_any test (gathering g t (drop k path)) ≡ false
 
+-- the stops of a walk down a path, in order: a value, a missing field,
+-- or an array below which the path reaches nothing
 abbrev pub Stops : Type 0
 Stops = List (Stop Tree)
 
+-- a stop in memory, with its node as the value that this stands for
 abbrev pub stop_tree : {N : Type 0} → (N → Tree) → Stop N → Stop Tree
 stop_tree tree (Value n) = Value (tree n)
 stop_tree tree Missing = Missing
@@ -63,9 +69,12 @@ abbrev pub or_stop : Stops → Stops
 or_stop [] = NoBranch ∷ []
 or_stop (s ∷ ss) = s ∷ ss
 
+-- gathers each stop of a walk down a path
 abbrev pub stopping : Gathering (Stop Tree)
 stopping = record { at_end = λ t. Value t ∷ []; missing = Missing ∷ []; of_array = or_stop }
 
+-- where a walk down a path stops, in stored order;
+-- unlike `reach` it also names an array below which nothing is reached
 abbrev pub stops : Tree → Names → Stops
 stops t path = gathering stopping t path
 

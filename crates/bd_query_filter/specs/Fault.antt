@@ -4,10 +4,13 @@ use Rattle.bd_query_filter.specs.declared.fault.{FilterFault.FilterFault, Filter
 use Rattle.bd_query_filter.specs.declared.fault.FilterFaultKind.TheVariants as kinds
 use Rattle.bd_query_filter.specs.declared.fault.Stop.TheVariants as stops
 
+-- why a document is no filter: the rule that is broken,
+-- and the path of names and array positions from the top to the pair or member that breaks it
 pub record Refusal : Type 0 where
   pub kind : FilterFaultKind
   pub place : List (List ℕ)
 
+-- a refusal by this rule of the pair or member itself: names are put before its path on the way up
 abbrev pub refuse : {A : Type 0} → FilterFaultKind → Result A Refusal
 refuse kind = Err (record { kind = kind; place = [] })
 
@@ -35,6 +38,7 @@ filter_fault_words kinds.Path = codes "bad path"
 filter_fault_words kinds.TooDeep = codes "too deep"
 filter_fault_words kinds.NoMemory = codes "no memory"
 
+-- the refusal that a `FilterFault` in memory reports
 abbrev pub refusal_of : FilterFault → Refusal
 refusal_of f = record { kind = f.kind; place = map string_bytes f.place.items }
 

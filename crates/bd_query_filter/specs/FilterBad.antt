@@ -72,6 +72,7 @@ abbrev mutual
   HasBadMember room i no_items r = ⊥
   HasBadMember room i (item t ts) r = BreaksUnder (decimal i) (IsBadMember room t) r ⊎ HasBadMember room (i + 1) ts r
 
+  -- a member of `$and`, `$or` or `$nor`: it is no document, too deep, or a pair in it breaks a rule
   pub IsBadMember : ℕ → Tree → Refusal → Type 0
   IsBadMember room (doc fs) r = BreaksInside room (HasBadPair (room - 1) fs) r
   IsBadMember room t r = BreaksHere faults.BadOperand r
@@ -81,6 +82,7 @@ abbrev mutual
   IsBadValue room (doc fs) r = IsTrue (first_is_operator fs) × HasBadOperator room fs r
   IsBadValue room t r = path_operators room t ≡ Err r
 
+  -- some pair among the operators of a path breaks a rule; `room` more levels may be inside
   pub HasBadOperator : ℕ → Fields → Refusal → Type 0
   HasBadOperator room no_fields r = ⊥
   HasBadOperator room (field n t fs) r =

@@ -19,6 +19,7 @@ use Rattle.bd_query_filter.specs.declared.filter_of.LogicalOperator.TheVariants 
 use Rattle.bd_query_filter.specs.declared.filter_of.PlainOperator.TheVariants as plain
 use Rattle.bd_query_filter.specs.declared.filter_of.Word.TheVariants as words
 
+-- what is made of a part that is not refused; a refusal stays
 abbrev pub read_as : {A B : Type 0} → (A → B) → Result A Refusal → Result B Refusal
 read_as f (Ok x) = Ok (f x)
 read_as f (Err r) = Err r
@@ -31,6 +32,7 @@ read_at name (Ok x) (Ok xs) = Ok (x ∷ xs)
 
 -- ---- operands
 
+-- whether the operand is a regular expression, which only `$eq` takes
 abbrev pub is_regex : Tree → Bool
 is_regex (leaf (trees.regex p o)) = true
 is_regex t = false
@@ -41,6 +43,8 @@ is_bound (leaf trees.min_key) = true
 is_bound (leaf trees.max_key) = true
 is_bound t = false
 
+-- whether the first name begins with `$`: then a field's value is a
+-- document of operators, not a value to equal
 abbrev pub first_is_operator : Fields → Bool
 first_is_operator no_fields = false
 first_is_operator (field n t fs) = begins_with_dollar n
@@ -58,10 +62,12 @@ unless_left_out left_out t = if left_out then refuse faults.NotInProfile else Ok
 abbrev pub member_value : Tree → Result Tree Refusal
 member_value t = unless_left_out (is_regex t || has_operators t) t
 
+-- the members of `$in`, `$nin` or `$all` from this position on, or the first refusal among them
 abbrev pub member_values : ℕ → Items → Result (List Tree) Refusal
 member_values i no_items = Ok []
 member_values i (item t ts) = read_at (decimal i) (member_value t) (member_values (i + 1) ts)
 
+-- the members that `$in`, `$nin` and `$all` have: their operand must be an array, which may be empty
 abbrev pub members_of : Tree → Result (List Tree) Refusal
 members_of (array ts) = member_values 0 ts
 members_of t = refuse faults.BadOperand
@@ -86,6 +92,7 @@ type_kinds (leaf (trees.int32 z)) = kinds_numbered z
 type_kinds (leaf (trees.int64 z)) = kinds_numbered z
 type_kinds t = None
 
+-- the kinds of all types in an array; None if a member is no type
 abbrev pub all_kinds : Items → Option (List Kind)
 all_kinds no_items = Some []
 all_kinds (item t ts) = option_and_then (λ kinds. option_map (λ more. kinds ++ more) (all_kinds ts)) (type_kinds t)
@@ -95,6 +102,7 @@ abbrev pub operand_kinds : Tree → Option (List Kind)
 operand_kinds (array (item t ts)) = all_kinds (item t ts)
 operand_kinds t = type_kinds t
 
+-- the operand that was read, or the refusal `bad operand`
 abbrev pub or_bad_operand : {A : Type 0} → Option A → Result A Refusal
 or_bad_operand None = refuse faults.BadOperand
 or_bad_operand (Some x) = Ok x
@@ -113,6 +121,7 @@ plain_operator plain.Type t = read_as has_type (or_bad_operand (operand_kinds t)
 
 -- ---- filters
 
+-- the filter that `$and`, `$or` or `$nor` is of these filters
 abbrev pub logical_filter : LogicalOperator → List Filter → Filter
 logical_filter logical.And fs = all_of (filters_from fs)
 logical_filter logical.Or fs = some_of (filters_from fs)
@@ -129,6 +138,8 @@ is_value_form (words.Logical l) = false
 is_value_form words.Field = false
 is_value_form w = true
 
+-- whether the body of `$elemMatch` is operators for an element:
+-- its first name begins with `$`, and is not `$and`, `$or` or `$nor`
 abbrev pub has_value_form : Fields → Bool
 has_value_form no_fields = false
 has_value_form (field n t fs) = is_value_form (word_of n)
@@ -164,10 +175,12 @@ abbrev mutual
   operand_filters room (array (item t ts)) = member_filters room 0 (item t ts)
   operand_filters room t = refuse faults.BadOperand
 
+  -- the filters of `$and`, `$or` or `$nor` from this position on, or the first refusal among them
   pub member_filters : ℕ → ℕ → Items → Result (List Filter) Refusal
   member_filters room i no_items = Ok []
   member_filters room i (item t ts) = read_at (decimal i) (member_filter room t) (member_filters room (i + 1) ts)
 
+  -- one member of `$and`, `$or` or `$nor`: a document, which is a level further in
   pub member_filter : ℕ → Tree → Result Filter Refusal
   member_filter room (doc fs) = inner_part room (read_as (λ xs. all_of (filters_from xs)) (filters_of (room - 1) fs))
   member_filter room t = refuse faults.BadOperand
@@ -177,6 +190,7 @@ abbrev mutual
   path_operators room (doc fs) = if first_is_operator fs then operators_of room fs else Ok (equals (doc fs) ∷ [])
   path_operators room t = read_as (λ v. equals v ∷ []) (unless_left_out (is_regex t) t)
 
+  -- the operators of a path, in order, or the first refusal among them; `room` more levels may be inside
   pub operators_of : ℕ → Fields → Result (List Operator) Refusal
   operators_of room no_fields = Ok []
   operators_of room (field n t fs) =
@@ -190,6 +204,8 @@ abbrev mutual
       else refuse faults.BadOperand
   not_operator room t = if is_regex t then refuse faults.NotInProfile else refuse faults.BadOperand
 
+  -- `$elemMatch`: operators for an element, or a filter for an element that is a document;
+  -- its body is a level further in
   pub element_operator : ℕ → Tree → Result Operator Refusal
   element_operator room (doc fs) =
       if has_value_form fs then inner_part room

@@ -33,6 +33,7 @@ class_of_kind kinds.Code = classes.Code
 class_of_kind kinds.CodeScope = classes.CodeScope
 class_of_kind kinds.MaxKey = classes.MaxKey
 
+-- the class by which a value is compared first; int32 and int64 share one, and so do strings and symbols
 abbrev pub class_of : Tree → Class
 class_of t = class_of_kind (kind_of t)
 
@@ -65,9 +66,11 @@ pub record Rank : Type 0 where
   pub bytes : List ℕ
   pub more : List ℕ
 
+-- the rank of a value that is compared by one number alone
 abbrev pub by_number : ℤ → Rank
 by_number n = record { number = n; size = 0; lesser = 0; bytes = []; more = [] }
 
+-- the rank of a value that is compared by bytes, and if these are equal by more bytes
 abbrev pub by_bytes : List ℕ → List ℕ → Rank
 by_bytes first second = record { number = pos 0; size = 0; lesser = 0; bytes = first; more = second }
 
@@ -75,6 +78,8 @@ by_bytes first second = record { number = pos 0; size = 0; lesser = 0; bytes = f
 abbrev pub binary_size : ℕ → List ℕ → ℕ
 binary_size subtype payload = if subtype == 2 then length payload + 4 else length payload
 
+-- what a scalar is compared by in its class: a timestamp by seconds, then increment; binary by size,
+-- then subtype, then data; a boolean as 0 or 1. In a class of one value, such as null, all ranks are equal.
 abbrev pub scalar_rank : Scalar → Rank
 scalar_rank (int32 n) = by_number n
 scalar_rank (int64 n) = by_number n
@@ -105,12 +110,14 @@ rank_view r = record { number = r.number; size = r.size; lesser = r.lesser; byte
 abbrev pub bytes_cmp : List ℕ → List ℕ → Ordering
 bytes_cmp a b = slice_cmp nat_cmp a b
 
+-- the order of two scalars of one class: the first part of their ranks that differs decides
 abbrev pub rank_cmp : Rank → Rank → Ordering
 rank_cmp a b =
     ordering_then (int_cmp a.number b.number)
     (ordering_then (ordering_then (nat_cmp a.size b.size) (nat_cmp a.lesser b.lesser))
     (ordering_then (bytes_cmp a.bytes b.bytes) (bytes_cmp a.more b.more)))
 
+-- the order of the classes of two values: Equal for an int32 and an int64, or for a string and a symbol
 abbrev pub class_cmp : Tree → Tree → Ordering
 class_cmp a b = nat_cmp (class_rank (class_of a)) (class_rank (class_of b))
 
@@ -120,11 +127,13 @@ rank_in (leaf s) = scalar_rank s
 rank_in (code_scope s fs) = by_bytes s []
 rank_in _ = by_number (pos 0)
 
+-- the fields of a document, or of the scope of code with scope; any other value has none
 abbrev pub fields_in : Tree → Fields
 fields_in (doc fs) = fs
 fields_in (code_scope s fs) = fs
 fields_in _ = no_fields
 
+-- the elements of an array; any other value has none
 abbrev pub items_in : Tree → Items
 items_in (array ts) = ts
 items_in _ = no_items
@@ -159,8 +168,12 @@ abbrev mutual
 abbrev pub pair_cmp : List ℕ → Tree → List ℕ → Tree → Ordering
 pair_cmp m a n b = ordering_then (class_cmp a b) (ordering_then (bytes_cmp m n) (same_class_cmp a b))
 
+-- The comparison order of any two values: by class, then within the class. Equal does not mean identical:
+-- an int32 5 and an int64 5 compare as equal.
 abbrev pub cmp : Tree → Tree → Ordering
 cmp a b = ordering_then (class_cmp a b) (same_class_cmp a b)
 
+-- whether two values compare as equal, as `$eq` asks:
+-- int32 5 and int64 5 do, a string and a symbol of one text do
 abbrev pub equal : Tree → Tree → Bool
 equal a b = is_eq (cmp a b)

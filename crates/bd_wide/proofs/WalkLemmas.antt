@@ -55,6 +55,7 @@ Turned Is others nested own n bytes f new = elim f [
       × AreElements Is others nested own n (drop x.2 rest) two × (new ≡ one ++ two)
 ]
 
+-- what may be written of elements is what may be written of the first one and of the others
 pub to_turn : (Is : Writes) (others : Others) (nested : Nested) (own : List ℕ → List ℕ) (n b : ℕ) (bytes new : List ℕ) → AreElements Is others nested own (suc n) (b ∷ bytes) new → Turn Is others nested own n (b ∷ bytes) (front (b ∷ bytes)) new
 unfolding AreElements
 to_turn Is others nested own n b bytes new = elim (front (b ∷ bytes)) as (λ f. Turned Is others nested own n (b ∷ bytes) f new → Turn Is others nested own n (b ∷ bytes) f new) [ None ↦ λ h. h | Some x ↦ λ h. h ]
@@ -63,6 +64,7 @@ pub from_turn : (Is : Writes) (others : Others) (nested : Nested) (own : List �
 unfolding AreElements
 from_turn Is others nested own n b bytes new = elim (front (b ∷ bytes)) as (λ f. Turn Is others nested own n (b ∷ bytes) f new → Turned Is others nested own n (b ∷ bytes) f new) [ None ↦ λ h. h | Some x ↦ λ h. h ]
 
+-- after the last turn the rest stays as it is
 pub no_turn : (Is : Writes) (others : Others) (nested : Nested) (own : List ℕ → List ℕ) (bytes new : List ℕ) → AreElements Is others nested own zero bytes new → new ≡ bytes
 unfolding AreElements
 no_turn Is others nested own bytes new h = h
@@ -72,6 +74,7 @@ unfolding AreElements
 none Is others nested own zero = refl
 none Is others nested own (suc n) = refl
 
+-- of no elements nothing is written
 pub none_only : (Is : Writes) (others : Others) (nested : Nested) (own : List ℕ → List ℕ) (n : ℕ) (new : List ℕ) → AreElements Is others nested own n [] new → new ≡ []
 unfolding AreElements
 none_only Is others nested own zero new h = h
@@ -232,6 +235,7 @@ from_scope document value new = elim (scope_at value) as (λ o. ScopeTurn docume
   | Some at ↦ (scope : List ℕ) × document (drop at value) scope × (new ≡ number (at + length scope) ++ (take (at - 4) (drop 4 value) ++ scope))
 ])) [ None ↦ λ h. h | Some at ↦ λ h. h ]
 
+-- what may be written of code with scope is what may be written of its scope, behind its code
 pub to_scope : (document : List ℕ → List ℕ → Type 0) (value new : List ℕ) → IsScoped document value new → ScopeTurn document value new (scope_at value)
 unfolding IsScoped
 to_scope document value new = elim (scope_at value) as (λ o. (elim o [

@@ -47,6 +47,8 @@ outcome_of asked type None = outcomes.Itself
 outcome_of None type (Some number) = whole_at type number
 outcome_of (Some power) type (Some number) = code_at power number
 
+-- what `order` makes of a value: an int64, its code if its path is asked for, else its own value; or itself;
+-- or nothing, for a reason
 abbrev pub outcome_at : List OrderPath → List ℕ → ElementType → List ℕ → Outcome
 outcome_at paths path type value = outcome_of (asked_at paths path) type (number_at type value)
 
@@ -54,11 +56,13 @@ outcome_at paths path type value = outcome_of (asked_at paths path) type (number
 unfoldable pub int64_element : List ℕ → ℤ → List ℕ
 int64_element head z = 18 ∷ (drop 1 head ++ long (cast_unsigned w64 z))
 
+-- the element with what became of its number; one that is refused stays
 abbrev pub became : List ℕ → List ℕ → Outcome → List ℕ
 became head value outcomes.Itself = head ++ value
 became head value (outcomes.Int64 z) = int64_element head z
 became head value (outcomes.Nothing why) = head ++ value
 
+-- This is what `order` writes of an element with a number, by the paths that are asked for.
 abbrev pub IsOrdered : List OrderPath → Writes
 IsOrdered paths path type head value new = new ≡ became head value (outcome_at paths path type value)
 
@@ -68,6 +72,7 @@ refusal_in outcomes.Itself = None
 refusal_in (outcomes.Int64 z) = None
 refusal_in (outcomes.Nothing why) = Some why
 
+-- why `order` refuses a number: no int64 stands for it at its path
 abbrev pub refuses_unordered : List OrderPath → Refuses
 refuses_unordered paths room path type value = refusal_in (outcome_at paths path type value)
 

@@ -14,6 +14,7 @@ asked_at (p ∷ ps) path = if bytes_eq p.names.items path then Some p.power else
 unfoldable pub power_word : ℕ → List ℕ
 power_word n = take (n + 2) (codes "*1000000000000000000")
 
+-- whether a word ends with an asterisk and 10 ^ n
 abbrev pub ends_with_power : List ℕ → ℕ → Bool
 ends_with_power word n = ends_with nat_eq word (power_word n)
 
@@ -26,5 +27,6 @@ path_read (suc n) word = if ends_with_power word n then (take (length word - (n 
 abbrev pub word_read : {Z : Type 0} → String Z → List ℕ × Option ℕ
 word_read word = path_read 19 (string_bytes word)
 
+-- the path and the power of ten of an `OrderPath` in memory
 abbrev pub spelled : OrderPath → List ℕ × Option ℕ
 spelled path = (path.names.items, path.power)

@@ -20,6 +20,7 @@ pub record Refused : Type 0 where
   pub path : List ℕ
   pub why : Refusal
 
+-- the refused number at this byte offset and path, if there is a reason
 abbrev pub refused_at : ℕ → List ℕ → Option Refusal → Option Refused
 refused_at at path why = option_map (λ w. record { at = at; path = path; why = w }) why
 
@@ -45,9 +46,12 @@ refused_part refuses nested (Some parts.Number) type path at k value = refused_a
 refused_part refuses nested (Some (parts.Values holder)) type path at k value =
     nested holder (path ++ separator holder) (at + k) value
 
+-- the first refused number in an element: the element itself, or one inside it
 unfoldable pub refused_element : (List ℕ → ElementType → List ℕ → Option Refusal) → Nested → Element
 refused_element refuses nested type path at k value = refused_part refuses nested (part_of type) type path at k value
 
+-- the first refused number among elements, from left to right, up to the first that cannot be passed on.
+-- The first number bounds the turns: the count of the bytes is always enough.
 unfoldable pub refused_elements : Element → (List ℕ → List ℕ) → ℕ → ℕ → List ℕ → Option Refused
 refused_elements element own zero at bytes = None
 refused_elements element own (suc n) at [] = None
@@ -59,13 +63,18 @@ refused_elements element own (suc n) at (b ∷ bytes) = elim (front (b ∷ bytes
       (refused_elements element own n (at + x.1 + x.2) (drop x.2 rest))
 ]
 
+-- the first refused number in a document or an array,
+-- whose elements stand between its length and its last byte
 unfoldable pub refused_body : Element → (List ℕ → List ℕ) → ℕ → List ℕ → Option Refused
 refused_body element own at value =
     let inner = take (length value - 5) (drop 4 value) in refused_elements element own (length inner) (at + 4) inner
 
+-- the first refused number in the scope of code with scope;
+-- none if the scope does not end where the value does
 unfoldable pub refused_scope : (ℕ → List ℕ → Option Refused) → ℕ → List ℕ → Option Refused
 refused_scope document at value = elim (scope_at value) [ None ↦ None | Some k ↦ document (at + k) (drop k value) ]
 
+-- the first refused number in what holds values, at most so many levels deep
 unfoldable pub refused_nested : Refuses → ℕ → Nested
 refused_nested refuses zero holder path at value = None
 refused_nested refuses (suc room) holders.Document path at value =

@@ -23,6 +23,8 @@ wrapper_name (numbers.Decimal128 low high) = codes "$numberDecimal"
 unfoldable pub wrapper : List ℕ → List ℕ → List ℕ
 wrapper name text = framed (2 ∷ (name ++ 0 ∷ string text))
 
+-- The bytes are the BSON document of Extended JSON v2 for the number:
+-- `$numberDouble` or `$numberDecimal` with its text.
 abbrev pub IsWrapper : Number → List ℕ → Type 0
 IsWrapper number new = (text : List ℕ) × IsNumberText number text × (new ≡ wrapper (wrapper_name number) text)
 

@@ -30,12 +30,13 @@ order_app = with_rule (file_app (codes "order")) paths_rule
 abbrev pub line_app : App
 line_app = with_subcommand (with_file_commands top_app (codes "mask" ∷ codes "wrap" ∷ [])) order_app.top
 
--- what the lines order
+-- a command: what the arguments ask for, with texts as their bytes
 pub data OrderView : Type 0 where
   mask : Text → OrderView
   wrap : Text → OrderView
   order : Text → List Text → OrderView
 
+-- the command that an `Order` in memory stands for
 abbrev pub meant : Order → OrderView
 meant (Order.Mask file) = mask (string_bytes file)
 meant (Order.Wrap file) = wrap (string_bytes file)

@@ -69,6 +69,8 @@ refusal_words refusals.TooDeep = codes "too deep"
 refusal_words refusals.NotWhole = codes "not a whole number of 64 bits"
 refusal_words refusals.NoDouble = codes "no double equals it"
 
+-- where a refused number is, by the byte offset of its element in the
+-- dump and by its path, and why it is refused
 abbrev pub found_text : ℕ → List ℕ → Found → List ℕ
 found_text start path found = codes ", byte " ++ (decimal (start + found.at)
     ++ (codes ", path " ++ (quoted path ++ (codes ": " ++ refusal_words found.why))))
@@ -114,6 +116,8 @@ abbrev pub Ends : Filter → List ℕ → List ℕ → Over Writer → Stop → 
 Ends filter bytes new out (stops.Refused text) = IsRefusedDump filter bytes new text.items × TakesText out new
 Ends filter bytes new out stop = ArePartlyFiltered filter bytes new × IsWritten stop out new
 
+-- The run stopped for this reason: a prefix of the input was read and filtered,
+-- and of what is to be written standard output has a prefix.
 abbrev pub FiltersPartly : Filter → Over Reader → Over Writer → Stop → Type 0
 FiltersPartly filter file out stop = (bytes : List ℕ) × (new : List ℕ) × Consumes file.before.left file.after.left bytes
     × Ends filter bytes new out stop
@@ -138,6 +142,7 @@ abbrev pub CopiesRest : Over Reader → Over Writer → Type 0
 CopiesRest file out = (bytes : List ℕ) × Consumes file.before.left file.after.left bytes
     × IsAtEnd file.after.left × TakesText out bytes
 
+-- Copying the rest of the input stopped for this reason: standard output has a prefix of what was read.
 abbrev pub StopsCopying : Over Reader → Over Writer → Stop → Type 0
 StopsCopying file out stop = (bytes : List ℕ) × Consumes file.before.left file.after.left bytes × IsWritten stop out bytes
 
@@ -146,6 +151,7 @@ abbrev pub PassesOn : List ℕ → Over Reader → Over Writer → Type 0
 PassesOn bytes file out = (rest : List ℕ) × BeginsWithNone (bytes ++ rest) × Consumes file.before.left file.after.left rest
     × IsAtEnd file.after.left × TakesText out (bytes ++ rest)
 
+-- Passing on bytes that begin with no document, and the rest of the input, stopped for this reason.
 abbrev pub StopsPassing : List ℕ → Over Reader → Over Writer → Stop → Type 0
 StopsPassing bytes file out stop = (rest : List ℕ) × BeginsWithNone (bytes ++ rest)
     × Consumes file.before.left file.after.left rest × IsWritten stop out (bytes ++ rest)

@@ -10,9 +10,11 @@ use Rattle.bd_wide_cli.specs.declared.running.Stop.{Stop}
 use Rattle.bd_wide_cli.specs.declared.running.Stop.TheVariants as stops
 use Rattle.bd_wide_cli.specs.Filtered.{FiltersAll, FiltersPartly}
 
+-- a line of standard error: `bsonwide: `, the message, a newline
 abbrev pub error_line : List ℕ → List ℕ
 error_line message = codes "bsonwide: " ++ (message ++ 10 ∷ [])
 
+-- the message of a run that stopped before the end of its input
 abbrev pub stop_words : Stop → List ℕ
 stop_words stops.NoMemory = codes "no memory"
 stop_words stops.Unwritten = codes "cannot write"
@@ -34,6 +36,7 @@ FiltersInput filter file out err status =
     ((kept : ℕ) × FiltersAll filter file out kept × TellsMessage err (kept_line kept) Done status)
     ⊎ ((stop : Stop) × FiltersPartly filter file out stop × TellsMessage err (error_line (stop_words stop)) Failed status)
 
+-- the usage of `bsonwide`, three lines
 abbrev pub usage_text : List ℕ
 usage_text =
     codes "usage: bsonwide mask FILE\n       bsonwide wrap FILE\n       bsonwide order FILE [PATH..]\n"

@@ -11,6 +11,8 @@ wide_framed base bytes (Ok None) = None
 wide_framed base bytes (Ok (Some n)) = wide_fault base (take n bytes)
 wide_framed base bytes (Err kind) = Some (record { kind = kind; offset = base; path = [] })
 
+-- the first fault of the document at the start of bytes, the first of which is at this offset of the dump,
+-- if doubles and decimal128 are read; None if it has none, and at the end of the bytes
 abbrev pub wide_frame_fault : ℕ → List ℕ → Option Fault
 wide_frame_fault base bytes = wide_framed base bytes (frame_length bytes)
 

@@ -10,9 +10,11 @@ pub record Page : Type 0 where
   pub mark : Option Mark
   pub ends : Bool
 
+-- the position in an answer that a token has, if there is a token
 abbrev pub mark_of : Option MarkedToken → Option Mark
 mark_of token = option_map (λ t. t.mark) token
 
+-- the page that a batch of a cursor is, whatever the digest of its token
 abbrev pub page_of : GivenBatch → Page
 page_of b = record { places = b.places; mark = mark_of b.token; ends = b.ends }
 
@@ -34,6 +36,7 @@ cursor_at q mark = record {
   left = left_after q.selection (token_at q mark);
 }
 
+-- the pages of a request by sizes in turn, from the start of its answer or after a position
 abbrev pub pages : Query → Option Mark → List ℕ → List Page
 pages q mark sizes = pages_from (cursor_at q mark) sizes
 

@@ -46,10 +46,12 @@ abbrev mutual
   query_members c (array ts) = array (query_items c ts)
   query_members c t = t
 
+  -- the members of the array of `$and`, `$or` or `$nor`
   pub query_items : Codes → Items → Items
   query_items c no_items = no_items
   query_items c (item t ts) = item (query_member c t) (query_items c ts)
 
+  -- one member of `$and`, `$or` or `$nor`: a filter of its own
   pub query_member : Codes → Tree → Tree
   query_member c (doc fs) = doc (query_fields c fs)
   query_member c t = t
@@ -60,6 +62,7 @@ abbrev mutual
       if first_is_operator fs then doc (query_operators c fs) else doc (renumber_fields c fs)
   query_value c t = renumber c t
 
+  -- the operators of a path, each with its operand; their names stay
   pub query_operators : Codes → Fields → Fields
   query_operators c no_fields = no_fields
   query_operators c (field n t fs) =
@@ -72,16 +75,20 @@ abbrev mutual
   query_inverse c (doc fs) = doc (query_operators c fs)
   query_inverse c t = t
 
+  -- the body of `$elemMatch`: operators for an element, or a filter for one that is a document
   pub query_element : Codes → Tree → Tree
   query_element c (doc fs) =
       if has_value_form fs then doc (query_operators c fs) else doc (query_fields c fs)
   query_element c t = t
 
+-- the document of a query, with another number in place of each number that it compares by
 abbrev pub renumber_query : Codes → Doc → Doc
 renumber_query c d = pairs_of (query_fields c (fields_of d))
 
 -- ---- requests
 
+-- The filter and the sort of a request keep to paths that read alike,
+-- and the filter to numbers that may occur there.
 abbrev pub RequestAsksOf : Codes → Request → Type 0
 RequestAsksOf c r = AsksOf c r.filter × SortsReadAlike c r.sorts
 
