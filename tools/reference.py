@@ -258,8 +258,10 @@ def missing() -> Iterator[tuple[str, str]]:
 def main() -> None:
     if "--missing" in sys.argv:
         found = sorted(missing())
-        print(*(f"{crate}: {what}" for crate, what in found), sep="\n")
-        print(*(f"{count} of {crate}" for crate, count in Counter(crate for crate, _ in found).items()), sep="\n")
+        for crate, what in found:
+            print(f"{crate}: {what}")
+        for crate, count in Counter(crate for crate, _ in found).items():
+            print(f"{count} of {crate}")
     else:
         PAGE.write_text(page(), encoding="utf-8")
 

@@ -3,7 +3,8 @@
 
 usage: tests/docs/reference.py     The last line is 'N passed, M failed'. It needs neither the program nor a proof.
 
-- docs/REFERENCE.md is current.
+- docs/REFERENCE.md is current, and each line of it has its comment in the sources; so has each definition that it does not name,
+  and each lemma that more than one other file uses.
 - docs/PROVED.md names each law. What it has in backquotes is the name of a crate, function, type, clause or definition.
 - docs/ARCHITECTURE.md has each crate but those of tests, and no page names a crate that does not exist.
 - Each link of a page leads to a file, and to a heading of it.
@@ -43,6 +44,13 @@ def names() -> set[str]:
         code = "".join(text_of(it) for it in reference.files_of(name, "src/**/*.rt"))
         found |= {name, *re.findall(r"\b(?:fn|struct|enum|trait|ensures) (\w+)", code)}
     return found
+
+
+def comments() -> Iterator[tuple[bool, str]]:
+    lacking = list(reference.missing())
+    for _, name in reference.crates():
+        found = [what for crate, what in lacking if crate == name]
+        yield not found, f"{name}: without a comment: {', '.join(found)}"
 
 
 def proved() -> Iterator[tuple[bool, str]]:
@@ -97,7 +105,7 @@ def roots() -> Iterator[tuple[bool, str]]:
 def main() -> int:
     passed = failed = 0
     current = text_of(reference.PAGE) == reference.page()
-    for holds, message in ((current, "docs/REFERENCE.md is not current: make reference"), *proved(), *crates(), *links(), *roots()):
+    for holds, message in ((current, "docs/REFERENCE.md is not current: make reference"), *comments(), *proved(), *crates(), *links(), *roots()):
         if holds:
             passed += 1
         else:
