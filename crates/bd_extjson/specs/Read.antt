@@ -18,7 +18,7 @@ abbrev pub bare_number : Option ℤ → Option Tree
 bare_number None = None
 bare_number (Some z) = Some (leaf (if fits_bits 31 z then trees.int32 z else trees.int64 z))
 
--- so many levels more may stand here, one in the other
+-- the result, if one more level of documents and arrays may be opened here; else None
 abbrev pub nested : {A : Type 0} → ℕ → Option A → Option A
 nested zero r = None
 nested (suc room) r = r
@@ -34,7 +34,7 @@ abbrev pub add_field : List ℕ → Option Tree → Option Fields → Option Fie
 add_field name (Some t) (Some fs) = if has_zero name then None else Some (field name t fs)
 add_field _ _ _ = None
 
--- code with scope, of the code's text and the scope's value
+-- code with scope, if the code is a text and the scope a document
 abbrev pub with_scope : Option (List ℕ) → Option Tree → Option Tree
 with_scope (Some s) (Some (doc fs)) = Some (code_scope s fs)
 with_scope _ _ = None

@@ -29,7 +29,7 @@ escape_byte b = if b == 34 || b == 92 then 92 ∷ b ∷ []
 abbrev pub escaped : List ℕ → List ℕ
 escaped = flat_map escape_byte
 
--- RFC 8259, section 7: a string.
+-- RFC 8259, section 7: a string with this content, between quotation marks.
 unfoldable pub quoted : List ℕ → List ℕ
 quoted s = 34 ∷ (escaped s ++ 34 ∷ [])
 
@@ -45,15 +45,15 @@ object members = 123 ∷ (join_with_byte 44 members ++ 125 ∷ [])
 abbrev pub member : List ℕ → List ℕ → List ℕ
 member name value = quoted name ++ 58 ∷ value
 
--- an object of one member
+-- a JSON object of this one member
 abbrev pub wrapper_text : List ℕ → List ℕ → List ℕ
 wrapper_text name value = object (member name value ∷ [])
 
--- RFC 4648, section 4, with padding
+-- RFC 4648, section 4: bytes in base64, with padding
 unfoldable pub base64_text : List ℕ → List ℕ
 base64_text bytes = encode_of standard bytes
 
--- two lower-case digits a byte
+-- bytes in hexadecimal, two lower-case digits each
 unfoldable pub hex_text : List ℕ → List ℕ
 hex_text bytes = encode_lower bytes
 

@@ -32,7 +32,7 @@ query_operators =
     ∷ (codes "$type", words.Plain plain.Type)
     ∷ (codes "$not", words.Not) ∷ (codes "$elemMatch", words.ElemMatch) ∷ []
 
--- the operators of the manual that are left out, and the names of a DBRef
+-- the names that are recognised but not supported: operators of the manual, and the names of a DBRef
 abbrev pub left_out_names : List (List ℕ)
 left_out_names =
     codes "$regex" ∷ codes "$options" ∷ codes "$mod" ∷ codes "$expr" ∷ codes "$where"
@@ -73,7 +73,8 @@ query_types =
     ∷ (pos 19, codes "decimal", [])
     ∷ (negsuc 0, codes "minKey", kinds.MinKey ∷ []) ∷ (pos 127, codes "maxKey", kinds.MaxKey ∷ []) ∷ []
 
--- `number` stands for the two whole numbers
+-- the kinds of a type by its name (MongoDB manual, "$type"); `number` is int32 and int64;
+-- None if no type has the name
 unfoldable pub kinds_named : List ℕ → Option (List Kind)
 kinds_named name = if bytes_eq name (codes "number") then Some (kinds.Int32 ∷ kinds.Int64 ∷ [])
     else option_map (λ row. row.2) (find (λ row. bytes_eq row.1 name) query_types)
@@ -83,6 +84,6 @@ kinds_named name = if bytes_eq name (codes "number") then Some (kinds.Int32 ∷ 
 unfoldable pub kinds_numbered : ℤ → Option (List Kind)
 kinds_numbered number = option_map (λ row. row.2) (find (λ row. int_eq row.0 number) query_types)
 
--- `==` of kinds
+-- whether two kinds are the same
 abbrev pub is_kind : Kind → Kind → Bool
 is_kind = sameb the_type

@@ -52,12 +52,12 @@ module _ (IsSuch : List ℕ → Type 0) where
     FieldsFit no_fields = Unit {0}
     FieldsFit (field n t fs) = IsSuch n × (TreeFits t × FieldsFit fs)
 
-  -- of what holds no other values: a scalar, or the code of code with scope
+  -- The scalar, or the code of code with scope, fits its BSON type.
   abbrev pub OwnFits : Own → Type 0
   OwnFits (own s) = ScalarFits s
   OwnFits (own_code s) = IsSuch s
 
--- what each value in memory is: its texts are UTF-8
+-- A value fits its BSON types, and its names, texts and codes are UTF-8: so does each value in memory.
 abbrev pub Fits : Tree → Type 0
 Fits = TreeFits IsUtf8
 
@@ -65,7 +65,7 @@ Fits = TreeFits IsUtf8
 abbrev pub IsAny : List ℕ → Type 0
 IsAny s = Unit {0}
 
--- whatever its texts are
+-- A value fits its BSON types, whatever bytes its names, texts and codes are.
 abbrev pub FitsTypes : Tree → Type 0
 FitsTypes = TreeFits IsAny
 
@@ -99,12 +99,12 @@ abbrev mutual
   zero_in_items no_items = false
   zero_in_items (item t ts) = zero_in t || zero_in_items ts
 
--- of pairs, or of elements, whose names are passed over
+-- whether a value among the parts has a zero in a `cstring`, or, if they are fields, a name has one
 abbrev pub zero_in_parts : Bool → Doc → Bool
 zero_in_parts named [] = false
 zero_in_parts named (p ∷ ps) = (named && has_zero p.0) || (zero_in p.1 || zero_in_parts named ps)
 
--- of what holds no other values
+-- whether the scalar has a zero in a `cstring`; false for the code of code with scope, which is a `string`
 abbrev pub zero_in_own : Own → Bool
 zero_in_own (own s) = zero_in_scalar s
 zero_in_own (own_code s) = false
