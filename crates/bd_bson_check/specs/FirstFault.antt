@@ -1,6 +1,8 @@
--- The first check that fails, from left to right, in bytes that are to be one document. No tree is built.
--- Each function goes past one item at the front of its bytes, and gives the bytes after it or the fault.
--- e is the place that the item may not pass, and the bytes are those up to it: the item stands at e less their number.
+-- The first check that fails, from left to right,
+-- in bytes that must be one document (BSON 1.1). No tree is built.
+-- Each function checks one item at the start of its bytes, and gives the bytes after it, or the fault.
+-- e is the offset that the item may not pass, and the bytes end there:
+-- the item is at offset `e - length bytes`.
 use Rattle.std.specs.Prelude.{ℕ, zero, suc, ◌+◌, ◌-◌, List, [], ◌∷◌, length, take, drop, Option, Some, None, option_map}
 use Rattle.std.specs.Prelude.{Result, Ok, Err, Bool, true, false, nat_lt, ◌==◌, ◌||◌, ◌&&◌, not, if◌then◌else◌, decimal}
 use Rattle.std.specs.Prelude.{codes, slice_index_or}

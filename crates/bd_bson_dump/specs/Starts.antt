@@ -1,4 +1,4 @@
--- Documents that stand in bytes at some places.
+-- Documents that begin at given offsets of bytes.
 use Rattle.std.specs.Prelude.{ℕ, List, [], ◌∷◌, drop}
 use Rattle.std.specs.List.{AllByRecursion}
 use Rattle.bd_value.specs.Tree.{Doc, pairs_in}

@@ -1,5 +1,5 @@
--- What is found of each document of a dump. A document with a fault is no end: the next one stands after the bytes that
--- its length counts. Only a fault of the length itself is the end, since nothing tells then where the next one stands.
+-- What a check finds in each document of a dump. After a document with a fault it goes on at the end that its
+-- length gives. Only a bad length ends it, since where the next document begins is then not known.
 use Rattle.std.specs.Prelude.{ℕ, zero, suc, ◌+◌, List, [], ◌∷◌, ◌++◌, ◌≡◌, length, drop, map, Option, Some, None}
 use Rattle.std.specs.Prelude.{Result, Ok, Err}
 use Rattle.bd_value.specs.Tree.{Doc}

@@ -71,7 +71,7 @@ ReadsToFault gives head old given new = (turns : ℕ)
     × ((IsCut (head ++ given) × ReadsUntil gives turns old given (Some []) new)
     ⊎ ((length (head ++ given) ≡ 4) × AreReads gives turns old given new))
 
--- of a reader, of which this is told, and whose read may give these bytes, or fail, and leave this reader
+-- For a reader in this state, whose read gives these bytes, or fails (None), and leaves the reader so.
 module _ {R : Type 0} (state : R → Reader) where
   module _ (gives : R → Option (List ℕ) → R → Type 0) where
     -- There is no next document: one read found the end of the device.

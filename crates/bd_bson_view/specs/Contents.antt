@@ -1,4 +1,4 @@
--- What a value holds.
+-- What a view of a value holds: a scalar, elements, or code and scope.
 use Rattle.std.specs.Prelude.{◌≡◌, ℕ, List}
 use Rattle.bd_value.specs.Tree as trees
 use Rattle.bd_value.specs.Tree.{Tree, leaf, doc, array, code_scope, fields_of, items_of, pairs_in, own, values_of}

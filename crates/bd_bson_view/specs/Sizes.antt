@@ -1,6 +1,5 @@
--- What a value's bytes tell from their front, by its kind:
--- how many they are, and which scalar they spell; and what must
--- stand there for a value to be read without a check.
+-- What the bytes of a value say from their start on, by its kind:
+-- how many they are, and which scalar they are; and what must be there to read a value without a check.
 use Rattle.std.specs.Prelude.{◌≡◌, ◌<◌, ◌≤◌, ℕ, ◌+◌, ◌-◌, ◌==◌, List, length, take, drop, slice_index_or, if◌then◌else◌}
 use Rattle.std.specs.Prelude.{IsUtf8}
 use Rattle.std.specs.List.{position_or_len}

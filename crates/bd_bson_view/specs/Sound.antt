@@ -1,4 +1,4 @@
--- Bytes at whose front a value, or the elements of a document, stand; and where in bytes a value stands.
+-- Bytes that begin with a value, or with the elements of a document; and a value at an offset of bytes.
 use Rattle.std.specs.Prelude.{◌≡◌, ◌≤◌, ℕ, List, ◌∷◌, ◌++◌, length, drop}
 use Rattle.std.proofs.Common.{sym, ap, ◌∙◌}
 use Rattle.std.specs.Coded.{Coded-set, coded_ℕ, le_prop}
@@ -96,7 +96,7 @@ pub left_is : {bytes : List ℕ} (s t : Left bytes) → elements_left s ≡ pair
 unfolding elements_left
 left_is {bytes} s t = ap (λ (x : Left bytes). pairs_of x.fields) (Left-prop bytes s t)
 
--- ---- places
+-- ---- values at offsets
 
 -- From the offset of `at` on, the bytes begin with this value, which has its type.
 abbrev pub StandsAt : List ℕ → At → Tree → Type 0

@@ -1,4 +1,4 @@
--- The spelling that is written: the names of an array's elements are their places from 0.
+-- The bytes that are written for a value: the elements of an array are named by their indexes, from 0.
 use Rattle.std.specs.Prelude.{◌≡◌, ◌≤◌, ◌<◌, ℕ, suc, List, [], ◌∷◌, ◌++◌, length, decimal, false, if◌then◌else◌}
 use Rattle.std.specs.Int.{w32, w64, cast_unsigned}
 use Rattle.bd_value.specs.Tree as trees

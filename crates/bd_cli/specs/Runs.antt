@@ -36,8 +36,7 @@ pub record ServesNothing {C : Type 0} (old new : C) (out err : Over Writer) (sta
   pub silent : out.after ≡ out.before
   pub told : TellsMessage err (error_line message) Failed status
 
--- of the reader of the commands, which of its reads may give what,
--- its first state and its last one, and what was written
+-- For the reader of the commands: what its reads may give, its state before and after, and what was written.
 module _ {C : Type 0} (state : C → Reader) (gives : C → Option (List ℕ) → C → Type 0) (old new : C)
     (out err : Over Writer) (status : Status) where
   -- Over a dump of these bytes and documents: each command had its reply, and standard error has nothing.

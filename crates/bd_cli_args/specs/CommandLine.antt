@@ -1,4 +1,5 @@
--- What the words of a line order, by the parser's own definition of the lines that it takes.
+-- The command lines that `bsonfind` accepts, by the parser's own definition,
+-- and the command that each asks for.
 use Rattle.std.specs.Prelude.{◌≡◌, ◌==◌, ◌⊎◌, ◌&&◌, ℕ, List, [], ◌∷◌, Bool, true, false, not, if◌then◌else◌, map}
 use Rattle.std.specs.Prelude.{slice_get, codes, String, string_bytes, Option, Some, None, option_map, option_and_then}
 use Rattle.std.specs.{Prelude.unwrap_or, Prelude.Result, Prelude.MatchResult, Option.option_map_or, Option.option_or}

@@ -1,4 +1,4 @@
--- What `dump` and `check` show of an input, and what a run of them did.
+-- What `dump` and `check` print of an input, and what a run of them did.
 use Rattle.std.specs.Prelude.{◌≡◌, ◌≤◌, ◌⊎◌, ℕ, zero, suc, Bool, true, false, List, [], ◌∷◌, ◌++◌, length, codes, decimal}
 use Rattle.std.specs.Prelude.{Option, Some, None}
 use Rattle.std.specs.Prelude.{is_some, option_map, unwrap_or, Result, Ok, Err}

@@ -1,4 +1,4 @@
--- What `pack` shows of an input, and what a run of it did.
+-- What `pack` prints of an input, and what a run of it did.
 use Rattle.std.specs.Prelude.{◌≡◌, ◌⊎◌, ◌↔◌, ℕ, suc, List, [], ◌∷◌, ◌++◌, length, codes, decimal, IsTrue, IsFalse}
 use Rattle.std.specs.Prelude.{Option, Some, None, Result, Ok, Err, option_map}
 use Rattle.std.specs.List.{flat_map}

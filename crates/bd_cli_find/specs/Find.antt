@@ -1,4 +1,4 @@
--- What `find` shows of its words and an input, and what a run of it did.
+-- What `find` prints for its options and an input, and what a run of it did.
 use Rattle.std.specs.Prelude.{◌≡◌, ◌≤◌, ◌<◌, ℕ, nat_lt, true, List, [], length, option_map, Option, Some, None, Result}
 use Rattle.std.specs.Prelude.{Ok, Err, codes, if◌then◌else◌, ◌⊎◌, Bool, ◌∷◌, ◌++◌}
 use Rattle.std.specs.{Prelude.drop, Prelude.decimal, List.All, Str.bytes_eq}

@@ -1,4 +1,4 @@
--- What a session in memory does at a call, and at a line.
+-- What a session in memory does with a call, and with a line.
 use Rattle.std.specs.Prelude.{◌≡◌, List, ℕ, Result, Ok, Err, string_bytes}
 use Rattle.std.specs.declared.alloc.AllocError.{AllocError}
 use Rattle.bd_cursor_model.specs.Session.{State, state_after, drop_call, find_call, kill_call, next_call, resume_call}
@@ -43,7 +43,7 @@ service_state s = state_of s.session
 abbrev pub service_dump : Service → Dump
 service_dump s = dump_of s.session
 
--- the text is a reply to the line, and the session goes on from one state to the other, over the same dump
+-- The text is a reply to the line, and the session has the state after it, over the same dump.
 pub record RepliesTo (old : Service) (line text : List ℕ) (new : Service) : Type 0 where
   pub reply : LineReply
   pub answers : Answers (bytes_of (service_dump old)) (documents (service_dump old))

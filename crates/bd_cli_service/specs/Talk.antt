@@ -1,4 +1,4 @@
--- A talk with a session: the call that a line is, the replies to lines, and what always holds of them.
+-- A session over lines: the call that a line is, the replies to lines, and what always holds of them.
 use Rattle.std.specs.Prelude.{◌≡◌, ◌≢◌, ◌⊎◌, ◌==◌, ℕ, List, [], ◌∷◌, ◌++◌, length, map, if◌then◌else◌, Option, Some}
 use Rattle.std.specs.Prelude.{None, option_and_then, option_map, Result, Ok, Err}
 use Rattle.std.specs.{List.filter_map, List.flat_map, List.zip, Result.result_ok, Str.IsUtf8}
@@ -78,8 +78,8 @@ shown_reply ds machine.foreign_token = refuses (session_refusal (plain reasons.F
 shown_reply ds machine.token_place = refuses (session_refusal (plain reasons.TokenPlace))
 shown_reply ds machine.out_of_range = refuses (session_refusal (plain reasons.Range))
 
--- the call that a line is, or why it is none. Of a text that is no document a fault is told: which one of a text
--- that is UTF-8, is not said
+-- The call that a line is, or why it is none. Of a line that is no document a fault is reported;
+-- which one of a line that is UTF-8, no definition says.
 abbrev pub IsCallIn : List ℕ → List Doc → List ℕ → Result Call ToldRefusal → Type 0
 IsCallIn bytes ds line part = ((d : Doc) × ReadsAs line d × (part ≡ document_call bytes ds d)) ⊎ ((reading line ≡ None)
     × ((f : JsonFault) × IsPlaced (length line) f × TellsBadUtf8 line f × (f.kind ≢ json.NoMemory)
@@ -95,8 +95,8 @@ abbrev pub state_then : State → Result Call ToldRefusal → State
 state_then s (Ok call) = state_after s call
 state_then s (Err why) = s
 
--- a session over a dump of these bytes, which are these documents,
--- may answer a line so, and goes on from one state to the other
+-- A session over a dump of these bytes, which are these documents, may answer the line with this reply,
+-- and its state becomes t.
 pub record Answers (bytes : List ℕ) (ds : List Doc) (s : State) (line : List ℕ)
     (r : LineReply) (t : State) : Type 0 where
   pub part : Result Call ToldRefusal
@@ -121,7 +121,7 @@ Talks bytes ds s (line ∷ lines) [] t = ⊥
 Talks bytes ds s (line ∷ lines) (r ∷ rs) t =
     (mid : State) × Answers bytes ds s line r mid × Talks bytes ds mid lines rs t
 
--- two replies to a line are the same; or the line is UTF-8 and no document, and each tells a fault of it
+-- Two replies to a line are the same; or the line is UTF-8 and no document, and each reports a fault of it.
 abbrev pub AreAlike : List ℕ → LineReply → LineReply → Type 0
 AreAlike line r s = (r ≡ s) ⊎ (IsUtf8 line × (reading line ≡ None)
     × (f : JsonFault) × (g : JsonFault) × (r ≡ refuses (json_refusal f)) × (s ≡ refuses (json_refusal g)))
@@ -165,7 +165,7 @@ batch_shown id _ r = []
 abbrev pub batches_shown : List ℕ → List Doc → ℕ → List (List ℕ) → List LineReply → List LineReply
 batches_shown bytes ds id lines rs = flat_map (λ p. batch_shown id (line_call bytes ds p.0) p.1) (zip lines rs)
 
--- these places are shown in batches of the sizes that the lines ask for, with tokens that lead on to what is left
+-- The replies show these documents in batches of the sizes that the lines ask for, with tokens that lead on.
 pub record ShowsInTurn (bytes : List ℕ) (ds : List Doc) (q : Query) (id : ℕ) (ps : List ℕ)
     (lines : List (List ℕ)) (rs : List LineReply)
     : Type 0 where

@@ -1,5 +1,5 @@
--- How the documents of an answer are reached, by which index or without one:
--- its access path, and that one in hand leads to them.
+-- The access path of a request: how its documents are reached, by which index or without one;
+-- and that an access path in memory leads to them.
 use Rattle.std.specs.Prelude.{ℕ, Bool, false, ◌&&◌, not, List, [], ◌∷◌, string_bytes, Option, Some, None, if◌then◌else◌}
 use Rattle.std.specs.Prelude.{◌≡◌}
 use Rattle.std.specs.{Str.bytes_eq, Cmp.Lexicographic.pointwise}

@@ -1,4 +1,4 @@
--- What is told of how the documents of a request are found.
+-- What `explain` replies of how the documents of a request are found.
 use Rattle.std.specs.Prelude.{ℕ, List, [], ◌∷◌, codes, count_by, length, option_map, string_bytes, Option, Some, None}
 use Rattle.std.specs.List.{filter, list_any, range_with_len}
 use Rattle.bd_value.specs.Tree.{Doc, leaf}

@@ -1,4 +1,4 @@
--- What a source of places hands out.
+-- A source of document numbers, and what it hands out.
 use Rattle.std.specs.Prelude.{ℕ, ◌<◌, ◌≡◌, ◌≢◌, ◌-◌, ◌&&◌, Bool, true, List, [], ◌∷◌, Option, Some, None, Contains}
 use Rattle.std.specs.{List.All, List.AllPairs, List.filter, List.range_with_len, declared.cmp.Ordering.Ordering}
 use Rattle.std.proofs.{Common.arith, Common.◌∙◌, Common.zero-add, lemmas.List.FromFn.get_or-range_with_len}

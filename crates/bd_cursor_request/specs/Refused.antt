@@ -1,4 +1,4 @@
--- Why a call is refused, in words and by its number.
+-- Why a call is refused, as a message and as a number.
 use Rattle.std.specs.Prelude.{◌≡◌, ◌⊎◌, ℕ, List, Result, Ok, Err, codes}
 use Rattle.std.specs.Result.{result_map_both}
 use Rattle.bd_query_filter.specs.Fault.{Refusal, filter_fault_words, refusal_of}

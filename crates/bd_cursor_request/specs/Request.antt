@@ -1,4 +1,4 @@
--- What is asked of a dump, and the text that its tokens are tied to.
+-- A request to a dump, and the text that its tokens are tied to.
 use Rattle.std.specs.Prelude.{ℕ, ℤ, pos, negsuc, ◌==◌, nat_le, ◌&&◌, not, Bool, true, List, [], ◌∷◌, length, map}
 use Rattle.std.specs.Prelude.{Option, Some, None, Result, Ok, Err, if◌then◌else◌, ◌++◌, codes, decimal}
 use Rattle.std.specs.{List.list_any, Str.bytes_eq, Option.ok_or}

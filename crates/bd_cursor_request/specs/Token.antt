@@ -1,4 +1,4 @@
--- Where the answer of a request goes on, as a text.
+-- Tokens: a position in an answer, as a text.
 use Rattle.std.specs.Prelude.{ℕ, ◌==◌, ◌&&◌, List, [], ◌∷◌, ◌++◌, length, take, drop, if◌then◌else◌}
 use Rattle.std.specs.{Prelude.Option, Prelude.Some, Prelude.None, Prelude.option_and_then, Result.result_ok}
 use Rattle.std.specs.Int.{w32, w64, from_le_bytes, to_le_bytes}

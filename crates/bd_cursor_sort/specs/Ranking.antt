@@ -1,6 +1,5 @@
--- Documents while they are put in order by one path after the other.
--- Each has a rank by the paths so far: the lower rank is first,
--- and those that tie have one rank.
+-- Documents that are sorted by one path after the other.
+-- By the paths so far each has a rank: the lower rank comes first, and documents that tie have the same rank.
 use Rattle.std.specs.Prelude.{◌≡◌, ◌<◌, ℕ, ◌+◌, List, [], ◌∷◌, length, map, Option, Some, None, if◌then◌else◌}
 use Rattle.std.specs.Prelude.{slice_index_or}
 use Rattle.std.specs.Ordering.{is_lt, nat_cmp, ordering_then}

@@ -1,5 +1,5 @@
--- The first so many places of a list, and a document that others are compared with,
--- by its keys on the paths of a sort: its mark.
+-- The first n documents of a sorted list, and a mark:
+-- a document that others are compared with, by its keys on the paths of a sort.
 use Rattle.std.specs.Prelude.{◌≡◌, ◌-◌, ◌≤◌, ℕ, nat_lt, not, Bool, true, false, List, [], ◌∷◌, length, map, take}
 use Rattle.std.specs.Prelude.{slice_index_or}
 use Rattle.std.specs.{Prelude.Option, Prelude.Some, Prelude.None, Prelude.option_map, List.Sorted.IsPermutation}

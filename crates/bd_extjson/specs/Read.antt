@@ -1,5 +1,4 @@
--- Which document a text is (Extended JSON v2, canonical form, and bare whole numbers):
--- which value a JSON value stands for.
+-- Which document a text is (RFC 8259, then Extended JSON v2, canonical form, and bare whole numbers).
 use Rattle.std.specs.Prelude.{◌≡◌, ℕ, zero, suc, ◌-◌, ℤ, List, if◌then◌else◌, Option, Some, None, option_map}
 use Rattle.std.specs.Prelude.{option_and_then}
 use Rattle.std.specs.{Option.option_map_or, Str.is_utf8}

@@ -18,7 +18,7 @@ plain d = bytes_of (doc (fields_of d))
 abbrev pub IsPackable : List ℕ → Doc → Type 0
 IsPackable line d = ReadsAs line d × (length (plain d) ≤ longest_document)
 
--- a line is no document, or too long; which fault is told of a text that is UTF-8 is taken as given
+-- The line is no document, or too long. Which fault is reported of a line that is UTF-8, no definition says.
 abbrev pub IsBad : List ℕ → LineFault → Type 0
 IsBad line (faults.Unread f) = (f.kind ≢ kinds.NoMemory) × ((d : Doc) → ReadsAs line d → ⊥)
     × IsPlaced (length line) f × TellsBadUtf8 line f

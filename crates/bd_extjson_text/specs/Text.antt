@@ -13,7 +13,8 @@ use Rattle.bd_value.specs.Tree.{array, code_scope, Items, no_items, item, Fields
 abbrev pub needs_escape : ℕ → Bool
 needs_escape b = b == 34 || b == 92 || nat_lt b 32
 
--- RFC 8259, section 7: the short escape where there is one, else \u00 and two lower-case digits, else the byte itself.
+-- RFC 8259, section 7: the short escape if there is one,
+-- else \u00 and two lower-case digits, else the byte itself.
 -- Bytes from 128 on, and so all characters beyond ASCII, stand for themselves.
 unfoldable pub escape_byte : ℕ → List ℕ
 escape_byte b = if b == 34 || b == 92 then 92 ∷ b ∷ []

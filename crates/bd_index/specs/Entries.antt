@@ -1,4 +1,5 @@
--- The entries of an index on a path: the keys of the documents of a dump, each with the place of its document.
+-- The entries of an index on a path: the keys of the documents of a dump,
+-- each with the number of its document.
 use Rattle.std.specs.Prelude.{◌≡◌, ◌==◌, ◌<◌, ◌≤◌, ℕ, ◌+◌, ◌-◌, Bool, true, ◌&&◌, List, [], ◌∷◌, ◌++◌, map, count_by}
 use Rattle.std.specs.Prelude.{length, nat_lt, if◌then◌else◌, slice_index_or}
 use Rattle.std.specs.{List.list_any, List.Sorted.IsSortedBy, declared.cmp.Ordering.Ordering}

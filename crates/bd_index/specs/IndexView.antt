@@ -1,4 +1,4 @@
--- Which dump an index is of: where its entries stand in the bytes of one, as it keeps them and as they were found.
+-- Which dump an index in memory is of: where the keys of its entries are in the bytes of the dump.
 use Rattle.std.proofs.Common.{sym, ◌∙◌}
 use Rattle.std.proofs.Props.{props}
 use Rattle.std.specs.Prelude.{◌≡◌, ℕ, List, [], ◌∷◌, Bool}
@@ -70,7 +70,7 @@ KeepsDump-prop sparse path dump kept p q =
 pub IsIndexOf-prop : (dump : Dump) (index : Index) → IsProp (IsIndexOf dump index)
 IsIndexOf-prop dump index = hlevel (KeepsDump-prop, props)
 
--- Each of the indexes is one of this dump.
+-- Each of the indexes is an index of this dump.
 abbrev pub AreIndexesOf : Dump → List Index → Type 0
 AreIndexesOf dump indexes = All (IsIndexOf dump) indexes
 

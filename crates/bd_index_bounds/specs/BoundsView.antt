@@ -1,4 +1,4 @@
--- The keys in bounds in memory.
+-- The set of keys that bounds in memory stand for.
 use Rattle.std.specs.Prelude.{Bool, if◌then◌else◌, ◌&&◌, not, List, [], ◌∷◌, map, Option, Some, None, option_map}
 use Rattle.std.specs.{declared.cmp.Ordering.Ordering, Ordering.is_le, Ordering.is_lt, Ordering.nat_cmp}
 use Rattle.bd_value.specs.{Order.cmp, Order.class_of, Order.class_rank, Tree.Tree, View.tree_of}

@@ -1,5 +1,5 @@
--- The front of a key, by which most keys compare: of a text its first 15 bytes and its length, of a number,
--- a date or an ObjectId all of it.
+-- The prefix of a key, by which most keys compare:
+-- of a text its first 15 bytes and its length, of a number, a date or an ObjectId all of it.
 use Rattle.std.specs.Prelude.{ℕ, zero, suc, nat_lt, Bool, true, false, not, ◌==◌, ◌&&◌, ◌||◌, List, [], ◌∷◌, length}
 use Rattle.std.specs.Prelude.{min, Option, Some}
 use Rattle.std.specs.Str.{bytes_eq}

@@ -97,7 +97,7 @@ pub data AreWrites {S : Type 0} (takes : S → List ℕ → Option ℕ → S →
   more_writes : (s t u : S) (rest : List ℕ) (n : ℕ) → AreWrites takes bytes s rest t
       → takes t rest (Some n) u → 0 < n → AreWrites takes bytes s (drop n rest) u
 
--- of a reader, whose read may give these bytes, or fail at `None`, and leave this reader
+-- For a reader whose read gives these bytes, or fails (None), and leaves the reader so.
 module _ {S : Type 0} (gives : S → Option (List ℕ) → S → Type 0) where
   -- Reads led from one device to the other: all but the last gave these bytes, each at least one,
   -- and the last gave `answer`, or failed if that is None.

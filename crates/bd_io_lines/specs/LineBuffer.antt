@@ -11,7 +11,7 @@ use Rattle.bd_io_lines.specs.{declared.line_buffer.LineBuffer.LineBuffer}
 abbrev pub held_after : LineBuffer → List ℕ
 held_after lines = drop lines.start lines.block.items
 
--- of a reader, whose read may give these bytes, or fail, and leave this reader
+-- For a reader whose read gives these bytes, or fails (None), and leaves the reader so.
 module _ {R : Type 0} (gives : R → Option (List ℕ) → R → Type 0) where
   -- Reads gave these bytes, each at least one; if the end was found, the last of the reads gave none.
   abbrev pub ReadsTo : Bool → ℕ → R → List ℕ → R → Type 0
@@ -34,9 +34,9 @@ module _ {R : Type 0} (gives : R → Option (List ℕ) → R → Type 0) where
   IsLazy head given old new =
       ((given ≡ []) × (new ≡ old)) ⊎ ((front : List ℕ) × IsLine (head ++ front) × GivesBeforeLast front old given new)
 
-  -- Why the line that these bytes begin was not read,
-  -- where a reader gave `given` and may give as many bytes as the limit.
-  -- `TooLong`: the line is too long; or the last read, while a part of the line was there, went past the limit.
+  -- Why the line that begins with these bytes was not read;
+  -- the reader gave `given`, and may give `limit` bytes.
+  -- `TooLong`: the line is too long; or the last read, with a part of the line buffered, passed the limit.
   abbrev pub IsCause : ℕ → List ℕ → List ℕ → R → R → ReadFault → Type 0
   IsCause limit bytes given old new ReadFault.TooLong =
       (((line : List ℕ) × (rest : List ℕ) × (bytes ≡ line ++ rest) × IsLine line × (longest_command < length line))
@@ -46,9 +46,9 @@ module _ {R : Type 0} (gives : R → Option (List ℕ) → R → Type 0) where
   IsCause limit bytes given old new ReadFault.NoMemory = length given ≤ limit
   IsCause limit bytes given old new fault = IsPart bytes × (length given ≤ limit)
 
--- the same, where this is told of each state of the reader
+-- For such a reader, and what contracts see of each of its states.
 module _ {R : Type 0} (state : R → Reader) (gives : R → Option (List ℕ) → R → Type 0) where
-  -- the reader gave these bytes, and what it may still be asked for went down from `limits` to `left`
+  -- The reader gave these bytes, and what it may still be asked for fell from `limits` to `left`.
   pub record GivesBytes (limits left : Limits) (ended : Bool) (given : List ℕ) (old new : R) : Type 0 where
     pub turns : ℕ
     pub gave : Consumes (state old).left (state new).left given
@@ -59,7 +59,7 @@ module _ {R : Type 0} (state : R → Reader) (gives : R → Option (List ℕ) �
     pub well : (state new).failures ≡ (state old).failures
     pub end : ended ≡ true → IsAtEnd (state new).left
 
-  -- the next line was read, and no block after the one that ends it
+  -- The next line was read, and nothing after the read that brought its newline.
   pub record ReadsLine (before after : LineBuffer) (old new : R) : Type 0 where
     pub given : List ℕ
     pub reads : GivesBytes before.left after.left after.ended given old new

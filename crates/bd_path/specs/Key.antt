@@ -1,4 +1,4 @@
--- The keys of a document on a path: what it is sorted by, and what an index has of it.
+-- The keys of a document on a path: by them it is sorted, and an index has them as entries.
 use Rattle.std.specs.Prelude.{◌≡◌, ℕ, List, [], ◌∷◌, ◌++◌, Bool, true, false, not, map, All, if◌then◌else◌}
 use Rattle.std.specs.List.{flat_map, list_any}
 use Rattle.bd_value.specs.Order.{equal}

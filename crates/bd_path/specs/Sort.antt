@@ -1,4 +1,4 @@
--- The key by which a document stands in a sort, and the order of two documents in it.
+-- The sort key of a document, and the order of two documents in a sort (MongoDB manual, "cursor.sort()").
 use Rattle.std.specs.Prelude.{◌≡◌, ℕ, Bool, false, true, List, [], ◌∷◌, map, Option, Some, None, IfSome, option_map}
 use Rattle.std.specs.Prelude.{unwrap_or, if◌then◌else◌}
 use Rattle.std.specs.{List.flat_map, List.list_any, Ordering.is_lt, Ordering.ordering_reverse, Ordering.ordering_then}

@@ -1,4 +1,5 @@
--- A walk down a path: from which positions of it a value was walked before, where it stops, and what it gathers there.
+-- A walk down a path: where it stops, what it finds there,
+-- and from which positions of the path a value was walked before.
 use Rattle.std.specs.Prelude.{◌≡◌, ℕ, suc, List, [], ◌∷◌, ◌++◌, drop, Bool, true, false, Some, None, slice_get}
 use Rattle.std.specs.Prelude.{slice_index_or}
 use Rattle.std.specs.List.{list_any}
@@ -79,7 +80,7 @@ stopping = record { at_end = λ t. Value t ∷ []; missing = Missing ∷ []; of_
 abbrev pub stops : Tree → Names → Stops
 stops t path = gathering stopping t path
 
--- the stops below an array that come after those in its documents; the Boolean tells whether there were such
+-- the stops below an array that come after those in its documents; the Boolean says whether there were such
 abbrev pub later_stops : Bool → Tree → Names → Stops
 later_stops true t path = index_gathering stopping t path
 later_stops false t path = or_stop (index_gathering stopping t path)

@@ -1,4 +1,5 @@
--- Why a document is no filter: which rule a pair or a member of it breaks, and the names from the top down to that.
+-- Why a document is no filter: which rule a pair or a member breaks,
+-- and its path of names and positions from the top.
 use Rattle.std.specs.Prelude.{◌≡◌, ℕ, List, [], ◌∷◌, Result, Ok, Err, map, string_bytes, codes}
 use Rattle.bd_query_filter.specs.declared.fault.{FilterFault.FilterFault, FilterFaultKind.FilterFaultKind, Stop.Stop}
 use Rattle.bd_query_filter.specs.declared.fault.FilterFaultKind.TheVariants as kinds

@@ -1,5 +1,5 @@
--- Which pairs and members of a document break a rule of filters (MongoDB manual, "Query and Projection Operators"), and
--- where. Nothing is read in turn: each is bad or not, whatever stands before it.
+-- Which pairs and members of a document break a rule of filters (MongoDB manual, "Query and Projection
+-- Operators"), and where. Nothing is read in turn: each breaks a rule or not by itself.
 -- `FilterOf` says what one operand may be.
 use Rattle.std.specs.Prelude.{◌≡◌, ◌⊎◌, ℕ, zero, ◌+◌, ◌-◌, List, [], Err, is_err, decimal, IsTrue, IsFalse}
 use Rattle.bd_value.specs.Limits.{most_filter_levels}

@@ -1,5 +1,5 @@
--- Which filter a document is (MongoDB manual, "Query and Projection Operators"), and which pair or member of any other
--- document is the first that is no part of one.
+-- Which filter a document is (MongoDB manual, "Query and Projection Operators");
+-- and if it is none, the first pair or member that is refused.
 use Rattle.std.specs.Prelude.{ℕ, zero, ◌+◌, ◌-◌, pos, Bool, true, false, not, ◌||◌, List, [], ◌∷◌, ◌++◌, Option, Some}
 use Rattle.std.specs.Prelude.{None, Result, Ok, Err, if◌then◌else◌, decimal}
 use Rattle.std.specs.{Option.option_and_then, Option.option_map, Ordering.int_eq}

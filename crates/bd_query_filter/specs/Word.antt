@@ -1,4 +1,4 @@
--- The names that stand for something in a filter (MongoDB manual, "Query and Projection Operators").
+-- The names that mean something in a filter (MongoDB manual, "Query and Projection Operators").
 use Rattle.std.specs.Prelude.{ℕ, ℤ, pos, negsuc, Bool, false, ◌==◌, List, [], ◌∷◌, codes, Option, Some, option_map}
 use Rattle.std.specs.Prelude.{if◌then◌else◌, unwrap_or}
 use Rattle.std.specs.{List.find, List.list_any, Ordering.int_eq, Str.bytes_eq}
@@ -42,7 +42,7 @@ left_out_names =
     ∷ codes "$bitsAnySet" ∷ codes "$bitsAllClear" ∷ codes "$bitsAnyClear" ∷ codes "$ref"
     ∷ codes "$id" ∷ codes "$db" ∷ []
 
--- whether a name is one that is recognised but not supported
+-- whether a name is recognised but not supported
 unfoldable pub is_left_out : List ℕ → Bool
 is_left_out name = list_any (λ left_out. bytes_eq left_out name) left_out_names
 

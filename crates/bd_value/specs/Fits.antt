@@ -1,6 +1,6 @@
--- What the type of a value in memory says of its tree:
--- each number fits, what is bytes is bytes, and what is text is UTF-8.
--- And whether a name, or a text of a regular expression, has a zero, which would end it.
+-- What the type of a value in memory guarantees of its tree:
+-- each number fits, bytes are bytes, and texts are UTF-8.
+-- And whether a name, or a text of a regular expression, has a zero, which BSON cannot hold there.
 use Rattle.std.specs.Prelude.{◌≡◌, ◌<◌, ◌^◌, ℕ, List, length, slice_index, IsUtf8, [], ◌∷◌, Bool, false, ◌&&◌, ◌||◌}
 use Rattle.std.specs.Prelude.{◌==◌}
 use Rattle.std.specs.{Int.w32, Int.w64, Int.RustNames.FitsSigned}
@@ -16,7 +16,7 @@ AreBytes bytes = (i : ℕ) → slice_index bytes i < 256
 abbrev pub IsId : List ℕ → Type 0
 IsId id = (length id ≡ 12) × AreBytes id
 
--- Each number has the bits of its BSON type, what is no text is bytes, and each text, code and name is such a text.
+-- For any property `IsSuch` of texts, codes and names.
 module _ (IsSuch : List ℕ → Type 0) where
   -- A scalar is within its BSON 1.1 type: an int32 has 32 bits, an int64 and a date 64,
   -- the two numbers of a timestamp 32 each; a subtype is one byte, an id 12 bytes; and each text `IsSuch`.

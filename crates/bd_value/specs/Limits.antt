@@ -1,4 +1,4 @@
--- The limits of what is read, written and asked.
+-- The limits of inputs, values, requests and sessions.
 use Rattle.std.specs.Prelude.{ℕ}
 
 -- the greatest length of a document, in bytes: 16 MiB, and the 16 KiB that a server may add

@@ -1,5 +1,5 @@
--- The tree that a BSON value stands for (BSON 1.1, `document`,
--- `e_list` and `element`), without where it lies in memory.
+-- The tree that a BSON value stands for (BSON 1.1, `document`, `e_list` and `element`),
+-- wherever it is in memory.
 -- A text and a name are their UTF-8 bytes, a number is a whole number.
 use Rattle.std.specs.Prelude.{◌≡◌, ℕ, suc, ◌+◌, ℤ, Bool, List, [], ◌∷◌, refl, Option, Some, None, length, map}
 use Rattle.std.specs.Prelude.{if◌then◌else◌, max}
@@ -148,8 +148,8 @@ abbrev pub first_of : List ℕ → Doc → Option Tree
 first_of name [] = None
 first_of name (p ∷ ps) = if bytes_eq p.0 name then Some p.1 else first_of name ps
 
--- How deep documents and arrays nest: each is one deeper than the deepest value in it, and code with scope one deeper
--- than its scope.
+-- How deep documents and arrays nest: each is one deeper than the deepest value in it, and code with scope is
+-- one deeper than its scope.
 abbrev mutual
   -- how deep documents and arrays nest in a value: 0 for a scalar, 1 for `{}` and `[]`;
   -- the scope of code counts as a document inside it

@@ -1,4 +1,4 @@
--- What a writer of numbers says of itself, so that the walker does less.
+-- What a writer of numbers may promise of itself, so that the walker has less to do.
 use Rattle.std.specs.Prelude.{◌≡◌, ◌⊎◌, ℕ, List, ◌∷◌, ◌++◌, drop, Some, None}
 use Rattle.bd_bson_view.specs.declared.raw_parts.ElementType.{ElementType}
 use Rattle.bd_wide.specs.declared.element.Change.{Change}

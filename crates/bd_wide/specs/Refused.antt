@@ -1,4 +1,4 @@
--- The first number of a document that is refused, from left to right, and where it stands.
+-- The first number of a document that is refused, from left to right, and where it is.
 use Rattle.std.specs.Prelude.{◌≡◌, ℕ, zero, suc, ◌+◌, ◌-◌, List, [], ◌∷◌, ◌++◌, length, take, drop, Option, Some, None, option_map, true, false, nat_lt, if◌then◌else◌}
 use Rattle.std.specs.Io.{StartsWith}
 use Rattle.bd_bson_view.specs.declared.raw_parts.ElementType.{ElementType}
@@ -76,7 +76,7 @@ refused_body element own at value =
 unfoldable pub refused_scope : (ℕ → List ℕ → Option Refused) → ℕ → List ℕ → Option Refused
 refused_scope document at value = elim (scope_at value) [ None ↦ None | Some k ↦ document (at + k) (drop k value) ]
 
--- the first refused number in what holds values, at most so many levels deep
+-- the first refused number in what holds values, at most `room` levels deep
 unfoldable pub refused_nested : Refuses → ℕ → Nested
 refused_nested refuses zero holder path at value = None
 refused_nested refuses (suc room) holders.Document path at value =

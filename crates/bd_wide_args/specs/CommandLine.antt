@@ -1,4 +1,5 @@
--- What the words of a line order, by the parser's own definition of the lines that it takes.
+-- The command lines that `bsonwide` accepts, by the parser's own definition,
+-- and the command that each asks for.
 use Rattle.std.specs.Prelude.{List, [], ◌∷◌, if◌then◌else◌, map, slice_get, codes, string_bytes, unwrap_or, Option, Some, None, option_map, option_and_then, true}
 use Rattle.std.specs.Str.{bytes_eq}
 use Rattle.clap.specs.Lexer.{usize_max}

@@ -18,7 +18,7 @@ use Rattle.bd_wide_cli.specs.declared.running.Stop.{Stop}
 use Rattle.bd_wide_cli.specs.declared.running.Stop.TheVariants as stops
 
 -- This may be written of the document with number n;
--- the Boolean tells whether it was filtered, or stays since `wrap` could not.
+-- the Boolean says whether it was filtered, or stays since `wrap` could not.
 abbrev pub IsFiltered : Filter → ℕ → List ℕ → Bool → List ℕ → Type 0
 IsFiltered Mask n bytes true new = IsRewritten IsMasked masked_others bytes new
 IsFiltered Mask n bytes false new = ⊥

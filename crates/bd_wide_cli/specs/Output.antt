@@ -1,4 +1,4 @@
--- What a run tells on standard error, and its status.
+-- What a run writes on standard error, and its status.
 use Rattle.std.specs.Prelude.{◌≡◌, ◌⊎◌, ℕ, ◌==◌, List, [], ◌∷◌, ◌++◌, codes, decimal, if◌then◌else◌}
 use Rattle.bd_io_device.specs.Devices.{BreaksWithin, Over, Reader, TakesText, Writer, read_words}
 use Rattle.bd_cli_args.specs.declared.order.WordsFault.{WordsFault}

@@ -1,4 +1,4 @@
--- The whole number that a number becomes, if it becomes one.
+-- The code of a number: the int64 that stands for it, if there is one.
 use Rattle.std.specs.Prelude.{ℕ, zero, suc, ◌+◌, ◌-◌, ◌*◌, ◌/◌, ◌%◌, ◌^◌, ◌==◌, nat_lt, nat_le, if◌then◌else◌}
 use Rattle.std.specs.Prelude.{Option, Some, None, option_map, Bool, ℤ, pos, negsuc, neg_ℤ}
 use Rattle.bd_wide_number.specs.Value.{Value, nan, infinite, finite, one, least_double, magnitude, infinite_bits, signed}
@@ -26,9 +26,8 @@ whole_code value = scaled_code 0 value
 
 -- ---- the bits of the double that is equal
 
--- Of a number that is so many times the least double, without the sign. Up to 53 bits they are the
--- number itself, and of a double twice as large they are 2 ^ 52 more. `exponents` is how many
--- exponents there are.
+-- The 63 bits, without the sign, of the double that is n times the least double; None if there is none. Up to
+-- 53 bits they are n; twice the double has 2 ^ 52 more. `exponents` is how many exponents there are.
 unfoldable pub bits_of : ℕ → ℕ → Option ℕ
 bits_of zero n = None
 bits_of (suc exponents) n = if nat_lt n (2 ^ 53) then Some n else (

@@ -1,4 +1,5 @@
--- The parts of a decimal128, by the halves of its 128 bits, of which the first is the sign.
+-- The parts of a decimal128 (IEEE 754, binary encoding), by the halves of its 128 bits,
+-- of which the first is the sign.
 use Rattle.std.specs.Prelude.{ℕ, ◌+◌, ◌*◌, ◌/◌, ◌%◌, ◌^◌, ◌||◌, nat_le, if◌then◌else◌}
 
 -- the five bits of a decimal128 after its sign:

@@ -41,7 +41,7 @@ abbrev pub pages : Query → Option Mark → List ℕ → List Page
 pages q mark sizes = pages_from (cursor_at q mark) sizes
 
 -- Two requests, each to its dump, have one answer. They select the same, so their answers, and what is left of these
--- after a mark, are the same places in the same order; and they give the same pages.
+-- after a position, are the same document numbers in the same order; and they give the same pages.
 pub record HaveOneAnswer (q r : Query) : Type 0 where
   pub selection : q.selection ≡ r.selection
   pub pages_alike : (mark : Option Mark) (sizes : List ℕ) → pages q mark sizes ≡ pages r mark sizes

@@ -1,6 +1,7 @@
--- The document of a query, in which each number that it compares by is another one, by the path that it is compared at.
--- The operands of `$size`, `$exists` and `$type` stay; in a value that is compared as a whole such names are names as
--- others.
+-- The document of a query with another number in place of each number that it compares by,
+-- depending on the path.
+-- The operands of `$size`, `$exists` and `$type` stay;
+-- inside a value that is compared as a whole these names are ordinary names.
 use Rattle.std.specs.Prelude.{ℕ, List, if◌then◌else◌}
 use Rattle.bd_value.specs.Tree.{Tree, doc, array, Items, no_items, item, Fields, no_fields, field, Doc, fields_of, pairs_of}
 use Rattle.bd_path.specs.Path.{components_of}

@@ -1,5 +1,5 @@
--- Values, documents and filters in which each whole number is another one, an int64. What it becomes is a matter of its
--- path: the names from the top down to it. Positions in arrays are no part of a path.
+-- Values, documents and filters with another number, an int64, in place of each whole number.
+-- What a number becomes depends on its path: the names from the top down to it, without indexes of arrays.
 use Rattle.std.specs.Prelude.{◌≡◌, ◌<ℤ◌, ℕ, ℤ, Bool, IsTrue, List, [], ◌∷◌, ◌++◌, map, All, codes}
 use Rattle.std.specs.List.{list_any}
 use Rattle.bd_value.specs.Tree.{Scalar, int32, int64, Tree, leaf, doc, array, code_scope, Items, no_items, item}

@@ -1,4 +1,4 @@
--- What whole numbers are worth that stand for numbers, in units of the least decimal128, 10 ^ -6176.
+-- What a code is worth, in units of the least decimal128, 10 ^ -6176.
 use Rattle.std.specs.Prelude.{ℕ, ◌-◌, ◌^◌, ℤ, pos, ◌*ℤ◌, true, Option, Some, None}
 use Rattle.bd_path.specs.Reach.{Names}
 use Rattle.bd_wide_number.specs.{Code.code_value, Value.least_double}
