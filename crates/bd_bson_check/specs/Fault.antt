@@ -10,11 +10,11 @@ pub record Fault : Type 0 where
   pub offset : ℕ
   pub path : List (List ℕ)
 
--- the same fault, seen from one level up
+-- the same fault with a name put before its path, as the document around the item reports it
 abbrev pub longer : List ℕ → Fault → Fault
 longer name f = record { kind = f.kind; offset = f.offset; path = name ∷ f.path }
 
--- what a reader of an item found, which keeps the path from the item up
+-- the fault that a reader found, which keeps the path from the item up
 abbrev pub found_fault : Finding → Fault
 found_fault f = record { kind = f.kind; offset = f.offset; path = reverse (map string_bytes f.path.items) }
 
@@ -33,23 +33,23 @@ FailsAtItem (Stop.Found f) given = given ≡ Err (found_fault f)
 abbrev pub GivesItem : {X Y : Type 0} → (X → Y) → Result X Stop → Result Y Fault → Type 0
 GivesItem view answer given = MatchResult answer (λ x. given ≡ Ok (view x)) (λ e. FailsAtItem e given)
 
--- the fault that was answered, without the number of the document
+-- the fault that one in memory reports, without the number of its document
 abbrev pub fault_view : HeldFault → Fault
 fault_view e = record { kind = e.kind; offset = e.offset; path = map string_bytes e.path.items }
 
--- the fault of the document of that number
+-- The fault in memory is this one, of the document with that number.
 pub record IsFault (number : ℕ) (f : Fault) (e : HeldFault) : Type 0 where
   pub same : f ≡ fault_view e
   pub document : e.document ≡ number
 
--- a fault of that kind, which has no place
+-- The fault in memory has this kind, and document 0, offset 0 and the empty path.
 pub record HasNoPlace (fault : FaultKind) (e : HeldFault) : Type 0 where
   pub kind : e.kind ≡ fault
   pub document : e.document ≡ 0
   pub offset : e.offset ≡ 0
   pub path : e.path.items ≡ []
 
--- no memory was given
+-- The fault in memory says that memory ran out.
 abbrev pub IsWantOfMemory : HeldFault → Type 0
 IsWantOfMemory e = HasNoPlace FaultKind.NoMemory e
 
@@ -59,12 +59,12 @@ abbrev pub IsOf : Stop → ℕ → HeldFault → Type 0
 IsOf Stop.NoMemory number e = IsWantOfMemory e
 IsOf (Stop.Found g) number e = IsFault number (found_fault g) e
 
--- the fault that was answered is the one there is, or that memory ran out
+-- The fault in memory is the one that there is, or says that memory ran out.
 abbrev pub TellsFault : ℕ → Option Fault → HeldFault → Type 0
 TellsFault number None e = IsWantOfMemory e
 TellsFault number (Some f) e = IsWantOfMemory e ⊎ IsFault number f e
 
--- the number of a kind
+-- the number of a kind of fault, 1 to 17
 abbrev pub fault_number : FaultKind → ℕ
 fault_number FaultKind.ShortLength = 1
 fault_number FaultKind.BadLength = 2
@@ -84,7 +84,7 @@ fault_number FaultKind.ValueShort = 15
 fault_number FaultKind.DumpTooLong = 16
 fault_number FaultKind.NoMemory = 17
 
--- what went wrong, in words
+-- the message of a kind of fault
 unfoldable pub fault_words : FaultKind → List ℕ
 fault_words FaultKind.ShortLength = codes "length cut short"
 fault_words FaultKind.BadLength = codes "bad length"

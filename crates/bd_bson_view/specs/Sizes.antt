@@ -1,6 +1,5 @@
--- What a value's bytes tell from their front, by its kind:
--- how many they are, and which scalar they spell; and what must
--- stand there for a value to be read without a check.
+-- What the bytes of a value say from their start on, by its kind:
+-- how many they are, and which scalar they are; and what must be there to read a value without a check.
 use Rattle.std.specs.Prelude.{◌≡◌, ◌<◌, ◌≤◌, ℕ, ◌+◌, ◌-◌, ◌==◌, List, length, take, drop, slice_index_or, if◌then◌else◌}
 use Rattle.std.specs.Prelude.{IsUtf8}
 use Rattle.std.specs.List.{position_or_len}
@@ -29,11 +28,11 @@ name_of bytes = take (zero_at bytes) bytes
 abbrev pub after_name : List ℕ → List ℕ
 after_name bytes = drop (zero_at bytes + 1) bytes
 
--- the text of a string
+-- BSON 1.1, `string`: the text at the start, without its length and its zero
 abbrev pub text_of : List ℕ → List ℕ
 text_of bytes = take (number_of bytes - 1) (drop 4 bytes)
 
--- binary data, without the inner count of subtype 02
+-- BSON 1.1, `binary`: the data at the start, without the inner count of subtype 02
 abbrev pub payload_of : List ℕ → List ℕ
 payload_of bytes =
     let all = take (number_of bytes) (drop 5 bytes) in if slice_index_or bytes 4 0 == 2 then drop 4 all else all
@@ -58,7 +57,7 @@ size_of kinds.Array bytes = number_of bytes
 size_of kinds.CodeScope bytes = number_of bytes
 size_of _ bytes = 0
 
--- documents, arrays and code with scope are no scalars
+-- the scalar of that kind at the start of bytes, by BSON 1.1; null for a kind that is no scalar
 abbrev pub scalar_at : Kind → List ℕ → trees.Scalar
 scalar_at kinds.MinKey bytes = trees.min_key
 scalar_at kinds.Undefined bytes = trees.undefined
@@ -77,18 +76,20 @@ scalar_at kinds.Binary bytes = trees.binary (slice_index_or bytes 4 0) (payload_
 scalar_at kinds.Regex bytes = trees.regex (name_of bytes) (name_of (after_name bytes))
 scalar_at _ bytes = trees.null
 
--- a string
+-- The bytes begin with a `string` that can be read:
+-- its length is at least 1 and not past the end, its text is UTF-8.
 pub record TextAt (bytes : List ℕ) : Type 0 where
   pub some : 1 ≤ number_of bytes
   pub inside : 4 + number_of bytes ≤ length bytes
   pub utf8 : IsUtf8 (text_of bytes)
 
--- a text and the zero after it
+-- The bytes begin with a `cstring` that can be read: there is a zero, and the text before it is UTF-8.
 pub record NameAt (bytes : List ℕ) : Type 0 where
   pub inside : zero_at bytes < length bytes
   pub utf8 : IsUtf8 (name_of bytes)
 
--- binary data
+-- The bytes begin with `binary` that can be read:
+-- all of its data is there, in subtype 02 at least four bytes.
 pub record BinaryAt (bytes : List ℕ) : Type 0 where
   pub inside : 5 + number_of bytes ≤ length bytes
   pub inner : slice_index_or bytes 4 0 ≡ 2 → 4 ≤ number_of bytes

@@ -1,4 +1,4 @@
--- Bytes spell one value at most.
+-- Bytes spell at most one value.
 use Rattle.std.specs.Prelude.{◌≡◌, ◌≢◌, ℕ, suc, ◌+◌, ◌-◌, ◌<◌, ◌^◌, Bool, true, false, Some, None, List, []}
 use Rattle.std.specs.Prelude.{◌∷◌, ◌++◌, length, take, drop, ◌==◌, slice_index_or, if◌then◌else◌}
 use Rattle.std.specs.{List.AllByRecursion, Coded.Coded-set, Coded.coded_ℕ, Coded.coded_list}
@@ -18,7 +18,7 @@ use Rattle.bd_bson_view.specs.Spelling.{type_byte, type_at, holds, number, long,
 use Rattle.bd_bson_view.specs.Spelling.{IsName, IsText, IsScalar, IsValue, AreFields, AreItems}
 use Rattle.bd_bson_view.specs.Sizes.{number_of, long_of, zero_at, name_of, after_name, text_of}
 
--- ---- the kind that a type byte tells
+-- ---- the kind that a type byte says
 
 -- the type byte of a kind reads back as that kind
 pub type_is : (k : Kind) → type_at (type_byte k) ≡ Some (Kept k)

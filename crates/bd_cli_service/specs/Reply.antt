@@ -22,15 +22,16 @@ use Rattle.bd_cli_service.specs.declared.member.Field.TheVariants as fields
 use Rattle.bd_cli_service.specs.declared.reply.LineRefusal.TheVariants as refusals
 use Rattle.bd_cli_service.specs.declared.reply.Reply.TheVariants as replies
 
--- why there is no result: the layer that refuses,
--- the number and the words of its reason, and the pair that tells where, if any
+-- a refusal as a reply has it: the layer that refuses, the number and the message of the reason,
+-- and the field that says where, if any
 pub record ToldRefusal : Type 0 where
   pub layer : List ℕ
   pub number : ℕ
   pub words : List ℕ
   pub place : Doc
 
--- of a batch its documents, whether nothing is left, and the text of the token; of what is explained its pairs
+-- a reply: done, a cursor, a batch (its documents, whether nothing remains, the token's text),
+-- counts of an index, an explanation, or a refusal
 pub data LineReply : Type 0 where
   done : LineReply
   opens : ℕ → LineReply
@@ -43,7 +44,7 @@ pub data LineReply : Type 0 where
 abbrev pub documents_value : List Doc → Tree
 documents_value ds = array (items_of (map (λ d. doc (fields_of d)) ds))
 
--- the pairs after the first one
+-- the fields of a reply after `ok`
 abbrev pub reply_pairs : LineReply → Doc
 reply_pairs done = []
 reply_pairs (opens id) = (codes "cursor", count_value id) ∷ []
@@ -57,7 +58,7 @@ reply_pairs (refuses r) =
     (codes "layer", leaf (trees.text r.layer)) ∷ (codes "number", leaf (trees.int32 (pos r.number)))
     ∷ (codes "text", leaf (trees.text r.words)) ∷ r.place
 
--- it tells a result
+-- whether a reply is a result, not a refusal
 abbrev pub is_result : LineReply → Bool
 is_result (refuses r) = false
 is_result _ = true
@@ -66,13 +67,13 @@ is_result _ = true
 abbrev pub reply_document : LineReply → Doc
 reply_document r = (codes "ok", leaf (trees.boolean (is_result r))) ∷ reply_pairs r
 
--- canonical Extended JSON, without white space
+-- the text of a reply: canonical Extended JSON without white space
 abbrev pub reply_text : LineReply → List ℕ
 reply_text r = text (doc (fields_of (reply_document r)))
 
 -- ---- why there is none
 
--- the byte of a text that is no document; a text as a whole has none
+-- the field `at` of a refusal: the byte offset in the line, or null if the line as a whole is no document
 abbrev pub json_fault_byte : JsonFaultKind → ℕ → Tree
 json_fault_byte json.NotADocument at = leaf trees.null
 json_fault_byte _ at = count_value at
@@ -96,7 +97,7 @@ command_refusal f = record {
   place = [];
 }
 
--- where it is: the names down to the pair or member, joined by dots
+-- the refusal of a filter: layer `filter`, with the path to the pair or member, joined by dots, as `place`
 abbrev pub filter_refusal : Refusal → ToldRefusal
 filter_refusal r = record {
   layer = codes "filter";
@@ -109,7 +110,7 @@ filter_refusal r = record {
 abbrev pub path_refusal : PathFault → ToldRefusal
 path_refusal f = record { layer = codes "path"; number = path_fault_number f; words = path_fault_words f; place = [] }
 
--- of a request, a token or a call of the session; of a filter its own fault is told
+-- the refusal of a request, a token or a call: layer `session`; that of a filter is of layer `filter`
 abbrev pub session_refusal : Reason → ToldRefusal
 session_refusal (bad_filter r) = filter_refusal r
 session_refusal (plain r) =
@@ -124,11 +125,11 @@ told_refusal (refusals.Command fault) = command_refusal fault
 told_refusal (refusals.Path fault) = path_refusal fault
 told_refusal (refusals.Session refused) = session_refusal (reason_of refused)
 
--- a batch of these documents
+-- the reply that a batch in memory is, with its documents
 abbrev pub given_reply : List Doc → Batch → LineReply
 given_reply ds batch = gives (documents_at ds batch.places.items) batch.end (option_map token_text batch.token)
 
--- over these documents
+-- the reply that one in memory is, over these documents
 abbrev pub line_reply : List Doc → Reply → LineReply
 line_reply ds replies.Done = done
 line_reply ds (replies.Opened id) = opens id

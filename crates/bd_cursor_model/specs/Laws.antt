@@ -15,20 +15,20 @@ pub record IsStrictOrder (lt : ℕ → ℕ → Bool) : Type 0 where
   pub transitive : (x y z : ℕ) → lt x y ≡ true → lt y z ≡ true → lt x z ≡ true
   pub connected : (x y : ℕ) → lt x y ≡ false → lt y x ≡ false → x ≡ y
 
--- each earlier one is before each later one, so that none comes twice
+-- Each member comes before all later ones, so none comes twice.
 abbrev pub IsAscending : (ℕ → ℕ → Bool) → List ℕ → Type 0
 IsAscending lt = AllPairs (λ x y. lt x y ≡ true)
 
--- a mark after k places of a list, of which some were given before;
--- the count of those given stays at its greatest value
+-- The position after the first k of some documents, of which `old` were given before;
+-- the count given stays at `most`.
 abbrev pub IsMarkAfter : ℕ → ℕ → ℕ → List ℕ → Mark → Type 0
 IsMarkAfter most old k ps m =
     (0 < k) × (k ≤ length ps) × (m.given ≡ min most (old + k)) × ((d : ℕ) → m.last ≡ slice_index_or ps (k - 1) d)
 
 -- ---- parts
 
--- what is asked of documents: which match, how the sort keys of two of them stand,
--- how many of the first are left out, and how many there are at most, where 0 is no limit
+-- a request in terms of documents: which match, how the sort keys of two compare, how many are skipped,
+-- and the limit (0: none)
 pub record DocumentRequest (A : Type 0) : Type 0 where
   pub matches : A → Bool
   pub by : A → A → Ordering
@@ -40,7 +40,7 @@ abbrev pub matches_some : {A : Type 0} → (A → Bool) → Option A → Bool
 matches_some test None = false
 matches_some test (Some d) = test d
 
--- the request at the places of a collection
+-- what a request selects of a collection, in terms of document numbers
 abbrev pub selection_over : {A : Type 0} → DocumentRequest A → List A → Selection
 selection_over r ds = record {
   count = length ds;
@@ -50,20 +50,20 @@ selection_over r ds = record {
   limit = r.limit;
 }
 
--- the documents that answer a request: those at the places of its answer, in turn
+-- the documents that answer a request, in order
 abbrev pub found_in : {A : Type 0} → DocumentRequest A → List A → List A
 found_in r ds = filter_map (slice_get ds) (answer (selection_over r ds))
 
--- what a part is asked in place of a request: to leave out none, and to give at most so many
+-- the request that a part of a collection is asked: none is skipped, and at most `limit` are given (0: all)
 abbrev pub part_request : {A : Type 0} → DocumentRequest A → ℕ → DocumentRequest A
 part_request r limit = record r { skip = 0; limit = limit }
 
--- a part's limit is enough where it is none, or where the request has one,
--- and skip and limit together are within the part's
+-- The limit for a part is enough: there is none;
+-- or the request has one too, and skip and limit together are within the part's.
 abbrev pub IsEnough : {A : Type 0} → DocumentRequest A → ℕ → Type 0
 IsEnough r limit = limit ≢ 0 → (r.limit ≢ 0) × (r.skip + r.limit ≤ limit)
 
--- a selection that says of the places of a collection what the request says of the documents there
+-- The selection says of document numbers what the request says of the documents.
 pub record IsSelectionOf {A : Type 0} (r : DocumentRequest A) (ds : List A) (a : Selection) : Type 0 where
   pub count : a.count ≡ length ds
   pub hits : (i : ℕ) (d : A) → slice_get ds i ≡ Some d → a.hits i ≡ r.matches d
@@ -110,18 +110,19 @@ batch_to id c r = []
 abbrev pub batches_to : ℕ → List Call → List Reply → List GivenBatch
 batches_to id calls rs = flat_map (λ p. batch_to id p.0 p.1) (zip calls rs)
 
--- each batch's token is of the request, and leads on to what is left after the batch
+-- Each batch's token is of this request, and what remains after it is what remains after the batch.
 abbrev pub TokensFollow : Query → List ℕ → List GivenBatch → Type 0
 TokensFollow q left [] = Unit {0}
 TokensFollow q left (b ∷ bs) = let later = drop (length b.places) left in
     IfSome b.token (λ t. (t.digest ≡ q.digest) × (rest q.selection t.mark ≡ later)) × TokensFollow q later bs
 
--- the batches of a list of places, by the sizes that the calls ask, with tokens that lead on
+-- The batches are those of this list, by the sizes that the calls ask for,
+-- and each token leads on to what remains.
 abbrev pub GivesInTurn : Query → ℕ → List ℕ → List Call → List GivenBatch → Type 0
 GivesInTurn q id ps calls given =
     (map (λ (b : GivenBatch). b.places) given ≡ batches ps (sizes_to id calls)) × TokensFollow q ps given
 
--- the order of the sort keys is one, and the limit one that can be counted
+-- The sort keys are in a total order, and the limit is at most 2^64 - 1.
 abbrev pub IsFair : Query → Type 0
 IsFair q = IsTotalOrder q.selection.by × (q.selection.limit ≤ most_given)
 

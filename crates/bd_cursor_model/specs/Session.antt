@@ -5,7 +5,7 @@ use Rattle.std.specs.{List.filter, List.list_any, Str.bytes_eq}
 use Rattle.bd_value.specs.{Limits.greatest_count, Limits.most_cursors, Limits.most_indexes, Tree.Doc}
 use Rattle.bd_cursor_model.specs.Answer.{Selection, Mark, answer, is_empty, rest}
 
--- a request to a dump; the digest ties its tokens to both
+-- a request to a dump: what it selects, and the digest that ties its tokens to both
 pub record Query : Type 0 where
   pub selection : Selection
   pub digest : List ℕ
@@ -16,19 +16,20 @@ pub record MarkedToken : Type 0 where
   pub mark : Mark
   pub digest : List ℕ
 
--- an open cursor: its request's digest, the token after what it gave last, and the places that it has left
+-- an open cursor: its number, its request's digest, the token after what it gave last,
+-- and the document numbers that remain
 pub record OpenCursor : Type 0 where
   pub id : ℕ
   pub digest : List ℕ
   pub token : Option MarkedToken
   pub left : List ℕ
 
--- what is left of the answer of a request after a token; without one, all of it
+-- what remains of an answer after a token; without one, all of it
 abbrev pub left_after : Selection → Option MarkedToken → List ℕ
 left_after a None = answer a
 left_after a (Some t) = rest a t.mark
 
--- an index, of which there is one a path: a sparse one leaves out fields that are not there
+-- an index of a session, by its path; a sparse one has no entry for a missing field
 pub record IndexMark : Type 0 where
   pub path : List ℕ
   pub is_sparse : Bool
@@ -38,7 +39,8 @@ pub record IndexCounts : Type 0 where
   pub entries : ℕ
   pub is_multikey : Bool
 
--- the indexes in the order in which they were made, the number of the next cursor, and the open cursors
+-- the state of a session: its indexes in the order in which they were made,
+-- the number of the next cursor, the open cursors
 pub record State : Type 0 where
   pub indexes : List IndexMark
   pub next_id : ℕ
@@ -80,7 +82,7 @@ pub data Reply : Type 0 where
   token_place : Reply
   out_of_range : Reply
 
--- the count of documents given stays there
+-- the greatest count of documents given: 2^64 - 1, where it stays
 abbrev pub most_given : ℕ
 most_given = 2 ^ 64 - 1
 
@@ -98,12 +100,12 @@ abbrev pub given_by : Option MarkedToken → ℕ
 given_by None = 0
 given_by (Some t) = t.mark.given
 
--- a token keeps its digest; the first one has that of the request
+-- the digest of a cursor's next token: that of its last one, or without one that of its request
 abbrev pub digest_after : List ℕ → Option MarkedToken → List ℕ
 digest_after digest None = digest
 digest_after digest (Some t) = t.digest
 
--- the token after some more places; where none is given it stays
+-- the token of a cursor after some more documents; after none it is the same as before
 abbrev pub token_after : List ℕ → Option MarkedToken → List ℕ → Option MarkedToken
 token_after digest t [] = t
 token_after digest t (p ∷ ps) = Some (record {
@@ -115,12 +117,12 @@ token_after digest t (p ∷ ps) = Some (record {
 abbrev pub is_on : List ℕ → IndexMark → Bool
 is_on path i = bytes_eq path i.path
 
--- the index that is named is there
+-- whether the index that is named is there; true if none is named
 abbrev pub has_index : List IndexMark → Option (List ℕ) → Bool
 has_index indexes None = true
 has_index indexes (Some path) = list_any (is_on path) indexes
 
--- as many cursors are open as may be, or the last number was given
+-- whether no cursor can be opened: 64 are open, or the number 2^63 - 1 was given
 abbrev pub is_full : State → Bool
 is_full s = not (nat_lt (length s.cursors) most_cursors) || nat_lt (2 ^ 63 - 1) s.next_id
 
@@ -138,7 +140,7 @@ with_open s digest t ps = record s {
   cursors = s.cursors ++ record { id = s.next_id; digest = digest; token = t; left = ps } ∷ [];
 }
 
--- a batch of n places, and the cursor after it
+-- the batch that a cursor gives for n documents
 abbrev pub batch_of : OpenCursor → ℕ → GivenBatch
 batch_of c n =
     record {
@@ -151,7 +153,7 @@ batch_of c n =
 abbrev pub moved : OpenCursor → ℕ → OpenCursor
 moved c n = record c { token = token_after c.digest c.token (take n c.left); left = drop n c.left }
 
--- the cursor of that number moved on
+-- the open cursors after the one of that number gave n more documents
 abbrev pub with_moved : ℕ → ℕ → List OpenCursor → List OpenCursor
 with_moved id n [] = []
 with_moved id n (c ∷ cs) = if c.id == id then moved c n ∷ cs else c ∷ with_moved id n cs
@@ -161,7 +163,8 @@ abbrev pub next_reply : Option OpenCursor → ℕ → Reply
 next_reply None n = no_cursor
 next_reply (Some c) n = if nat_lt greatest_count n then out_of_range else gave (batch_of c n)
 
--- refusals are tried in this order: the token's digest, its place, the index, the number of cursors.
+-- The reply to a call. Refusals are tried in this order:
+-- the token's digest, its document number, the index, the number of cursors.
 abbrev pub reply : State → Call → Reply
 reply s (find_call q hint) = open_reply s hint
 reply s (resume_call q hint t) = if bytes_eq t.digest q.digest

@@ -1,5 +1,4 @@
--- Which document a text is (Extended JSON v2, canonical form, and bare whole numbers):
--- which value a JSON value stands for.
+-- Which document a text is (RFC 8259, then Extended JSON v2, canonical form, and bare whole numbers).
 use Rattle.std.specs.Prelude.{◌≡◌, ℕ, zero, suc, ◌-◌, ℤ, List, if◌then◌else◌, Option, Some, None, option_map}
 use Rattle.std.specs.Prelude.{option_and_then}
 use Rattle.std.specs.{Option.option_map_or, Str.is_utf8}
@@ -18,7 +17,7 @@ abbrev pub bare_number : Option ℤ → Option Tree
 bare_number None = None
 bare_number (Some z) = Some (leaf (if fits_bits 31 z then trees.int32 z else trees.int64 z))
 
--- so many levels more may stand here, one in the other
+-- the result, if one more level of documents and arrays may be opened here; else None
 abbrev pub nested : {A : Type 0} → ℕ → Option A → Option A
 nested zero r = None
 nested (suc room) r = r
@@ -34,7 +33,7 @@ abbrev pub add_field : List ℕ → Option Tree → Option Fields → Option Fie
 add_field name (Some t) (Some fs) = if has_zero name then None else Some (field name t fs)
 add_field _ _ _ = None
 
--- code with scope, of the code's text and the scope's value
+-- code with scope, if the code is a text and the scope a document
 abbrev pub with_scope : Option (List ℕ) → Option Tree → Option Tree
 with_scope (Some s) (Some (doc fs)) = Some (code_scope s fs)
 with_scope _ _ = None

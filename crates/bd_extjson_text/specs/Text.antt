@@ -13,7 +13,8 @@ use Rattle.bd_value.specs.Tree.{array, code_scope, Items, no_items, item, Fields
 abbrev pub needs_escape : ℕ → Bool
 needs_escape b = b == 34 || b == 92 || nat_lt b 32
 
--- RFC 8259, section 7: the short escape where there is one, else \u00 and two lower-case digits, else the byte itself.
+-- RFC 8259, section 7: the short escape if there is one,
+-- else \u00 and two lower-case digits, else the byte itself.
 -- Bytes from 128 on, and so all characters beyond ASCII, stand for themselves.
 unfoldable pub escape_byte : ℕ → List ℕ
 escape_byte b = if b == 34 || b == 92 then 92 ∷ b ∷ []
@@ -29,7 +30,7 @@ escape_byte b = if b == 34 || b == 92 then 92 ∷ b ∷ []
 abbrev pub escaped : List ℕ → List ℕ
 escaped = flat_map escape_byte
 
--- RFC 8259, section 7: a string.
+-- RFC 8259, section 7: a string with this content, between quotation marks.
 unfoldable pub quoted : List ℕ → List ℕ
 quoted s = 34 ∷ (escaped s ++ 34 ∷ [])
 
@@ -45,15 +46,15 @@ object members = 123 ∷ (join_with_byte 44 members ++ 125 ∷ [])
 abbrev pub member : List ℕ → List ℕ → List ℕ
 member name value = quoted name ++ 58 ∷ value
 
--- an object of one member
+-- a JSON object of this one member
 abbrev pub wrapper_text : List ℕ → List ℕ → List ℕ
 wrapper_text name value = object (member name value ∷ [])
 
--- RFC 4648, section 4, with padding
+-- RFC 4648, section 4: bytes in base64, with padding
 unfoldable pub base64_text : List ℕ → List ℕ
 base64_text bytes = encode_of standard bytes
 
--- two lower-case digits a byte
+-- bytes in hexadecimal, two lower-case digits each
 unfoldable pub hex_text : List ℕ → List ℕ
 hex_text bytes = encode_lower bytes
 

@@ -3,7 +3,7 @@ use Rattle.std.specs.Prelude.{ℕ, ◌^◌, ℤ, pos, negsuc, neg_ℤ, List, [],
 use Rattle.std.specs.Prelude.{if◌then◌else◌, Option, Some, None, option_map, option_and_then}
 use Rattle.std.specs.{Char.is_ascii_digit, Str.all_ascii_digits, Str.Parse.digits_value}
 
--- a digit stands first, and no zero before others
+-- whether the text begins with a digit that is not a zero before others
 abbrev pub begins_digits : List ℕ → Bool
 begins_digits [] = false
 begins_digits (c ∷ cs) = if c == 48 then length cs == 0 else is_ascii_digit c
@@ -40,7 +40,7 @@ whole_64 s = option_and_then (if_fits 63) (whole s)
 abbrev pub whole_32 : List ℕ → Option ℤ
 whole_32 s = option_and_then (if_fits 31) (whole s)
 
--- without a minus sign in front
+-- the text without the minus sign at its start, if it has one
 abbrev pub unsigned : List ℕ → List ℕ
 unsigned [] = []
 unsigned (c ∷ cs) = if c == 45 then cs else c ∷ cs

@@ -13,16 +13,17 @@ use Rattle.bd_path.specs.{Reach.Names, Sort.sort_cmp, declared.sort.Dir.Dir}
 use Rattle.bd_path.proofs.SortLemmas.{sort_total}
 use Rattle.bd_index.specs.{Entries.KeyAt, Entries.downward, declared.entry_order.EntryOrder.EntryOrder}
 
--- how the sort keys of two documents stand
+-- the order of two documents, by their numbers, in a sort by this one path
 abbrev pub walk_order : Dir → Names → List Doc → ℕ → ℕ → Ordering
 walk_order dir path ds p q = sort_cmp (record { path = path; dir = dir } ∷ []) (document_at ds p) (document_at ds q)
 
--- the place of each document, once, in the order of the sort, ties in that of the documents
+-- The numbers of all documents, each once, in the order of the sort;
+-- documents with equal sort keys are in file order.
 pub record WalksAll (dir : Dir) (path : Names) (ds : List Doc) (places : List ℕ) : Type 0 where
   pub order : IsAscending (before (walk_order dir path ds)) places
   pub all : (p : ℕ) → list_any (λ q. q == p) places ≡ nat_lt p (length ds)
 
--- the walk of some documents, as many as the number
+-- These numbers are the walk of some n documents.
 pub record WalksEach (n : ℕ) (places : List ℕ) : Type 0 where
   pub dir : Dir
   pub path : Names
@@ -63,7 +64,7 @@ entries_ahead o = slice_range o.indexed.keeps.entries o.next o.end ++ downward (
 abbrev pub places_ahead : EntryOrder → List ℕ
 places_ahead o = map (λ e. e.1) (entries_ahead o)
 
--- those that are not marked, each once
+-- of these document numbers those that were not seen before, each once
 abbrev pub fresh_places : List Bool → List ℕ → List ℕ
 fresh_places seen [] = []
 fresh_places seen (p ∷ ps) =

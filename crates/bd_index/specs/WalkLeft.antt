@@ -1,4 +1,4 @@
--- The places that a walk has left.
+-- The document numbers that the walk of an index has left.
 use Rattle.std.specs.Prelude.{ℕ, List}
 use Rattle.bd_index.specs.{Walk.fresh_places, Walk.places_ahead, declared.walk.Walk.Walk}
 

@@ -1,4 +1,4 @@
--- The names of a path in hand.
+-- The names of a path in memory.
 use Rattle.bd_path.specs.{Path.component_names, Reach.Names, declared.path.Path.Path}
 
 -- the names of a path in memory, from the top of a document down

@@ -9,7 +9,7 @@ use Rattle.bd_value.specs.Tree.{Fields, no_fields, field}
 abbrev pub Names : Type 0
 Names = List (List ℕ)
 
--- a name is `0`, or digits of which the first is not 0
+-- whether a name can be an array index: `0`, or digits of which the first is not 0
 abbrev pub is_index : List ℕ → Bool
 is_index [] = false
 is_index (c ∷ []) = is_ascii_digit c
@@ -20,7 +20,7 @@ is_index (c ∷ d ∷ cs) = if c == 48 then false else all_ascii_digits (c ∷ d
 abbrev pub index_of : List ℕ → Option ℕ
 index_of name = if is_index name then Some (digits_value 10 name) else None
 
--- the same, where an index past every array counts as the greatest number of 64 bits
+-- the array index that a name is, as the code keeps it: above 2^64 - 1 it counts as that
 abbrev pub held_index : List ℕ → Option ℕ
 held_index name = option_map (λ i. min i 18446744073709551615) (index_of name)
 
@@ -29,9 +29,8 @@ abbrev pub is_document : Tree → Bool
 is_document (doc fs) = true
 is_document _ = false
 
--- What is gathered on the way down a path:
--- from a value at its end, where a field is missing, and of what was gathered from
--- the elements of an array.
+-- What is gathered on the way down a path: from a value at its end, from a missing field,
+-- and of what the elements of an array gave.
 pub record Gathering (A : Type 0) : Type 0 where
   pub at_end : Tree → List A
   pub missing : List A
@@ -48,25 +47,25 @@ abbrev mutual
       g.of_array (each_gathering g ts (name ∷ rest) ++ gathering_at g ts (index_of name) rest)
   gathering g (code_scope s fs) (name ∷ rest) = g.missing
 
-  -- from the first field of that name
+  -- what is gathered from the first field of that name; as from a missing field if there is none
   pub first_gathering : {A : Type 0} → Gathering A → Fields → List ℕ → Names → List A
   first_gathering g no_fields name rest = g.missing
   first_gathering g (field n t fs) name rest = if bytes_eq n name then gathering g t rest
       else first_gathering g fs name rest
 
-  -- from each element that is a document, with the same path
+  -- what is gathered from each element that is a document, with the same path
   pub each_gathering : {A : Type 0} → Gathering A → Items → Names → List A
   each_gathering g no_items path = []
   each_gathering g (item t ts) path = (if is_document t then gathering g t path else []) ++ each_gathering g ts path
 
-  -- from the element at an index
+  -- what is gathered from the element at an index, with the rest of the path; nothing if there is none
   pub gathering_at : {A : Type 0} → Gathering A → Items → Option ℕ → Names → List A
   gathering_at g no_items i rest = []
   gathering_at g (item t ts) None rest = []
   gathering_at g (item t ts) (Some zero) rest = gathering g t rest
   gathering_at g (item t ts) (Some (suc i)) rest = gathering_at g ts (Some i) rest
 
--- a value that a path reaches; None where a field is missing
+-- what a path reaches: a value, or None for a missing field
 abbrev pub End : Type 0
 End = Option Tree
 

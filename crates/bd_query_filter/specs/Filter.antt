@@ -10,8 +10,8 @@ use Rattle.bd_query_filter.specs.declared.operand.Relation.TheVariants as relati
 
 -- A list inside a filter has to be a type of its own: `Filters` and `Operators` are lists of them.
 mutual
-  -- each of some filters, as `$and` and the pairs of a document have it; some of them, `$or`; none of them, `$nor`;
-  -- and operators that must all hold at a path
+  -- a filter: each of some filters (`$and`, the pairs of a document), at least one (`$or`), or none (`$nor`);
+  -- or operators of a path, which must all hold
   pub data Filter : Type 0 where
     all_of : Filters → Filter
     some_of : Filters → Filter
@@ -23,7 +23,8 @@ mutual
     no_filters : Filters
     filter : Filter → Filters → Filters
 
-  -- `$ne` is what `$eq` is not, and `$nin` what `$in` is not; `$elemMatch` has operators for an element, or filters
+  -- an operator of a path; `$ne` and `$nin` are the negations of `$eq` and `$in`,
+  -- and `$elemMatch` has operators for an element, or a filter
   pub data Operator : Type 0 where
     equals : Tree → Operator
     compares : Relation → Tree → Operator
@@ -51,7 +52,7 @@ abbrev pub operators_from : List Operator → Operators
 operators_from [] = no_operators
 operators_from (o ∷ os) = operator o (operators_from os)
 
--- what an operator is not
+-- the operator that holds if this one does not
 abbrev pub negation_of : Operator → Operator
 negation_of o = negates (operator o no_operators)
 
@@ -65,7 +66,7 @@ values_in members = members.values.items
 abbrev pub trees_in : Members → List Tree
 trees_in members = map tree_of (values_in members)
 
--- one level of a filter and of an operator, with each part inside already seen so
+-- one level of a filter in memory, whose parts are already read so
 abbrev pub filter_step : Filter-F Filter Operator → Filter
 filter_step (Filter-F.And fs) = all_of (filters_from fs.items)
 filter_step (Filter-F.Or fs) = some_of (filters_from fs.items)

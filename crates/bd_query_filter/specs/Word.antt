@@ -1,4 +1,4 @@
--- The names that stand for something in a filter (MongoDB manual, "Query and Projection Operators").
+-- The names that mean something in a filter (MongoDB manual, "Query and Projection Operators").
 use Rattle.std.specs.Prelude.{ℕ, ℤ, pos, negsuc, Bool, false, ◌==◌, List, [], ◌∷◌, codes, Option, Some, option_map}
 use Rattle.std.specs.Prelude.{if◌then◌else◌, unwrap_or}
 use Rattle.std.specs.{List.find, List.list_any, Ordering.int_eq, Str.bytes_eq}
@@ -32,7 +32,7 @@ query_operators =
     ∷ (codes "$type", words.Plain plain.Type)
     ∷ (codes "$not", words.Not) ∷ (codes "$elemMatch", words.ElemMatch) ∷ []
 
--- the operators of the manual that are left out, and the names of a DBRef
+-- the names that are recognised but not supported: operators of the manual, and the names of a DBRef
 abbrev pub left_out_names : List (List ℕ)
 left_out_names =
     codes "$regex" ∷ codes "$options" ∷ codes "$mod" ∷ codes "$expr" ∷ codes "$where"
@@ -42,7 +42,7 @@ left_out_names =
     ∷ codes "$bitsAnySet" ∷ codes "$bitsAllClear" ∷ codes "$bitsAnyClear" ∷ codes "$ref"
     ∷ codes "$id" ∷ codes "$db" ∷ []
 
--- whether a name is one that is recognised but not supported
+-- whether a name is recognised but not supported
 unfoldable pub is_left_out : List ℕ → Bool
 is_left_out name = list_any (λ left_out. bytes_eq left_out name) left_out_names
 
@@ -73,7 +73,8 @@ query_types =
     ∷ (pos 19, codes "decimal", [])
     ∷ (negsuc 0, codes "minKey", kinds.MinKey ∷ []) ∷ (pos 127, codes "maxKey", kinds.MaxKey ∷ []) ∷ []
 
--- `number` stands for the two whole numbers
+-- the kinds of a type by its name (MongoDB manual, "$type"); `number` is int32 and int64;
+-- None if no type has the name
 unfoldable pub kinds_named : List ℕ → Option (List Kind)
 kinds_named name = if bytes_eq name (codes "number") then Some (kinds.Int32 ∷ kinds.Int64 ∷ [])
     else option_map (λ row. row.2) (find (λ row. bytes_eq row.1 name) query_types)
@@ -83,6 +84,6 @@ kinds_named name = if bytes_eq name (codes "number") then Some (kinds.Int32 ∷ 
 unfoldable pub kinds_numbered : ℤ → Option (List Kind)
 kinds_numbered number = option_map (λ row. row.2) (find (λ row. int_eq row.0 number) query_types)
 
--- `==` of kinds
+-- whether two kinds are the same
 abbrev pub is_kind : Kind → Kind → Bool
 is_kind = sameb the_type

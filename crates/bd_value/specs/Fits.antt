@@ -1,6 +1,6 @@
--- What the type of a value in memory says of its tree:
--- each number fits, what is bytes is bytes, and what is text is UTF-8.
--- And whether a name, or a text of a regular expression, has a zero, which would end it.
+-- What the type of a value in memory guarantees of its tree:
+-- each number fits, bytes are bytes, and texts are UTF-8.
+-- And whether a name, or a text of a regular expression, has a zero, which BSON cannot hold there.
 use Rattle.std.specs.Prelude.{◌≡◌, ◌<◌, ◌^◌, ℕ, List, length, slice_index, IsUtf8, [], ◌∷◌, Bool, false, ◌&&◌, ◌||◌}
 use Rattle.std.specs.Prelude.{◌==◌}
 use Rattle.std.specs.{Int.w32, Int.w64, Int.RustNames.FitsSigned}
@@ -16,7 +16,7 @@ AreBytes bytes = (i : ℕ) → slice_index bytes i < 256
 abbrev pub IsId : List ℕ → Type 0
 IsId id = (length id ≡ 12) × AreBytes id
 
--- Each number has the bits of its BSON type, what is no text is bytes, and each text, code and name is such a text.
+-- For any property `IsSuch` of texts, codes and names.
 module _ (IsSuch : List ℕ → Type 0) where
   -- A scalar is within its BSON 1.1 type: an int32 has 32 bits, an int64 and a date 64,
   -- the two numbers of a timestamp 32 each; a subtype is one byte, an id 12 bytes; and each text `IsSuch`.
@@ -52,12 +52,12 @@ module _ (IsSuch : List ℕ → Type 0) where
     FieldsFit no_fields = Unit {0}
     FieldsFit (field n t fs) = IsSuch n × (TreeFits t × FieldsFit fs)
 
-  -- of what holds no other values: a scalar, or the code of code with scope
+  -- The scalar, or the code of code with scope, fits its BSON type.
   abbrev pub OwnFits : Own → Type 0
   OwnFits (own s) = ScalarFits s
   OwnFits (own_code s) = IsSuch s
 
--- what each value in memory is: its texts are UTF-8
+-- A value fits its BSON types, and its names, texts and codes are UTF-8: so does each value in memory.
 abbrev pub Fits : Tree → Type 0
 Fits = TreeFits IsUtf8
 
@@ -65,7 +65,7 @@ Fits = TreeFits IsUtf8
 abbrev pub IsAny : List ℕ → Type 0
 IsAny s = Unit {0}
 
--- whatever its texts are
+-- A value fits its BSON types, whatever bytes its names, texts and codes are.
 abbrev pub FitsTypes : Tree → Type 0
 FitsTypes = TreeFits IsAny
 
@@ -99,12 +99,12 @@ abbrev mutual
   zero_in_items no_items = false
   zero_in_items (item t ts) = zero_in t || zero_in_items ts
 
--- of pairs, or of elements, whose names are passed over
+-- whether a value among the parts has a zero in a `cstring`, or, if they are fields, a name has one
 abbrev pub zero_in_parts : Bool → Doc → Bool
 zero_in_parts named [] = false
 zero_in_parts named (p ∷ ps) = (named && has_zero p.0) || (zero_in p.1 || zero_in_parts named ps)
 
--- of what holds no other values
+-- whether the scalar has a zero in a `cstring`; false for the code of code with scope, which is a `string`
 abbrev pub zero_in_own : Own → Bool
 zero_in_own (own s) = zero_in_scalar s
 zero_in_own (own_code s) = false

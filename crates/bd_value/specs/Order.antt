@@ -11,7 +11,7 @@ use Rattle.bd_value.specs.declared.node.Kind.TheVariants as kinds
 use Rattle.bd_value.specs.declared.node.Class.TheVariants as classes
 use Rattle.bd_value.specs.declared.order.Rank as memory
 
--- the seventeen classes of values
+-- the class of a kind in the comparison order: one of seventeen
 abbrev pub class_of_kind : Kind → Class
 class_of_kind kinds.MinKey = classes.MinKey
 class_of_kind kinds.Undefined = classes.Undefined
@@ -37,7 +37,7 @@ class_of_kind kinds.MaxKey = classes.MaxKey
 abbrev pub class_of : Tree → Class
 class_of t = class_of_kind (kind_of t)
 
--- the place of a class among them, least first
+-- the position of a class in the comparison order (MongoDB manual, "Comparison/Sort Order"); 0 is the least
 abbrev pub class_rank : Class → ℕ
 class_rank classes.MinKey = 0
 class_rank classes.Undefined = 1
@@ -57,8 +57,8 @@ class_rank classes.Code = 14
 class_rank classes.CodeScope = 15
 class_rank classes.MaxKey = 16
 
--- What a scalar is compared by within its class: a number, a size, a lesser number, bytes, and more bytes, in turn.
--- What its class has not is 0 or empty.
+-- What a scalar is compared by within its class: a number, a size, a lesser number, bytes, and more bytes,
+-- in turn. What its class does not use is 0 or empty.
 pub record Rank : Type 0 where
   pub number : ℤ
   pub size : ℕ
@@ -74,7 +74,8 @@ by_number n = record { number = n; size = 0; lesser = 0; bytes = []; more = [] }
 abbrev pub by_bytes : List ℕ → List ℕ → Rank
 by_bytes first second = record { number = pos 0; size = 0; lesser = 0; bytes = first; more = second }
 
--- the size that BSON writes: subtype 02 has four bytes more, which count the rest
+-- the size by which binary is compared, as BSON writes it:
+-- in subtype 02 four bytes more, which count the rest
 abbrev pub binary_size : ℕ → List ℕ → ℕ
 binary_size subtype payload = if subtype == 2 then length payload + 4 else length payload
 
@@ -97,16 +98,16 @@ scalar_rank (db_pointer space id) = by_bytes space id
 scalar_rank (code s) = by_bytes s []
 scalar_rank _ = by_number (pos 0)
 
--- of a scalar, or of the code of code with scope
+-- what a scalar, or the code of code with scope, is compared by within its class
 abbrev pub own_rank : Own → Rank
 own_rank (own s) = scalar_rank s
 own_rank (own_code s) = by_bytes s []
 
--- a rank of the code, without where its bytes lie
+-- the rank that one in memory stands for, wherever its bytes are
 abbrev pub rank_view : memory.Rank → Rank
 rank_view r = record { number = r.number; size = r.size; lesser = r.lesser; bytes = r.bytes.now; more = r.more.now }
 
--- texts by their UTF-8 bytes, and bytes: a proper prefix is less
+-- the order of texts, by their UTF-8 bytes, and of bytes: a proper prefix is less
 abbrev pub bytes_cmp : List ℕ → List ℕ → Ordering
 bytes_cmp a b = slice_cmp nat_cmp a b
 
@@ -121,7 +122,7 @@ rank_cmp a b =
 abbrev pub class_cmp : Tree → Tree → Ordering
 class_cmp a b = nat_cmp (class_rank (class_of a)) (class_rank (class_of b))
 
--- what a value of a class holds; of any other value nothing
+-- the rank of a scalar, or of code with scope by its code; a document and an array have the rank of 0
 abbrev pub rank_in : Tree → Rank
 rank_in (leaf s) = scalar_rank s
 rank_in (code_scope s fs) = by_bytes s []
@@ -139,7 +140,7 @@ items_in (array ts) = ts
 items_in _ = no_items
 
 abbrev mutual
-  -- two values of one class: code with scope by its code, then by its scope
+  -- the order of two values of one class; code with scope by its code, then by its scope
   pub same_class_cmp : Tree → Tree → Ordering
   same_class_cmp (leaf s) b = rank_cmp (scalar_rank s) (rank_in b)
   same_class_cmp (doc fs) b = fields_cmp fs (fields_in b)
@@ -147,7 +148,8 @@ abbrev mutual
   same_class_cmp (code_scope s fs) b =
       ordering_then (rank_cmp (by_bytes s []) (rank_in b)) (fields_cmp fs (fields_in b))
 
-  -- pair by pair: the class of the value, then the name, then the value; no further pair is less
+  -- the order of two documents, pair by pair: by the class of the value, then the name, then the value;
+  -- the one without a further pair is less
   pub fields_cmp : Fields → Fields → Ordering
   fields_cmp no_fields no_fields = Equal
   fields_cmp no_fields (field n b gs) = Less
@@ -156,7 +158,7 @@ abbrev mutual
       ordering_then (ordering_then (class_cmp a b) (ordering_then (bytes_cmp m n) (same_class_cmp a b)))
       (fields_cmp fs gs)
 
-  -- element by element; a proper prefix is less
+  -- the order of two arrays, element by element; a proper prefix is less
   pub items_cmp : Items → Items → Ordering
   items_cmp no_items no_items = Equal
   items_cmp no_items (item b us) = Less
@@ -164,7 +166,7 @@ abbrev mutual
   items_cmp (item a ts) (item b us) =
       ordering_then (ordering_then (class_cmp a b) (same_class_cmp a b)) (items_cmp ts us)
 
--- two pairs of a document
+-- the order of two pairs of documents: by the class of the value, then the name, then the value
 abbrev pub pair_cmp : List ℕ → Tree → List ℕ → Tree → Ordering
 pair_cmp m a n b = ordering_then (class_cmp a b) (ordering_then (bytes_cmp m n) (same_class_cmp a b))
 

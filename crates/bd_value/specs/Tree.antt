@@ -1,13 +1,13 @@
--- The tree that a BSON value stands for (BSON 1.1, `document`,
--- `e_list` and `element`), without where it lies in memory.
+-- The tree that a BSON value stands for (BSON 1.1, `document`, `e_list` and `element`),
+-- wherever it is in memory.
 -- A text and a name are their UTF-8 bytes, a number is a whole number.
 use Rattle.std.specs.Prelude.{◌≡◌, ℕ, suc, ◌+◌, ℤ, Bool, List, [], ◌∷◌, refl, Option, Some, None, length, map}
 use Rattle.std.specs.Prelude.{if◌then◌else◌, max}
 use Rattle.std.proofs.Common.{ap}
 use Rattle.std.specs.Str.{bytes_eq}
 
--- A value that holds no value: one case for each such type of element. An id and the data of binary are their bytes;
--- of binary first the subtype, of a timestamp first the seconds, of a regular expression first the pattern.
+-- A value that holds no other value: a case for each such element type of BSON 1.1.
+-- Binary has its subtype first, a timestamp its seconds, a regular expression its pattern.
 pub data Scalar : Type 0 where
   min_key : Scalar
   undefined : Scalar
@@ -105,7 +105,7 @@ length_of (doc fs) = length (pairs_of fs)
 length_of (array ts) = length (list_of ts)
 length_of _ = 0
 
--- the scope of code with scope
+-- the scope of code with scope, as a document; None for any other value
 abbrev pub scope_of : Tree → Option Tree
 scope_of (code_scope s fs) = Some (doc fs)
 scope_of _ = None
@@ -121,11 +121,11 @@ own_of (leaf s) = Some (own s)
 own_of (code_scope s fs) = Some (own_code s)
 own_of _ = None
 
--- the values alone, without the names that stand before them
+-- the values of fields, without their names
 abbrev pub values_of : Doc → List Tree
 values_of ps = map (λ p. p.1) ps
 
--- the pairs of a document, or the elements of an array under some names
+-- These are the fields of a document, or the elements of an array under any names. No other value has parts.
 abbrev pub AreParts : Tree → Doc → Type 0
 AreParts (doc fs) ps = ps ≡ pairs_of fs
 AreParts (array ts) ps = values_of ps ≡ list_of ts
@@ -143,13 +143,13 @@ HoldsNoParts (doc fs) = ⊥
 HoldsNoParts (array ts) = ⊥
 HoldsNoParts _ = Unit {0}
 
--- the value of the first pair of that name
+-- the value of the first field of that name; None if there is none
 abbrev pub first_of : List ℕ → Doc → Option Tree
 first_of name [] = None
 first_of name (p ∷ ps) = if bytes_eq p.0 name then Some p.1 else first_of name ps
 
--- How deep documents and arrays nest: each is one deeper than the deepest value in it, and code with scope one deeper
--- than its scope.
+-- How deep documents and arrays nest: each is one deeper than the deepest value in it, and code with scope is
+-- one deeper than its scope.
 abbrev mutual
   -- how deep documents and arrays nest in a value: 0 for a scalar, 1 for `{}` and `[]`;
   -- the scope of code counts as a document inside it

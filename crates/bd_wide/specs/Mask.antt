@@ -11,7 +11,8 @@ masked_element Double head value = 18 ∷ (drop 1 head ++ value)
 masked_element Decimal128 head value = 7 ∷ (take (length head - 2) (drop 1 head) ++ (codes "####" ++ 0 ∷ drop 4 value))
 masked_element (Kept _) head value = head ++ value
 
--- a double whose eight bytes do not fit is an int64 all the same
+-- what `mask` writes from the first element on that cannot be passed on:
+-- all bytes as they are, but a double that is cut short gets the type of an int64
 abbrev pub masked_others : List ℕ → List ℕ
 masked_others [] = []
 masked_others (b ∷ bytes) = (if b == 1 && is_some (first_zero bytes) then 18 else b) ∷ bytes

@@ -5,38 +5,39 @@ use Rattle.bd_wide_number.specs.declared.number.Number.{Number}
 use Rattle.bd_wide_number.specs.declared.number.Number.TheVariants as numbers
 use Rattle.bd_wide_number.specs.Decimal128.{five_bits, coefficient_of, biased_exponent}
 
--- No number, infinite, or finite: whether it is negative, and its size in units of the least
--- decimal128, which is 10 ^ -6176. Each double and each whole number is so many of these units.
+-- What a number is worth: NaN, an infinity, or finite: whether it is negative, and its size in units of the
+-- least decimal128, 10 ^ -6176. Each double and each whole number is a number of units.
 pub data Value : Type 0 where
   nan : Value
   infinite : Bool → Value
   finite : Bool → ℕ → Value
 
--- so many units are 1
+-- how many units make 1
 unfoldable pub one : ℕ
 one = 10 ^ 6176
 
--- so many are the least double, which is 2 ^ -1074
+-- how many units make the least double, 2 ^ -1074
 unfoldable pub least_double : ℕ
 least_double = 2 ^ 5102 * 5 ^ 6176
 
 -- ---- doubles (IEEE 754, binary64)
 
--- an exponent and a fraction: a fraction alone is subnormal
+-- the size of a double by its exponent and its fraction, in units of the least double;
+-- with exponent 0 it is subnormal
 abbrev pub spelled : ℕ → ℕ → ℕ
 spelled zero fraction = fraction
 spelled (suc exponent) fraction = (2 ^ 52 + fraction) * 2 ^ exponent
 
--- how many times the least double, by the 63 bits without the sign: 11 of the exponent, then 52 of
--- the fraction
+-- the size of a double in units of the least double, by its 63 bits without the sign:
+-- 11 of the exponent, then 52 of the fraction
 unfoldable pub magnitude : ℕ → ℕ
 magnitude bits = spelled (bits / 2 ^ 52) (bits % 2 ^ 52)
 
--- the 63 bits of what is infinite; those of numbers are below, and those of what is no number above
+-- the 63 bits of an infinity, without the sign; those of finite doubles are below, those of NaN above
 abbrev pub infinite_bits : ℕ
 infinite_bits = 2047 * 2 ^ 52
 
--- whether the first of 64 bits is set
+-- whether the first of 64 bits, the sign, is set
 abbrev pub has_sign : ℕ → Bool
 has_sign bits = nat_le (2 ^ 63) bits
 

@@ -1,5 +1,5 @@
--- Values, documents and filters in which each whole number is another one, an int64. What it becomes is a matter of its
--- path: the names from the top down to it. Positions in arrays are no part of a path.
+-- Values, documents and filters with another number, an int64, in place of each whole number.
+-- What a number becomes depends on its path: the names from the top down to it, without indexes of arrays.
 use Rattle.std.specs.Prelude.{◌≡◌, ◌<ℤ◌, ℕ, ℤ, Bool, IsTrue, List, [], ◌∷◌, ◌++◌, map, All, codes}
 use Rattle.std.specs.List.{list_any}
 use Rattle.bd_value.specs.Tree.{Scalar, int32, int64, Tree, leaf, doc, array, code_scope, Items, no_items, item}
@@ -12,7 +12,7 @@ use Rattle.bd_query_filter.specs.Filter.{equals, compares, is_in, has_all, has_t
 use Rattle.bd_query_filter.specs.Filter.{has_document, Operators, no_operators, operator}
 use Rattle.bd_query_filter.specs.Word.{is_kind}
 
--- at one path: what each number becomes, and which numbers may occur
+-- for one path: what each number becomes, and which numbers may occur
 pub record Code : Type 0 where
   pub becomes : ℤ → ℤ
   pub occurs : ℤ → Bool
@@ -29,7 +29,7 @@ under name c = λ names. c (name ∷ names)
 abbrev pub below : Names → Codes → Codes
 below path c = λ names. c (path ++ names)
 
--- of the numbers that occur, a lesser one becomes a lesser one
+-- Of two numbers that may occur, the lesser one becomes the lesser one.
 abbrev pub IsIncreasing : Code → Type 0
 IsIncreasing c = (m n : ℤ) → IsTrue (c.occurs m) → IsTrue (c.occurs n) → m <ℤ n →
     c.becomes m <ℤ c.becomes n
@@ -40,18 +40,18 @@ AreIncreasing c = (path : Names) → IsIncreasing (c path)
 
 -- ---- paths of queries and sorts
 
--- Each reading of a path leads from codes to these: a name that is an index is the name of a field, or a position,
--- which is no part of the path of a value.
+-- Each reading of the path leads from the codes to these:
+-- a name that is an index is the name of a field, or an index, which is no part of a path of values.
 abbrev pub LeadTo : Codes → Names → Codes → Type 0
 LeadTo c [] end = c ≡ end
 LeadTo c (name ∷ rest) end =
     LeadTo (under name c) rest end × (IsTrue (is_index name) → LeadTo c rest end)
 
--- however a path is read, the numbers there have the codes that its names lead to
+-- However the path is read, the numbers there have the codes that its names lead to.
 abbrev pub ReadsAlike : Codes → Names → Type 0
 ReadsAlike c path = LeadTo c path (below path c)
 
--- a name that is an index leads to no other codes
+-- A name that is an index leads to no other codes.
 abbrev pub PassOverIndexes : Codes → Type 0
 PassOverIndexes c = (before : Names) (name : List ℕ) (after : Names) → IsTrue (is_index name) →
     c (before ++ name ∷ after) ≡ c (before ++ after)
@@ -69,7 +69,7 @@ renumber_scalar c (int32 n) = int64 (c.becomes n)
 renumber_scalar c (int64 n) = int64 (c.becomes n)
 renumber_scalar c s = s
 
--- the scope of code with scope stands under this name
+-- the name that the scope of code with scope has in a path
 abbrev pub scope_name : List ℕ
 scope_name = codes "$scope"
 
@@ -163,7 +163,7 @@ abbrev mutual
   renumber_operators c no_operators = no_operators
   renumber_operators c (operator o os) = operator (renumber_operator c o) (renumber_operators c os)
 
--- some types have both kinds of whole numbers, or neither
+-- The types have both int32 and int64 among them, or neither.
 abbrev pub TakeNumbersAlike : List Kind → Type 0
 TakeNumbersAlike ks =
     list_any (λ k. is_kind k kinds.Int32) ks ≡ list_any (λ k. is_kind k kinds.Int64) ks
