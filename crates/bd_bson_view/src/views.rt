@@ -180,6 +180,7 @@ impl<'a> Reading for RawValue<'a> {
 }
 
 impl<'a> Node<'a> for RawValue<'a> {
+    /// What it holds besides other values. A text of it is no longer than a document may be.
     #[inline(always)]
     fn scalar(self) -> Option<Scalar<'a>>
         ensures scalar { option_map seen result ≡ own_of (stands self.entry.sound) }

@@ -67,6 +67,7 @@ impl Replier for Service {
 
     ghost stays = { KeepsState };
 
+    /// Appends the reply to a line. The session goes on as the call in the line leaves it.
     fn reply(&mut self, command: &[u8], text: &mut Vec<u8>) -> Result<(), AllocError>
         ensures replies { OnOk result ((reply : List ℕ) × (text.new.items ≡ text.old.items ++ reply)
             × RepliesTo self.old command.now reply self.new) }

@@ -49,8 +49,10 @@ pub trait Input {
         false
     }
 
+    /// The count of reads has 64 bits at most.
     ghost calls_fit: { (s : Self) → (state s).calls ≤ greatest };
 
+    /// The count of failed reads has 64 bits at most.
     ghost failures_fit: { (s : Self) → (state s).failures ≤ greatest };
 }
 

@@ -32,8 +32,10 @@ pub trait Output {
         ensures failed { OnErr result ((state self.new).failures
             ≡ after_more (state self.old).failures 1) };
 
+    /// The count of writes has 64 bits at most.
     ghost calls_fit: { (s : Self) → (state s).calls ≤ greatest };
 
+    /// The count of failed writes has 64 bits at most.
     ghost failures_fit: { (s : Self) → (state s).failures ≤ greatest };
 }
 
