@@ -173,7 +173,7 @@ pub record ShowsInTurn (bytes : List ℕ) (ds : List Doc) (q : Query) (id : ℕ)
   pub in_turn : GivesInTurn q id ps (calls_in bytes ds lines) given
   pub shown : batches_shown bytes ds id lines rs ≡ map (λ b. shown_reply ds (gave b)) given
 
--- a line is this call and opens a cursor, after some lines and before others
+-- A line is this call and opens a cursor; some lines come before it and others after.
 pub record OpensInTalk (bytes : List ℕ) (ds : List Doc) (call : Call) (id : ℕ)
     (lines : List (List ℕ)) (rs : List LineReply)
     : Type 0 where

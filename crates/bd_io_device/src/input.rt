@@ -48,8 +48,10 @@ pub trait Input {
         false
     }
 
+    /// The count of reads is one of 64 bits.
     ghost calls_fit: { (s : Self) → (state s).calls ≤ greatest };
 
+    /// The count of reads that failed is one of 64 bits.
     ghost failures_fit: { (s : Self) → (state s).failures ≤ greatest };
 }
 

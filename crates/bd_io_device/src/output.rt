@@ -31,8 +31,10 @@ pub trait Output {
             bytes.now ≢ [] → (state self.new).failures ≡ after_more (state self.old).failures 1) }
         ensures failed { OnErr result ((state self.new).failures ≡ after_more (state self.old).failures 1) };
 
+    /// The count of writes is one of 64 bits.
     ghost calls_fit: { (s : Self) → (state s).calls ≤ greatest };
 
+    /// The count of writes that failed is one of 64 bits.
     ghost failures_fit: { (s : Self) → (state s).failures ≤ greatest };
 }
 

@@ -18,7 +18,7 @@ mark_of token = option_map (λ t. t.mark) token
 abbrev pub page_of : GivenBatch → Page
 page_of b = record { places = b.places; mark = mark_of b.token; ends = b.ends }
 
--- the batches of a cursor, by sizes in turn
+-- the pages of a cursor, by sizes in turn
 abbrev pub pages_from : OpenCursor → List ℕ → List Page
 pages_from c [] = []
 pages_from c (size ∷ sizes) = page_of (batch_of c size) ∷ pages_from (moved c size) sizes
