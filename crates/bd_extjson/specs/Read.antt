@@ -77,7 +77,7 @@ abbrev mutual
   wrap_fields room kit.no_members = Some no_fields
   wrap_fields room (kit.member name j ms) = add_field name (wrap room j) (wrap_fields room ms)
 
--- the JSON value that a whole text is (RFC 8259, UTF-8),
+-- the JSON value of a whole text (RFC 8259, UTF-8),
 -- with at most 203 brackets inside one another; None if it is none
 abbrev pub json : List ℕ → Option Json
 json text = if is_utf8 text then option_and_then (λ p. if_last p.0 p.1) (value most_brackets (tokens text)) else None
@@ -87,7 +87,7 @@ abbrev pub document : Tree → Option Fields
 document (doc fs) = Some fs
 document _ = None
 
--- the document that a text is: JSON (RFC 8259) read as Extended JSON v2,
+-- the document in a text: JSON (RFC 8259) read as Extended JSON v2,
 -- with at most 200 levels; None if it is none
 abbrev pub reading : List ℕ → Option Doc
 reading text = option_map pairs_of (option_and_then document (option_and_then (wrap most_levels) (json text)))

@@ -14,7 +14,7 @@ pub record Page : Type 0 where
 abbrev pub mark_of : Option MarkedToken → Option Mark
 mark_of token = option_map (λ t. t.mark) token
 
--- the page that a batch of a cursor is, whatever the digest of its token
+-- a batch of a cursor as a page, whatever the digest of its token
 abbrev pub page_of : GivenBatch → Page
 page_of b = record { places = b.places; mark = mark_of b.token; ends = b.ends }
 
