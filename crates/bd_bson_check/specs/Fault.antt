@@ -53,8 +53,8 @@ pub record HasNoPlace (fault : FaultKind) (e : HeldFault) : Type 0 where
 abbrev pub IsWantOfMemory : HeldFault → Type 0
 IsWantOfMemory e = HasNoPlace FaultKind.NoMemory e
 
--- the fault that is answered for the document of that number after such a stop:
--- the one found, or out of memory
+-- The fault in memory is the one at which a reader stopped, of the document with that number;
+-- or it says that memory ran out.
 abbrev pub IsOf : Stop → ℕ → HeldFault → Type 0
 IsOf Stop.NoMemory number e = IsWantOfMemory e
 IsOf (Stop.Found g) number e = IsFault number (found_fault g) e

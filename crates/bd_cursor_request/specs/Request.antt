@@ -31,7 +31,7 @@ abbrev pub sort_with : Result Names PathFault → Option Dir → Option (List So
 sort_with (Ok path) (Some dir) (Some ss) = Some (record { path = path; dir = dir } ∷ ss)
 sort_with _ _ _ = None
 
--- the paths and directions in the pairs of a document; None if a pair is not such a one
+-- the paths and directions in the pairs of a document; None if a name is no path, or a value no direction
 abbrev pub sort_pairs : Doc → Option (List SortPath)
 sort_pairs [] = Some []
 sort_pairs (p ∷ ps) = sort_with (path_of p.0) (direction_of p.1) (sort_pairs ps)
