@@ -18,12 +18,12 @@ longer name f = record { kind = f.kind; offset = f.offset; path = name ∷ f.pat
 abbrev pub found_fault : Finding → Fault
 found_fault f = record { kind = f.kind; offset = f.offset; path = reverse (map string_bytes f.path.items) }
 
--- a reader stopped at this fault, or memory ran out
+-- A reader stopped at this fault, or memory ran out.
 abbrev pub TellsStop : Stop → Fault → Type 0
 TellsStop Stop.NoMemory f = Unit {0}
 TellsStop (Stop.Found g) f = f ≡ found_fault g
 
--- a reader stopped at the fault that the item has, or memory ran out
+-- A reader stopped at the fault that the item has, or memory ran out.
 abbrev pub FailsAtItem : {Y : Type 0} → Stop → Result Y Fault → Type 0
 FailsAtItem Stop.NoMemory given = Unit {0}
 FailsAtItem (Stop.Found f) given = given ≡ Err (found_fault f)
@@ -53,8 +53,8 @@ pub record HasNoPlace (fault : FaultKind) (e : HeldFault) : Type 0 where
 abbrev pub IsWantOfMemory : HeldFault → Type 0
 IsWantOfMemory e = HasNoPlace FaultKind.NoMemory e
 
--- the fault that is answered for the document of that number after such a stop:
--- the one found, or out of memory
+-- The fault in memory is the one at which a reader stopped, of the document with that number;
+-- or it says that memory ran out.
 abbrev pub IsOf : Stop → ℕ → HeldFault → Type 0
 IsOf Stop.NoMemory number e = IsWantOfMemory e
 IsOf (Stop.Found g) number e = IsFault number (found_fault g) e

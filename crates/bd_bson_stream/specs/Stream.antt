@@ -84,7 +84,7 @@ module _ {R : Type 0} (state : R → Reader) where
       pub well : (state new).failures ≡ (state old).failures
       pub grown : length after.buffer.items ≡ length before.buffer.items
 
-    -- the next document was read, and no byte after it
+    -- The next document was read, and no byte after it.
     pub record ReadsDocument (before after : DocBuffer) (old new : R) : Type 0 where
       pub frame : IsFrame (held_bytes after)
       pub gave : Consumes (state old).left (state new).left (held_bytes after)
@@ -124,7 +124,8 @@ module _ {R : Type 0} (state : R → Reader) where
         × (length (head ++ given) ≡ 4) × ((turns : ℕ) × AreReads gives turns old given new)
     IsReason before old new head given DocFault.Failed = ⊥
 
-    -- the rest of a document that begins with this head was not read, since the reader gave only these bytes
+    -- The rest of a document that begins with this head was not read:
+    -- the reader gave only these bytes, for this reason.
     pub record FailsToRead (head : List ℕ) (before after : DocBuffer) (old new : R) (fault : DocFault) : Type 0 where
       pub given : List ℕ
       pub gave : Consumes (state old).left (state new).left given

@@ -65,7 +65,7 @@ number n = to_le_bytes w32 n
 unfoldable pub long : ℕ → List ℕ
 long n = to_le_bytes w64 n
 
--- `cstring`, without its last byte: UTF-8 with no zero in it
+-- `cstring` without its last byte: The text is UTF-8 with no zero in it.
 abbrev pub IsName : List ℕ → Type 0
 IsName n = IsUtf8 n × AllByRecursion (λ b. b ≢ 0) n
 

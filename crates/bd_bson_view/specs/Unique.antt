@@ -53,16 +53,19 @@ number_front n x lt = ap (from_le_bytes w32) (take_at (number n) x 4 (number_len
 pub number_after : (n : ℕ) (x : List ℕ) → drop 4 (number n ++ x) ≡ x
 number_after n x = drop_at (number n) x 4 (number_length n)
 
+-- an `int64` takes eight bytes
 long_length : (n : ℕ) → length (long n) ≡ 8
 unfolding long
 long_length n = refl
 
+-- the eight bytes of a number below 2^64 read back as that number, whatever bytes follow them
 long_front : (n : ℕ) (x : List ℕ) → n < 2 ^ 64 → long_of (long n ++ x) ≡ n
 unfolding long
 long_front n x lt = from_le_bytes-to_le_bytes_8 n lt
 
 -- ---- texts
 
+-- a byte that is not zero does not pass the test for zero
 not_zero : (b : ℕ) → b ≢ 0 → eqb b 0 ≡ false
 not_zero b h = grind (arith, nat_tests, h)
 
@@ -104,6 +107,7 @@ pub string_text : (s r : List ℕ) → length s + 1 < 2 ^ 32 → text_of (string
 string_text s r lt = rw (string_number s r lt, string_after s r, number_after (length s + 1) (s ++ 0 ∷ r))
     (take_at s (0 ∷ r) (length s + 1 - 1) (omega arith))
 
+-- after a `string` come the bytes that follow it
 string_rest : (s r : List ℕ) → length s + 1 < 2 ^ 32 → drop (4 + number_of (string s ++ r)) (string s ++ r) ≡ r
 string_rest s r lt = rw (string_number s r lt) (drop_at (string s) r (4 + (length s + 1)) (string_length s))
 
@@ -122,6 +126,7 @@ pub after_five : (n k : ℕ) (x : List ℕ) → drop 5 (number n ++ k ∷ x) ≡
 unfolding number
 after_five n k x = refl
 
+-- the fifth byte of binary is its subtype
 fifth : (n k : ℕ) (x : List ℕ) → slice_index_or (number n ++ k ∷ x) 4 0 ≡ k
 unfolding number
 fifth n k x = refl
@@ -134,11 +139,13 @@ binary_count k d r lt = ap number_of (binary_whole k d r) ∙ number_front (leng
 pub binary_subtype : (k : ℕ) (d r : List ℕ) → slice_index_or ((number (length d) ++ k ∷ d) ++ r) 4 0 ≡ k
 binary_subtype k d r = ap (λ (x : List ℕ). slice_index_or x 4 0) (binary_whole k d r) ∙ fifth (length d) k (d ++ r)
 
+-- the data of binary reads back, by its count, whatever follows it
 binary_data : (k : ℕ) (d r : List ℕ) → length d < 2 ^ 31
     → take (number_of ((number (length d) ++ k ∷ d) ++ r)) (drop 5 ((number (length d) ++ k ∷ d) ++ r)) ≡ d
 binary_data k d r lt =
     rw (binary_count k d r lt, binary_whole k d r, after_five (length d) k (d ++ r)) (take_at d r (length d) refl)
 
+-- the data of binary without the inner count, if it has one, is the payload
 inner : (b : Bool) (s : List ℕ) → let d : List ℕ = if b then number (length s) ++ s else s in
     (if b then drop 4 d else d) ≡ s
 inner true s = number_after (length s) s
@@ -195,12 +202,14 @@ scalar_size (trees.regex p o) v r h = let rest = o ++ 0 ∷ r in
     (omega (arith, first, second, length-append p (0 ∷ (o ++ 0 ∷ [])), length-append o (0 ∷ [])))
 scalar_size _ v r h = rw h refl
 
+-- if the same bytes begin with two scalars of one kind, these are one scalar, and it takes the same bytes
 scalars : (a b : Scalar) (v w r s : List ℕ) → IsScalar a v → IsScalar b w
     → scalar_kind a ≡ scalar_kind b → v ++ r ≡ w ++ s → (a ≡ b) × (v ≡ w)
 scalars a b v w r s p q k h = let same : a ≡ b = sym (scalar_back a v r p) ∙ ap₂ scalar_at k h ∙ scalar_back b w s q in
     let len : length v ≡ length w = sym (scalar_size a v r p) ∙ ap₂ size_of k h ∙ scalar_size b w s q in
     (same, sym (take_at v r (length v) refl) ∙ ap (take (length v)) h ∙ take_at w s (length v) (sym len))
 
+-- the kind of a scalar holds no other values
 scalar_holds : (a : Scalar) → holds (scalar_kind a) ≡ false
 scalar_holds trees.min_key = refl
 scalar_holds _ = refl
@@ -216,6 +225,7 @@ pub cancel : (v w r s : List ℕ) → v ≡ w → v ++ r ≡ w ++ s → r ≡ s
 cancel v w r s e h = sym (drop_at v r (length v) refl) ∙ ap (drop (length v)) h
     ∙ drop_at w s (length v) (sym (ap (λ (x : List ℕ). length x) e))
 
+-- what follows two `int32`s in the same bytes is the same
 after_numbers : (a b : ℕ) (r s : List ℕ) → number a ++ r ≡ number b ++ s → r ≡ s
 after_numbers a b r s h = sym (number_after a r) ∙ ap (drop 4) h ∙ number_after b s
 
@@ -231,11 +241,13 @@ names (a ∷ n) (b ∷ m) r s p q h = let e = names n m r s p.1 q.1 (cc) in (cc 
 pub framed_after : (b r : List ℕ) → framed b ++ r ≡ number (length b + 5) ++ (b ++ 0 ∷ r)
 framed_after b r = simp append_assoc
 
+-- if the same bytes begin with two documents, so do the bytes after their lengths
 bodies : (b c v w r s : List ℕ) → v ≡ framed b → w ≡ framed c → v ++ r ≡ w ++ s → b ++ 0 ∷ r ≡ c ++ 0 ∷ s
 bodies b c v w r s e f h = after_numbers (length b + 5) (length c + 5) (b ++ 0 ∷ r) (c ++ 0 ∷ s)
     (sym (framed_after b r) ∙ ap (λ (x : List ℕ). x ++ r) (sym e) ∙ h
     ∙ ap (λ (x : List ℕ). x ++ s) f ∙ framed_after c s)
 
+-- code with scope and what follows it: its length, the code, the scope, the rest
 codes_after : (s d r : List ℕ) → scoped s d ++ r ≡ number (length (string s ++ d) + 4) ++ (string s ++ (d ++ r))
 codes_after s d r = simp append_assoc
 
@@ -334,16 +346,20 @@ pub over_path : {A : Type 0} (B : A → Type 0) → ((x : A) → IsProp (B x)) �
     → PathP (λ i. B (e i)) p q
 over_path B one e p q = is_prop→PathP (λ i. B (e i)) (λ i. one (e i)) p q
 
+-- that bytes are a `cstring` has one proof at most
 name_prop : (n : List ℕ) → IsProp (IsName n)
 name_prop n = Prim.hlevel props
 
+-- that bytes are a text of a `string` has one proof at most
 text_prop : (s : List ℕ) → IsProp (IsText s)
 text_prop s = Prim.hlevel props
 
+-- that bytes spell a scalar has one proof at most
 scalar_prop : (s : Scalar) (v : List ℕ) → IsProp (IsScalar s v)
 scalar_prop trees.min_key v = Prim.hlevel (props, same_bytes)
 scalar_prop _ v = Prim.hlevel (props, same_bytes)
 
+-- that bytes are a document around some elements has one proof at most, if the elements determine their bytes
 body_prop : (P : List ℕ → Type 0) → ((b : List ℕ) → IsProp (P b))
     → ((b c : List ℕ) → P b → P c → b ++ 0 ∷ [] ≡ c ++ 0 ∷ [] → b ≡ c)
     → (v : List ℕ) → IsProp ((body : List ℕ) × P body × (v ≡ framed body))

@@ -9,7 +9,7 @@ use Rattle.bd_cli_command.specs.Command.{gets_more, kills_cursor, resumes}
 use Rattle.bd_cli_command.specs.Field.{command_fields, command_names, count_field, document_field, entry_of, fits_field}
 use Rattle.bd_cli_command.specs.Field.{hint_field, required_fields, text_field, truth_field}
 
--- the command that the first name of a document is, if it is one
+-- the command that the first name of a document names; None for any other name
 abbrev pub first_command : Doc → Option Name
 first_command [] = None
 first_command (p ∷ ps) = entry_of p.0 command_names
@@ -58,7 +58,7 @@ command_in Name.GetMore d =
 command_in Name.KillCursor d = kills_cursor (field_value count_field 0 (codes "killCursor") d)
 command_in Name.Explain d = explains (find_in (codes "explain") d)
 
--- the command that a document is, or its first fault: that of its first name, or of its fields
+-- the command that a document describes, or its first fault: that of its first name, or of its fields
 abbrev pub command_of : Doc → Result Command Fault
 command_of d = option_map_or (λ name. option_map_or Err (pairs_fault name [] d) (Ok (command_in name d)))
     (first_command d) (Err Fault.UnknownCommand)

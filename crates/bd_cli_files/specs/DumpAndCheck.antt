@@ -31,8 +31,8 @@ objects_found = codes " objects found" ++ 10 ∷ []
 abbrev pub shown_dump : List Doc → Option (List ℕ) → Transcript
 shown_dump ds wrong = shown_before (lines ds) wrong (decimal (length ds) ++ objects_found)
 
--- what `dump` shows of all bytes of an input, or of those before a failed read:
--- whole documents and the beginning of one more
+-- This is what `dump` shows of all bytes of an input, or of those before a failed read:
+-- well-formed documents and the beginning of one more.
 abbrev pub IsShownByDump : List ℕ → Option ReadFault → Transcript → Type 0
 IsShownByDump bytes None shown =
     (ds : List Doc) × (end : Option Fault) × IsWalk ds end bytes
@@ -41,8 +41,8 @@ IsShownByDump bytes (Some fault) shown =
     (ds : List Doc) × (front : List ℕ) × (part : List ℕ) × AreJoined ds front × IsCut part
     × (bytes ≡ front ++ part) × (shown ≡ shown_dump ds (Some (read_words fault)))
 
--- An input was read, whole or to a read that failed, and standard output has what is to be shown of it. Where no read
--- failed, no byte was read past the end, or past the document that has the first fault.
+-- The input was read, whole or up to a failed read, and standard output has what is to be shown of it.
+-- If no read failed, no byte was read past the end, or past the document that has the first fault.
 abbrev pub DumpsWhole : Over Reader → Over Writer → Transcript → Type 0
 DumpsWhole file out shown = (bytes : List ℕ) × (fault : Option ReadFault) × StreamsInput file bytes fault
     × IsShownByDump bytes fault shown × TakesText out shown.out
@@ -57,8 +57,8 @@ BreaksAtDocument file out = (ds : List Doc) × (d : Doc) × (given : List ℕ) �
     × Consumes file.before.left file.after.left given × (file.after.failures ≡ file.before.failures)
     × BreaksAfter out (lines ds) (lines (d ∷ []))
 
--- memory ran out after the lines of these documents:
--- the reader gave them and no byte past the next one, and no read failed
+-- Memory ran out after the lines of these documents:
+-- the reader gave them and no byte past the next one, and no read failed.
 abbrev pub StarvesAfterDocuments : Over Reader → Over Writer → Type 0
 StarvesAfterDocuments file out = (ds : List Doc) × (given : List ℕ) × AreJoined ds given × StopsWithinOne given file
     × (file.after.failures ≡ file.before.failures) × TakesText out (lines ds)

@@ -74,7 +74,7 @@ wrong_status (Some message) = Failed
 abbrev pub shown_before : List ℕ → Option (List ℕ) → List ℕ → Transcript
 shown_before out wrong counts = record { out = out; err = wrong_line wrong ++ counts; status = wrong_status wrong }
 
--- the text that a borrowed one is, if there is one
+-- the bytes of a borrowed text, if there is one
 abbrev pub told_bytes : Option (Bor (List ℕ)) → Option (List ℕ)
 told_bytes None = None
 told_bytes (Some text) = Some text.now

@@ -80,8 +80,8 @@ abbrev pub after_part : Option (List ℕ) → Result (Option Token) Reason
 after_part None = Ok None
 after_part (Some text) = then_part (token_part text) (λ t. Ok (Some t))
 
--- What a query and a sort that are documents ask for, or the message of what is refused first:
--- the request, the size of a batch, the path of the index, the token. Which index is named changes nothing else.
+-- What a query, a sort and the other options ask for, or the message of the first refusal:
+-- of the request, the batch size, the path of the index, the token.
 abbrev pub page_of : FindWords → Doc → Doc → Result PageRequest (List ℕ)
 page_of words query sort =
     then_part (told_as refused_text (request_of query sort words.skip words.limit)) (λ request.

@@ -125,11 +125,11 @@ told_refusal (refusals.Command fault) = command_refusal fault
 told_refusal (refusals.Path fault) = path_refusal fault
 told_refusal (refusals.Session refused) = session_refusal (reason_of refused)
 
--- the reply that a batch in memory is, with its documents
+-- the reply that gives a batch in memory, with its documents
 abbrev pub given_reply : List Doc → Batch → LineReply
 given_reply ds batch = gives (documents_at ds batch.places.items) batch.end (option_map token_text batch.token)
 
--- the reply that one in memory is, over these documents
+-- the reply that one in memory stands for, over these documents
 abbrev pub line_reply : List Doc → Reply → LineReply
 line_reply ds replies.Done = done
 line_reply ds (replies.Opened id) = opens id

@@ -55,7 +55,7 @@ pub record RepliesTo (old : Service) (line text : List ℕ) (new : Service) : Ty
 abbrev pub KeepsState : Service → Service → Type 0
 KeepsState old new = service_state new ≡ service_state old
 
--- the call to a session over this dump that one in memory is
+-- the call to a session over this dump that one in memory stands for
 abbrev pub session_call : Dump → Call → machine.Call
 session_call dump (calls.CreateIndex path sparse) = make_index sparse dump path
 session_call dump (calls.DropIndex path) = drop_call (string_bytes path.text)

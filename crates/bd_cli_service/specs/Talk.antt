@@ -1,4 +1,4 @@
--- A session over lines: the call that a line is, the replies to lines, and what always holds of them.
+-- A session over lines: the call in a line, the replies to lines, and what always holds of them.
 use Rattle.std.specs.Prelude.{◌≡◌, ◌≢◌, ◌⊎◌, ◌==◌, ℕ, List, [], ◌∷◌, ◌++◌, length, map, if◌then◌else◌, Option, Some}
 use Rattle.std.specs.Prelude.{None, option_and_then, option_map, Result, Ok, Err}
 use Rattle.std.specs.{List.filter_map, List.flat_map, List.zip, Result.result_ok, Str.IsUtf8}
@@ -42,8 +42,8 @@ search_of f =
     then_part (told_as session_refusal (request_of f.filter f.sort f.skip f.limit)) (λ request.
     then_part (told_as path_refusal (named_index (hint_path f.hint))) (λ _. Ok request))
 
--- Over a dump of these bytes, which are these documents: the call that a command is, or its first refusal;
--- of `resume` the token is looked at first.
+-- Over a dump of these bytes, which are these documents:
+-- the call that a command asks for, or its first refusal; of `resume` the token is looked at first.
 abbrev pub call_of : List ℕ → List Doc → Command → Result Call ToldRefusal
 call_of bytes ds (creates_index path sparse) =
     then_part (told_as path_refusal (path_of path)) (λ _. Ok (make_of ds (record { path = path; is_sparse = sparse })))
@@ -57,11 +57,11 @@ call_of bytes ds (kills_cursor id) = Ok (kill_call id)
 call_of bytes ds (commands.explains f) =
     then_part (search_of f) (λ r. Ok (explain_call (hint_path f.hint) (explanation_for ds r (way_by f.hint))))
 
--- the call that a document is, or its first refusal
+-- the call that a document describes, or its first refusal
 abbrev pub document_call : List ℕ → List Doc → Doc → Result Call ToldRefusal
 document_call bytes ds d = then_part (told_as command_refusal (command_of d)) (call_of bytes ds)
 
--- the reply to a line that a session's reply is, with the documents of a batch
+-- the reply to a line, made of the session's reply: with the documents of a batch instead of their numbers
 abbrev pub shown_reply : List Doc → machine.Reply → LineReply
 shown_reply ds (machine.opened id) = opens id
 shown_reply ds (machine.gave b) = gives (documents_at ds b.places) b.ends (option_map marked_text b.token)
@@ -78,7 +78,7 @@ shown_reply ds machine.foreign_token = refuses (session_refusal (plain reasons.F
 shown_reply ds machine.token_place = refuses (session_refusal (plain reasons.TokenPlace))
 shown_reply ds machine.out_of_range = refuses (session_refusal (plain reasons.Range))
 
--- The call that a line is, or why it is none. Of a line that is no document a fault is reported;
+-- The call in a line, or why there is none. Of a line that is no document a fault is reported;
 -- which one of a line that is UTF-8, no definition says.
 abbrev pub IsCallIn : List ℕ → List Doc → List ℕ → Result Call ToldRefusal → Type 0
 IsCallIn bytes ds line part = ((d : Doc) × ReadsAs line d × (part ≡ document_call bytes ds d)) ⊎ ((reading line ≡ None)
@@ -143,11 +143,11 @@ abbrev pub reply_lines : List LineReply → List ℕ
 reply_lines [] = []
 reply_lines (r ∷ rs) = reply_text r ++ 10 ∷ reply_lines rs
 
--- the call that a line is, if it is one
+-- the call in a line, if there is one
 abbrev pub line_call : List ℕ → List Doc → List ℕ → Option Call
 line_call bytes ds line = option_and_then (λ d. result_ok (document_call bytes ds d)) (reading line)
 
--- the calls that some of the lines are, in order
+-- the calls in lines, in order; lines without a call are left out
 abbrev pub calls_in : List ℕ → List Doc → List (List ℕ) → List Call
 calls_in bytes ds lines = filter_map (line_call bytes ds) lines
 
@@ -173,7 +173,7 @@ pub record ShowsInTurn (bytes : List ℕ) (ds : List Doc) (q : Query) (id : ℕ)
   pub in_turn : GivesInTurn q id ps (calls_in bytes ds lines) given
   pub shown : batches_shown bytes ds id lines rs ≡ map (λ b. shown_reply ds (gave b)) given
 
--- a line is this call and opens a cursor, after some lines and before others
+-- A line is this call and opens a cursor; some lines come before it and others after.
 pub record OpensInTalk (bytes : List ℕ) (ds : List Doc) (call : Call) (id : ℕ)
     (lines : List (List ℕ)) (rs : List LineReply)
     : Type 0 where

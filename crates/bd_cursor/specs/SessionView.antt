@@ -141,7 +141,8 @@ Steps told call old (Err why) new = IsRefused why call old new
 abbrev pub IsGranted : Session → IndexMark → Type 0
 IsGranted s i = reply (state_of s) (make_of (documents (dump_of s)) i) ≡ made (index_counts (documents (dump_of s)) i)
 
--- a call opens a cursor on what a request has left after a token, where its index is there and one more may be open
+-- The call opens a cursor on what a request has left after a token,
+-- if the index that it names is there and one more cursor may be open.
 pub record IsOpening (call : Call) (s : State) (q : Query) (hint : Option (List ℕ))
     (t : Option MarkedToken) : Type 0 where
   pub replies : reply s call ≡ open_reply s hint

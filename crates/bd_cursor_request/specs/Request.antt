@@ -20,7 +20,7 @@ abbrev pub direction_numbered : ℤ → Option Dir
 direction_numbered (pos n) = if n == 1 then Some Up else None
 direction_numbered (negsuc n) = if n == 0 then Some Down else None
 
--- the direction that a value in a sort is: an int32 or int64 of 1 or -1
+-- the direction of a value in a sort: an int32 or int64 of 1 or -1
 abbrev pub direction_of : Tree → Option Dir
 direction_of (leaf (trees.int32 z)) = direction_numbered z
 direction_of (leaf (trees.int64 z)) = direction_numbered z
@@ -31,7 +31,7 @@ abbrev pub sort_with : Result Names PathFault → Option Dir → Option (List So
 sort_with (Ok path) (Some dir) (Some ss) = Some (record { path = path; dir = dir } ∷ ss)
 sort_with _ _ _ = None
 
--- the paths and directions that the pairs of a document are; None if one is no such pair
+-- the paths and directions in the pairs of a document; None if a name is no path, or a value no direction
 abbrev pub sort_pairs : Doc → Option (List SortPath)
 sort_pairs [] = Some []
 sort_pairs (p ∷ ps) = sort_with (path_of p.0) (direction_of p.1) (sort_pairs ps)
@@ -82,7 +82,7 @@ abbrev pub request_with : Doc → Doc → ℕ → ℕ → Filter → List SortPa
 request_with filter sort skip limit f ss =
     record { filter = f; sorts = ss; skip = skip; limit = limit; text = request_text filter sort skip limit }
 
--- The request that documents and counts are, or why they are refused:
+-- The request that two documents and two counts describe, or why they are refused:
 -- the filter is looked at first, then the sort, then the counts.
 abbrev pub request_of : Doc → Doc → ℕ → ℕ → Result Request Reason
 request_of filter sort skip limit =
@@ -96,7 +96,7 @@ abbrev pub named_index : Option (List ℕ) → Result (Unit {0}) PathFault
 named_index None = Ok tt
 named_index (Some text) = then_part (path_of text) (λ _. Ok tt)
 
--- the token that a text is, or the refusal `not a token`
+-- the token in a text, or the refusal `not a token`
 abbrev pub token_part : List ℕ → Result Token Reason
 token_part text = ok_or (token_of text) (plain reasons.BadToken)
 

@@ -15,7 +15,7 @@ token_bytes t = 1 ∷ (to_le_bytes w64 t.given ++ (to_le_bytes w32 t.last ++ t.d
 abbrev pub token_text : Token → List ℕ
 token_text t = encode_of standard (token_bytes t)
 
--- the token that the 44 bytes after the version are
+-- the token in the 44 bytes after the version
 abbrev pub token_after_version : List ℕ → Token
 token_after_version bytes = record {
   given = from_le_bytes w64 (take 8 bytes);
@@ -23,12 +23,12 @@ token_after_version bytes = record {
   digest = drop 4 (drop 8 bytes);
 }
 
--- the token that 45 bytes of version 1 are; None for any other bytes
+-- the token in 45 bytes of version 1; None for any other bytes
 abbrev pub token_in : List ℕ → Option Token
 token_in [] = None
 token_in (version ∷ bytes) = if (version == 1) && (length bytes == 44) then Some (token_after_version bytes) else None
 
--- the token that a text of 60 characters of base64 is; None for any other text
+-- the token in a text of 60 characters of base64; None for any other text
 abbrev pub token_of : List ℕ → Option Token
 token_of text = if length text == 60 then option_and_then token_in (result_ok (decode_of standard text)) else None
 

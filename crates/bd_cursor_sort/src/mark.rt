@@ -21,6 +21,7 @@ pub(crate) struct Mark<'d> {
     pub keys: Vec<MarkKey<'d>>,
 }
 
+/// One path of a sort, its direction, and the key of the marked document on it.
 #[derive(Clone, Copy)]
 pub(crate) struct MarkKey<'d> {
     pub path: &'d Path,

@@ -41,6 +41,7 @@ impl<'d> SortKey<'d> {
         }
     }
 
+    /// The order of two keys in a direction, by their prefixes if these decide it.
     pub(crate) fn compare(&self, other: &SortKey<'_>, dir: Dir) -> Ordering
         ensures { result ≡ dir_cmp dir (kept_key self.now.key) (kept_key other.now.key) }
     {

@@ -12,7 +12,7 @@ use Rattle.bd_extjson_wrapper.specs.{WholeNumber.fits_bits, WholeNumber.whole_64
 use Rattle.bd_extjson_wrapper.specs.{declared.wrapper.Wrapper.Wrapper}
 use Rattle.bd_extjson_wrapper.specs.declared.wrapper.Wrapper.TheVariants as kinds
 
--- a bare whole number is an Int32 where it fits, else an Int64
+-- a bare whole number: an int32 if it fits, else an int64
 abbrev pub bare_number : Option ℤ → Option Tree
 bare_number None = None
 bare_number (Some z) = Some (leaf (if fits_bits 31 z then trees.int32 z else trees.int64 z))
@@ -38,7 +38,8 @@ abbrev pub with_scope : Option (List ℕ) → Option Tree → Option Tree
 with_scope (Some s) (Some (doc fs)) = Some (code_scope s fs)
 with_scope _ _ = None
 
--- an object of `$code` and `$scope`, in either order: of each its wrapper, its JSON value and what that stands for
+-- code with scope, if an object has exactly the names `$code` and `$scope`, in either order;
+-- each is given as its wrapper, its JSON value and what that stands for
 abbrev pub two : Wrapper → Json → Option Tree → Option Wrapper → Json → Option Tree → kit.Members → Option Tree
 two kinds.Code j t (Some kinds.Scope) i u kit.no_members = with_scope (as_str j) u
 two kinds.Scope j t (Some kinds.Code) i u kit.no_members = with_scope (as_str i) t
@@ -66,7 +67,7 @@ abbrev mutual
   wrap_object room (kit.member n j ms) = option_map_or (λ w. wrapped room w j (wrap (room - 1) j) ms) (wrapper_of n)
       (nested room (option_map doc (add_field n (wrap (room - 1) j) (wrap_fields (room - 1) ms))))
 
-  -- a wrapper's object, of its first member and the others
+  -- the value of a wrapper, by its first member and the others: of one name, or `$code` with `$scope`
   pub wrapped : ℕ → Wrapper → Json → Option Tree → kit.Members → Option Tree
   wrapped room w j t kit.no_members = option_map leaf (single w j)
   wrapped room w j t (kit.member name i ms) = nested room (two w j t (wrapper_of name) i (wrap (room - 1) i) ms)
@@ -76,7 +77,8 @@ abbrev mutual
   wrap_fields room kit.no_members = Some no_fields
   wrap_fields room (kit.member name j ms) = add_field name (wrap room j) (wrap_fields room ms)
 
--- the JSON value that a whole text is, with at most 203 brackets one in the other
+-- the JSON value of a whole text (RFC 8259, UTF-8),
+-- with at most 203 brackets inside one another; None if it is none
 abbrev pub json : List ℕ → Option Json
 json text = if is_utf8 text then option_and_then (λ p. if_last p.0 p.1) (value most_brackets (tokens text)) else None
 
@@ -85,7 +87,7 @@ abbrev pub document : Tree → Option Fields
 document (doc fs) = Some fs
 document _ = None
 
--- the document that a text is: JSON (RFC 8259) read as Extended JSON v2,
+-- the document in a text: JSON (RFC 8259) read as Extended JSON v2,
 -- with at most 200 levels; None if it is none
 abbrev pub reading : List ℕ → Option Doc
 reading text = option_map pairs_of (option_and_then document (option_and_then (wrap most_levels) (json text)))

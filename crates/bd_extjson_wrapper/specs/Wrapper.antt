@@ -31,16 +31,16 @@ abbrev pub wrapper_in : List (List ℕ × Wrapper) → List ℕ → Option Wrapp
 wrapper_in [] name = None
 wrapper_in (w ∷ ws) name = if bytes_eq name w.0 then Some w.1 else wrapper_in ws name
 
--- the wrapper that a name is, such as `$oid`; None for any other name
+-- the wrapper with this name, such as `$oid`; None for any other name
 unfoldable pub wrapper_of : List ℕ → Option Wrapper
 wrapper_of name = wrapper_in wrappers name
 
--- whether the wrapper that a name has is `$code`
+-- whether the wrapper of a name is `$code`
 abbrev pub is_code_name : Option Wrapper → Bool
 is_code_name (Some kinds.Code) = true
 is_code_name _ = false
 
--- whether the wrapper that a name has is `$scope`
+-- whether the wrapper of a name is `$scope`
 abbrev pub is_scope_name : Option Wrapper → Bool
 is_scope_name (Some kinds.Scope) = true
 is_scope_name _ = false

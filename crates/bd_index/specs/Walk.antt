@@ -31,6 +31,7 @@ pub record WalksEach (n : ℕ) (places : List ℕ) : Type 0 where
   pub count : n ≡ length documents
   pub walks : WalksAll dir path documents places
 
+-- a list in which some number equals q contains q
 contained : (ps : List ℕ) (q : ℕ) → list_any (λ m. m == q) ps ≡ true → Contains ps q
 contained ps q h = let a = Any-from_list_any (λ m. m == q) ps h in
     (a.0, a.2, subst (λ (m : ℕ). get_or ps a.0 m ≡ m) (eqb-true a.1 q a.4) a.3)

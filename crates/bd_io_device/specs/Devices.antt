@@ -36,7 +36,7 @@ reader_of left tally = record { left = left; calls = min tally.calls greatest; f
 abbrev pub writer_of : Option (List ℕ) → Tally → Writer
 writer_of held tally = record { held = held; calls = min tally.calls greatest; failures = min tally.failures greatest }
 
--- a device before a run and after it
+-- the two states of a device around a run: the one before it and the one after it
 pub record Over (Device : Type 0) : Type 0 where
   pub before : Device
   pub after : Device
@@ -49,12 +49,12 @@ between before after = record { before = before; after = after }
 abbrev pub over : {D Device : Type 0} → (D → Device) → D → D → Over Device
 over state old new = between (state old) (state new)
 
--- the writer took the whole text, and no write failed; of an empty text there was no write
+-- The writer took the whole text, and no write failed; for an empty text no write was made.
 abbrev pub TakesText : Over Writer → List ℕ → Type 0
 TakesText out text = Appends out.before.held out.after.held text × (out.after.failures ≡ out.before.failures)
     × (text ≡ [] → out.after ≡ out.before)
 
--- the writer took a prefix of the text, and no write failed
+-- The writer took a prefix of the text, and no write failed.
 abbrev pub TakesFront : Over Writer → List ℕ → Type 0
 TakesFront out text = (front : List ℕ) × (rest : List ℕ) × (text ≡ front ++ rest) × TakesText out front
 

@@ -1,4 +1,4 @@
--- The path that a text is: its names, or why it has none.
+-- The path in a text: its names, or why there is none.
 use Rattle.std.specs.Prelude.{ℕ, List, ◌==◌, nat_lt, length, map, string_bytes, Result, Ok, Err, if◌then◌else◌, codes, []}
 use Rattle.std.specs.{List.list_any, List.slice_split, Str.bytes_eq}
 use Rattle.bd_value.specs.Limits.{most_names}
@@ -14,7 +14,7 @@ components_of text = slice_split (λ c. c == 46) text
 abbrev pub component_names : List Component → Names
 component_names components = map (λ c. string_bytes c.name) components
 
--- the names of the path that a text is; or its fault:
+-- the names of the path in a text; or its fault:
 -- more than 100 names, which is tried first, or an empty name
 abbrev pub path_of : List ℕ → Result Names PathFault
 path_of text = let names = components_of text in

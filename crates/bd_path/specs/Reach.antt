@@ -15,12 +15,12 @@ is_index [] = false
 is_index (c ∷ []) = is_ascii_digit c
 is_index (c ∷ d ∷ cs) = if c == 48 then false else all_ascii_digits (c ∷ d ∷ cs)
 
--- the array index that a name is, such as 0 of `a.0`; None if it is no such number.
+-- the array index in a name, such as 0 in `a.0`; None if the name is no such number.
 -- It may be past the end of every array.
 abbrev pub index_of : List ℕ → Option ℕ
 index_of name = if is_index name then Some (digits_value 10 name) else None
 
--- the array index that a name is, as the code keeps it: above 2^64 - 1 it counts as that
+-- the array index in a name, as the code keeps it: above 2^64 - 1 it counts as that
 abbrev pub held_index : List ℕ → Option ℕ
 held_index name = option_map (λ i. min i 18446744073709551615) (index_of name)
 

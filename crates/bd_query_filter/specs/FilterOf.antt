@@ -145,7 +145,7 @@ abbrev pub has_value_form : Fields → Bool
 has_value_form no_fields = false
 has_value_form (field n t fs) = is_value_form (word_of n)
 
--- the filter that a pair is, by what its name is:
+-- the filter of a pair, by what its name is:
 -- `$and` and its kin of their filters, a field of its path and operators
 abbrev pub pair_filter : Word → Result Names PathFault → Result (List Filter) Refusal → Result (List Operator) Refusal
     → Result Filter Refusal
@@ -155,7 +155,7 @@ pair_filter words.Field (Ok path) filters operators = read_as (λ os. at_path pa
 pair_filter words.LeftOut path filters operators = refuse faults.NotInProfile
 pair_filter w path filters operators = refuse faults.UnknownOperator
 
--- the operator that a pair among operators is, by what its name is
+-- the operator of a pair among operators, by what its name is
 abbrev pub operator_of : Word → Tree → Result Operator Refusal → Result Operator Refusal → Result Operator Refusal
 operator_of (words.Plain p) t inverse element = plain_operator p t
 operator_of words.Not t inverse element = inverse
@@ -165,7 +165,7 @@ operator_of words.Field t inverse element = refuse faults.MixedOperators
 operator_of w t inverse element = refuse faults.UnknownOperator
 
 abbrev mutual
-  -- the filters that the pairs of a document are, in order, or the first refusal;
+  -- the filters of the pairs of a document, in order, or the first refusal;
   -- `room` more levels may be inside
   pub filters_of : ℕ → Fields → Result (List Filter) Refusal
   filters_of room no_fields = Ok []
@@ -188,7 +188,7 @@ abbrev mutual
   member_filter room (doc fs) = inner_part room (read_as (λ xs. all_of (filters_from xs)) (filters_of (room - 1) fs))
   member_filter room t = refuse faults.BadOperand
 
-  -- the operators that the value of a path is: those of a document of operators, else equality with the value
+  -- the operators in the value of a path: those of a document of operators, else equality with the value
   pub path_operators : ℕ → Tree → Result (List Operator) Refusal
   path_operators room (doc fs) = if first_is_operator fs then operators_of room fs else Ok (equals (doc fs) ∷ [])
   path_operators room t = read_as (λ v. equals v ∷ []) (unless_left_out (is_regex t) t)
@@ -217,6 +217,7 @@ abbrev mutual
       else inner_part room (read_as (λ xs. has_document (filters_from xs)) (filters_of (room - 1) fs))
   element_operator room t = refuse faults.BadOperand
 
--- the filter that a document is, or its first refusal; a filter has 50 levels at most, the top is level 1
+-- the filter that a document describes, or its first refusal;
+-- a filter has 50 levels at most, the top is level 1
 abbrev pub filter_of : Doc → Result Filter Refusal
 filter_of d = read_as (λ xs. all_of (filters_from xs)) (filters_of (most_filter_levels - 1) (fields_of d))

@@ -46,7 +46,7 @@ left_out_names =
 unfoldable pub is_left_out : List ℕ → Bool
 is_left_out name = list_any (λ left_out. bytes_eq left_out name) left_out_names
 
--- the supported operator that a name is, if it is one
+-- the supported operator with this name, if there is one
 unfoldable pub known_operator : List ℕ → Option Word
 known_operator name = option_map (λ row. row.1) (find (λ row. bytes_eq row.0 name) query_operators)
 

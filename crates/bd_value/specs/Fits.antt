@@ -89,12 +89,12 @@ abbrev mutual
   zero_in (array ts) = zero_in_items ts
   zero_in (code_scope s fs) = zero_in_fields fs
 
-  -- whether one of these fields has such a zero, in its name or its value
+  -- whether one of these fields has a zero in a `cstring`: in its name, or inside its value
   pub zero_in_fields : Fields → Bool
   zero_in_fields no_fields = false
   zero_in_fields (field name t fs) = has_zero name || (zero_in t || zero_in_fields fs)
 
-  -- whether one of these elements has such a zero; the names of elements are not stored
+  -- whether one of these elements has a zero in a `cstring` inside it; the names of elements are not stored
   pub zero_in_items : Items → Bool
   zero_in_items no_items = false
   zero_in_items (item t ts) = zero_in t || zero_in_items ts

@@ -18,7 +18,7 @@ use Rattle.bd_wide.specs.declared.order.Outcome.TheVariants as outcomes
 use Rattle.bd_wide.specs.declared.order.Unfiltered.TheVariants as unfiltered
 use Rattle.bd_wide.specs.declared.order.Unordered.TheVariants as unordered
 
--- the number that a value of this type is, if it is one
+-- the number in a value of this type, if it is a numeric one
 unfoldable pub number_at : ElementType → List ℕ → Option Number
 number_at Double value = Some (numbers.Double (long_of value))
 number_at Decimal128 value = Some (numbers.Decimal128 (long_of value) (long_of (drop 8 value)))

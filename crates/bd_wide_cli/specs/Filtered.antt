@@ -46,7 +46,8 @@ IsBadLength bytes = (number_of bytes < 5) ⊎ (longest_document < number_of byte
 abbrev pub BeginsWithNone : List ℕ → Type 0
 BeginsWithNone bytes = (length bytes < 4) ⊎ IsBadLength bytes ⊎ (length bytes < number_of bytes)
 
--- n documents in a row, numbered from 0; `kept` of them stay as they are, and this is written of all of them.
+-- The bytes are n documents in a row, numbered from 0; `kept` of them stay as they are, and this is written
+-- of all of them.
 pub data AreDocuments (filter : Filter) : ℕ → List ℕ → ℕ → List ℕ → Type 0 where
   none : AreDocuments filter 0 [] 0 []
   more : (n : ℕ) (documents written bytes new : List ℕ) (kept : ℕ) (filtered : Bool)

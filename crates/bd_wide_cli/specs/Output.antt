@@ -42,8 +42,8 @@ abbrev pub usage_text : List ℕ
 usage_text =
     codes "usage: bsonwide mask FILE\n       bsonwide wrap FILE\n       bsonwide order FILE [PATH..]\n"
 
--- Arguments that are no command: help is printed on standard output, and a refusal on standard error. Where a write
--- fails the status is 1.
+-- Arguments that are no command are reported: help on standard output, a refusal on standard error.
+-- If a write fails the status is 1.
 abbrev pub ReportsFault : WordsFault → Over Writer → Over Writer → Status → Type 0
 ReportsFault words.Help out err status = (TakesText out usage_text × (status ≡ Done))
     ⊎ (BreaksWithin out usage_text × TellsMessage err (error_line (codes "cannot write")) Failed status)

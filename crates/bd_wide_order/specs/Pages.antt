@@ -14,11 +14,11 @@ pub record Page : Type 0 where
 abbrev pub mark_of : Option MarkedToken → Option Mark
 mark_of token = option_map (λ t. t.mark) token
 
--- the page that a batch of a cursor is, whatever the digest of its token
+-- a batch of a cursor as a page, whatever the digest of its token
 abbrev pub page_of : GivenBatch → Page
 page_of b = record { places = b.places; mark = mark_of b.token; ends = b.ends }
 
--- the batches of a cursor, by sizes in turn
+-- the pages of a cursor, by sizes in turn
 abbrev pub pages_from : OpenCursor → List ℕ → List Page
 pages_from c [] = []
 pages_from c (size ∷ sizes) = page_of (batch_of c size) ∷ pages_from (moved c size) sizes

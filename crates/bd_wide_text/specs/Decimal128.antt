@@ -9,8 +9,8 @@ use Rattle.bd_wide_text.specs.Layout.{mantissa, zeros}
 abbrev pub power_text : ℕ → List ℕ
 power_text sum = if nat_lt sum 6177 then codes "E-" ++ decimal (6177 - sum) else codes "E+" ++ decimal (sum - 6177)
 
--- The number with these digits, times 10 ^ (biased - 6176). The power of ten is written where it is above 0, and where more
--- than five zeros would stand between the point and the digits.
+-- The number with these digits, times 10 ^ (biased - 6176). The power of ten is written if it is above 0,
+-- or if more than five zeros would come between the point and the digits.
 unfoldable pub scientific_string : List ℕ → ℕ → List ℕ
 scientific_string digits biased =
     let sum = biased + length digits in
