@@ -17,6 +17,7 @@ use Rattle.bd_bson_view.specs.declared.raw_parts.Holder.TheVariants as holders
 abbrev err : {A : Type 0} → Fault → Result A Fault
 err f = Err f
 
+-- a reader that stopped at a fault stopped at that of the item, if the item has it
 pub told_fails : {A : Type 0} (r : Stop) (f : Fault) (read : Result A Fault) → TellsStop r f → read ≡ err f → FailsAtItem r read
 told_fails stops.NoMemory f read told is = tt
 told_fails (stops.Found g) f read told is = is ∙ ap err told

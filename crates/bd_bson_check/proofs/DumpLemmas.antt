@@ -18,6 +18,7 @@ told body rest short =
     let size = framed_length body in
     ap number_of (framed_after body rest) ∙ number_front (length body + 5) (body ++ 0 ∷ rest) (omega arith) ∙ sym size
 
+-- a length from 5 to 16,793,600 that is not past the end is the length of a document
 pub frame_good : (bytes : List ℕ) (n : ℕ) → length_told bytes ≡ n → 5 ≤ n → n ≤ longest_document → n ≤ length bytes → frame_length bytes ≡ Ok (Some n)
 frame_good [] n is low high le = absurd (omega arith)
 frame_good (b ∷ bytes) n is low high le =
@@ -25,6 +26,7 @@ frame_good (b ∷ bytes) n is low high le =
     let tests = or_from (ltb n 5 || ltb longest_document n) (ltb (length (b ∷ bytes)) n) (or_from (ltb n 5) (ltb longest_document n) (le-ltb _ _ low) (le-ltb _ _ high)) (le-ltb _ _ le) in
     rw (long, is, tests) refl
 
+-- the length at the start of a document's bytes counts exactly these, whatever follows
 pub document_frame : (d : Doc) (front rest : List ℕ) → IsDocument d front → frame_length (front ++ rest) ≡ Ok (Some (length front))
 document_frame d front rest h =
     let s = h.spells in
@@ -34,6 +36,7 @@ document_frame d front rest h =
 
 -- ---- the walk over a dump ends in one way
 
+-- the bytes of a document have no fault
 pub document_faultless : (base : ℕ) (bytes : List ℕ) (d : Doc) → IsDocument d bytes → first_fault base bytes ≡ None
 document_faultless base bytes d h = ap result_err (document_again (base + length bytes) bytes d h)
 
@@ -81,6 +84,7 @@ walk_ends : (ds : List Doc) (o : Option Fault) (bytes : List ℕ) → IsWalk ds 
 walk_ends ds None bytes v = (bytes, [], v, sym (append-nil bytes), nothing_stuck, refl)
 walk_ends ds (Some f) bytes v = (v.0, v.1, v.2, v.3, fault_stuck (length v.0) v.1 f v.4, v.4)
 
+-- bytes have one walk: one list of documents, and one fault after them or none
 pub walk_once : (ds es : List Doc) (o p : Option Fault) (bytes : List ℕ) → IsWalk ds o bytes → IsWalk es p bytes → (ds ≡ es) × (o ≡ p)
 walk_once ds es o p bytes v w =
     let a = walk_ends ds o bytes v in
@@ -90,10 +94,12 @@ walk_once ds es o p bytes v w =
 
 -- ---- and it ends
 
+-- two dumps joined are the dump of the documents of both
 pub joined_append : (ds es : List Doc) (a b : List ℕ) → AreJoined ds a → AreJoined es b → AreJoined (ds ++ es) (a ++ b)
 joined_append [] es a b p q = subst (AreJoined es) (sym (ap (λ (v : List ℕ). v ++ b) p)) q
 joined_append (d ∷ ds) es a b p q = (p.0, p.1 ++ b, p.2, joined_append ds es p.1 b p.3 q, ap (λ (v : List ℕ). v ++ b) p.4 ∙ append_assoc p.0 p.1 b)
 
+-- the bytes of a document are a dump of that document alone
 pub joined_one : (d : Doc) (bytes : List ℕ) → IsDocument d bytes → AreJoined (d ∷ []) bytes
 joined_one d bytes h = (bytes, [], h, refl, sym (append-nil bytes))
 
@@ -139,6 +145,7 @@ no_fault : (r : Result (Unit {0}) Fault) → result_err r ≡ None → r ≡ Ok 
 no_fault (Ok u) is = refl
 no_fault (Err f) is = absurd cc
 
+-- bytes without a fault are a document
 pub found_document : (base : ℕ) (bytes : List ℕ) → IsBytes bytes → first_fault base bytes ≡ None → (d : Doc) × IsDocument d bytes
 found_document base bytes fits is = document_found (base + length bytes) bytes fits (no_fault (past_document (base + length bytes) bytes) is)
 

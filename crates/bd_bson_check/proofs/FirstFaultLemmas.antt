@@ -30,12 +30,15 @@ use Rattle.bd_bson_view.specs.declared.raw_parts.ElementType.TheVariants as type
 use Rattle.bd_bson_view.specs.declared.raw_parts.Holder.TheVariants as holders
 use Rattle.bd_bson_view.specs.Spelling as table
 
+-- Each number of the list is a byte; past the end it counts as 0.
 abbrev pub IsBytes : List ℕ → Type 0
 IsBytes bytes = (i : ℕ) → get_or bytes i 0 < 256
 
+-- bytes without the first n are bytes
 pub IsBytes-drop : (n : ℕ) (bytes : List ℕ) → IsBytes bytes → IsBytes (drop n bytes)
 IsBytes-drop n bytes h i = rw get_or-drop (h (n + i))
 
+-- the first n of some bytes are bytes
 pub IsBytes-take : (n : ℕ) (bytes : List ℕ) → IsBytes bytes → IsBytes (take n bytes)
 IsBytes-take n bytes h i =
     elim (cases_lt i n) [
@@ -598,6 +601,7 @@ next_again nested place zero e t name value rest bytes named is turns first othe
 next_again nested place (suc n) e t name value rest bytes named is turns first others =
     rw (is, element_again nested place e t name value rest named first) (others n (omega (arith, ap length is, length-append (element t name value) rest)))
 
+-- no elements have no fault
 pub elements_nil : (nested : Nested) (place : Option ℕ) (n e : ℕ) → past_elements nested place n e [] ≡ Ok tt
 unfolding past_elements
 elements_nil nested place zero e = refl

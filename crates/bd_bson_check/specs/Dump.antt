@@ -6,11 +6,12 @@ use Rattle.bd_value.specs.{Limits.longest_document, Limits.longest_input, Tree.D
 use Rattle.bd_bson_view.specs.{Spelling.IsDocument, Sound.stands, declared.raw.RawDoc.RawDoc}
 use Rattle.bd_bson_check.specs.{Fault.Fault, FirstFault.first_fault, declared.fault.FaultKind.FaultKind}
 
--- the length that the first four bytes tell
+-- the length that a document says it has: its first four bytes as a number, least first; below 2^32
 abbrev pub length_told : List ℕ → ℕ
 length_told bytes = from_le_bytes w32 (take 4 bytes)
 
--- how many bytes the document at the front is to take, none at the end, or why that can't be
+-- the length of the document at the start, None at the end of the bytes; or the fault:
+-- fewer than four bytes, or a length that is below 5, above 16,793,600 or past the end
 abbrev pub frame_length : List ℕ → Result (Option ℕ) FaultKind
 frame_length [] = Ok None
 frame_length (b ∷ bytes) = if nat_lt (length (b ∷ bytes)) 4 then Err FaultKind.ShortLength
@@ -18,37 +19,40 @@ frame_length (b ∷ bytes) = if nat_lt (length (b ∷ bytes)) 4 then Err FaultKi
     || nat_lt (length (b ∷ bytes)) (length_told (b ∷ bytes)) then Err FaultKind.BadLength
     else Ok (Some (length_told (b ∷ bytes))))
 
--- the fault of the document at the front of bytes that begin at the place: of its length, or of the bytes it counts
+-- the fault of the document at the start, whose length was read or is at fault
 abbrev pub framed_fault : ℕ → List ℕ → Result (Option ℕ) FaultKind → Option Fault
 framed_fault base bytes (Ok None) = None
 framed_fault base bytes (Ok (Some n)) = first_fault base (take n bytes)
 framed_fault base bytes (Err kind) = Some (record { kind = kind; offset = base; path = [] })
 
+-- the first fault of the document at the start of bytes, the first of which is at this offset of the dump;
+-- None if it is well-formed, and at the end of the bytes
 abbrev pub frame_fault : ℕ → List ℕ → Option Fault
 frame_fault base bytes = framed_fault base bytes (frame_length bytes)
 
--- the document that stands at a place of the bytes, and the place after it; none at the end
+-- The document at this offset, as a view, and the offset after it; None at the end of the bytes.
 abbrev pub IsNext : List ℕ → ℕ → Option (RawDoc × ℕ) → Type 0
 IsNext bytes at None = drop at bytes ≡ []
 IsNext bytes at (Some p) = (front : List ℕ) × IsDocument (pairs_in (stands p.0.sound)) front
     × (drop at bytes ≡ front ++ drop p.1 bytes) × (at + length front ≡ p.1) × (p.1 ≤ length bytes)
 
--- the bytes are spellings of the documents
+-- The bytes are these documents, one after the other with nothing between.
 abbrev pub AreJoined : List Doc → List ℕ → Type 0
 AreJoined [] bytes = bytes ≡ []
 AreJoined (d ∷ ds) bytes =
     (front : List ℕ) × (rest : List ℕ) × IsDocument d front × AreJoined ds rest × (bytes ≡ front ++ rest)
 
--- the bytes are a dump of the documents
+-- The bytes are a dump of these documents: at most 4,294,967,295 bytes, with nothing between them.
 abbrev pub IsDump : List Doc → List ℕ → Type 0
 IsDump ds bytes = AreJoined ds bytes × (length bytes ≤ longest_input)
 
--- the documents are whole, and the one after them has the fault; it has as its number their count
+-- The bytes begin with these documents, and the document after them has this fault.
 abbrev pub FailsAfter : List Doc → Fault → List ℕ → Type 0
 FailsAfter ds f bytes = (front : List ℕ) × (rest : List ℕ) × AreJoined ds front × (bytes ≡ front ++ rest)
     × (frame_fault (length front) rest ≡ Some f)
 
--- the documents before the first fault, and that fault, or all documents
+-- The bytes are these documents, or, if there is a fault, they begin with these,
+-- and the document after them has it.
 abbrev pub IsWalk : List Doc → Option Fault → List ℕ → Type 0
 IsWalk ds None bytes = AreJoined ds bytes
 IsWalk ds (Some f) bytes = FailsAfter ds f bytes

@@ -3,16 +3,18 @@ use Rattle.std.specs.Prelude.{◌≡◌, ◌⊎◌, ℕ, List, [], ◌∷◌, ma
 use Rattle.std.specs.Prelude.{string_bytes, codes, MatchResult}
 use Rattle.bd_bson_check.specs.declared.fault.{Fault.Fault as HeldFault, Finding.Finding, FaultKind.FaultKind, Stop.Stop}
 
+-- The first check of BSON that fails: its kind, its byte offset from the start of the dump, and the path of
+-- names, array indexes and `$scope` from the top to the item; empty for a fault of the document itself.
 pub record Fault : Type 0 where
   pub kind : FaultKind
   pub offset : ℕ
   pub path : List (List ℕ)
 
--- the same fault, seen from one level up
+-- the same fault with a name put before its path, as the document around the item reports it
 abbrev pub longer : List ℕ → Fault → Fault
 longer name f = record { kind = f.kind; offset = f.offset; path = name ∷ f.path }
 
--- what a reader of an item found, which keeps the path from the item up
+-- the fault that a reader found, which keeps the path from the item up
 abbrev pub found_fault : Finding → Fault
 found_fault f = record { kind = f.kind; offset = f.offset; path = reverse (map string_bytes f.path.items) }
 
@@ -21,44 +23,48 @@ abbrev pub TellsStop : Stop → Fault → Type 0
 TellsStop Stop.NoMemory f = Unit {0}
 TellsStop (Stop.Found g) f = f ≡ found_fault g
 
--- its answer, seen by a view, is what going past the item gives, or memory ran out
+-- a reader stopped at the fault that the item has, or memory ran out
 abbrev pub FailsAtItem : {Y : Type 0} → Stop → Result Y Fault → Type 0
 FailsAtItem Stop.NoMemory given = Unit {0}
 FailsAtItem (Stop.Found f) given = given ≡ Err (found_fault f)
 
+-- a reader's answer, seen by the view, is what the definition gives for the item,
+-- its value or its fault; or memory ran out
 abbrev pub GivesItem : {X Y : Type 0} → (X → Y) → Result X Stop → Result Y Fault → Type 0
 GivesItem view answer given = MatchResult answer (λ x. given ≡ Ok (view x)) (λ e. FailsAtItem e given)
 
--- the fault that was answered, without the number of the document
+-- the fault that one in memory reports, without the number of its document
 abbrev pub fault_view : HeldFault → Fault
 fault_view e = record { kind = e.kind; offset = e.offset; path = map string_bytes e.path.items }
 
--- the fault of the document of that number
+-- The fault in memory is this one, of the document with that number.
 pub record IsFault (number : ℕ) (f : Fault) (e : HeldFault) : Type 0 where
   pub same : f ≡ fault_view e
   pub document : e.document ≡ number
 
--- a fault of that kind, which has no place
+-- The fault in memory has this kind, and document 0, offset 0 and the empty path.
 pub record HasNoPlace (fault : FaultKind) (e : HeldFault) : Type 0 where
   pub kind : e.kind ≡ fault
   pub document : e.document ≡ 0
   pub offset : e.offset ≡ 0
   pub path : e.path.items ≡ []
 
--- no memory was given
+-- The fault in memory says that memory ran out.
 abbrev pub IsWantOfMemory : HeldFault → Type 0
 IsWantOfMemory e = HasNoPlace FaultKind.NoMemory e
 
+-- the fault that is answered for the document of that number after such a stop:
+-- the one found, or out of memory
 abbrev pub IsOf : Stop → ℕ → HeldFault → Type 0
 IsOf Stop.NoMemory number e = IsWantOfMemory e
 IsOf (Stop.Found g) number e = IsFault number (found_fault g) e
 
--- the fault that was answered is the one there is, or that memory ran out
+-- The fault in memory is the one that there is, or says that memory ran out.
 abbrev pub TellsFault : ℕ → Option Fault → HeldFault → Type 0
 TellsFault number None e = IsWantOfMemory e
 TellsFault number (Some f) e = IsWantOfMemory e ⊎ IsFault number f e
 
--- the number of a kind
+-- the number of a kind of fault, 1 to 17
 abbrev pub fault_number : FaultKind → ℕ
 fault_number FaultKind.ShortLength = 1
 fault_number FaultKind.BadLength = 2
@@ -78,7 +84,7 @@ fault_number FaultKind.ValueShort = 15
 fault_number FaultKind.DumpTooLong = 16
 fault_number FaultKind.NoMemory = 17
 
--- what went wrong, in words
+-- the message of a kind of fault
 unfoldable pub fault_words : FaultKind → List ℕ
 fault_words FaultKind.ShortLength = codes "length cut short"
 fault_words FaultKind.BadLength = codes "bad length"

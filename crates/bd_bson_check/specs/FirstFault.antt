@@ -1,6 +1,8 @@
--- The first check that fails, from left to right, in bytes that are to be one document. No tree is built.
--- Each function goes past one item at the front of its bytes, and gives the bytes after it or the fault.
--- e is the place that the item may not pass, and the bytes are those up to it: the item stands at e less their number.
+-- The first check that fails, from left to right,
+-- in bytes that must be one document (BSON 1.1). No tree is built.
+-- Each function checks one item at the start of its bytes, and gives the bytes after it, or the fault.
+-- e is the offset that the item may not pass, and the bytes end there:
+-- the item is at offset `e - length bytes`.
 use Rattle.std.specs.Prelude.{ℕ, zero, suc, ◌+◌, ◌-◌, List, [], ◌∷◌, length, take, drop, Option, Some, None, option_map}
 use Rattle.std.specs.Prelude.{Result, Ok, Err, Bool, true, false, nat_lt, ◌==◌, ◌||◌, ◌&&◌, not, if◌then◌else◌, decimal}
 use Rattle.std.specs.Prelude.{codes, slice_index_or}
@@ -15,45 +17,47 @@ use Rattle.bd_bson_check.specs.declared.fault.FaultKind.TheVariants.{BadStringLe
 use Rattle.bd_bson_check.specs.declared.fault.FaultKind.TheVariants.{BadBinaryLength, BadScopeLength, TooDeep, ValueShort}
 
 infixl 10 ◌>>=◌
+-- what follows an item without a fault; after a fault nothing more is looked at
 abbrev pub ◌>>=◌ : {A B : Type 0} → Result A Fault → (A → Result B Fault) → Result B Fault
 (Ok x) >>= f = f x
 (Err e) >>= f = Err e
 
+-- the fault of that kind at that byte offset, with the empty path: names are added on the way up
 abbrev pub fault : {A : Type 0} → FaultKind → ℕ → Result A Fault
 fault kind at = Err (record { kind = kind; offset = at; path = [] })
 
--- a number of four bytes, and the bytes after it
+-- an `int32`, and the bytes after it; fewer than four bytes are the fault `short`
 abbrev pub past_number : FaultKind → ℕ → List ℕ → Result (ℕ × List ℕ) Fault
 past_number short e bytes = if nat_lt (length bytes) 4 then fault short (e - length bytes)
     else Ok (from_le_bytes w32 (take 4 bytes), drop 4 bytes)
 
--- the bytes after a zero
+-- the bytes after a zero byte; at another byte, or at the end, is the fault of that kind
 abbrev pub past_zero : FaultKind → ℕ → List ℕ → Result (List ℕ) Fault
 past_zero kind e [] = fault kind (e - 0)
 past_zero kind e (zero ∷ rest) = Ok rest
 past_zero kind e (suc b ∷ rest) = fault kind (e - suc (length rest))
 
--- a text, which stands at the place
+-- a text at that offset; if it is not UTF-8, the fault is at the first bad byte
 abbrev pub text_at : ℕ → List ℕ → Result (List ℕ) Fault
 text_at at bytes = if is_utf8 bytes then Ok bytes else fault BadUtf8 (at + utf8_valid_len bytes)
 
--- The text before the first zero, and the bytes after that zero. The kind is the fault where there is no zero.
+-- a `cstring`: its text, and the bytes after its zero. If there is no zero, the fault has that kind.
 unfoldable pub past_name : FaultKind → ℕ → List ℕ → Result (List ℕ × List ℕ) Fault
 past_name kind e bytes = do
   k ← ok_or (position (λ b. b == 0) bytes) (record { kind = kind; offset = e - length bytes; path = [] })
   name ← text_at (e - length bytes) (take k bytes)
   Ok (name, drop (k + 1) bytes)
 
--- so many bytes
+-- the bytes after a value of n bytes; the fault is `value cut short`
 abbrev pub past_fixed : ℕ → ℕ → List ℕ → Result (List ℕ) Fault
 past_fixed n e bytes = if nat_lt (length bytes) n then fault ValueShort (e - length bytes) else Ok (drop n bytes)
 
--- a boolean: 00 or 01
+-- the bytes after a boolean (element 0x08), which is 00 or 01
 abbrev pub past_boolean : ℕ → List ℕ → Result (List ℕ) Fault
 past_boolean e [] = fault ValueShort (e - 0)
 past_boolean e (b ∷ rest) = if nat_lt 1 b then fault BadBoolean (e - suc (length rest)) else Ok rest
 
--- a string: the length, the text, a zero
+-- the bytes after a `string`: its length, its text in UTF-8, a zero
 unfoldable pub past_string : ℕ → List ℕ → Result (List ℕ) Fault
 past_string e bytes = do
   n ← past_number ValueShort e bytes
@@ -61,27 +65,29 @@ past_string e bytes = do
       else (past_zero StringUnended e (drop (n.0 - 1) n.1)
       >>= λ rest. text_at (e - length n.1) (take (n.0 - 1) n.1) >>= λ text. Ok rest)
 
--- a regular expression: two texts, each ended by a zero
+-- the bytes after a regular expression (element 0x0B): two `cstring`s
 abbrev pub past_regex : ℕ → List ℕ → Result (List ℕ) Fault
 past_regex e bytes = do
   pattern ← past_name StringUnended e bytes
   options ← past_name StringUnended e pattern.1
   Ok options.1
 
--- binary: the count of the data, the subtype, the data, which in subtype 02 begin with the count of the others
+-- the bytes after the data of binary, of this subtype and count; in subtype 02 (binary,
+-- old) the data begins with an int32 that counts the rest. `at` is the offset of the value.
 abbrev pub past_data : ℕ → ℕ → ℕ → List ℕ → Result (List ℕ) Fault
 past_data at subtype count bytes = if subtype == 2 && nat_lt count 4 then fault BadBinaryLength at
     else (if subtype == 2 && not (number_of bytes == count - 4) then fault BadBinaryLength (at + 5)
     else Ok (drop count bytes))
 
+-- the bytes after binary (element 0x05): a count that is not negative and not past e, the subtype, the data
 unfoldable pub past_binary : ℕ → List ℕ → Result (List ℕ) Fault
 past_binary e bytes = if nat_lt (length bytes) 5 then fault ValueShort (e - length bytes)
     else (if nat_lt 2147483647 (number_of bytes) || nat_lt (length bytes) (5 + number_of bytes)
     then fault BadBinaryLength (e - length bytes)
     else past_data (e - length bytes) (slice_index_or bytes 4 0) (number_of bytes) (drop 5 bytes))
 
--- A document: the length, the elements, a zero; at the top it is all of the bytes. Given are the bytes of the elements,
--- the end of these, and the bytes after the document.
+-- The frame of a document: its length, its elements, a zero; at the top it must be all of the bytes.
+-- The result: the bytes of the elements, the offset of their end, and the bytes after the document.
 unfoldable pub past_frame : Bool → ℕ → List ℕ → Result (List ℕ × ℕ × List ℕ) Fault
 past_frame top e bytes = do
   n ← past_number (if top then ShortLength else ValueShort) e bytes
@@ -90,17 +96,21 @@ past_frame top e bytes = do
       else (past_zero NoTerminator e (drop (n.0 - 5) n.1)
       >>= λ rest. Ok (take (n.0 - 5) n.1, e - length (drop (n.0 - 5) n.1), rest))
 
--- code with scope, in the same way: the length, the code, the scope
+-- the length of code with scope (element 0x0F):
+-- the bytes of its code and scope, the offset of their end, and the bytes after it
 unfoldable pub past_code_frame : ℕ → List ℕ → Result (List ℕ × ℕ × List ℕ) Fault
 past_code_frame e bytes = do
   n ← past_number ValueShort e bytes
   if nat_lt n.0 14 || nat_lt (length bytes) n.0 then fault BadScopeLength (e - length bytes)
       else Ok (take (n.0 - 4) n.1, e - length (drop (n.0 - 4) n.1), drop (n.0 - 4) n.1)
 
--- what holds values, and has its element's type byte at q
+-- how a value that holds values is checked, by its kind, by the offset q of its element's type byte,
+-- by e, and by its bytes
 abbrev pub Nested : Type 0
 Nested = Holder → ℕ → ℕ → List ℕ → Result (List ℕ) Fault
 
+-- the bytes after a value of that kind; q is the offset of its element's type byte,
+-- where a value too deep is reported
 abbrev pub past_value : Nested → Kind → ℕ → ℕ → List ℕ → Result (List ℕ) Fault
 past_value nested Kind.MinKey q e bytes = Ok bytes
 past_value nested Kind.Undefined q e bytes = Ok bytes
@@ -122,21 +132,23 @@ past_value nested Kind.Doc q e bytes = nested Holder.Document q e bytes
 past_value nested Kind.Array q e bytes = nested Holder.Array q e bytes
 past_value nested Kind.CodeScope q e bytes = nested Holder.CodeScope q e bytes
 
--- doubles and decimal128 are refused before their bytes are looked at
+-- the bytes after a value of that type; a double (0x01) and a decimal128 (0x13) are faults,
+-- and their bytes are not looked at
 abbrev pub past_typed : Nested → ElementType → ℕ → ℕ → List ℕ → Result (List ℕ) Fault
 past_typed nested ElementType.Double q e bytes = fault Double q
 past_typed nested ElementType.Decimal128 q e bytes = fault Decimal128 q
 past_typed nested (ElementType.Kept kind) q e bytes = past_value nested kind q e bytes
 
--- an element on a path: in an array its position, in a document its name
+-- how the path of a fault names an element: in an array by its index, in a document by its name
 abbrev pub label : Option ℕ → List ℕ → List ℕ
 label place name = option_map_or decimal place name
 
+-- the same result, with the name put before the path of a fault in it
 abbrev pub within : {A : Type 0} → List ℕ → Result A Fault → Result A Fault
 within name (Ok x) = Ok x
 within name (Err f) = Err (longer name f)
 
--- an element: the type byte, the name, the value
+-- the bytes after an element: its type byte, its name, its value
 unfoldable pub past_element : Nested → Option ℕ → ℕ → List ℕ → Result (List ℕ) Fault
 past_element nested place e [] = fault UnknownType e
 past_element nested place e (b ∷ bytes) = do
@@ -144,7 +156,8 @@ past_element nested place e (b ∷ bytes) = do
   name ← past_name NameUnended e bytes
   within (label place name.0) (past_typed nested type (e - suc (length bytes)) e name.1)
 
--- All elements. The first number bounds the turns: the count of the bytes is always enough.
+-- All elements of a document or an array. The first number bounds the turns:
+-- the count of the bytes is always enough.
 unfoldable pub past_elements : Nested → Option ℕ → ℕ → ℕ → List ℕ → Result (Unit {0}) Fault
 past_elements nested place zero e bytes = Ok tt
 past_elements nested place (suc n) e [] = Ok tt
@@ -152,13 +165,13 @@ past_elements nested place (suc n) e (b ∷ bytes) = do
   rest ← past_element nested place e (b ∷ bytes)
   past_elements nested (option_map suc place) n e rest
 
--- a document or an array, whose elements count from 0
+-- the bytes after a document, or after an array, whose elements are counted from 0
 abbrev pub past_body : Nested → Bool → ℕ → List ℕ → Result (List ℕ) Fault
 past_body nested in_array e bytes = do
   f ← past_frame false e bytes
   past_elements nested (if in_array then Some 0 else None) (length f.0) f.1 f.0 >>= λ u. Ok f.2
 
--- code with scope: its scope ends where it does
+-- the bytes after code with scope, whose scope must end where it ends
 abbrev pub past_code_scope : Nested → ℕ → ℕ → List ℕ → Result (List ℕ) Fault
 past_code_scope nested q e bytes = do
   f ← past_code_frame e bytes
@@ -166,7 +179,8 @@ past_code_scope nested q e bytes = do
   after ← within (codes "$scope") (nested Holder.Document q f.1 scope)
   if nat_lt 0 (length after) then fault BadScopeLength (e - length bytes) else Ok f.2
 
--- what holds values, with so many levels left for it; a scope is two levels deeper than what holds its code
+-- The bytes after a value that holds values, with `room` levels left for it;
+-- code with scope takes one and its scope another.
 unfoldable pub past_nested : ℕ → Nested
 past_nested zero holder q e bytes = fault TooDeep q
 past_nested (suc room) Holder.Document q e bytes = past_body (past_nested room) false e bytes
@@ -174,12 +188,13 @@ past_nested (suc room) Holder.Array q e bytes = past_body (past_nested room) tru
 past_nested (suc zero) Holder.CodeScope q e bytes = fault TooDeep q
 past_nested (suc (suc room)) Holder.CodeScope q e bytes = past_code_scope (past_nested (suc room)) q e bytes
 
--- the document that all of the bytes are to be, which is at level 1 of 200
+-- the document that all of the bytes must be, at level 1 of 200
 unfoldable pub past_document : ℕ → List ℕ → Result (Unit {0}) Fault
 past_document e bytes = do
   f ← past_frame true e bytes
   past_elements (past_nested (most_levels - 1)) None (length f.0) f.1 f.0
 
--- its first fault, where it begins at the place, or none
+-- the first fault of bytes that must be one document, the first of which is at offset `base` of the dump;
+-- None if they are a document
 abbrev pub first_fault : ℕ → List ℕ → Option Fault
 first_fault base bytes = result_err (past_document (base + length bytes) bytes)

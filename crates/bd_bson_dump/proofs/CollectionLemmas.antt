@@ -38,6 +38,7 @@ documents_count bytes (s ∷ ss) all = ap suc (documents_count bytes ss all.1)
 abbrev some : Doc → Option Doc
 some d = Some d
 
+-- a dump has as many documents as starts
 pub documents_length : (dump : Dump) → length (documents dump) ≡ length dump.starts.items
 unfolding documents
 documents_length dump = documents_count dump.bytes.items dump.starts.items dump.stand

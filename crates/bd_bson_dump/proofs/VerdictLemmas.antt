@@ -36,6 +36,7 @@ turns_enough (suc m) (suc n) base bytes a b =
 
 -- ---- the documents in turn
 
+-- the end of a dump has no verdicts
 pub none_at : (base : ℕ) → verdicts_at base [] ≡ []
 unfolding verdicts_at
 none_at base = nothing_from 0 base
@@ -49,6 +50,7 @@ after_enough : (turns base : ℕ) (bytes : List ℕ) → length bytes ≤ turns 
 unfolding verdicts_at
 after_enough turns base bytes le = turns_enough turns (length bytes) base bytes le (omega arith)
 
+-- the verdicts begin with that on the first document, and go on after the bytes that its length counts
 pub turn_at : (base n : ℕ) (bytes : List ℕ) → frame_length bytes ≡ Ok (Some n) → verdicts_at base bytes ≡ first_fault base (take n bytes) ∷ verdicts_at (base + n) (drop n bytes)
 turn_at base n [] is = absurd cc
 turn_at base n (b ∷ bytes) is =
@@ -56,6 +58,7 @@ turn_at base n (b ∷ bytes) is =
     by_frame base b bytes (Ok (Some n)) is
     ∙ ap (λ (vs : Verdicts). first_fault base (take n (b ∷ bytes)) ∷ vs) (after_enough (length bytes) (base + n) (drop n (b ∷ bytes)) (omega (arith, i.0, i.1, length-drop n (b ∷ bytes))))
 
+-- a bad length has the last verdict
 pub last_at : (base : ℕ) (bytes : List ℕ) (kind : FaultKind) → frame_length bytes ≡ Err kind → verdicts_at base bytes ≡ Some (record { kind = kind; offset = base; path = [] }) ∷ []
 last_at base [] kind is = absurd cc
 last_at base (b ∷ bytes) kind is = by_frame base b bytes (Err kind) is
@@ -84,6 +87,7 @@ fault_at base bytes f (Ok (Some n)) is has =
     (others, turn_at base n bytes is ∙ ap (λ (v : Option Fault). v ∷ others) has)
 fault_at base bytes f (Err kind) is has = ([], last_at base bytes kind is ∙ ap (λ (v : Option Fault). v ∷ []) has)
 
+-- the verdicts begin as the walk does: none has a fault before the first fault
 pub as_walk : (ds : List Doc) (end : Option Fault) (bytes : List ℕ) → IsWalk ds end bytes → BeginAs ds end (verdicts bytes)
 as_walk ds None bytes w =
     ap verdicts (sym (append-nil bytes)) ∙ joined_at 0 ds bytes [] w

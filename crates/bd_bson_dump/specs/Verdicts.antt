@@ -1,31 +1,33 @@
--- What is found of each document of a dump. A document with a fault is no end: the next one stands after the bytes that
--- its length counts. Only a fault of the length itself is the end, since nothing tells then where the next one stands.
+-- What a check finds in each document of a dump. After a document with a fault it goes on at the end that its
+-- length gives. Only a bad length ends it, since where the next document begins is then not known.
 use Rattle.std.specs.Prelude.{ℕ, zero, suc, ◌+◌, List, [], ◌∷◌, ◌++◌, ◌≡◌, length, drop, map, Option, Some, None}
 use Rattle.std.specs.Prelude.{Result, Ok, Err}
 use Rattle.bd_value.specs.Tree.{Doc}
 use Rattle.bd_bson_check.specs.{Fault.Fault, Dump.frame_length, Dump.frame_fault, declared.fault.FaultKind.FaultKind}
 
--- the verdict on a document, by what its length tells, and those after as many bytes
+-- the first fault of a document, or None, followed by what is found after it;
+-- a bad length is the last that is found
 abbrev pub verdicts_by : Option Fault → (ℕ → List (Option Fault)) → Result (Option ℕ) FaultKind → List (Option Fault)
 verdicts_by first after (Ok None) = []
 verdicts_by first after (Ok (Some n)) = first ∷ after n
 verdicts_by first after (Err kind) = first ∷ []
 
--- The verdicts on bytes that begin at the place.
+-- For each document in turn its first fault or None, if the first byte is at offset `base` of the dump.
 -- The first number bounds the turns: the count of the bytes is always enough.
 unfoldable pub verdicts_from : ℕ → ℕ → List ℕ → List (Option Fault)
 verdicts_from zero base bytes = []
 verdicts_from (suc turns) base bytes =
     verdicts_by (frame_fault base bytes) (λ n. verdicts_from turns (base + n) (drop n bytes)) (frame_length bytes)
 
--- for each document in turn its first fault, or none; of bytes that begin at the place
+-- for each document in turn its first fault or None, if the first byte is at offset `base` of the dump
 unfoldable pub verdicts_at : ℕ → List ℕ → List (Option Fault)
 verdicts_at base bytes = verdicts_from (length bytes) base bytes
 
+-- for each document of a dump in turn its first fault, or None if it is well-formed
 abbrev pub verdicts : List ℕ → List (Option Fault)
 verdicts bytes = verdicts_at 0 bytes
 
--- the verdicts begin as a walk: none has a fault up to its documents, and the one after them has its fault
+-- The results begin as a walk does: None for each of its documents, and then its fault, if it has one.
 abbrev pub BeginAs : List Doc → Option Fault → List (Option Fault) → Type 0
 BeginAs ds None vs = vs ≡ map (λ d. None) ds
 BeginAs ds (Some f) vs = (others : List (Option Fault)) × (vs ≡ map (λ d. None) ds ++ Some f ∷ others)

@@ -146,6 +146,7 @@ frame_told (b ∷ bytes) n is =
     told_of false true m n is = absurd cc
     told_of false false m n is = cc
 
+-- a document's length counts its own bytes, whatever follows
 pub frame_on : (frame rest : List ℕ) → IsFrame frame → frame_length (frame ++ rest) ≡ Ok (Some (length frame))
 frame_on frame rest is =
     let inside = frame_inside frame (length frame) is in
@@ -159,6 +160,7 @@ frame_within bytes is =
     let told = frame_told bytes (length bytes) is in
     inr (omega (arith, told, inside.0), omega (arith, told, inside.2), omega (arith, told))
 
+-- bytes that are fewer than a document are no more than one
 pub cut_within : (bytes : List ℕ) → IsCut bytes → IsWithinOne bytes
 cut_within bytes (inl few) = inl (omega (arith, few))
 cut_within bytes (inr cut) = inr (cut.0, cut.1, let c = cut.2 in omega (arith, c))
@@ -259,6 +261,7 @@ module _ {R : Type 0} (state : R → Reader) (gives : R → Option (List ℕ) �
       pub gave : Consumes (state old).left (state new).left given
       pub reason : IsReason state gives before old new head given (faults.Read fault)
 
+    -- a buffer for the rest of a document that was not filled says why the document was not read
     pub gave_before : (fault : ReadFault) → FailsToFill gives state limits size old new fault
         → (fault ≡ reads.Device → (state new).failures ≡ after_more (state old).failures 1)
         → (¬ (fault ≡ reads.Device) → (state new).failures ≡ (state old).failures)

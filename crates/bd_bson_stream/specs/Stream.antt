@@ -9,71 +9,72 @@ use Rattle.bd_bson_check.specs.{Dump.frame_length, Dump.length_told, declared.fa
 use Rattle.bd_bson_stream.specs.declared.{doc_buffer.DocBuffer.DocBuffer, doc_buffer.DocFault.DocFault}
 use Rattle.bd_bson_stream.specs.declared.{doc_reader.RawBytes.RawBytes}
 
--- the bytes begin with a length, which is their own
+-- The bytes begin with a length, and are exactly that many.
 abbrev pub IsFrame : List ℕ → Type 0
 IsFrame bytes = frame_length bytes ≡ Ok (Some (length bytes))
 
--- the bytes are documents by their lengths, one after the other
+-- The bytes are these documents by their lengths, one after the other.
 abbrev pub AreFrames : List (List ℕ) → List ℕ → Type 0
 AreFrames [] bytes = bytes ≡ []
 AreFrames (frame ∷ frames) bytes = (rest : List ℕ) × IsFrame frame × AreFrames frames rest × (bytes ≡ frame ++ rest)
 
--- the bytes are fewer than a document has: too few for its length, or for what this counts
+-- The bytes are fewer than a document: fewer than four, or fewer than a length that could be one says.
 abbrev pub IsCut : List ℕ → Type 0
 IsCut bytes = (length bytes < 4)
     ⊎ ((5 ≤ length_told bytes) × (length_told bytes ≤ longest_document) × (length bytes < length_told bytes))
 
--- the bytes are no more than a document has: too few to go past its length, or no more than this counts
+-- The bytes do not go past one document: at most four, or no more than a length that could be one says.
 abbrev pub IsWithinOne : List ℕ → Type 0
 IsWithinOne bytes = (length bytes ≤ 4)
     ⊎ ((5 ≤ length_told bytes) × (length_told bytes ≤ longest_document) × (length bytes ≤ length_told bytes))
 
--- the bytes are documents by their lengths and a part of one more, and the last ones are no more than are missing of it
+-- The bytes are documents by their lengths and a part of one more,
+-- and with the last ones they do not go past that one.
 abbrev pub EndsWithinOne : List ℕ → List ℕ → Type 0
 EndsWithinOne bytes last = (frames : List (List ℕ)) × (front : List ℕ) × (part : List ℕ) × AreFrames frames front
     × (bytes ≡ front ++ part) × IsWithinOne (part ++ last)
 
--- a head, and what a device still gives after it,
--- or some bytes if that is unknown, begin with no length, for this reason
+-- The head and what the device still gives after it (if that is unknown,
+-- some bytes) begin with no length of a document, for this reason.
 abbrev pub HasNoFrame : List ℕ → Option (List ℕ) → FaultKind → Type 0
 HasNoFrame head left kind = (bytes : List ℕ) × IfSome left (λ rest. bytes ≡ head ++ rest)
     × (frame_length bytes ≡ Err kind)
 
--- the bytes of the document that the buffer holds
+-- the bytes of the document that is buffered
 abbrev pub held_bytes : DocBuffer → List ℕ
 held_bytes documents = take documents.size documents.buffer.items
 
--- the buffer is as long as it was, or as a document needs
+-- The buffer is as long as before, or it has grown to the length that the document needs.
 abbrev pub HoldsAsMuch : ℕ → ℕ → ℕ → Type 0
 HoldsAsMuch before after size = (after ≡ before) ⊎ ((before < size) × (after ≡ size))
 
--- the same for a document that begins with these bytes, where they tell its length
+-- The buffer is as long as before, or it has grown to the length that these first bytes of a document say.
 abbrev pub GrowsFor : ℕ → ℕ → List ℕ → Type 0
 GrowsFor before after bytes = (after ≡ before) ⊎ ((4 ≤ length bytes) × HoldsAsMuch before after (length_told bytes))
 
--- each read takes one from the reads that may be made
+-- Each read takes one from the reads that may still be made.
 abbrev pub CountsReads : DocBuffer → DocBuffer → Over Reader → Type 0
 CountsReads before after file = (after.left.turns ≤ before.left.turns)
     × (file.after.calls ≡ after_more file.before.calls (before.left.turns - after.left.turns))
 
--- no document is held, and the next one is the one that it was
+-- No document is buffered, and the next one is still the same.
 pub record HoldsNone (before after : DocBuffer) : Type 0 where
   pub offset : after.place ≡ before.place
   pub number : after.number ≡ before.number
   pub room : after.left.bytes ≡ before.left.bytes
   pub empty : after.size ≡ 0
 
--- the reads after this head of a document: the end was found inside it,
--- or the head is a length that is bad, after which there is no other read
+-- The reads after this head of a document: the end came inside it, or its four bytes are a bad length,
+-- after which nothing is read.
 abbrev pub ReadsToFault : {R : Type 0} → (R → Option (List ℕ) → R → Type 0) → List ℕ → R → List ℕ → R → Type 0
 ReadsToFault gives head old given new = (turns : ℕ)
     × ((IsCut (head ++ given) × ReadsUntil gives turns old given (Some []) new)
     ⊎ ((length (head ++ given) ≡ 4) × AreReads gives turns old given new))
 
--- of a reader, of which this is told, and whose read may give these bytes, or fail, and leave this reader
+-- For a reader in this state, whose read gives these bytes, or fails (None), and leaves the reader so.
 module _ {R : Type 0} (state : R → Reader) where
   module _ (gives : R → Option (List ℕ) → R → Type 0) where
-    -- there is no next document, as one read says
+    -- There is no next document: one read found the end of the device.
     pub record FindsEnd (before after : DocBuffer) (old new : R) : Type 0 where
       pub kept : HoldsNone before after
       pub end : IsAtEnd (state new).left
@@ -132,7 +133,8 @@ module _ {R : Type 0} (state : R → Reader) where
       pub grown : GrowsFor (length before.buffer.items) (length after.buffer.items) (head ++ given)
       pub reason : IsReason before old new head given fault
 
-    -- what a call left in place of the buffer and of the device, by its answer
+    -- What a call for the next document did to buffer and device:
+    -- a document was read, there is none, or reading failed.
     abbrev pub Leaves : DocBuffer → R → Result (Option RawBytes) DocFault → DocBuffer → R → Type 0
     Leaves before old (Ok (Some document)) after new =
         ReadsDocument before after old new × (document.bytes.now ≡ held_bytes after) × (after.failed ≡ false)

@@ -98,6 +98,7 @@ module _ (bytes : List ℕ) (start : ℕ) (kind : Kind) (s : Sound kind (drop st
       let left : Left (drop (start + 4) bytes) = record { fields = f.fields; body = f.body; after = s.begins.after; spell = f.spell; cut = cut; short = short } in
       (left, λ g. stands_is s s ∙ f.is ∙ ap made (sym (left_is g left)))
 
+  -- what begins with a document has its elements four bytes further on, and they make the document
   pub document_held : kind ≡ kinds.Doc → Held as_document
   document_held k = framed_held as_document (is_document s.tree s.begins.value s.begins.spells (kind_is kind _ s ∙ k))
 

@@ -59,9 +59,11 @@ scalar_reads a v r h = sized a v r h
 
 -- ---- sizes
 
+-- a document takes five bytes more than its elements
 pub framed_length : (body : List ℕ) → length (framed body) ≡ length body + 5
 framed_length body = omega (arith, length-append (number (length body + 5)) (body ++ 0 ∷ []), number_length (length body + 5), length-append body (0 ∷ []))
 
+-- code with scope takes four bytes more than its code and its scope
 pub scoped_length : (s d : List ℕ) → length (scoped s d) ≡ length (string s ++ d) + 4
 scoped_length s d = omega (arith, length-append (number (length (string s ++ d) + 4)) (string s ++ d), number_length (length (string s ++ d) + 4))
 
@@ -89,9 +91,11 @@ value_reads (code_scope s fs) v r h = omega (arith, length-append v r, ap (λ (x
 value_reads (doc fs) v r h = omega (arith, length-append v r, ap (λ (x : List ℕ). length x) h.2, framed_length h.0)
 value_reads (array ts) v r h = omega (arith, length-append v r, ap (λ (x : List ℕ). length x) h.2, framed_length h.0)
 
+-- the value that stands at bytes is of the kind that is said
 pub kind_is : (kind : Kind) (bytes : List ℕ) (s : Sound kind bytes) → kind_of s.tree ≡ kind
 kind_is kind bytes s = same_kind (kind_of s.tree) kind s.begins.typed
 
+-- where a value stands, the bytes that reading it needs are there
 pub reads_at : (kind : Kind) (bytes : List ℕ) (s : Sound kind bytes) → HasBytesOf kind bytes
 reads_at kind bytes s = subst (HasBytesOf kind) (sym s.begins.cut)
     (subst (λ (k : Kind). HasBytesOf k (s.begins.value ++ s.begins.after)) (kind_is kind bytes s) (value_reads s.tree s.begins.value s.begins.after s.begins.spells))

@@ -1,4 +1,4 @@
--- What a value holds.
+-- What a view of a value holds: a scalar, elements, or code and scope.
 use Rattle.std.specs.Prelude.{◌≡◌, ℕ, List}
 use Rattle.bd_value.specs.Tree as trees
 use Rattle.bd_value.specs.Tree.{Tree, leaf, doc, array, code_scope, fields_of, items_of, pairs_in, own, values_of}
@@ -6,7 +6,8 @@ use Rattle.bd_value.specs.View.{seen}
 use Rattle.bd_bson_view.specs.{Sound.stands, Sound.elements_left, declared.views.Contents.Contents}
 use Rattle.bd_bson_view.specs.declared.views.Contents.TheVariants.{Scalar, Document, Array, CodeScope}
 
--- the views in it stand in these bytes
+-- What is read of a view is what the value holds: its scalar, its elements, or its code and scope;
+-- the views in it are into the same bytes.
 abbrev pub HoldsContents : List ℕ → Tree → Contents → Type 0
 HoldsContents bytes t (Scalar s) = (a : trees.Scalar) × (t ≡ leaf a) × (seen s ≡ own a)
 HoldsContents bytes t (Document elements) =

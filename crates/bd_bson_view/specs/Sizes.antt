@@ -1,6 +1,5 @@
--- What a value's bytes tell from their front, by its kind:
--- how many they are, and which scalar they spell; and what must
--- stand there for a value to be read without a check.
+-- What the bytes of a value say from their start on, by its kind:
+-- how many they are, and which scalar they are; and what must be there to read a value without a check.
 use Rattle.std.specs.Prelude.{◌≡◌, ◌<◌, ◌≤◌, ℕ, ◌+◌, ◌-◌, ◌==◌, List, length, take, drop, slice_index_or, if◌then◌else◌}
 use Rattle.std.specs.Prelude.{IsUtf8}
 use Rattle.std.specs.List.{position_or_len}
@@ -9,32 +8,37 @@ use Rattle.bd_value.specs.Tree as trees
 use Rattle.bd_value.specs.declared.node.Kind.{Kind}
 use Rattle.bd_value.specs.declared.node.Kind.TheVariants as kinds
 
+-- BSON 1.1, `int32`: the first four bytes as an unsigned number, least byte first; below 2^32
 abbrev pub number_of : List ℕ → ℕ
 number_of bytes = from_le_bytes w32 (take 4 bytes)
 
+-- BSON 1.1, `int64` and `uint64`: the first eight bytes as an unsigned number, least byte first; below 2^64
 abbrev pub long_of : List ℕ → ℕ
 long_of bytes = from_le_bytes w64 (take 8 bytes)
 
--- where the first zero stands
+-- the offset of the first zero byte; if there is none, the number of bytes
 abbrev pub zero_at : List ℕ → ℕ
 zero_at bytes = position_or_len (λ b. b == 0) bytes
 
--- a text that ends before the first zero, and what stands after that zero
+-- BSON 1.1, `cstring`: the text at the start, up to the first zero
 abbrev pub name_of : List ℕ → List ℕ
 name_of bytes = take (zero_at bytes) bytes
 
+-- what follows the `cstring` at the start: the bytes after the first zero
 abbrev pub after_name : List ℕ → List ℕ
 after_name bytes = drop (zero_at bytes + 1) bytes
 
--- the text of a string
+-- BSON 1.1, `string`: the text at the start, without its length and its zero
 abbrev pub text_of : List ℕ → List ℕ
 text_of bytes = take (number_of bytes - 1) (drop 4 bytes)
 
--- binary data, without the inner count of subtype 02
+-- BSON 1.1, `binary`: the data at the start, without the inner count of subtype 02
 abbrev pub payload_of : List ℕ → List ℕ
 payload_of bytes =
     let all = take (number_of bytes) (drop 5 bytes) in if slice_index_or bytes 4 0 == 2 then drop 4 all else all
 
+-- How many bytes a value of this kind takes at the start of bytes, by BSON 1.1; lengths are taken as they are
+-- written, so it may be more than there are. Null, undefined, MinKey and MaxKey take none.
 abbrev pub size_of : Kind → List ℕ → ℕ
 size_of kinds.Int32 bytes = 4
 size_of kinds.Int64 bytes = 8
@@ -53,7 +57,7 @@ size_of kinds.Array bytes = number_of bytes
 size_of kinds.CodeScope bytes = number_of bytes
 size_of _ bytes = 0
 
--- documents, arrays and code with scope are no scalars
+-- the scalar of that kind at the start of bytes, by BSON 1.1; null for a kind that is no scalar
 abbrev pub scalar_at : Kind → List ℕ → trees.Scalar
 scalar_at kinds.MinKey bytes = trees.min_key
 scalar_at kinds.Undefined bytes = trees.undefined
@@ -72,22 +76,26 @@ scalar_at kinds.Binary bytes = trees.binary (slice_index_or bytes 4 0) (payload_
 scalar_at kinds.Regex bytes = trees.regex (name_of bytes) (name_of (after_name bytes))
 scalar_at _ bytes = trees.null
 
--- a string
+-- The bytes begin with a `string` that can be read:
+-- its length is at least 1 and not past the end, its text is UTF-8.
 pub record TextAt (bytes : List ℕ) : Type 0 where
   pub some : 1 ≤ number_of bytes
   pub inside : 4 + number_of bytes ≤ length bytes
   pub utf8 : IsUtf8 (text_of bytes)
 
--- a text and the zero after it
+-- The bytes begin with a `cstring` that can be read: there is a zero, and the text before it is UTF-8.
 pub record NameAt (bytes : List ℕ) : Type 0 where
   pub inside : zero_at bytes < length bytes
   pub utf8 : IsUtf8 (name_of bytes)
 
--- binary data
+-- The bytes begin with `binary` that can be read:
+-- all of its data is there, in subtype 02 at least four bytes.
 pub record BinaryAt (bytes : List ℕ) : Type 0 where
   pub inside : 5 + number_of bytes ≤ length bytes
   pub inner : slice_index_or bytes 4 0 ≡ 2 → 4 ≤ number_of bytes
 
+-- The bytes begin with what must be there to read a value of this kind without a check: all of a scalar,
+-- with texts in UTF-8; of a document, an array or code with scope only the four bytes of its length.
 abbrev pub HasBytesOf : Kind → List ℕ → Type 0
 HasBytesOf kinds.Text bytes = TextAt bytes
 HasBytesOf kinds.Symbol bytes = TextAt bytes

@@ -1,4 +1,4 @@
--- Bytes at whose front a value, or the elements of a document, stand; and where in bytes a value stands.
+-- Bytes that begin with a value, or with the elements of a document; and a value at an offset of bytes.
 use Rattle.std.specs.Prelude.{◌≡◌, ◌≤◌, ℕ, List, ◌∷◌, ◌++◌, length, drop}
 use Rattle.std.proofs.Common.{sym, ap, ◌∙◌}
 use Rattle.std.specs.Coded.{Coded-set, coded_ℕ, le_prop}
@@ -8,7 +8,8 @@ use Rattle.bd_value.specs.Tree.{Tree, Fields, Doc, pairs_of}
 use Rattle.bd_bson_view.specs.{declared.views.At.At, Spelling.type_byte, Spelling.IsValue, Spelling.AreFields}
 use Rattle.bd_bson_view.specs.Unique.{same_kind, values, fields, value_prop, fields_prop, same_bytes, cancel, over_path}
 
--- the bytes of a tree of that type, and the bytes after them
+-- The bytes begin with this value, which has this type byte, and is no longer than a document may be;
+-- other bytes may follow.
 pub record Begins (type : ℕ) (bytes : List ℕ) (tree : Tree) : Type 0 where
   pub value : List ℕ
   pub after : List ℕ
@@ -36,6 +37,7 @@ Begins-prop type bytes t p q = let e = one p q in
       short = over_path (λ (v : List ℕ). length v ≤ longest_document) (λ v. le_prop) e.1 p.short q.short i;
     }
 
+-- The bytes begin with a well-formed value of this kind, whatever follows it: what a checked view carries.
 pub record Sound (kind : Kind) (bytes : List ℕ) : Type 0 where
   pub tree : Tree
   pub begins : Begins (type_byte kind) bytes tree
@@ -44,7 +46,7 @@ pub Sound-prop : (kind : Kind) (bytes : List ℕ) → IsProp (Sound kind bytes)
 Sound-prop kind bytes p q = let type = type_byte kind in let e = (one p.begins q.begins).0 in
     λ i. record { tree = e i; begins = over_path (Begins type bytes) (Begins-prop type bytes) e p.begins q.begins i }
 
--- the elements that are left, their bytes, and the bytes after the zero
+-- The bytes begin with elements of a document and the zero after them; other bytes may follow.
 pub record Left (bytes : List ℕ) : Type 0 where
   pub fields : Fields
   pub body : List ℕ
@@ -67,41 +69,44 @@ Left-prop bytes p q = let h : p.body ++ 0 ∷ p.after ≡ q.body ++ 0 ∷ q.afte
       short = over_path (λ (b : List ℕ). length b ≤ longest_document) (λ b. le_prop) e.1 p.short q.short i;
     }
 
--- the tree that stands there. It does not unfold, so that a proof may leave the value to be found
+-- the value at the start of the bytes; it does not unfold, so that a proof may leave the value to be found
 unfoldable pub stands : {kind : Kind} {bytes : List ℕ} → Sound kind bytes → Tree
 stands s = s.tree
 
--- how many bytes it takes
+-- how many bytes the value at the start takes
 unfoldable pub extent : {kind : Kind} {bytes : List ℕ} → Sound kind bytes → ℕ
 extent s = length s.begins.value
 
--- the elements that are left
+-- the elements at the start of the bytes, as fields
 unfoldable pub elements_left : {bytes : List ℕ} → Left bytes → Doc
 elements_left s = pairs_of s.fields
 
+-- any two proofs that bytes begin with a value of a kind name the same value
 pub stands_is : {kind : Kind} {bytes : List ℕ} (s t : Sound kind bytes) → stands s ≡ t.tree
 unfolding stands
 stands_is {kind} {bytes} s t = ap (λ (x : Sound kind bytes). x.tree) (Sound-prop kind bytes s t)
 
+-- any two proofs that bytes begin with a value of a kind give that value the same number of bytes
 pub extent_is : {kind : Kind} {bytes : List ℕ} (s t : Sound kind bytes) → extent s ≡ length t.begins.value
 unfolding extent
 extent_is {kind} {bytes} s t = ap (λ (x : Sound kind bytes). length x.begins.value) (Sound-prop kind bytes s t)
 
+-- any two proofs that bytes begin with the elements of a document name the same elements
 pub left_is : {bytes : List ℕ} (s t : Left bytes) → elements_left s ≡ pairs_of t.fields
 unfolding elements_left
 left_is {bytes} s t = ap (λ (x : Left bytes). pairs_of x.fields) (Left-prop bytes s t)
 
--- ---- places
+-- ---- values at offsets
 
--- the tree is of that type, and bytes from that offset on spell it
+-- From the offset of `at` on, the bytes begin with this value, which has its type.
 abbrev pub StandsAt : List ℕ → At → Tree → Type 0
 StandsAt bytes at tree = (at.start ≤ length bytes) × Begins at.kind (drop at.start bytes) tree
 
--- a value of that type stands there
+-- From the offset of `at` on, the bytes begin with some value of its type.
 abbrev pub IsPlace : List ℕ → At → Type 0
 IsPlace bytes at = (tree : Tree) × StandsAt bytes at tree
 
--- one tree at most stands at a place, and in one way at most
+-- at one offset there is at most one value of a type
 pub one_stands : (bytes : List ℕ) (at : At) (t u : Tree) → StandsAt bytes at t → StandsAt bytes at u → t ≡ u
 one_stands bytes at t u p q = (one p.1 q.1).0
 

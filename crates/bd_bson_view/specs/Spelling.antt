@@ -12,7 +12,7 @@ use Rattle.bd_bson_view.specs.declared.raw_parts.ElementType.{ElementType}
 use Rattle.bd_bson_view.specs.declared.raw_parts.ElementType.TheVariants.{Kept, Double, Decimal128}
 pub use Rattle.bd_value.specs.Tree.{depth, fields_depth, items_depth}
 
--- the byte before an element's name
+-- BSON 1.1, `element`: the type byte of a kind
 abbrev pub type_byte : Kind → ℕ
 type_byte kinds.Text = 2
 type_byte kinds.Doc = 3
@@ -34,7 +34,7 @@ type_byte kinds.Int64 = 18
 type_byte kinds.MaxKey = 127
 type_byte kinds.MinKey = 255
 
--- every type, a double and a decimal128 too
+-- BSON 1.1, `element`: each type byte with what it says; double (0x01) and decimal128 (0x13) too
 abbrev pub types : List (ℕ × ElementType)
 types =
     (1, Double) ∷ (2, Kept kinds.Text) ∷ (3, Kept kinds.Doc) ∷ (4, Kept kinds.Array) ∷ (5, Kept kinds.Binary)
@@ -46,21 +46,22 @@ types =
     ∷ (17, Kept kinds.Timestamp) ∷ (18, Kept kinds.Int64) ∷ (19, Decimal128) ∷ (127, Kept kinds.MaxKey)
     ∷ (255, Kept kinds.MinKey) ∷ []
 
--- what a type byte tells; none where BSON has no such type
+-- what a type byte says; None if BSON 1.1 has no such type
 abbrev pub type_at : ℕ → Option ElementType
 type_at b = lookup (nat_eq b) types
 
--- what holds values: the others are scalars
+-- whether a value of this kind holds other values: documents, arrays and code with scope do
 abbrev pub holds : Kind → Bool
 holds kinds.Doc = true
 holds kinds.Array = true
 holds kinds.CodeScope = true
 holds _ = false
 
--- `int32`: four bytes, least first; `int64` and `uint64`: eight
+-- `int32`: four bytes, least first
 unfoldable pub number : ℕ → List ℕ
 number n = to_le_bytes w32 n
 
+-- `int64`, `uint64`: eight bytes, least first
 unfoldable pub long : ℕ → List ℕ
 long n = to_le_bytes w64 n
 
@@ -68,30 +69,32 @@ long n = to_le_bytes w64 n
 abbrev pub IsName : List ℕ → Type 0
 IsName n = IsUtf8 n × AllByRecursion (λ b. b ≢ 0) n
 
--- `string`: the length with the zero at the end, the text, the zero
+-- `string`: the length of the text with its zero, the text, the zero
 abbrev pub string : List ℕ → List ℕ
 string s = number (length s + 1) ++ (s ++ 0 ∷ [])
 
--- `document`: the length with itself and the zero at the end, the elements, the zero
+-- `document`: the length of all of its bytes, the elements, a zero
 abbrev pub framed : List ℕ → List ℕ
 framed body = number (length body + 5) ++ (body ++ 0 ∷ [])
 
--- the data of `binary`: of subtype 02 the count of the bytes after it comes first
+-- `binary`: its data, which in subtype 02 (binary, old) begins with the count of the bytes after it
 abbrev pub data_of : ℕ → List ℕ → List ℕ
 data_of subtype payload = if subtype == 2 then number (length payload) ++ payload else payload
 
--- `code_w_s`: the length with itself, the code, the scope
+-- `code_w_s`: the length of all of its bytes, the code, the scope
 abbrev pub scoped : List ℕ → List ℕ → List ℕ
 scoped code scope = number (length (string code ++ scope) + 4) ++ (string code ++ scope)
 
--- `element`: the type, the name ended by a zero, the value
+-- `element`: the type byte, the name ended by a zero, the value
 abbrev pub element : Tree → List ℕ → List ℕ → List ℕ
 element t name value = type_byte (kind_of t) ∷ (name ++ 0 ∷ value)
 
--- a text that a `string` can hold
+-- The text is one that a `string` can hold: UTF-8, and with its zero of a length that fits 32 bits.
 abbrev pub IsText : List ℕ → Type 0
 IsText s = IsUtf8 s × (length s + 1 < 2 ^ 32)
 
+-- The bytes are the scalar as BSON 1.1 spells it after type byte and name:
+-- numbers within their types, least byte first. Null, undefined, MinKey and MaxKey have no bytes.
 abbrev pub IsScalar : Scalar → List ℕ → Type 0
 IsScalar (trees.int32 z) bytes = FitsSigned w32 z × (bytes ≡ number (cast_unsigned w32 z))
 IsScalar (trees.int64 z) bytes = FitsSigned w64 z × (bytes ≡ long (cast_unsigned w64 z))
@@ -112,35 +115,38 @@ IsScalar _ bytes = bytes ≡ []
 
 -- The bytes spell the value. An array is spelled as a document whose names are any names.
 abbrev mutual
+  -- The bytes spell the value after its type byte and name (BSON 1.1, `element`);
+  -- of a document they are all of its bytes.
   pub IsValue : Tree → List ℕ → Type 0
   IsValue (leaf s) bytes = IsScalar s bytes
   IsValue (doc fs) bytes = (body : List ℕ) × AreFields fs body × (bytes ≡ framed body)
   IsValue (array ts) bytes = (body : List ℕ) × AreItems ts body × (bytes ≡ framed body)
   IsValue (code_scope s fs) bytes = (body : List ℕ) × AreFields fs body × (bytes ≡ scoped s (framed body)) × IsText s
 
-  -- `e_list` of a document
+  -- `e_list`: The bytes are the elements of a document, one after the other.
   pub AreFields : Fields → List ℕ → Type 0
   AreFields no_fields bytes = bytes ≡ []
   AreFields (field name t fs) bytes =
       (value : List ℕ) × (rest : List ℕ) × IsName name × IsValue t value × AreFields fs rest
       × (bytes ≡ element t name value ++ rest)
 
-  -- `e_list` of an array
+  -- `e_list`: The bytes are the elements of an array, one after the other, whatever their names.
   pub AreItems : Items → List ℕ → Type 0
   AreItems no_items bytes = bytes ≡ []
   AreItems (item t ts) bytes = (name : List ℕ) × (value : List ℕ) × (rest : List ℕ) × IsName name × IsValue t value
       × AreItems ts rest × (bytes ≡ element t name value ++ rest)
 
--- the bytes are the document, within the limits of length and depth
+-- The bytes are this document (BSON 1.1): at most 16,793,600 bytes, and at most 200 levels.
 pub record IsDocument (d : Doc) (bytes : List ℕ) : Type 0 where
   pub spells : IsValue (doc (fields_of d)) bytes
   pub short : length bytes ≤ longest_document
   pub shallow : depth (doc (fields_of d)) ≤ most_levels
 
+-- The text is no longer than a document may be: 16,793,600 bytes.
 abbrev pub IsShort : List ℕ → Type 0
 IsShort text = length text ≤ longest_document
 
--- the texts, and the bytes, of what a value holds besides other values
+-- Each text, and the data, of the scalar or the code is no longer than a document may be.
 abbrev pub OwnIsShort : Own → Type 0
 OwnIsShort (own (trees.text s)) = IsShort s
 OwnIsShort (own (trees.symbol s)) = IsShort s

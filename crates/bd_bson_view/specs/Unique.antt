@@ -1,4 +1,4 @@
--- Bytes spell one value at most.
+-- Bytes spell at most one value.
 use Rattle.std.specs.Prelude.{◌≡◌, ◌≢◌, ℕ, suc, ◌+◌, ◌-◌, ◌<◌, ◌^◌, Bool, true, false, Some, None, List, []}
 use Rattle.std.specs.Prelude.{◌∷◌, ◌++◌, length, take, drop, ◌==◌, slice_index_or, if◌then◌else◌}
 use Rattle.std.specs.{List.AllByRecursion, Coded.Coded-set, Coded.coded_ℕ, Coded.coded_list}
@@ -18,31 +18,38 @@ use Rattle.bd_bson_view.specs.Spelling.{type_byte, type_at, holds, number, long,
 use Rattle.bd_bson_view.specs.Spelling.{IsName, IsText, IsScalar, IsValue, AreFields, AreItems}
 use Rattle.bd_bson_view.specs.Sizes.{number_of, long_of, zero_at, name_of, after_name, text_of}
 
--- ---- the kind that a type byte tells
+-- ---- the kind that a type byte says
 
+-- the type byte of a kind reads back as that kind
 pub type_is : (k : Kind) → type_at (type_byte k) ≡ Some (Kept k)
 type_is kinds.MinKey = refl
 type_is _ = refl
 
+-- no two kinds have the same type byte
 pub same_kind : (k l : Kind) → type_byte k ≡ type_byte l → k ≡ l
 same_kind k l e = let both : Some (Kept k) ≡ Some (Kept l) = sym (type_is k) ∙ ap type_at e ∙ type_is l in cc
 
+-- no type byte is 0: a zero there ends the document
 pub byte_is_not_zero : (k : Kind) → type_byte k ≢ 0
 byte_is_not_zero k h = let e : Some (Kept k) ≡ None = sym (type_is k) ∙ ap type_at h in cc
 
 -- ---- numbers
 
+-- an `int32` takes four bytes
 pub number_length : (n : ℕ) → length (number n) ≡ 4
 unfolding number
 number_length n = refl
 
+-- the four bytes of a number below 2^32 read back as that number
 pub number_value : (n : ℕ) → n < 2 ^ 32 → from_le_bytes w32 (number n) ≡ n
 unfolding number
 number_value n lt = from_le_bytes-to_le_bytes_4 n lt
 
+-- the four bytes of a number below 2^32 read back as that number, whatever bytes follow them
 pub number_front : (n : ℕ) (x : List ℕ) → n < 2 ^ 32 → number_of (number n ++ x) ≡ n
 number_front n x lt = ap (from_le_bytes w32) (take_at (number n) x 4 (number_length n)) ∙ number_value n lt
 
+-- after the four bytes of a number come the bytes that follow it
 pub number_after : (n : ℕ) (x : List ℕ) → drop 4 (number n ++ x) ≡ x
 number_after n x = drop_at (number n) x 4 (number_length n)
 
@@ -59,21 +66,26 @@ long_front n x lt = from_le_bytes-to_le_bytes_8 n lt
 not_zero : (b : ℕ) → b ≢ 0 → eqb b 0 ≡ false
 not_zero b h = grind (arith, nat_tests, h)
 
+-- the first zero after a name without zeros is at the offset of the name's length
 pub zero_place : (name rest : List ℕ) → AllByRecursion (λ b. b ≢ 0) name → zero_at (name ++ 0 ∷ rest) ≡ length name
 zero_place [] rest h = refl
 zero_place (b ∷ name) rest h = let e : 1 + length name ≡ suc (length name) = omega arith in
     rw (not_zero b h.0) (ap (λ (k : ℕ). 1 + k) (zero_place name rest h.1) ∙ e)
 
+-- a `cstring` reads back as its name, whatever follows it
 pub name_front : (name rest : List ℕ) → IsName name → name_of (name ++ 0 ∷ rest) ≡ name
 name_front name rest h = rw (zero_place name rest h.1) (take_at name (0 ∷ rest) (length name) refl)
 
+-- after a `cstring` come the bytes that follow its zero
 pub name_after : (name rest : List ℕ) → IsName name → after_name (name ++ 0 ∷ rest) ≡ rest
 name_after name rest h = rw (zero_place name rest h.1, ← append_assoc name (0 ∷ []) rest)
     (drop_at (name ++ 0 ∷ []) rest (length name + 1) (length-append name (0 ∷ [])))
 
+-- a `string` and what follows it: the length, the text, a zero, the rest
 pub string_after : (y r : List ℕ) → string y ++ r ≡ number (length y + 1) ++ (y ++ 0 ∷ r)
 string_after y r = simp append_assoc
 
+-- a `string` takes five bytes more than its text
 pub string_length : (s : List ℕ) → length (string s) ≡ 4 + (length s + 1)
 string_length s =
     rw (
@@ -83,9 +95,11 @@ string_length s =
       length-append s (0 ∷ []),
     ) refl
 
+-- the length at the start of a `string` counts its text and one zero
 pub string_number : (s r : List ℕ) → length s + 1 < 2 ^ 32 → number_of (string s ++ r) ≡ length s + 1
 string_number s r lt = ap number_of (string_after s r) ∙ number_front (length s + 1) (s ++ 0 ∷ r) lt
 
+-- a `string` reads back as its text, whatever follows it
 pub string_text : (s r : List ℕ) → length s + 1 < 2 ^ 32 → text_of (string s ++ r) ≡ s
 string_text s r lt = rw (string_number s r lt, string_after s r, number_after (length s + 1) (s ++ 0 ∷ r))
     (take_at s (0 ∷ r) (length s + 1 - 1) (omega arith))
@@ -93,14 +107,17 @@ string_text s r lt = rw (string_number s r lt, string_after s r, number_after (l
 string_rest : (s r : List ℕ) → length s + 1 < 2 ^ 32 → drop (4 + number_of (string s ++ r)) (string s ++ r) ≡ r
 string_rest s r lt = rw (string_number s r lt) (drop_at (string s) r (4 + (length s + 1)) (string_length s))
 
+-- a regular expression and what follows it: pattern, zero, options, zero, the rest
 pub regex_whole : (p o r : List ℕ) → (p ++ 0 ∷ (o ++ 0 ∷ [])) ++ r ≡ p ++ 0 ∷ (o ++ 0 ∷ r)
 regex_whole p o r = simp append_assoc
 
 -- ---- binary data
 
+-- binary data and what follows it: the count, the subtype, the data, the rest
 pub binary_whole : (k : ℕ) (d r : List ℕ) → (number (length d) ++ k ∷ d) ++ r ≡ number (length d) ++ k ∷ (d ++ r)
 binary_whole k d r = append_assoc (number (length d)) (k ∷ d) r
 
+-- after the count and the subtype of binary comes its data
 pub after_five : (n k : ℕ) (x : List ℕ) → drop 5 (number n ++ k ∷ x) ≡ x
 unfolding number
 after_five n k x = refl
@@ -109,9 +126,11 @@ fifth : (n k : ℕ) (x : List ℕ) → slice_index_or (number n ++ k ∷ x) 4 0 
 unfolding number
 fifth n k x = refl
 
+-- the count at the start of binary reads back as the length of its data
 pub binary_count : (k : ℕ) (d r : List ℕ) → length d < 2 ^ 31 → number_of ((number (length d) ++ k ∷ d) ++ r) ≡ length d
 binary_count k d r lt = ap number_of (binary_whole k d r) ∙ number_front (length d) (k ∷ (d ++ r)) (omega arith)
 
+-- the fifth byte of binary is its subtype
 pub binary_subtype : (k : ℕ) (d r : List ℕ) → slice_index_or ((number (length d) ++ k ∷ d) ++ r) 4 0 ≡ k
 binary_subtype k d r = ap (λ (x : List ℕ). slice_index_or x 4 0) (binary_whole k d r) ∙ fifth (length d) k (d ++ r)
 
@@ -127,6 +146,7 @@ inner false s = refl
 
 -- ---- scalars: what their bytes tell is the scalar, and how many bytes it takes
 
+-- the bytes of a scalar read back as that scalar, whatever follows them
 pub scalar_back : (a : Scalar) (v r : List ℕ) → IsScalar a v → scalar_at (scalar_kind a) (v ++ r) ≡ a
 scalar_back (trees.int32 z) v r h =
     rw (h.1, number_front (cast_unsigned w32 z) r (omega (arith, ints, h.0))) (ap trees.int32 (to_z-of_z w32 z h.0))
@@ -153,6 +173,7 @@ scalar_back (trees.regex p o) v r h = rw (h.2, regex_whole p o r)
     (ap₂ trees.regex (name_front p (o ++ 0 ∷ r) h.0) (ap name_of (name_after p (o ++ 0 ∷ r) h.0) ∙ name_front o r h.1))
 scalar_back _ v r h = refl
 
+-- the size that the bytes of a scalar give is the number of those bytes, whatever follows them
 pub scalar_size : (a : Scalar) (v r : List ℕ) → IsScalar a v → size_of (scalar_kind a) (v ++ r) ≡ length v
 scalar_size (trees.int32 z) v r h = rw h.1 (sym (number_length (cast_unsigned w32 z)))
 scalar_size (trees.int64 z) v r h = rw h.1 (sym (long_length (cast_unsigned w64 z)))
@@ -190,6 +211,7 @@ no_holder a k e h = let f : false ≡ true = sym (scalar_holds a) ∙ ap holds e
 
 -- ---- parts
 
+-- what follows equal beginnings of equal bytes is equal
 pub cancel : (v w r s : List ℕ) → v ≡ w → v ++ r ≡ w ++ s → r ≡ s
 cancel v w r s e h = sym (drop_at v r (length v) refl) ∙ ap (drop (length v)) h
     ∙ drop_at w s (length v) (sym (ap (λ (x : List ℕ). length x) e))
@@ -205,6 +227,7 @@ names [] (b ∷ m) r s p q h = absurd (q.0 (cc))
 names (a ∷ n) [] r s p q h = absurd (p.0 (cc))
 names (a ∷ n) (b ∷ m) r s p q h = let e = names n m r s p.1 q.1 (cc) in (cc (e.0), e.1)
 
+-- a document and what follows it: the length, the elements, a zero, the rest
 pub framed_after : (b r : List ℕ) → framed b ++ r ≡ number (length b + 5) ++ (b ++ 0 ∷ r)
 framed_after b r = simp append_assoc
 
@@ -229,6 +252,7 @@ same_code s z d e x y v w p q a b h = let inside : string s ++ (d ++ x) ≡ stri
 
 -- ---- elements
 
+-- an element and what follows it: the type byte, the name, a zero, the value, the rest
 pub element_after : (t : Tree) (n v r x b : List ℕ) → b ≡ element t n v ++ r
     → b ++ x ≡ type_byte (kind_of t) ∷ (n ++ 0 ∷ (v ++ (r ++ x)))
 element_after t n v r x b e = rw e (simp append_assoc)
@@ -255,6 +279,7 @@ same_element t u n m v w x y r s b c p q value d e h =
 -- ---- values
 
 mutual
+  -- if the same bytes begin with two values of one kind, these are one value, and it takes the same bytes
   pub values : (t u : Tree) (v w r s : List ℕ) → IsValue t v → IsValue u w → kind_of t ≡ kind_of u
       → v ++ r ≡ w ++ s → (t ≡ u) × (v ≡ w)
   values (leaf a) (leaf b) v w r s p q k h = let e = scalars a b v w r s p q k h in (ap leaf e.0, e.1)
@@ -272,6 +297,8 @@ mutual
       (ap₂ code_scope c.0 e.0, p.2 ∙ ap₂ (λ (x b : List ℕ). scoped x (framed b)) c.0 e.1 ∙ sym q.2)
   values _ _ v w r s p q k h = absurd cc
 
+  -- if the same bytes begin with the elements of two documents, each with a zero after them,
+  -- the elements are the same
   pub fields : (fs gs : Fields) (b c r s : List ℕ) → AreFields fs b → AreFields gs c
       → b ++ 0 ∷ r ≡ c ++ 0 ∷ s → (fs ≡ gs) × (b ≡ c)
   fields no_fields no_fields b c r s p q h = (refl, p ∙ sym q)
@@ -283,6 +310,8 @@ mutual
       let more = fields fs gs p.1 q.1 r s p.4 q.4 one.3 in
       (cc (one.0, one.1, more.0), cc (p.5, q.5, one.0, one.1, one.2, more.1))
 
+  -- if the same bytes begin with the elements of two arrays, each with a zero after them,
+  -- the elements are the same
   pub items : (ts us : Items) (b c r s : List ℕ) → AreItems ts b → AreItems us c
       → b ++ 0 ∷ r ≡ c ++ 0 ∷ s → (ts ≡ us) × (b ≡ c)
   items no_items no_items b c r s p q h = (refl, p ∙ sym q)
@@ -296,6 +325,7 @@ mutual
 
 -- ---- and in one way at most
 
+-- that two lists of bytes are equal has one proof at most
 pub same_bytes : (v w : List ℕ) → IsProp (v ≡ w)
 same_bytes v w = Coded-set (coded_list coded_ℕ) v w
 
@@ -326,6 +356,7 @@ body_prop P one same v p q = let e : p.0 ≡ q.0 = same p.0 q.0 p.1 q.1 (bodies 
     )
 
 mutual
+  -- that bytes spell a value has one proof at most, so a view may carry it
   pub value_prop : (t : Tree) (v : List ℕ) → IsProp (IsValue t v)
   value_prop (leaf s) v p q = scalar_prop s v p q
   value_prop (doc fs) v p q =
@@ -344,6 +375,7 @@ mutual
         text_prop z p.3 q.3 i,
       )
 
+  -- that bytes spell the elements of a document has one proof at most, so a view may carry it
   pub fields_prop : (fs : Fields) (b : List ℕ) → IsProp (AreFields fs b)
   fields_prop no_fields b p q = same_bytes b [] p q
   fields_prop (field n t fs) b p q =
@@ -362,6 +394,7 @@ mutual
             (λ k. same_bytes b (element t n (e k) ++ f k)) p.5 q.5 i,
       )
 
+  -- that bytes spell the elements of an array has one proof at most, so a view may carry it
   pub items_prop : (ts : Items) (b : List ℕ) → IsProp (AreItems ts b)
   items_prop no_items b p q = same_bytes b [] p q
   items_prop (item t ts) b p q =

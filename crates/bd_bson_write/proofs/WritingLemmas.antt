@@ -185,6 +185,7 @@ mutual
       let others = items_spelled (suc place) ts fits.1 b.1 (omega (arith, short, size, one)) in
       (decimal place, bytes_of t, items_bytes (suc place) ts, place_name place (omega (arith, short)), first, others, refl)
 
+-- the bytes that are written for a document are that document, if it fits its types
 pub plainly_spells : (d : Doc) (bytes : List ℕ) → Fits (doc (fields_of d)) → SpellsPlainly d bytes → IsDocument d bytes
 plainly_spells d bytes fits plain =
     let t : Tree = doc (fields_of d) in

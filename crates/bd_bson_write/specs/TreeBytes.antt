@@ -1,4 +1,4 @@
--- The spelling that is written: the names of an array's elements are their places from 0.
+-- The bytes that are written for a value: the elements of an array are named by their indexes, from 0.
 use Rattle.std.specs.Prelude.{◌≡◌, ◌≤◌, ◌<◌, ℕ, suc, List, [], ◌∷◌, ◌++◌, length, decimal, false, if◌then◌else◌}
 use Rattle.std.specs.Int.{w32, w64, cast_unsigned}
 use Rattle.bd_value.specs.Tree as trees
@@ -10,6 +10,8 @@ use Rattle.bd_bson_write.specs.declared.writing.WriteFault.{WriteFault}
 use Rattle.bd_bson_write.specs.declared.writing.WriteFault.TheVariants as faults
 use Rattle.bd_bson_view.specs.Spelling.{number, long, string, framed, data_of, scoped, element, IsText, IsScalar}
 
+-- the bytes of a scalar after its type byte and name (BSON 1.1), least byte first;
+-- none for null, undefined, MinKey and MaxKey
 abbrev pub scalar_bytes : Scalar → List ℕ
 scalar_bytes (trees.int32 z) = number (cast_unsigned w32 z)
 scalar_bytes (trees.int64 z) = long (cast_unsigned w64 z)
@@ -27,38 +29,43 @@ scalar_bytes (trees.binary subtype payload) = number (length (data_of subtype pa
 scalar_bytes _ = []
 
 abbrev mutual
+  -- the bytes of a value after its type byte and name;
+  -- of a document all of its bytes, the length and the final zero included
   pub bytes_of : Tree → List ℕ
   bytes_of (leaf s) = scalar_bytes s
   bytes_of (doc fs) = framed (fields_bytes fs)
   bytes_of (array ts) = framed (items_bytes 0 ts)
   bytes_of (code_scope s fs) = scoped s (framed (fields_bytes fs))
 
+  -- the elements of a document, in stored order
   pub fields_bytes : Fields → List ℕ
   fields_bytes no_fields = []
   fields_bytes (field name t fs) = element t name (bytes_of t) ++ fields_bytes fs
 
-  -- of elements, the first of which has that place
+  -- the elements of an array, each named by its index in decimal; the first has the index `place`
   pub items_bytes : ℕ → Items → List ℕ
   items_bytes place no_items = []
   items_bytes place (item t ts) = element t (decimal place) (bytes_of t) ++ items_bytes (suc place) ts
 
--- what holds no other values: a scalar, or the code of code with scope
+-- the bytes of a scalar, or of the code of code with scope, which is a `string`
 abbrev pub own_bytes : Own → List ℕ
 own_bytes (own s) = scalar_bytes s
 own_bytes (own_code s) = string s
 
+-- The scalar or the code is within its BSON type, so that its bytes spell it.
 abbrev pub OwnSpells : Own → Type 0
 OwnSpells (own s) = IsScalar s (scalar_bytes s)
 OwnSpells (own_code s) = IsText s
 
--- the bytes are the document, written within the limits of length and depth
+-- The bytes are this document, with array elements named by their indexes:
+-- at most 16,793,600 bytes and 200 levels, and no zero in a `cstring`.
 pub record SpellsPlainly (d : Doc) (bytes : List ℕ) : Type 0 where
   pub spelled : bytes ≡ bytes_of (doc (fields_of d))
   pub no_zero : zero_in (doc (fields_of d)) ≡ false
   pub short : length bytes ≤ longest_document
   pub shallow : depth (doc (fields_of d)) ≤ most_levels
 
--- so many bytes are more than a document has, or memory ran out
+-- Why bytes were not written: in all they would be more than a document may have, or memory ran out.
 abbrev pub OverrunsLimit : ℕ → WriteFault → Type 0
 OverrunsLimit total faults.TooLong = longest_document < total
 OverrunsLimit total faults.NoMemory = Unit {0}

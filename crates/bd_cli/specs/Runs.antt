@@ -19,44 +19,46 @@ use Rattle.bd_cli_args.specs.declared.order.Order.TheVariants as orders
 use Rattle.bd_cli_args.specs.declared.order.WordsFault.TheVariants as words
 use Rattle.bd_io_device.specs.declared.reading.ReadFault.TheVariants as reads
 
--- as much of the commands is read as of an input
+-- the limits of the commands of `serve`: those of an input
 abbrev pub command_limits : Limits
 command_limits = record { bytes = longest_input; turns = most_reads }
 
--- why the commands were not answered to their end
+-- the message of what ended `serve` before its last command
 abbrev pub serve_words : ServeFault → List ℕ
 serve_words (faults.Unread fault) = read_words fault
 serve_words faults.NoMemory = no_memory
 serve_words faults.Unwritten = cannot_write
 
--- no command was read, nothing was replied, and this is told
+-- No command was read and nothing was replied, and this message says why.
 pub record ServesNothing {C : Type 0} (old new : C) (out err : Over Writer) (status : Status)
     (message : List ℕ) : Type 0 where
   pub unread : new ≡ old
   pub silent : out.after ≡ out.before
   pub told : TellsMessage err (error_line message) Failed status
 
--- of the reader of the commands, which of its reads may give what,
--- its first state and its last one, and what was written
+-- For the reader of the commands: what its reads may give, its state before and after, and what was written.
 module _ {C : Type 0} (state : C → Reader) (gives : C → Option (List ℕ) → C → Type 0) (old new : C)
     (out err : Over Writer) (status : Status) where
-  -- over a dump of these bytes, which are these documents, each command had its reply, and nothing is told
+  -- Over a dump of these bytes and documents: each command had its reply, and standard error has nothing.
   abbrev pub ServesToTheEnd : List ℕ → List Doc → Type 0
   ServesToTheEnd bytes ds =
       (t : State) × ServesAll state gives (RepliesInText bytes ds) command_limits old new out new_state t
       × (err.after ≡ err.before) × (status ≡ Done)
 
-  -- Or the commands before a fault had theirs, and the fault is told.
-  -- There are never too many reads: each but the last gives a byte.
+  -- Over a dump of these bytes and documents: the commands before a fault had their replies,
+  -- and the fault is reported. There are never too many reads.
   abbrev pub ServesToAFault : List ℕ → List Doc → Type 0
   ServesToAFault bytes ds = (t : State) × (fault : ServeFault) × (fault ≢ faults.Unread reads.TooManyTurns)
       × StopsServing state gives (RepliesInText bytes ds) command_limits old new out new_state t IsKept fault
       × TellsMessage err (error_line (serve_words fault)) Failed status
 
+  -- Over a well-formed dump: each command had its reply,
+  -- or those before a fault had theirs and the fault is reported.
   abbrev pub ServesDump : List ℕ → List Doc → Type 0
   ServesDump bytes ds = ServesToTheEnd bytes ds ⊎ ServesToAFault bytes ds
 
-  -- over what was read: it was not read whole, or it is no dump, or the commands were served, or memory ran out before
+  -- `serve` after its file was read: it was not read whole, or is no dump, or memory ran out,
+  -- and that is reported; or the commands were served.
   abbrev pub ServesRead : Result (List ℕ) ReadFault → Type 0
   ServesRead (Err fault) = ServesNothing old new out err status (read_words fault)
   ServesRead (Ok bytes) = ServesNothing old new out err status no_memory
@@ -64,10 +66,11 @@ module _ {C : Type 0} (state : C → Reader) (gives : C → Option (List ℕ) �
       × ServesNothing old new out err status (fault_text (length ds) fault))
       ⊎ ((ds : List Doc) × IsWalk ds None bytes × ServesDump bytes ds))
 
+  -- `serve` ran: its file was read whole or not, and then its commands were served or it is reported why not.
   abbrev pub ServesInput : Over Reader → Type 0
   ServesInput file = (input : Result (List ℕ) ReadFault) × ReadsInput file input × ServesRead input
 
-  -- the command was carried out
+  -- The command was carried out, on this file.
   abbrev pub CarriesOut : Over Reader → Order → Type 0
   CarriesOut file (orders.Dump path) = DumpsInput file out err status
   CarriesOut file (orders.Check path) = ChecksInput file out err status
@@ -75,27 +78,27 @@ module _ {C : Type 0} (state : C → Reader) (gives : C → Option (List ℕ) �
   CarriesOut file (orders.Find path options) = FindsDocuments (find_words_of options) file out err status
   CarriesOut file (orders.Serve path) = ServesInput file
 
--- the command is refused for its texts, whatever the file has
+-- The command is a `find` whose options are refused, whatever the file holds, so that the file is not read.
 abbrev pub ReadsNoFile : Order → Type 0
 ReadsNoFile (orders.Find path options) = AsksNothing (find_words_of options)
 ReadsNoFile _ = ⊥
 
--- a command that reads no commands
+-- The command is not `serve`, so that no commands are read.
 abbrev pub ReadsNoCommands : Order → Type 0
 ReadsNoCommands (orders.Serve path) = ⊥
 ReadsNoCommands _ = Unit {0}
 
--- a write failed: a count of failures rose
+-- A write failed: a count of failures rose.
 abbrev pub WriteFails : Over Writer → Over Writer → Type 0
 WriteFails out err = (out.before.failures < out.after.failures) ⊎ (err.before.failures < err.after.failures)
 
--- a read or a write failed
+-- A read or a write failed: a count of failures rose.
 abbrev pub DeviceFails : Over Reader → Over Reader → Over Writer → Over Writer → Type 0
 DeviceFails file commands out err =
     (file.before.failures < file.after.failures) ⊎ (commands.before.failures < commands.after.failures)
     ⊎ WriteFails out err
 
--- what is shown of arguments that are no command
+-- what is shown of arguments that are no command: the usage, for `--help` on standard output
 abbrev pub shown_report : WordsFault → Transcript
 shown_report words.Help = record { out = USAGE.now; err = []; status = Done }
 shown_report words.Usage = record { out = []; err = USAGE.now; status = Usage }

@@ -368,6 +368,8 @@ same-check s rows has =
 abbrev pub is_plain : Shape → Bool
 is_plain s = s.disable_help_subcommand && list_all fills s.rules
 
+-- one level of a command line: all its faults are reported as one,
+-- and without a fault each argument has a value
 pub level-sound : (s : Shape) (names : Names) (words : List Text) (has : Bool) (below : Kinds) → is_plain s ≡ true → SameTold below
     → Sound (level_fault s names nothing_held words has below)
     (AllFilled (rows_after s.rules names words) × (below ≡ []) × (check_fault s (rows_after s.rules names words) has ≡ []))
@@ -381,6 +383,7 @@ level-sound s names words has below meets same =
     (kept_on (itself _ (same-defaults (settled s.rules end).rows s.rules)) (λ e. defaults-filled s.rules (settled s.rules end).rows rows)) (λ filled.
     kept_on (itself _ (same-check s (finished s.rules end) has)) (λ checked. (filled, entered, checked))))))
 
+-- all faults of a subcommand are reported as one
 pub same-entered : (a : App) (stop : Option (Text × List Text)) → list_all is_plain a.subs ≡ true → SameTold (entered_fault a stop)
 same-entered a None meets = tt
 same-entered a (Some p) meets =
@@ -390,6 +393,7 @@ same-entered a (Some p) meets =
     found None meets = tt
     found (Some s) meets = (level-sound s [] p.1 false [] meets tt).told
 
+-- all faults of a command line are reported as one
 pub same-fault : (a : App) (words : List Text) → (is_plain a.top && list_all is_plain a.subs) ≡ true → SameTold (built_fault a nothing_held words)
 same-fault a words meets =
     let both = and_parts (is_plain a.top) (list_all is_plain a.subs) meets in

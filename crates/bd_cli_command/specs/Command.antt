@@ -5,13 +5,13 @@ use Rattle.bd_cli_command.specs.declared.command.{Command.Command as HeldCommand
 use Rattle.bd_cli_command.specs.declared.{command.Hint.Hint as HeldHint, field.HintForm.HintForm}
 use Rattle.bd_cli_command.specs.declared.command.{CommandFault.CommandFault}
 
--- by what documents are to be found: by what serves, by a look at each, or by the index on a path
+-- how documents are to be found (`use`): by any index that serves, by a scan, or by the index on a path
 pub data Hint : Type 0 where
   any_way : Hint
   by_scan : Hint
   by_index : List ℕ → Hint
 
--- what is to be found, and how
+-- what is to be found: filter, sort, skip, limit, and by which index
 pub record FindCommand : Type 0 where
   pub filter : Doc
   pub sort : Doc
@@ -19,7 +19,8 @@ pub record FindCommand : Type 0 where
   pub limit : ℕ
   pub hint : Hint
 
--- an index has a path, and is sparse or not; a batch is of a cursor, and of so many documents at most
+-- a command to a session: an index has a path, and is sparse or not;
+-- `getMore` has a cursor number and a batch size
 pub data Command : Type 0 where
   creates_index : List ℕ → Bool → Command
   drops_index : List ℕ → Command
@@ -29,18 +30,19 @@ pub data Command : Type 0 where
   kills_cursor : ℕ → Command
   explains : FindCommand → Command
 
--- what a hint in memory stands for; and a command, below
+-- what the field `use` in memory asks for
 abbrev pub hint_tree : HeldHint → Hint
 hint_tree HeldHint.Auto = any_way
 hint_tree HeldHint.Scan = by_scan
 hint_tree (HeldHint.Index path) = by_index (string_bytes path)
 
--- the same, with a path that is borrowed
+-- what the field `use` asks for, with a path that is borrowed
 abbrev pub hint_read : HintForm → Hint
 hint_read HintForm.Auto = any_way
 hint_read HintForm.Scan = by_scan
 hint_read (HintForm.Index path) = by_index path.now
 
+-- what is to be found, by a command in memory
 abbrev pub find_tree : HeldFind → FindCommand
 find_tree f = record {
   filter = pairs f.filter;
@@ -50,6 +52,7 @@ find_tree f = record {
   hint = hint_tree f.hint;
 }
 
+-- the command that one in memory stands for
 abbrev pub command_tree : HeldCommand → Command
 command_tree (HeldCommand.CreateIndex path sparse) = creates_index (string_bytes path) sparse
 command_tree (HeldCommand.DropIndex path) = drops_index (string_bytes path)
@@ -59,7 +62,7 @@ command_tree (HeldCommand.GetMore id batch) = gets_more id batch
 command_tree (HeldCommand.KillCursor id) = kills_cursor id
 command_tree (HeldCommand.Explain find) = explains (find_tree find)
 
--- why a document is none: the number that a reply has; no reply is out of memory
+-- the number of a command fault in a reply; out of memory is no reply
 abbrev pub command_fault_number : CommandFault → ℕ
 command_fault_number CommandFault.UnknownCommand = 1
 command_fault_number CommandFault.MissingField = 2
@@ -68,7 +71,7 @@ command_fault_number CommandFault.RepeatedField = 4
 command_fault_number CommandFault.BadField = 5
 command_fault_number CommandFault.NoMemory = 6
 
--- what went wrong, in words
+-- the message of a command fault
 unfoldable pub command_fault_words : CommandFault → List ℕ
 command_fault_words CommandFault.UnknownCommand = codes "unknown command"
 command_fault_words CommandFault.MissingField = codes "missing field"

@@ -7,24 +7,24 @@ use Rattle.bd_cli_command.specs.Command.{Hint, any_way, by_scan, by_index}
 
 -- ---- the fields that a command may have, its first one included
 
--- what a name stands for in a table
+-- what a table has for a name, if it has the name
 abbrev pub entry_of : {A : Type 0} → List ℕ → List (List ℕ × A) → Option A
 entry_of name [] = None
 entry_of name (e ∷ es) = if bytes_eq name e.0 then Some e.1 else entry_of name es
 
--- the first names that are commands
+-- the commands of `serve`, by the name that comes first
 abbrev pub command_names : List (List ℕ × Name)
 command_names =
     (codes "createIndex", Name.CreateIndex) ∷ (codes "dropIndex", Name.DropIndex) ∷ (codes "find", Name.Find)
     ∷ (codes "resume", Name.Resume) ∷ (codes "getMore", Name.GetMore) ∷ (codes "killCursor", Name.KillCursor)
     ∷ (codes "explain", Name.Explain) ∷ []
 
--- the fields of all that find
+-- the fields that `find`, `resume` and `explain` share, each with the kind of its value
 abbrev pub find_fields : List (List ℕ × Kind)
 find_fields = (codes "sort", Kind.Document) ∷ (codes "skip", Kind.Count) ∷ (codes "limit", Kind.Count)
     ∷ (codes "use", Kind.Hint) ∷ []
 
--- each with what its value has to be
+-- the fields of a command, its first one too, each with the kind of its value
 abbrev pub command_fields : Name → List (List ℕ × Kind)
 command_fields Name.CreateIndex = (codes "createIndex", Kind.Text) ∷ (codes "sparse", Kind.Truth) ∷ []
 command_fields Name.DropIndex = (codes "dropIndex", Kind.Text) ∷ []
@@ -34,44 +34,46 @@ command_fields Name.GetMore = (codes "getMore", Kind.Count) ∷ (codes "batch", 
 command_fields Name.KillCursor = (codes "killCursor", Kind.Count) ∷ []
 command_fields Name.Explain = (codes "explain", Kind.Document) ∷ find_fields
 
--- those that it must have besides the first
+-- the fields that a command must have besides its first one
 abbrev pub required_fields : Name → List (List ℕ)
 required_fields Name.GetMore = codes "batch" ∷ []
 required_fields _ = []
 
 -- ---- the values of fields
 
--- a text, and no symbol
+-- a string; no symbol stands for one here
 abbrev pub text_field : Tree → Option (List ℕ)
 text_field (leaf (Scalar.text s)) = Some s
 text_field t = None
 
+-- a boolean; no number stands for one here
 abbrev pub truth_field : Tree → Option Bool
 truth_field (leaf (Scalar.boolean b)) = Some b
 truth_field t = None
 
+-- the fields of a document; an array is none
 abbrev pub document_field : Tree → Option Doc
 document_field (doc fs) = Some (pairs_of fs)
 document_field t = None
 
--- a whole number, 0 or greater
+-- an int32 or int64 of 0 or more
 abbrev pub count_field : Tree → Option ℕ
 count_field (leaf (Scalar.int32 (pos n))) = Some n
 count_field (leaf (Scalar.int64 (pos n))) = Some n
 count_field t = None
 
--- `{"index":path}`, with that one pair
+-- the path in `{"index":path}`, a document of that one field
 abbrev pub index_field : Doc → Option (List ℕ)
 index_field (p ∷ []) = if bytes_eq p.0 (codes "index") then text_field p.1 else None
 index_field d = None
 
--- the forms of `use`
+-- the forms of `use`: `"auto"`, `"scan"` and `{"index":path}`
 abbrev pub hint_field : Tree → Option Hint
 hint_field (leaf (Scalar.text s)) = entry_of s ((codes "auto", any_way) ∷ (codes "scan", by_scan) ∷ [])
 hint_field (doc fs) = option_map by_index (index_field (pairs_of fs))
 hint_field t = None
 
--- a value is of a kind
+-- whether a value is of the kind that a field must have
 abbrev pub fits_field : Kind → Tree → Bool
 fits_field Kind.Text t = is_some (text_field t)
 fits_field Kind.Truth t = is_some (truth_field t)

@@ -13,16 +13,19 @@ use Rattle.bd_cli_files.specs.declared.output.OutputFault.TheVariants.{NoMemory,
 use Rattle.bd_cli_files.specs.Output.{lines, PrintsOrStarves, StopsWithin, TellsMessage, Transcript, error_line, no_memory, stop_words}
 use Rattle.json.specs.Print as printed
 
+-- the lines of two lists of documents are those of both joined
 pub lines-append : (ds es : List Doc) → lines (ds ++ es) ≡ lines ds ++ lines es
 lines-append [] es = refl
 lines-append (d ∷ ds) es = ap (λ x. text (doc (fields_of d)) ++ 10 ∷ x) (lines-append ds es) ∙ sym (append_assoc (text (doc (fields_of d))) (10 ∷ lines ds) (lines es))
 
 -- ---- one text after the other
 
+-- a fact also holds if there is an error
 pub on_err : {A E : Type 0} (r : Result A E) (P : Type 0) → P → OnErr r P
 on_err (Ok x) P h = _
 on_err (Err e) P h = h
 
+-- if P holds on an error, and Q follows from P, then Q holds on it
 pub on_err_map : {A E : Type 0} (r : Result A E) (P Q : Type 0) → OnErr r P → (P → Q) → OnErr r Q
 on_err_map (Ok x) P Q h f = _
 on_err_map (Err e) P Q h f = f h
@@ -42,6 +45,7 @@ pub ruleset taking = (takes_both, breaks_first, breaks_second)
 
 -- ---- a text of which a front was taken
 
+-- a writer that took a prefix of a text took a prefix
 pub front_taken : (old new : Writer) (front rest all : List ℕ) → TakesText (between old new) front → all ≡ front ++ rest → TakesFront (between old new) all
 front_taken old new front rest all took cut = (front, rest, cut, took)
 
@@ -52,6 +56,8 @@ breaks_piece old mid new front piece rest all took broke cut =
     let whole = breaks_first old new (front ++ piece) rest (breaks_second old mid new front piece took broke) in
     subst (λ (x : List ℕ). BreaksWithin (between old new) x) (append_assoc front piece rest ∙ sym cut) whole
 
+-- if standard output has all and standard error the message, or that memory ran out,
+-- the run printed what it is to show
 pub all_shown : (out_old out_new err_old err_new : Writer) (status : Status) (shown : Transcript) → TakesText (between out_old out_new) shown.out
     → TellsMessage (between err_old err_new) shown.err shown.status status ⊎ TellsMessage (between err_old err_new) (error_line no_memory) Failed status
     → PrintsOrStarves (between out_old out_new) (between err_old err_new) shown status

@@ -1,4 +1,4 @@
--- What `dump` and `check` show of an input, and what a run of them did.
+-- What `dump` and `check` print of an input, and what a run of them did.
 use Rattle.std.specs.Prelude.{◌≡◌, ◌≤◌, ◌⊎◌, ℕ, zero, suc, Bool, true, false, List, [], ◌∷◌, ◌++◌, length, codes, decimal}
 use Rattle.std.specs.Prelude.{Option, Some, None}
 use Rattle.std.specs.Prelude.{is_some, option_map, unwrap_or, Result, Ok, Err}
@@ -23,11 +23,11 @@ use Rattle.bd_cli_files.specs.declared.dump_and_check.Ending.TheVariants as endi
 
 -- ---- `dump`
 
--- after the number of documents that were printed
+-- the end of the line of counts of `dump`, after the number of documents printed
 abbrev pub objects_found : List ℕ
 objects_found = codes " objects found" ++ 10 ∷ []
 
--- what is shown of the documents before the first fault, or before a read that failed, and of that
+-- what `dump` shows of documents and of what is wrong after them, if anything is
 abbrev pub shown_dump : List Doc → Option (List ℕ) → Transcript
 shown_dump ds wrong = shown_before (lines ds) wrong (decimal (length ds) ++ objects_found)
 
@@ -50,7 +50,8 @@ DumpsWhole file out shown = (bytes : List ℕ) × (fault : Option ReadFault) × 
     × AreJoined ds front × (bytes ≡ front ++ rest)
     × ((rest ≡ []) ⊎ ((f : Fault) × (frame_fault (length front) rest ≡ Some f))) × StopsWithinOne front file)
 
--- the reader gave these documents and no byte after them, and standard output broke in the line of the last of them
+-- The reader gave these documents and no byte after them,
+-- and a write to standard output failed in the line of the last of them.
 abbrev pub BreaksAtDocument : Over Reader → Over Writer → Type 0
 BreaksAtDocument file out = (ds : List Doc) × (d : Doc) × (given : List ℕ) × AreJoined (ds ++ d ∷ []) given
     × Consumes file.before.left file.after.left given × (file.after.failures ≡ file.before.failures)
@@ -62,35 +63,37 @@ abbrev pub StarvesAfterDocuments : Over Reader → Over Writer → Type 0
 StarvesAfterDocuments file out = (ds : List Doc) × (given : List ℕ) × AreJoined ds given × StopsWithinOne given file
     × (file.after.failures ≡ file.before.failures) × TakesText out (lines ds)
 
+-- `dump` ran: it printed what is to be shown of its input;
+-- or standard output failed within the line of a document, or memory ran out, and standard error says so.
 abbrev pub DumpsInput : Over Reader → Over Writer → Over Writer → Status → Type 0
 DumpsInput file out err status = (shown : Transcript)
     × TellsEnd (DumpsWhole file out shown) (BreaksAtDocument file out) (StarvesAfterDocuments file out) err shown status
 
 -- ---- `check`
 
--- the line of a document with a fault; one without has none
+-- the line of `check` for a document: its first fault; a document without a fault has no line
 abbrev pub verdict_line : ℕ → Option Fault → List ℕ
 verdict_line number None = []
 verdict_line number (Some f) = fault_text number f ++ 10 ∷ []
 
--- the lines of documents, the first of which has that number
+-- the lines of `check` for documents whose numbers begin at `number`
 abbrev pub verdict_lines : ℕ → List (Option Fault) → List ℕ
 verdict_lines number [] = []
 verdict_lines number (v ∷ vs) = verdict_line number v ++ verdict_lines (suc number) vs
 
--- why no more of the input was read, where that is so,
--- and how many documents there are and how many of them have a fault
+-- what `check` writes on standard error: why the input was not read to its end, if so,
+-- then how many documents there are and how many are faulty
 abbrev pub check_message : Option ReadFault → ℕ → ℕ → List ℕ
 check_message unread documents faulty =
     (wrong_line (option_map read_words unread) ++ (decimal documents ++ codes " documents, "))
     ++ (decimal faulty ++ (codes " faulty" ++ 10 ∷ []))
 
+-- the status of `check`: done if each document is well-formed and the input was read whole, else failed (1)
 abbrev pub check_status : Option ReadFault → ℕ → Status
 check_status None zero = Done
 check_status _ faulty = Failed
 
--- what is shown of the documents, or of those before a read that failed:
--- a line for each that has a fault, and the message
+-- what `check` shows of documents, or of those before a failed read
 abbrev pub shown_check : List (Option Fault) → Option ReadFault → Transcript
 shown_check vs unread = record {
   out = verdict_lines 0 vs;
@@ -98,33 +101,36 @@ shown_check vs unread = record {
   status = check_status unread (count_by is_some vs);
 }
 
--- the verdicts on all bytes of an input, or on those before a failed read:
--- documents by length and the beginning of one more
+-- For each document of an input its first fault or None;
+-- if a read failed, for those before the document that it cut.
 abbrev pub AreVerdicts : List ℕ → Option ReadFault → List (Option Fault) → Type 0
 AreVerdicts bytes None vs = vs ≡ verdicts bytes
 AreVerdicts bytes (Some fault) vs =
     (frames : List (List ℕ)) × (front : List ℕ) × (part : List ℕ) × AreFrames frames front × IsCut part
     × (bytes ≡ front ++ part) × (vs ≡ verdicts front)
 
+-- This is what `check` shows of all bytes of an input, or of those before a failed read.
 abbrev pub IsShownByCheck : List ℕ → Option ReadFault → Transcript → Type 0
 IsShownByCheck bytes fault shown =
     (vs : List (Option Fault)) × AreVerdicts bytes fault vs × (shown ≡ shown_check vs fault)
 
--- no more than 4,294,967,295 bytes were judged: there are no more, or no more stand before a faulty length
+-- At most 4,294,967,295 bytes were checked: there are no more, or no more come before a bad length.
 abbrev pub JudgesWithinLimit : List ℕ → Option ReadFault → Type 0
 JudgesWithinLimit bytes None = (length bytes ≤ longest_input)
     ⊎ ((frames : List (List ℕ)) × (front : List ℕ) × (rest : List ℕ) × (kind : FaultKind) × AreFrames frames front
     × (bytes ≡ front ++ rest) × (frame_length rest ≡ Err kind) × (length front ≤ longest_input))
 JudgesWithinLimit bytes (Some f) = Unit {0}
 
--- the reader gave these documents and no byte after them, and standard output broke in the line of the last of them
+-- The reader gave these documents and no byte after them,
+-- and a write to standard output failed in the line of the last of them.
 abbrev pub BreaksAtVerdict : Over Reader → Over Writer → Type 0
 BreaksAtVerdict file out =
     (vs : List (Option Fault)) × (f : Fault) × (given : List ℕ) × (verdicts given ≡ vs ++ Some f ∷ [])
     × Consumes file.before.left file.after.left given × (file.after.failures ≡ file.before.failures)
     × BreaksAfter out (verdict_lines 0 vs) (verdict_line (length vs) (Some f))
 
--- an input was read, whole or to a read that failed, and standard output has what is to be shown of it, or a front
+-- `check` ran: its input was read, whole or up to a failed read,
+-- and standard output has what is to be shown of it, or a prefix.
 abbrev pub ChecksInput : Over Reader → Over Writer → Over Writer → Status → Type 0
 ChecksInput file out err status =
     (bytes : List ℕ) × (fault : Option ReadFault) × (shown : Transcript) × StreamsInput file bytes fault
@@ -135,37 +141,42 @@ ChecksInput file out err status =
 
 -- ---- the walk over the documents
 
--- what is written of a document, and of a fault by the number of its document; none where the walk ends at it
+-- what a walk over a dump writes of a document, and of a fault by its document number; None:
+-- the walk ends at a fault
 pub record Texts : Type 0 where
   pub good : Doc → List ℕ
   pub bad : ℕ → Fault → Option (List ℕ)
 
--- `dump` writes the line of each document up to the first fault, and `check` the line of each fault
+-- `dump` writes the line of each document, and ends at the first fault
 abbrev pub dump_texts : Texts
 dump_texts = record { good = λ d. lines (d ∷ []); bad = λ number f. None }
 
+-- `check` writes nothing of a well-formed document, and the line of each fault
 abbrev pub check_texts : Texts
 check_texts = record { good = λ d. []; bad = λ number f. Some (verdict_line number (Some f)) }
 
--- the walk ends at a fault, or its text was written and it goes on
+-- At a fault the walk ended, or its text was written and the walk went on.
 abbrev pub MeetsFault : Option (List ℕ) → Over Writer → Result Bool OutputFault → Type 0
 MeetsFault wanted out (Ok true) = (text : List ℕ) × (wanted ≡ Some text) × TakesText out text
 MeetsFault wanted out (Ok false) = (wanted ≡ None) × (out.after ≡ out.before)
 MeetsFault wanted out (Err stopped) = (text : List ℕ) × (wanted ≡ Some text) × StopsWriting text out stopped
 
--- what is written of the document of that number, which has these bytes at that place and this fault, or none
+-- This is written of the document of that number, which has these bytes at that offset,
+-- and this fault or none.
 abbrev pub IsTextOf : Texts → ℕ → ℕ → List ℕ → Option Fault → List ℕ → Type 0
 IsTextOf texts number place bytes None text = (d : Doc) × IsDocument d bytes × (text ≡ texts.good d)
 IsTextOf texts number place bytes (Some f) text = (first_fault place bytes ≡ Some f) × (texts.bad number f ≡ Some text)
 
--- the verdicts on documents one after the other, their bytes, and what is written of them
+-- The walk went over these documents: for each its first fault or None, their bytes,
+-- and what is written of them.
 pub data AreVisited (texts : Texts) : List (Option Fault) → List ℕ → List ℕ → Type 0 where
   none_visited : AreVisited texts [] [] []
   more_visited : (vs : List (Option Fault)) (given text : List ℕ) (v : Option Fault) (frame piece : List ℕ)
       → AreVisited texts vs given text → IsFrame frame → IsTextOf texts (length vs) (length given) frame v piece
       → AreVisited texts (vs ++ v ∷ []) (given ++ frame) (text ++ piece)
 
--- what comes after so many documents that have these bytes; of a bad length all bytes that were read tell
+-- How the walk ended after that many documents of these bytes:
+-- at the end of the input, at a fault, or at a read that failed.
 abbrev pub EndsWalk : Texts → Over Reader → ℕ → List ℕ → Ending → Type 0
 EndsWalk texts file number given endings.Whole = StreamsInput file given None × StopsWithinOne given file
 EndsWalk texts file number given (endings.Faulty f) =
@@ -176,18 +187,19 @@ EndsWalk texts file number given (endings.Faulty f) =
 EndsWalk texts file number given (endings.Unread f) =
     (part : List ℕ) × StreamsInput file (given ++ part) (Some f) × IsCut part
 
--- what is told of it
+-- the message of what ended the walk; None at the end of the input
 abbrev pub ending_words : Ending → Option (List ℕ)
 ending_words endings.Whole = None
 ending_words (endings.Faulty f) = Some (fault_text f.document (fault_view f))
 ending_words (endings.Unread f) = Some (read_words f)
 
--- what is written of the fault that ends the walk: of a bad length, after which no document is looked for
+-- what is written of the fault that ends the walk, if it is a bad length:
+-- where the next document is, is not known
 abbrev pub text_at_end : Texts → ℕ → Ending → List ℕ
 text_at_end texts number (endings.Faulty f) = unwrap_or (texts.bad number (fault_view f)) []
 text_at_end texts number _ = []
 
--- the documents of the walk, and what the writer took of them
+-- The walk went to its end, and the writer took what is to be written of its documents.
 abbrev pub WalksDocuments : Texts → Over Reader → Over Writer → Walk → Type 0
 WalksDocuments texts file out walk =
     (vs : List (Option Fault)) × (given : List ℕ) × (text : List ℕ) × AreVisited texts vs given text
@@ -195,8 +207,8 @@ WalksDocuments texts file out walk =
     × EndsWalk texts file (length vs) given walk.ending
     × TakesText out (text ++ text_at_end texts (length vs) walk.ending)
 
--- the walk was stopped: memory ran out after these documents,
--- or a write failed in what is written of the next one, or of the fault that ends the walk
+-- The walk was stopped: memory ran out after these documents,
+-- or a write failed in the text of the next one or of the fault that ends the walk.
 abbrev pub StopsWalk : Texts → Over Reader → Over Writer → OutputFault → Type 0
 StopsWalk texts file out NoMemory =
     (vs : List (Option Fault)) × (given : List ℕ) × (text : List ℕ) × AreVisited texts vs given text

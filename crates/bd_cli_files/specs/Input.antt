@@ -11,7 +11,7 @@ use Rattle.bd_io_device.specs.declared.reading.ReadFault.TheVariants as reads
 
 -- ---- whole
 
--- the reader's bytes are these, or it was not read whole for this reason
+-- The input was read whole, and is these bytes; or it was not, for this reason.
 abbrev pub ReadsInput : Over Reader → Result (List ℕ) ReadFault → Type 0
 ReadsInput file (Ok bytes) =
     IfSome file.before.left (λ xs. bytes ≡ xs) × IsAtEnd file.after.left × (length bytes ≤ longest_input)
@@ -22,28 +22,28 @@ ReadsInput file (Err reads.TooLong) =
 ReadsInput file (Err reads.TooManyTurns) = ⊥
 ReadsInput file (Err reads.NoMemory) = TakesAtMost longest_input file × (file.after.failures ≡ file.before.failures)
 
--- each read gave a byte at least, but for the last one: it may also have failed, or found the end
+-- Each read but the last gave at least one byte;
+-- the last may have failed or found the end, and none came after it.
 abbrev pub ReadsNoFurther : {R : Type 0} → (R → Option (List ℕ) → R → Type 0) → R → R → Type 0
 ReadsNoFurther {R} gives old new = (n : ℕ) × (given : List ℕ) × (last : R) × AreReads gives n old given last
     × ((new ≡ last) ⊎ ((part : Option (List ℕ)) × gives last part new))
 
 -- ---- document by document
 
--- the reader gave these bytes, and this part of a document after them, no byte past its end;
--- no more than the limit in all
+-- The reader gave these bytes and then this part of a document, no byte past that document,
+-- and no more than the limit in all.
 abbrev pub StopsInside : List ℕ → List ℕ → Over Reader → Type 0
 StopsInside front part file =
     Consumes file.before.left file.after.left (front ++ part)
     × (length (front ++ part) ≤ longest_input) × IsWithinOne part
 
--- the reader gave these bytes, and of a document after them no byte past its end
+-- The reader gave these bytes, and of a document after them no byte past its end.
 abbrev pub StopsWithinOne : List ℕ → Over Reader → Type 0
 StopsWithinOne front file = (part : List ℕ) × StopsInside front part file
 
--- The reader's bytes are these. It gave documents by their lengths,
--- and of one more, which has a faulty length if there is more, no
--- byte past its end. Or it gave these bytes, and no more of them were read for this reason;
--- a read that went past the limit gave no more than was missing of the document that it was in.
+-- All bytes of the reader are these: it gave documents by their lengths, and of one more no byte past its
+-- end; if there is more, that one has a bad length. Or it gave these bytes, and no more were read for this
+-- reason; a read that passed the limit gave no more than was missing of its document.
 abbrev pub StreamsInput : Over Reader → List ℕ → Option ReadFault → Type 0
 StreamsInput file bytes None = IfSome file.before.left (λ xs. bytes ≡ xs)
     × ((frames : List (List ℕ)) × (front : List ℕ) × AreFrames frames front × StopsWithinOne front file)

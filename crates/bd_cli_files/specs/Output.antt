@@ -12,7 +12,7 @@ use Rattle.bd_cli_files.specs.{declared.output.OutputFault.TheVariants.NoMemory}
 use Rattle.bd_cli_files.specs.{declared.output.OutputFault.TheVariants.Unwritten, declared.output.Status.TheVariants.Done}
 use Rattle.bd_cli_files.specs.{declared.output.Status.TheVariants.Failed}
 
--- standard output, standard error, and the exit status
+-- what a run shows: the text on standard output, the text on standard error, and the exit status
 pub record Transcript : Type 0 where
   pub out : List ℕ
   pub err : List ℕ
@@ -20,98 +20,105 @@ pub record Transcript : Type 0 where
 
 -- ---- the texts
 
--- the documents, one a line
+-- documents in canonical Extended JSON, one a line
 abbrev pub lines : List Doc → List ℕ
 lines [] = []
 lines (d ∷ ds) = text (doc (fields_of d)) ++ 10 ∷ lines ds
 
+-- a line of standard error: `bsonfind: `, the message, a newline
 abbrev pub error_line : List ℕ → List ℕ
 error_line message = codes "bsonfind: " ++ (message ++ 10 ∷ [])
 
--- a fault: the number of its document and its byte, the names of its path joined by dots, and what it is
+-- where a fault is: its document number, and its byte offset from the start of the dump
 abbrev pub place_text : ℕ → ℕ → List ℕ
 place_text number offset = codes "document " ++ (decimal number ++ (codes ", byte " ++ decimal offset))
 
+-- the message of a dump fault: where it is, its path,
+-- the names joined by dots as a JSON string, and what is wrong
 abbrev pub fault_text : ℕ → Fault → List ℕ
 fault_text number f =
     place_text number f.offset
     ++ (codes ", path " ++ (quoted (join_with_byte 46 f.path) ++ (codes ": " ++ fault_words f.kind)))
 
--- why a run ends where memory ran out, and where standard output failed
+-- the message of a run that ran out of memory
 abbrev pub no_memory : List ℕ
 no_memory = codes "no memory"
 
+-- the message of a run whose write to standard output failed
 abbrev pub cannot_write : List ℕ
 cannot_write = codes "cannot write"
 
+-- the message of a run that could not write all of its output
 abbrev pub stop_words : OutputFault → List ℕ
 stop_words NoMemory = no_memory
 stop_words Unwritten = cannot_write
 
 -- ---- what is shown
 
--- nothing but why there is nothing to show
+-- what is shown if there is nothing but an error
 abbrev pub shown_refusal : List ℕ → Transcript
 shown_refusal message = record { out = []; err = error_line message; status = Failed }
 
--- the first line of standard error, and the status: a message tells what is wrong, or nothing is
+-- the first line of standard error, if there is a message of what is wrong
 abbrev pub wrong_line : Option (List ℕ) → List ℕ
 wrong_line None = []
 wrong_line (Some message) = error_line message
 
+-- the exit status: done if nothing is wrong, else failed (1)
 abbrev pub wrong_status : Option (List ℕ) → Status
 wrong_status None = Done
 wrong_status (Some message) = Failed
 
--- up to the end of an input, or up to what is wrong in it: what stands before, that, and the counts
+-- what is shown up to the end of an input, or up to what is wrong in it:
+-- the output, the error if there is one, and the counts
 abbrev pub shown_before : List ℕ → Option (List ℕ) → List ℕ → Transcript
 shown_before out wrong counts = record { out = out; err = wrong_line wrong ++ counts; status = wrong_status wrong }
 
--- a text that is lent, where there is one
+-- the text that a borrowed one is, if there is one
 abbrev pub told_bytes : Option (Bor (List ℕ)) → Option (List ℕ)
 told_bytes None = None
 told_bytes (Some text) = Some text.now
 
 -- ---- what was written
 
--- the writer took the message, and the status is this; or a write failed, and the status is 1
+-- The writer took the message, and the status is the one expected; or a write failed, and the status is 1.
 abbrev pub TellsMessage : Over Writer → List ℕ → Status → Status → Type 0
 TellsMessage err message wanted status =
     (TakesText err message × (status ≡ wanted)) ⊎ (BreaksWithin err message × (status ≡ Failed))
 
--- Standard output is as the first tells, and standard error has what belongs to it.
--- Or a write to standard output failed, as the second tells,
--- or memory ran out, as the third tells, and standard error says so.
+-- Standard output is as `Whole` says, and standard error has its message.
+-- Or a write to standard output failed (`Broke`), or memory ran out (`Starved`), and standard error says so.
 abbrev pub TellsEnd : Type 0 → Type 0 → Type 0 → Over Writer → Transcript → Status → Type 0
 TellsEnd Whole Broke Starved err shown status = (Whole × TellsMessage err shown.err shown.status status)
     ⊎ (Broke × TellsMessage err (error_line cannot_write) Failed status)
     ⊎ (Starved × TellsMessage err (error_line no_memory) Failed status)
 
--- standard output has the whole text that is to be shown, or a front of it where a write failed
+-- Standard output has all that is to be shown; or a prefix of it, and a write failed.
 abbrev pub PrintsShown : Over Writer → Over Writer → Transcript → Status → Type 0
 PrintsShown out err shown status = TellsEnd (TakesText out shown.out) (BreaksWithin out shown.out) ⊥ err shown status
 
--- or where memory ran out
+-- Standard output has all that is to be shown; or a prefix of it, and a write failed or memory ran out.
 abbrev pub PrintsOrStarves : Over Writer → Over Writer → Transcript → Status → Type 0
 PrintsOrStarves out err shown status =
     TellsEnd (TakesText out shown.out) (BreaksWithin out shown.out) (TakesFront out shown.out) err shown status
 
--- The same of an input. Why one was not read whole is told as it is, and never as out of memory.
+-- The run printed what is to be shown of an input;
+-- if that was not read whole, memory cannot have run out as well.
 abbrev pub PrintsInput : Result (List ℕ) ReadFault → Over Writer → Over Writer → Transcript → Status → Type 0
 PrintsInput (Ok bytes) out err shown status = PrintsOrStarves out err shown status
 PrintsInput (Err fault) out err shown status = PrintsShown out err shown status
 
--- the writer took a front of the text, or a write failed after one
+-- The writer took a prefix of the text: memory ran out, or a write of the rest failed.
 abbrev pub StopsWithin : Over Writer → List ℕ → OutputFault → Type 0
 StopsWithin out text NoMemory = TakesFront out text
 StopsWithin out text Unwritten = BreaksWithin out text
 
--- nothing of the text was written, or a write failed after a front of it, which is not all
+-- Nothing of the text was written, since memory ran out; or a write failed after a prefix of it.
 abbrev pub StopsWriting : List ℕ → Over Writer → OutputFault → Type 0
 StopsWriting text out NoMemory = out.after ≡ out.before
 StopsWriting text out Unwritten = BreaksWithin out text
 
--- the writer took the text, or writing it was stopped
+-- The writer took the text, or writing it was stopped.
 abbrev pub Writes : {A : Type 0} → List ℕ → Over Writer → Result A OutputFault → Type 0
 Writes text out (Ok x) = TakesText out text
 Writes text out (Err stopped) = StopsWriting text out stopped

@@ -1,4 +1,4 @@
--- What `pack` shows of an input, and what a run of it did.
+-- What `pack` prints of an input, and what a run of it did.
 use Rattle.std.specs.Prelude.{◌≡◌, ◌⊎◌, ◌↔◌, ℕ, suc, List, [], ◌∷◌, ◌++◌, length, codes, decimal, IsTrue, IsFalse}
 use Rattle.std.specs.Prelude.{Option, Some, None, Result, Ok, Err, option_map}
 use Rattle.std.specs.List.{flat_map}
@@ -15,8 +15,8 @@ use Rattle.bd_cli_files.specs.Output.{PrintsInput, StopsWithin, Transcript, show
 use Rattle.bd_extjson_fault.specs.declared.json_fault.JsonFaultKind.TheVariants as kinds
 use Rattle.bd_extjson_pack.specs.declared.line.LineFault.TheVariants as faults
 
--- of lines, the first of which has that number, the documents before the first bad one, and that one;
--- blank ones are passed over
+-- From lines whose numbers begin at `number`: the documents before the first bad line, and that line,
+-- if there is one. Lines of white space are skipped.
 abbrev pub PacksLines : ℕ → List (List ℕ) → List Doc → Option BadLine → Type 0
 PacksLines number [] ds bad = (ds ≡ []) × (bad ≡ None)
 PacksLines number (line ∷ lines) ds bad = (IsTrue (is_empty_line line) × PacksLines (suc number) lines ds bad)
@@ -25,39 +25,44 @@ PacksLines number (line ∷ lines) ds bad = (IsTrue (is_empty_line line) × Pack
     ⊎ (IsFalse (is_empty_line line)
     × ((fault : LineFault) × IsBad line fault × (ds ≡ []) × (bad ≡ Some (record { number = number; fault = fault }))))
 
--- the place of a fault, after these words; a document as a whole has none
+-- the byte offset of a fault in a line, after these words; none if the line as a whole is no document
 abbrev pub byte_text : List ℕ → JsonFaultKind → ℕ → List ℕ
 byte_text words kinds.NotADocument at = []
 byte_text words _ at = words ++ decimal at
 
+-- what is wrong with a line of `pack`, and at which byte of the line
 abbrev pub line_fault_text : LineFault → List ℕ
 line_fault_text (faults.Unread f) = byte_text (codes ", byte ") f.kind f.at ++ (codes ": " ++ json_fault_words f.kind)
 line_fault_text faults.TooLong = codes ": document too long"
 
+-- the message of a bad line of `pack`: its number, from 1, and what is wrong
 abbrev pub bad_line_text : BadLine → List ℕ
 bad_line_text bad = codes "line " ++ (decimal bad.number ++ line_fault_text bad.fault)
 
--- after the number of documents that were packed
+-- the end of the line of counts of `pack`, after the number of documents packed
 abbrev pub objects_packed : List ℕ
 objects_packed = codes " objects packed" ++ 10 ∷ []
 
+-- what `pack` shows: the BSON of the documents before the first bad line, the message of that line,
+-- and how many were packed
 abbrev pub shown_pack : List Doc → Option BadLine → Transcript
 shown_pack ds bad = shown_before (flat_map plain ds) (option_map bad_line_text bad)
     (decimal (length ds) ++ objects_packed)
 
--- what is shown of a text, or of an input that was not read whole
+-- This is what `pack` shows of a text, or of an input that was not read whole.
 abbrev pub IsShownByPack : Result (List ℕ) ReadFault → Transcript → Type 0
 IsShownByPack (Ok text) shown =
     (ds : List Doc) × (bad : Option BadLine) × PacksLines 1 (text_lines text) ds bad × (shown ≡ shown_pack ds bad)
 IsShownByPack (Err fault) shown = shown ≡ shown_refusal (read_words fault)
 
--- Both name the same bad line, or none. Of a line that is no document, the kind and the place of the fault may differ.
+-- Both are the same bad line, or none. Of a line that is no document,
+-- the kind and the offset of the fault may differ.
 abbrev pub AreAlike : Option BadLine → Option BadLine → Type 0
 AreAlike None None = Unit {0}
 AreAlike (Some a) (Some b) = (a.number ≡ b.number) × ((a.fault ≡ faults.TooLong) ↔ (b.fault ≡ faults.TooLong))
 AreAlike _ _ = ⊥
 
--- an input was read whole, or was not for a reason, and what is to be shown of it was shown
+-- `pack` ran: its input was read whole or not, and what is to be shown of it was printed.
 abbrev pub PacksInput : Over Reader → Over Writer → Over Writer → Status → Type 0
 PacksInput file out err status =
     (input : Result (List ℕ) ReadFault) × (shown : Transcript) × ReadsInput file input × IsShownByPack input shown
@@ -65,21 +70,24 @@ PacksInput file out err status =
 
 -- ---- line by line
 
+-- the lines that remain to be packed; None is the end of the text
 abbrev pub lines_left : Option (List ℕ) → List (List ℕ)
 lines_left None = []
 lines_left (Some text) = text_lines text
 
+-- how much remains to be packed: less after each line, and 0 at the end of the text
 abbrev pub left_size : Option (List ℕ) → ℕ
 left_size None = 0
 left_size (Some text) = suc (length text)
 
--- the documents before the first bad line, whose bytes the writer took
+-- The writer took the BSON of the documents before the first bad line,
+-- and that line and their count are these.
 abbrev pub IsPacking : List ℕ → Over Writer → Packing → Type 0
 IsPacking text out packing =
     (ds : List Doc) × PacksLines 1 (text_lines text) ds packing.bad × (packing.count ≡ length ds)
     × TakesText out (flat_map plain ds)
 
--- the writing of these bytes was stopped
+-- Writing the BSON of the documents before the first bad line was stopped.
 abbrev pub StopsPacking : List ℕ → Over Writer → OutputFault → Type 0
 StopsPacking text out stopped =
     (ds : List Doc) × (bad : Option BadLine) × PacksLines 1 (text_lines text) ds bad

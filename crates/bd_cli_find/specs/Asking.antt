@@ -1,4 +1,4 @@
--- What the words of `find` ask for, or why they ask for nothing.
+-- What the options of `find` ask for, or why they are refused.
 use Rattle.std.specs.Prelude.{◌≡◌, ◌≢◌, ◌⊎◌, ℕ, nat_le, Bool, true, List, [], ◌++◌, length, codes, Option, Some, None}
 use Rattle.std.specs.Prelude.{Result, Ok, Err, if◌then◌else◌, string_bytes}
 use Rattle.std.specs.List.{join_with_byte}
@@ -21,7 +21,7 @@ use Rattle.bd_extjson_fault.specs.declared.json_fault.JsonFaultKind.TheVariants 
 use Rattle.bd_cursor_request.specs.declared.results.Refused.TheVariants as reasons
 use Rattle.bd_cli_find.specs.declared.asking.AskingFault.TheVariants as faults
 
--- what is asked of a dump, how much of the answer is shown, and after which token it goes on
+-- what the options of `find` ask for: a request, the size of the batch, and the token that it resumes after
 pub record PageRequest : Type 0 where
   pub request : Request
   pub batch : Option ℕ
@@ -29,19 +29,21 @@ pub record PageRequest : Type 0 where
 
 -- ---- the texts of faults
 
--- of a query or a sort, as the name tells
+-- the message of a query or a sort that is no Extended JSON document, after the name of the option
 abbrev pub json_fault_text : List ℕ → JsonFault → List ℕ
 json_fault_text name f = name ++ (byte_text (codes ": byte ") f.kind f.at ++ (codes ": " ++ json_fault_words f.kind))
 
--- the names down to the pair or member, joined by dots, and which rule it breaks
+-- the message of a filter that is refused: the path to the pair or member, joined by dots,
+-- and which rule it breaks
 abbrev pub refusal_text : Refusal → List ℕ
 refusal_text r = codes "query: place "
     ++ (quoted (join_with_byte 46 r.place) ++ (codes ": " ++ filter_fault_words r.kind))
 
+-- the message of an option `--index` that is no path
 abbrev pub index_fault_text : PathFault → List ℕ
 index_fault_text fault = codes "index: " ++ path_fault_words fault
 
--- the name of the option that is refused, where it has one
+-- the name of the option that a refusal is of, if it is of one
 abbrev pub refused_option : Refused → List ℕ
 refused_option reasons.BadSort = codes "sort: "
 refused_option reasons.BadToken = codes "token: "
@@ -49,13 +51,13 @@ refused_option reasons.ForeignToken = codes "token: "
 refused_option reasons.TokenPlace = codes "token: "
 refused_option _ = []
 
--- what is wrong, after the name of the option
+-- the message of a refusal, after the name of its option
 abbrev pub refused_text : Reason → List ℕ
 refused_text (bad_filter r) = refusal_text r
 refused_text (plain refused) = refused_option refused ++ refused_words refused
 
--- the document of a query or a sort; without a text it has no pairs. A text that is no document has a fault: which
--- one, no definition says of a text that is UTF-8
+-- The text of a query or a sort is this document, or it is none, and this is the message of a fault;
+-- without a text it is `{}`. Which fault of a UTF-8 text is reported, no definition says.
 abbrev pub ReadsText : List ℕ → Option (List ℕ) → Result Doc (List ℕ) → Type 0
 ReadsText name None (Ok d) = d ≡ []
 ReadsText name None (Err message) = ⊥
@@ -64,15 +66,16 @@ ReadsText name (Some text) (Err message) = (reading text ≡ None)
     × ((f : JsonFault) × IsPlaced (length text) f × TellsBadUtf8 text f × (f.kind ≢ kinds.NoMemory)
     × (message ≡ json_fault_text name f))
 
--- a batch has at most 2,147,483,647 documents
+-- whether the size of a batch is at most 2,147,483,647
 abbrev pub fits_batch : Option ℕ → Bool
 fits_batch None = true
 fits_batch (Some n) = nat_le n greatest_count
 
+-- the option `--batch`, refused if it is above 2,147,483,647
 abbrev pub batch_part : Option ℕ → Result (Unit {0}) Reason
 batch_part size = if fits_batch size then Ok tt else Err (plain reasons.Range)
 
--- the token of a text, where there is one
+-- the token of the option `--after`, if it is given; a text that is no token is refused
 abbrev pub after_part : Option (List ℕ) → Result (Option Token) Reason
 after_part None = Ok None
 after_part (Some text) = then_part (token_part text) (λ t. Ok (Some t))
@@ -87,37 +90,38 @@ page_of words query sort =
     then_part (told_as refused_text (after_part words.after)) (λ token.
     Ok (record { request = request; batch = words.batch; token = token })))))
 
--- A part gives a value, for which what comes after it counts,
--- or it is refused with a message, and then none of that counts.
+-- A part has a value, for which `IsRest` holds; or it is refused with a message, for which `IsRefused` holds.
 abbrev pub IsRefusedOr : {Given : Type 0} → (List ℕ → Type 0) →
     (Result Given (List ℕ) → Type 0) → (Given → Type 0) → Type 0
 IsRefusedOr {Given} IsRefused IsPart IsRest = ((message : List ℕ) × IsPart (Err message) × IsRefused message)
     ⊎ ((given : Given) × IsPart (Ok given) × IsRest given)
 
--- what the words ask for, or the message of what is refused first:
--- the text of the query, that of the sort, and then the rest
+-- What the options of `find` ask for, or the message of the first refusal:
+-- of the query's text, the sort's text, then the rest.
 abbrev pub AsksInWords : FindWords → Result PageRequest (List ℕ) → Type 0
 AsksInWords words asked = IsRefusedOr (λ message. asked ≡ Err message) (ReadsText (codes "query") words.query) (λ query.
     IsRefusedOr (λ message. asked ≡ Err message) (ReadsText (codes "sort") words.sort) (λ sort.
     page_of words query sort ≡ asked))
 
+-- The options of `find` are refused, whatever the file holds.
 abbrev pub AsksNothing : FindWords → Type 0
 AsksNothing words = (w : PageRequest) → ¬ (AsksInWords words (Ok w))
 
+-- what is asked for by an `Asking` in memory
 abbrev pub page_request_of : Asking → PageRequest
 page_request_of a = record { request = request_view a.request; batch = a.size; token = a.token }
 
--- the message is one of those that a part is refused with, unless memory ran out
+-- The fault reports the message that the part is refused with, or that memory ran out.
 abbrev pub TellsAskingFault : {Given : Type 0} → (Result Given (List ℕ) → Type 0) → AskingFault → Type 0
 TellsAskingFault IsPart faults.NoMemory = Unit {0}
 TellsAskingFault IsPart (faults.Refused refused) = IsPart (Err (refused_text (reason_of refused)))
 TellsAskingFault IsPart (faults.Message message) = IsPart (Err (string_bytes message))
 
--- so of a part that is refused for a reason
+-- The fault reports the reason that the part is refused for, or that memory ran out.
 abbrev pub TellsReason : {Given : Type 0} → Result Given Reason → AskingFault → Type 0
 TellsReason part fault = TellsAskingFault (λ told. told_as refused_text part ≡ told) fault
 
--- the line of the refusal is written; only in place of that of a filter it may say that memory ran out
+-- The line of the refusal was written; instead of that of a filter it may say that memory ran out.
 abbrev pub TellsRefusal : Over Writer → Reason → Status → Type 0
 TellsRefusal err (plain refused) status = TellsMessage err (error_line (refused_text (plain refused))) Failed status
 TellsRefusal err (bad_filter r) status = TellsMessage err (error_line (refusal_text r)) Failed status

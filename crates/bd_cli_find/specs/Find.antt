@@ -1,4 +1,4 @@
--- What `find` shows of its words and an input, and what a run of it did.
+-- What `find` prints for its options and an input, and what a run of it did.
 use Rattle.std.specs.Prelude.{◌≡◌, ◌≤◌, ◌<◌, ℕ, nat_lt, true, List, [], length, option_map, Option, Some, None, Result}
 use Rattle.std.specs.Prelude.{Ok, Err, codes, if◌then◌else◌, ◌⊎◌, Bool, ◌∷◌, ◌++◌}
 use Rattle.std.specs.{Prelude.drop, Prelude.decimal, List.All, Str.bytes_eq}
@@ -25,65 +25,66 @@ use Rattle.bd_query_filter.specs.{Filter.Filter, FilterMatch.matches}
 use Rattle.bd_extjson_pack.specs.Packable.{IsPackable}
 use Rattle.bd_cursor_request.specs.declared.results.Refused.TheVariants as reasons
 
--- The places that are asked for: without a token the whole answer;
--- or what follows a token of this dump and this request. The digest is looked at first, then the place.
+-- The document numbers that are asked for: the whole answer, or what follows a token.
+-- The token's digest is looked at first, then its document number.
 abbrev pub places_from : Query → Option Token → Result (List ℕ) Reason
 places_from q None = Ok (answer q.selection)
 places_from q (Some t) = if bytes_eq t.digest q.digest
     then (if nat_lt t.last q.selection.count then Ok (rest q.selection (mark_of t)) else Err (plain reasons.TokenPlace))
     else Err (plain reasons.ForeignToken)
 
--- a cursor that has these places left
+-- an open cursor with these document numbers left
 abbrev pub cursor_for : ℕ → Query → Option Token → List ℕ → OpenCursor
 cursor_for id q token ps = record { id = id; digest = q.digest; token = option_map marked_token token; left = ps }
 
--- a session that has opened no cursor
+-- the state of a session in which no cursor was opened
 abbrev pub before_first : List IndexMark → State
 before_first indexes = record { indexes = indexes; next_id = 1; cursors = [] }
 
--- documents are looked for by the index that is named, and without one in turn
+-- by the index that is named; without one by a scan
 abbrev pub index_way : Option (List ℕ) → Way
 index_way None = by_none
 index_way (Some path) = by_one path
 
--- it has the index that is named
+-- No cursor was opened yet, and the index that is named is there.
 pub record AwaitsFirst (s : State) (hint : Option (List ℕ)) : Type 0 where
   pub marks : List IndexMark
   pub is_unopened : s ≡ before_first marks
   pub is_there : has_index marks hint ≡ true
 
--- a cursor on the places that are asked for was opened, or why there are none, unless memory ran out
+-- A cursor was opened that has left what is asked for; or it is refused, or memory ran out.
 abbrev pub IsOpenedOn : Query → Option Token → State → Result ℕ Refused → Type 0
 IsOpenedOn q token s (Ok id) =
     (ps : List ℕ) × (places_from q token ≡ Ok ps) × (cursor_of id s.cursors ≡ Some (cursor_for id q token ps))
 IsOpenedOn q token s (Err refused) = IsRefusedPart (places_from q token) refused
 
--- the cursor is open, and what it has left are places of these documents, no more than one batch may have
+-- The cursor is open, and what it has left are numbers of documents of the dump,
+-- no more than one batch may have.
 pub record IsReady (s : State) (id : ℕ) (count : ℕ) : Type 0 where
   pub cursor : OpenCursor
   pub is_there : cursor_of id s.cursors ≡ Some cursor
   pub inside : All (λ p. p < count) cursor.left
   pub few : length cursor.left ≤ greatest_count
 
--- what the first batch leaves; without a size it is the whole
+-- what remains after the first batch; without a size nothing
 abbrev pub left_over : Option ℕ → List ℕ → List ℕ
 left_over None ps = []
 left_over (Some n) ps = drop n ps
 
--- the token after a batch, where there is one
+-- the end of the line of counts if there is a token: `, token T`
 abbrev pub token_words : Option MarkedToken → List ℕ
 token_words None = []
 token_words (Some t) = codes ", token " ++ marked_text t
 
--- whether documents are left
+-- the middle of the line of counts: whether documents remain (`more`) or not (`end`)
 abbrev pub end_words : Bool → List ℕ
 end_words ends = if ends then codes " documents, end" else codes " documents, more"
 
+-- the line of counts after a batch: how many documents, `end` or `more`, and the token if there is one
 abbrev pub find_count_line : ℕ → Bool → Option MarkedToken → List ℕ
 find_count_line count ends token = decimal count ++ (end_words ends ++ (token_words token ++ 10 ∷ []))
 
--- what is shown of a cursor: the documents of its first batch, how many they are, whether nothing is left, and
--- the token that leads on
+-- what `find` shows of a cursor: the documents of its first batch, and the line of counts with the token
 abbrev pub shown_batch : Option ℕ → List Doc → OpenCursor → Transcript
 shown_batch size ds c = let ps = at_most size c.left in record {
   out = lines (documents_at ds ps);
@@ -91,38 +92,38 @@ shown_batch size ds c = let ps = at_most size c.left in record {
   status = Done;
 }
 
--- what is shown of a dump: the first batch of what is asked for, or what is wrong with the token
+-- what `find` shows of a dump: the first batch of what is asked for, or why the token is refused
 abbrev pub shown_places : List ℕ → List Doc → PageRequest → Result (List ℕ) Reason → Transcript
 shown_places bytes ds w (Ok ps) = shown_batch w.batch ds (cursor_for 1 (query_to bytes ds w.request) w.token ps)
 shown_places bytes ds w (Err why) = shown_refusal (refused_text why)
 
+-- what `find` shows of a well-formed dump: the first batch, or why the token is refused
 abbrev pub shown_of_dump : List ℕ → List Doc → PageRequest → Transcript
 shown_of_dump bytes ds w = shown_places bytes ds w (places_from (query_to bytes ds w.request) w.token)
 
--- what is shown of bytes in which these documents end so
+-- what `find` shows of bytes that are these documents; if one has a fault, that alone
 abbrev pub shown_of_walk : List ℕ → List Doc → Option Fault → PageRequest → Transcript
 shown_of_walk bytes ds None w = shown_of_dump bytes ds w
 shown_of_walk bytes ds (Some fault) w = shown_refusal (fault_text (length ds) fault)
 
--- what is shown of bytes that were read
+-- This is what `find` shows of the bytes of its input.
 abbrev pub IsShownOfBytes : PageRequest → List ℕ → Transcript → Type 0
 IsShownOfBytes w bytes shown =
     (ds : List Doc) × (end : Option Fault) × IsWalk ds end bytes × (shown ≡ shown_of_walk bytes ds end w)
 
--- what is shown of what is asked for and an input: the first refusal alone, or the first batch
+-- This is what `find` shows of what is asked for and of an input: the first error alone, or the first batch.
 abbrev pub IsShownOf : Result PageRequest (List ℕ) → Result (List ℕ) ReadFault → Transcript → Type 0
 IsShownOf (Err message) input shown = shown ≡ shown_refusal message
 IsShownOf (Ok w) (Err fault) shown = shown ≡ shown_refusal (read_words fault)
 IsShownOf (Ok w) (Ok bytes) shown = IsShownOfBytes w bytes shown
 
--- what is shown of the words and an input
+-- This is what `find` shows of its options and of an input.
 abbrev pub IsShownByFind : FindWords → Result (List ℕ) ReadFault → Transcript → Type 0
 IsShownByFind words input shown =
     (asked : Result PageRequest (List ℕ)) × AsksInWords words asked × IsShownOf asked input shown
 
--- Memory ran out before the input was read;
--- or the input was read, once no word is refused, and what is to be shown of the words
--- and of it was shown.
+-- `find` ran: its input was read unless an option is refused, and what is to be shown was printed;
+-- or memory ran out before, and nothing was read.
 abbrev pub FindsDocuments : FindWords → Over Reader → Over Writer → Over Writer → Status → Type 0
 FindsDocuments words file out err status =
     ((file.after ≡ file.before) × (out.after ≡ out.before)
@@ -131,6 +132,7 @@ FindsDocuments words file out err status =
     × IsRefusedOr (λ message. file.after ≡ file.before) (AsksInWords words) (λ w. ReadsInput file input)
     × IsShownByFind words input shown × PrintsInput input out err shown status)
 
+-- the request of a filter, a sort, a skip and a limit, in terms of documents instead of their numbers
 abbrev pub document_request : Filter → List SortPath → ℕ → ℕ → DocumentRequest Doc
 document_request f ss skip limit = record {
   matches = λ d. matches f (doc (fields_of d));
@@ -139,10 +141,10 @@ document_request f ss skip limit = record {
   limit = limit;
 }
 
--- the documents that `find` shows of these, by a filter, a sort, a skip and a limit
+-- the documents that `find` shows of these documents, for a filter, a sort, a skip and a limit
 abbrev pub documents_shown : Filter → List SortPath → ℕ → ℕ → List Doc → List Doc
 documents_shown f ss skip limit ds = documents_at ds (answer (selection_for ds f ss skip limit))
 
--- the text of a document is read back as it, and it is not too long to be packed
+-- The canonical text of the document is read back as this document, and can be packed.
 abbrev pub IsReadBack : Doc → Type 0
 IsReadBack d = IsPackable (text (doc (fields_of d))) d

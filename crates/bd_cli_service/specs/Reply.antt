@@ -22,15 +22,16 @@ use Rattle.bd_cli_service.specs.declared.member.Field.TheVariants as fields
 use Rattle.bd_cli_service.specs.declared.reply.LineRefusal.TheVariants as refusals
 use Rattle.bd_cli_service.specs.declared.reply.Reply.TheVariants as replies
 
--- why there is no result: the layer that refuses,
--- the number and the words of its reason, and the pair that tells where, if any
+-- a refusal as a reply has it: the layer that refuses, the number and the message of the reason,
+-- and the field that says where, if any
 pub record ToldRefusal : Type 0 where
   pub layer : List ℕ
   pub number : ℕ
   pub words : List ℕ
   pub place : Doc
 
--- of a batch its documents, whether nothing is left, and the text of the token; of what is explained its pairs
+-- a reply: done, a cursor, a batch (its documents, whether nothing remains, the token's text),
+-- counts of an index, an explanation, or a refusal
 pub data LineReply : Type 0 where
   done : LineReply
   opens : ℕ → LineReply
@@ -39,10 +40,11 @@ pub data LineReply : Type 0 where
   explains : Doc → LineReply
   refuses : ToldRefusal → LineReply
 
+-- documents as a BSON array, in order
 abbrev pub documents_value : List Doc → Tree
 documents_value ds = array (items_of (map (λ d. doc (fields_of d)) ds))
 
--- the pairs after the first one
+-- the fields of a reply after `ok`
 abbrev pub reply_pairs : LineReply → Doc
 reply_pairs done = []
 reply_pairs (opens id) = (codes "cursor", count_value id) ∷ []
@@ -56,25 +58,28 @@ reply_pairs (refuses r) =
     (codes "layer", leaf (trees.text r.layer)) ∷ (codes "number", leaf (trees.int32 (pos r.number)))
     ∷ (codes "text", leaf (trees.text r.words)) ∷ r.place
 
--- it tells a result
+-- whether a reply is a result, not a refusal
 abbrev pub is_result : LineReply → Bool
 is_result (refuses r) = false
 is_result _ = true
 
+-- a reply as a document: `ok` first, true for a result and false for a refusal, then the other fields
 abbrev pub reply_document : LineReply → Doc
 reply_document r = (codes "ok", leaf (trees.boolean (is_result r))) ∷ reply_pairs r
 
--- canonical Extended JSON, without white space
+-- the text of a reply: canonical Extended JSON without white space
 abbrev pub reply_text : LineReply → List ℕ
 reply_text r = text (doc (fields_of (reply_document r)))
 
 -- ---- why there is none
 
--- the byte of a text that is no document; a text as a whole has none
+-- the field `at` of a refusal: the byte offset in the line, or null if the line as a whole is no document
 abbrev pub json_fault_byte : JsonFaultKind → ℕ → Tree
 json_fault_byte json.NotADocument at = leaf trees.null
 json_fault_byte _ at = count_value at
 
+-- the refusal of a line that is no Extended JSON document:
+-- layer `json`, with the byte offset in the line as `at`
 abbrev pub json_refusal : JsonFault → ToldRefusal
 json_refusal f = record {
   layer = codes "json";
@@ -83,6 +88,7 @@ json_refusal f = record {
   place = (codes "at", json_fault_byte f.kind f.at) ∷ [];
 }
 
+-- the refusal of a document that is no command: layer `command`
 abbrev pub command_refusal : CommandFault → ToldRefusal
 command_refusal f = record {
   layer = codes "command";
@@ -91,7 +97,7 @@ command_refusal f = record {
   place = [];
 }
 
--- where it is: the names down to the pair or member, joined by dots
+-- the refusal of a filter: layer `filter`, with the path to the pair or member, joined by dots, as `place`
 abbrev pub filter_refusal : Refusal → ToldRefusal
 filter_refusal r = record {
   layer = codes "filter";
@@ -100,10 +106,11 @@ filter_refusal r = record {
   place = (codes "place", leaf (trees.text (join_with_byte 46 r.place))) ∷ [];
 }
 
+-- the refusal of the path of an index: layer `path`
 abbrev pub path_refusal : PathFault → ToldRefusal
 path_refusal f = record { layer = codes "path"; number = path_fault_number f; words = path_fault_words f; place = [] }
 
--- of a request, a token or a call of the session; of a filter its own fault is told
+-- the refusal of a request, a token or a call: layer `session`; that of a filter is of layer `filter`
 abbrev pub session_refusal : Reason → ToldRefusal
 session_refusal (bad_filter r) = filter_refusal r
 session_refusal (plain r) =
@@ -111,17 +118,18 @@ session_refusal (plain r) =
 
 -- ---- one in memory
 
+-- the refusal that one in memory reports
 abbrev pub told_refusal : LineRefusal → ToldRefusal
 told_refusal (refusals.Json fault) = json_refusal fault
 told_refusal (refusals.Command fault) = command_refusal fault
 told_refusal (refusals.Path fault) = path_refusal fault
 told_refusal (refusals.Session refused) = session_refusal (reason_of refused)
 
--- a batch of these documents
+-- the reply that a batch in memory is, with its documents
 abbrev pub given_reply : List Doc → Batch → LineReply
 given_reply ds batch = gives (documents_at ds batch.places.items) batch.end (option_map token_text batch.token)
 
--- over these documents
+-- the reply that one in memory is, over these documents
 abbrev pub line_reply : List Doc → Reply → LineReply
 line_reply ds replies.Done = done
 line_reply ds (replies.Opened id) = opens id
@@ -130,6 +138,7 @@ line_reply ds (replies.Made m) = makes (made_counts m)
 line_reply ds (replies.Explained e) = explains (told e)
 line_reply ds (replies.Refused refusal) = refuses (told_refusal refusal)
 
+-- the value that a field of a reply in memory stands for
 abbrev pub reply_value : Field → Tree
 reply_value fields.Null = leaf trees.null
 reply_value (fields.Truth b) = leaf (trees.boolean b)
@@ -139,5 +148,6 @@ reply_value (fields.Text s) = leaf (trees.text s.now)
 reply_value (fields.Names names) = leaf (trees.text (join_with_byte 46 (map string_bytes names.now)))
 reply_value (fields.Documents dump places) = documents_value (documents_at (documents dump.now) places.now)
 
+-- the name and the value of a field of a reply in memory
 abbrev pub member_pair : Bor (List ℕ) × Field → Pair
 member_pair m = (m.0.now, reply_value m.1)

@@ -1,4 +1,4 @@
--- What a session in memory does at a call, and at a line.
+-- What a session in memory does with a call, and with a line.
 use Rattle.std.specs.Prelude.{◌≡◌, List, ℕ, Result, Ok, Err, string_bytes}
 use Rattle.std.specs.declared.alloc.AllocError.{AllocError}
 use Rattle.bd_cursor_model.specs.Session.{State, state_after, drop_call, find_call, kill_call, next_call, resume_call}
@@ -18,30 +18,32 @@ use Rattle.bd_cursor_request.specs.declared.results.Refused.TheVariants as reaso
 use Rattle.bd_cli_service.specs.declared.call.Call.TheVariants as calls
 use Rattle.bd_cli_service.specs.declared.call.CallFault.TheVariants as faults
 
--- a call was made: its reply and the state after it are those of the machine
+-- The call was made: the reply and the state after it are those of the machine, and the dump is unchanged.
 pub record Performs (call : machine.Call) (old : Session) (r : Reply) (new : Session) : Type 0 where
   pub tells : line_reply (documents (dump_of old)) r
       ≡ shown_reply (documents (dump_of old)) (machine.reply (state_of old) call)
   pub moves : state_of new ≡ state_after (state_of old) call
   pub kept : dump_of new ≡ dump_of old
 
--- or the session refuses it for this reason, and then nothing changes
+-- The call was made, or the session refuses it for this reason, and nothing changed.
 abbrev pub IsAnswered : machine.Call → Session → Result Reply Refused → Session → Type 0
 IsAnswered call old (Ok r) new = Performs call old r new
 IsAnswered call old (Err why) new = IsRefused why call old new
 
--- a refusal has a reply too, but want of memory
+-- The call was made, and a refusal is a reply too; or memory ran out, and nothing changed.
 abbrev pub IsPerformed : machine.Call → Session → Result Reply AllocError → Session → Type 0
 IsPerformed call old (Ok r) new = Performs call old r new
 IsPerformed call old (Err e) new = IsRefused reasons.NoMemory call old new
 
+-- the state of the machine that the session of a service is in
 abbrev pub service_state : Service → State
 service_state s = state_of s.session
 
+-- the dump whose documents a service gives
 abbrev pub service_dump : Service → Dump
 service_dump s = dump_of s.session
 
--- the text is a reply to the line, and the session goes on from one state to the other, over the same dump
+-- The text is a reply to the line, and the session has the state after it, over the same dump.
 pub record RepliesTo (old : Service) (line text : List ℕ) (new : Service) : Type 0 where
   pub reply : LineReply
   pub answers : Answers (bytes_of (service_dump old)) (documents (service_dump old))
@@ -49,11 +51,11 @@ pub record RepliesTo (old : Service) (line text : List ℕ) (new : Service) : Ty
   pub written : text ≡ reply_text reply
   pub kept : service_dump new ≡ service_dump old
 
--- the session is as it was
+-- The state of the session is unchanged.
 abbrev pub KeepsState : Service → Service → Type 0
 KeepsState old new = service_state new ≡ service_state old
 
--- to a dump
+-- the call to a session over this dump that one in memory is
 abbrev pub session_call : Dump → Call → machine.Call
 session_call dump (calls.CreateIndex path sparse) = make_index sparse dump path
 session_call dump (calls.DropIndex path) = drop_call (string_bytes path.text)
@@ -64,19 +66,19 @@ session_call dump (calls.GetMore id batch) = next_call id batch
 session_call dump (calls.KillCursor id) = kill_call id
 session_call dump (calls.Explain request choice) = explain_request dump request choice
 
--- a part of a command is refused for this reason, unless memory ran out
+-- The part of a command is refused for this reason, or memory ran out.
 abbrev pub RefusesPart : {A : Type 0} → Result A ToldRefusal → CallFault → Type 0
 RefusesPart part faults.NoMemory = Unit {0}
 RefusesPart part (faults.Refused why) = part ≡ Err (told_refusal why)
 
--- memory may run out while the command is read: not where it has numbers alone, nor where its token is none
+-- Reading the command may need memory: not if it has numbers alone, nor if its token is refused.
 abbrev pub MayStarve : Command → Type 0
 MayStarve (gets_more id batch) = ⊥
 MayStarve (kills_cursor id) = ⊥
 MayStarve (resumes token f) = (t : Token) × (token_part token ≡ Ok t)
 MayStarve _ = Unit {0}
 
--- the line is no call for this reason, unless memory ran out
+-- The line is no call for this reason, or memory ran out.
 abbrev pub RefusesLine : Dump → List ℕ → CallFault → Type 0
 RefusesLine dump line faults.NoMemory = Unit {0}
 RefusesLine dump line (faults.Refused why) = IsCallIn (bytes_of dump) (documents dump) line (Err (told_refusal why))

@@ -1,4 +1,4 @@
--- A talk with a session: the call that a line is, the replies to lines, and what always holds of them.
+-- A session over lines: the call that a line is, the replies to lines, and what always holds of them.
 use Rattle.std.specs.Prelude.{◌≡◌, ◌≢◌, ◌⊎◌, ◌==◌, ℕ, List, [], ◌∷◌, ◌++◌, length, map, if◌then◌else◌, Option, Some}
 use Rattle.std.specs.Prelude.{None, option_and_then, option_map, Result, Ok, Err}
 use Rattle.std.specs.{List.filter_map, List.flat_map, List.zip, Result.result_ok, Str.IsUtf8}
@@ -26,24 +26,24 @@ use Rattle.bd_cursor_model.specs.Session as machine
 use Rattle.bd_cli_command.specs.Command as commands
 use Rattle.bd_cursor_request.specs.declared.results.Refused.TheVariants as reasons
 
--- which index is to be used
+-- which index the field `use` asks for
 abbrev pub way_by : Hint → Way
 way_by any_way = by_any
 way_by by_scan = by_none
 way_by (by_index path) = by_one path
 
+-- the path of the index that `use` names; None for `"auto"` and `"scan"`
 abbrev pub hint_path : Hint → Option (List ℕ)
 hint_path hint = path_named (way_by hint)
 
--- the request is looked at first, and then the path of the index
+-- the request that a command makes, or its first refusal: of the request, then of the path of its index
 abbrev pub search_of : FindCommand → Result Request ToldRefusal
 search_of f =
     then_part (told_as session_refusal (request_of f.filter f.sort f.skip f.limit)) (λ request.
     then_part (told_as path_refusal (named_index (hint_path f.hint))) (λ _. Ok request))
 
--- Over a dump of these bytes, which are these documents,
--- the call that a command is, or the first thing in it that is refused: of
--- `resume` the text of the token is looked at first.
+-- Over a dump of these bytes, which are these documents: the call that a command is, or its first refusal;
+-- of `resume` the token is looked at first.
 abbrev pub call_of : List ℕ → List Doc → Command → Result Call ToldRefusal
 call_of bytes ds (creates_index path sparse) =
     then_part (told_as path_refusal (path_of path)) (λ _. Ok (make_of ds (record { path = path; is_sparse = sparse })))
@@ -57,11 +57,11 @@ call_of bytes ds (kills_cursor id) = Ok (kill_call id)
 call_of bytes ds (commands.explains f) =
     then_part (search_of f) (λ r. Ok (explain_call (hint_path f.hint) (explanation_for ds r (way_by f.hint))))
 
--- the call that a document is
+-- the call that a document is, or its first refusal
 abbrev pub document_call : List ℕ → List Doc → Doc → Result Call ToldRefusal
 document_call bytes ds d = then_part (told_as command_refusal (command_of d)) (call_of bytes ds)
 
--- what is told of a session's reply, with the documents at the places that it gives
+-- the reply to a line that a session's reply is, with the documents of a batch
 abbrev pub shown_reply : List Doc → machine.Reply → LineReply
 shown_reply ds (machine.opened id) = opens id
 shown_reply ds (machine.gave b) = gives (documents_at ds b.places) b.ends (option_map marked_text b.token)
@@ -78,24 +78,25 @@ shown_reply ds machine.foreign_token = refuses (session_refusal (plain reasons.F
 shown_reply ds machine.token_place = refuses (session_refusal (plain reasons.TokenPlace))
 shown_reply ds machine.out_of_range = refuses (session_refusal (plain reasons.Range))
 
--- the call that a line is, or why it is none. Of a text that is no document a fault is told: which one of a text
--- that is UTF-8, is not said
+-- The call that a line is, or why it is none. Of a line that is no document a fault is reported;
+-- which one of a line that is UTF-8, no definition says.
 abbrev pub IsCallIn : List ℕ → List Doc → List ℕ → Result Call ToldRefusal → Type 0
 IsCallIn bytes ds line part = ((d : Doc) × ReadsAs line d × (part ≡ document_call bytes ds d)) ⊎ ((reading line ≡ None)
     × ((f : JsonFault) × IsPlaced (length line) f × TellsBadUtf8 line f × (f.kind ≢ json.NoMemory)
     × (part ≡ Err (json_refusal f))))
 
+-- the reply to a line: that of the session to its call, or the refusal of a line that is no call
 abbrev pub reply_to : List Doc → State → Result Call ToldRefusal → LineReply
 reply_to ds s (Ok call) = shown_reply ds (machine.reply s call)
 reply_to ds s (Err why) = refuses why
 
--- a line that is refused changes nothing
+-- the state after a line: that after its call; unchanged if the line is refused
 abbrev pub state_then : State → Result Call ToldRefusal → State
 state_then s (Ok call) = state_after s call
 state_then s (Err why) = s
 
--- a session over a dump of these bytes, which are these documents,
--- may answer a line so, and goes on from one state to the other
+-- A session over a dump of these bytes, which are these documents, may answer the line with this reply,
+-- and its state becomes t.
 pub record Answers (bytes : List ℕ) (ds : List Doc) (s : State) (line : List ℕ)
     (r : LineReply) (t : State) : Type 0 where
   pub part : Result Call ToldRefusal
@@ -103,17 +104,16 @@ pub record Answers (bytes : List ℕ) (ds : List Doc) (s : State) (line : List �
   pub tells : r ≡ reply_to ds s part
   pub moves : t ≡ state_then s part
 
--- the state is as it was
+-- The state is unchanged.
 abbrev pub IsKept : State → State → Type 0
 IsKept s t = t ≡ s
 
--- a reply as `Answers` tells it, with its text
+-- The session may answer the line with this text, and its state becomes t.
 abbrev pub RepliesInText : List ℕ → List Doc → State → List ℕ → List ℕ → State → Type 0
 RepliesInText bytes ds s line text t = (r : LineReply) × Answers bytes ds s line r t × (text ≡ reply_text r)
 
--- over a dump of these bytes, which are these documents,
--- these lines may have these replies in turn, which lead from one state to
--- the other
+-- Over a dump of these bytes, which are these documents:
+-- these lines may have these replies in turn, and the state becomes t.
 abbrev pub Talks : List ℕ → List Doc → State → List (List ℕ) → List LineReply → State → Type 0
 Talks bytes ds s [] [] t = t ≡ s
 Talks bytes ds s [] (r ∷ rs) t = ⊥
@@ -121,49 +121,51 @@ Talks bytes ds s (line ∷ lines) [] t = ⊥
 Talks bytes ds s (line ∷ lines) (r ∷ rs) t =
     (mid : State) × Answers bytes ds s line r mid × Talks bytes ds mid lines rs t
 
--- two replies to a line are the same; or the line is UTF-8 and no document, and each tells a fault of it
+-- Two replies to a line are the same; or the line is UTF-8 and no document, and each reports a fault of it.
 abbrev pub AreAlike : List ℕ → LineReply → LineReply → Type 0
 AreAlike line r s = (r ≡ s) ⊎ (IsUtf8 line × (reading line ≡ None)
     × (f : JsonFault) × (g : JsonFault) × (r ≡ refuses (json_refusal f)) × (s ≡ refuses (json_refusal g)))
 
--- two texts of replies to lines, each a line: in turn the replies are alike
+-- Two texts of replies to these lines are alike:
+-- they differ at most in the faults of lines that are no document.
 abbrev pub AreAlikeTexts : List (List ℕ) → List ℕ → List ℕ → Type 0
 AreAlikeTexts [] text other = (text ≡ []) × (other ≡ [])
 AreAlikeTexts (line ∷ lines) text other =
     (r : LineReply) × (s : LineReply) × (rest : List ℕ) × (more : List ℕ) × AreAlike line r s
     × AreAlikeTexts lines rest more × (text ≡ reply_text r ++ 10 ∷ rest) × (other ≡ reply_text s ++ 10 ∷ more)
 
--- a line that is UTF-8 is a document
+-- If the line is UTF-8, it is a document.
 abbrev pub IsReadLine : List ℕ → Type 0
 IsReadLine line = IsUtf8 line → (d : Doc) × ReadsAs line d
 
--- the replies as a text, each a line
+-- replies as a text, each on a line of its own
 abbrev pub reply_lines : List LineReply → List ℕ
 reply_lines [] = []
 reply_lines (r ∷ rs) = reply_text r ++ 10 ∷ reply_lines rs
 
--- the call that a line is, where it is one
+-- the call that a line is, if it is one
 abbrev pub line_call : List ℕ → List Doc → List ℕ → Option Call
 line_call bytes ds line = option_and_then (λ d. result_ok (document_call bytes ds d)) (reading line)
 
--- the calls among lines
+-- the calls that some of the lines are, in order
 abbrev pub calls_in : List ℕ → List Doc → List (List ℕ) → List Call
 calls_in bytes ds lines = filter_map (line_call bytes ds) lines
 
--- the reply to a line that asks a cursor for a batch, where it gives one
+-- the reply, if it gives a batch
 abbrev pub given_in : LineReply → List LineReply
 given_in (gives ds ends token) = gives ds ends token ∷ []
 given_in _ = []
 
+-- the reply to a call, if it asks the cursor of this number for a batch and gets one
 abbrev pub batch_shown : ℕ → Option Call → LineReply → List LineReply
 batch_shown id (Some (next_call i n)) r = if i == id then given_in r else []
 batch_shown id _ r = []
 
--- the batches of a cursor among the replies to lines
+-- the batches of the cursor of this number among the replies to lines
 abbrev pub batches_shown : List ℕ → List Doc → ℕ → List (List ℕ) → List LineReply → List LineReply
 batches_shown bytes ds id lines rs = flat_map (λ p. batch_shown id (line_call bytes ds p.0) p.1) (zip lines rs)
 
--- these places are shown in batches of the sizes that the lines ask for, with tokens that lead on to what is left
+-- The replies show these documents in batches of the sizes that the lines ask for, with tokens that lead on.
 pub record ShowsInTurn (bytes : List ℕ) (ds : List Doc) (q : Query) (id : ℕ) (ps : List ℕ)
     (lines : List (List ℕ)) (rs : List LineReply)
     : Type 0 where

@@ -167,6 +167,7 @@ module _ {sparse : Bool} {path : Names} {ds : List Doc} {b : KeyBounds} {ps : Li
 
 -- ---- bounds of an index in hand
 
+-- the documents with an entry inside the bounds of an index are a source: each match is among them, once
 pub index_source : {dump : Dump} {r : Request} {i : Index} {b : KeyBounds} {ps : List ℕ} {entries : ℕ} → HasMatchesWithin dump r i b
     → AreWithin i.sparse (names_of i.path) (documents dump) b ps entries → IsSource (length (documents dump)) (hits_of (documents dump) (filter_tree r.filter)) ps
 index_source {dump} {r} {i} {b} h w =
@@ -184,6 +185,7 @@ lent_as : (r : Option (Bor Bounds)) → lent_bounds r ≡ seen_bounds (option_co
 lent_as None = refl
 lent_as (Some b) = refl
 
+-- what is within bounds that are borrowed is within the same bounds that are not
 pub lent_within : {sparse : Bool} {path : Names} {ds : List Doc} {b : Option Bounds} {ps : List ℕ} {entries : ℕ} (r : Option (Bor Bounds)) → option_copied r ≡ b
     → AreWithin sparse path ds (lent_bounds r) ps entries → AreWithin sparse path ds (seen_bounds b) ps entries
 lent_within {sparse} {path} {ds} {b} {ps} {entries} r e w = subst (λ k. AreWithin sparse path ds k ps entries) (lent_as r ∙ ap seen_bounds e) w
@@ -256,6 +258,7 @@ walk_is i _ dir e = absurd (let z : Some dir ≡ None = e in cc)
 
 -- ---- the index that is named, and the first in order
 
+-- an index that serves a sort in a direction has the order of the sort in it
 pub walk_leads : (dump : Dump) (r : Request) (i : Index) (dir : Dir) → IsIndexOf dump i → Some dir ≡ walk_dir (index_mark i) (sort_paths r.sort.items) → HasSortOrder dump r i dir
 walk_leads dump r i dir h e = let w = walk_is i (sort_paths r.sort.items) dir e in record { of_dump = h; whole = w.0; order = w.1 }
 
@@ -269,6 +272,7 @@ own_bounds dump i f h =
     let names : mark_names (index_mark i) ≡ names_of i.path = sym i.path.cut in
     ap (λ (n : Names). bounds f n (is_multikey n (documents dump))) names ∙ ap (bounds f (names_of i.path)) (sym h.many)
 
+-- an index whose bounds serve a filter has each match within them
 pub bounds_lead : (dump : Dump) (r : Request) (i : Index) (keys : Tree → Bool) → IsIndexOf dump i
     → Some keys ≡ serving_bounds (index_mark i) (mark_bounds (documents dump) (filter_tree r.filter) (index_mark i)) → HasMatchesWithin dump r i (Some keys)
 bounds_lead dump r i keys h e =

@@ -14,6 +14,7 @@ use Rattle.bd_bson_dump.specs.Collection.{document_at}
 use Rattle.bd_cursor_sort.specs.Selection.{selection_of, hits_of}
 use Rattle.bd_cursor_request.specs.declared.request.Request.{Request}
 
+-- the matches among the documents that were not looked at
 abbrev pub unseen : ℕ → (ℕ → Bool) → ℕ → List ℕ
 unseen count hits next = filter hits (range_with_len next (count - next))
 

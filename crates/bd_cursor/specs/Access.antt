@@ -1,5 +1,5 @@
--- How the documents of an answer are reached, by which index or without one:
--- its access path, and that one in hand leads to them.
+-- The access path of a request: how its documents are reached, by which index or without one;
+-- and that an access path in memory leads to them.
 use Rattle.std.specs.Prelude.{ℕ, Bool, false, ◌&&◌, not, List, [], ◌∷◌, string_bytes, Option, Some, None, if◌then◌else◌}
 use Rattle.std.specs.Prelude.{◌≡◌}
 use Rattle.std.specs.{Str.bytes_eq, Cmp.Lexicographic.pointwise}
@@ -23,20 +23,24 @@ pub data Way : Type 0 where
   by_none : Way
   by_one : List ℕ → Way
 
+-- which index a `Choice` asks for: any, none, or the one on its path
 abbrev pub way_of : Choice → Way
 way_of choices.Scan = by_none
 way_of choices.Auto = by_any
 way_of (choices.Index path) = by_one (string_bytes path.text)
 
--- the documents are looked at in turn, or those with an entry inside bounds of an index, or all in the order of one
+-- how documents are reached: all in turn, or those with an entry inside the bounds of an index,
+-- or all in the order of an index
 pub data AccessPath : Type 0 where
   scanned : AccessPath
   bounded : IndexMark → KeyBounds → AccessPath
   walked : IndexMark → Dir → AccessPath
 
+-- the path of an index in memory, and whether it is sparse
 abbrev pub index_mark : Index → IndexMark
 index_mark i = record { path = string_bytes i.path.text; is_sparse = i.sparse }
 
+-- the names of the path that an index is on
 abbrev pub mark_names : IndexMark → Names
 mark_names i = components_of i.path
 
@@ -44,46 +48,52 @@ mark_names i = components_of i.path
 abbrev pub mark_bounds : List Doc → Filter → IndexMark → KeyBounds
 mark_bounds ds f i = bounds f (mark_names i) (is_multikey (mark_names i) ds)
 
--- the bounds by which an index serves: a sparse one, which has no entry for a missing field, only where null is outside
+-- the bounds by which an index serves a filter;
+-- a sparse one, which has no entry for a missing field, only if null is outside
 abbrev pub serving_bounds : IndexMark → KeyBounds → KeyBounds
 serving_bounds i None = None
 serving_bounds i (Some keys) = if i.is_sparse && keys (leaf trees.null) then None else Some keys
 
--- the direction in which an index that is not sparse has the order of a sort: one by its path alone
+-- the direction in which an index has the order of a sort:
+-- if that is by its path alone, and the index is not sparse
 abbrev pub walk_dir : IndexMark → List SortPath → Option Dir
 walk_dir i [] = None
 walk_dir i (s ∷ []) = if not i.is_sparse && pointwise bytes_eq s.path (mark_names i) then Some s.dir else None
 walk_dir i (s ∷ t ∷ ss) = None
 
--- by bounds, or in an order, where there is one, or else another way
+-- by the bounds of an index, or without bounds another way
 abbrev pub bounded_or : IndexMark → KeyBounds → AccessPath → AccessPath
 bounded_or i None other = other
 bounded_or i (Some keys) other = bounded i (Some keys)
 
+-- by a walk of an index, if it has the order of the sort in some direction, else another way
 abbrev pub walk_or : IndexMark → Option Dir → AccessPath → AccessPath
 walk_or i None other = other
 walk_or i (Some dir) other = walked i dir
 
--- the first index that serves by its bounds, or that has the order of the sort
+-- the first index, in the order in which they were made, that serves by its bounds; without one another way
 abbrev pub first_bounded : List Doc → Filter → List IndexMark → AccessPath → AccessPath
 first_bounded ds f [] other = other
 first_bounded ds f (i ∷ is) other = bounded_or i (serving_bounds i (mark_bounds ds f i)) (first_bounded ds f is other)
 
+-- the first index, in the order in which they were made, that has the order of the sort;
+-- without one another way
 abbrev pub first_walked : List SortPath → List IndexMark → AccessPath → AccessPath
 first_walked ss [] other = other
 first_walked ss (i ∷ is) other = walk_or i (walk_dir i ss) (first_walked ss is other)
 
--- by an index that is named: by its bounds, else in its order,
--- else by all of its entries, which a sparse one does not have
+-- the access path by a named index: by its bounds, else in its order, else by all of its entries;
+-- by a scan if it is sparse and its bounds do not serve
 abbrev pub named_access : List Doc → Filter → List SortPath → IndexMark → AccessPath
 named_access ds f ss i = bounded_or i (serving_bounds i (mark_bounds ds f i))
     (if i.is_sparse then scanned else walk_or i (walk_dir i ss) (bounded i None))
 
+-- by the index on that path; by a scan if there is none
 abbrev pub access_on : List Doc → Filter → List SortPath → List ℕ → List IndexMark → AccessPath
 access_on ds f ss path [] = scanned
 access_on ds f ss path (i ∷ is) = if is_on path i then named_access ds f ss i else access_on ds f ss path is
 
--- indexes are taken in the order in which they were made
+-- the access path for what is asked for; indexes are tried in the order in which they were made
 abbrev pub access_of : List Doc → Filter → List SortPath → Way → List IndexMark → AccessPath
 access_of ds f ss by_none is = scanned
 access_of ds f ss by_any is = first_bounded ds f is (first_walked ss is scanned)
@@ -91,36 +101,37 @@ access_of ds f ss (by_one path) is = access_on ds f ss path is
 
 -- ---- one in hand
 
+-- the access path that an `Access` in memory stands for
 abbrev pub access_path : Access → AccessPath
 access_path ways.Scan = scanned
 access_path (ways.Bounded index bounds) = bounded (index_mark index.now) (seen_bounds bounds)
 access_path (ways.Walk index dir) = walked (index_mark index.now) dir
 
--- bounds that the filter gives to the index, with null outside where it is sparse;
--- or none, in an index that is not sparse
+-- The bounds are those that the filter gives to the index, with null outside if it is sparse;
+-- or there are none, and it is not sparse.
 abbrev pub ServesFilter : Filter → Names → Bool → Bool → KeyBounds → Type 0
 ServesFilter f path multikey sparse None = sparse ≡ false
 ServesFilter f path multikey sparse (Some keys) =
     (bounds f path multikey ≡ Some keys) × ((sparse && keys (leaf trees.null)) ≡ false)
 
--- the documents that match are among those with an entry inside
+-- The index is of this dump, and each document that matches the request has an entry inside the bounds.
 pub record HasMatchesWithin (dump : Dump) (r : Request) (index : Index) (keys : KeyBounds) : Type 0 where
   pub of_dump : IsIndexOf dump index
   pub serves : ServesFilter (filter_tree r.filter) (names_of index.path) index.multikey index.sparse keys
 
--- the index has all documents, in the order of the sort
+-- The index is of this dump, is not sparse, and has the order of the request's sort.
 pub record HasSortOrder (dump : Dump) (r : Request) (index : Index) (dir : Dir) : Type 0 where
   pub of_dump : IsIndexOf dump index
   pub whole : index.sparse ≡ false
   pub order : sort_paths r.sort.items ≡ record { path = names_of index.path; dir = dir } ∷ []
 
--- the documents of the request are reached so
+-- The access path in memory leads to all documents that match the request.
 abbrev pub IsAccessOf : Dump → Request → Access → Type 0
 IsAccessOf dump r ways.Scan = Unit {0}
 IsAccessOf dump r (ways.Bounded index keys) = HasMatchesWithin dump r index.now (seen_bounds keys)
 IsAccessOf dump r (ways.Walk index dir) = HasSortOrder dump r index.now dir
 
--- an access path of the request, as it is to be
+-- The access path in memory is this one, and leads to all documents that match the request.
 pub record Reaches (dump : Dump) (r : Request) (path : AccessPath) (access : Access) : Type 0 where
   pub is : access_path access ≡ path
   pub leads : IsAccessOf dump r access

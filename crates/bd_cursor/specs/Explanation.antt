@@ -1,4 +1,4 @@
--- What is told of how the documents of a request are found.
+-- What `explain` replies of how the documents of a request are found.
 use Rattle.std.specs.Prelude.{ℕ, List, [], ◌∷◌, codes, count_by, length, option_map, string_bytes, Option, Some, None}
 use Rattle.std.specs.List.{filter, list_any, range_with_len}
 use Rattle.bd_value.specs.Tree.{Doc, leaf}
@@ -26,41 +26,42 @@ index_counts ds i =
 abbrev pub entries_within : List Doc → IndexMark → KeyBounds → ℕ
 entries_within ds i b = count_by (has_key_in b) (entries_of i.is_sparse (mark_names i) ds)
 
--- the places of the documents that have one there, ascending
+-- the numbers of the documents with an entry inside the bounds, ascending
 abbrev pub places_within : List Doc → IndexMark → KeyBounds → List ℕ
 places_within ds i b = filter (λ p. list_any (is_among b) (indexed_keys i.is_sparse (document_at ds p) (mark_names i)))
     (range_with_len 0 (length ds))
 
+-- the name of a plan in the reply to `explain`
 abbrev pub plan_name : Plan → List ℕ
 plan_name plans.Scan = codes "scan"
 plan_name plans.Index = codes "index"
 plan_name plans.Walk = codes "walk"
 
--- what is told, as the pairs of a document:
--- the plan, the path of the index, the entries that are read, the documents that are
--- looked at, and those that match
+-- what `explain` replies, as fields: the plan, the path of the index or null, and how many entries are read,
+-- documents examined and matches found
 abbrev pub explanation : Plan → Option (List ℕ) → ℕ → ℕ → ℕ → Doc
 explanation plan index entries documents matches =
     (codes "plan", leaf (trees.text (plan_name plan))) ∷ (codes "index", text_or_null index)
     ∷ (codes "entries", count_value entries)
     ∷ (codes "documents", count_value documents) ∷ (codes "matches", count_value matches) ∷ []
 
--- by one in memory
+-- the fields that an `Explain` in memory stands for
 abbrev pub told : Explain → Doc
 told e = explanation e.plan (option_map string_bytes e.index) e.entries e.documents e.matches
 
--- on an access path, where so many match
+-- what `explain` replies for an access path on which n documents match
 abbrev pub explained_access : List Doc → ℕ → AccessPath → Doc
 explained_access ds n scanned = explanation plans.Scan None 0 (length ds) n
 explained_access ds n (bounded i b) =
     explanation plans.Index (Some i.path) (entries_within ds i b) (length (places_within ds i b)) n
 explained_access ds n (walked i dir) = explanation plans.Walk (Some i.path) (index_counts ds i).entries (length ds) n
 
--- of what a request selects
+-- what `explain` replies for a request to these documents, with these indexes
 abbrev pub explanation_for : List Doc → Request → Way → List IndexMark → Doc
 explanation_for ds r way indexes =
     explained_access ds (length (matching (selection_for ds r.filter r.sorts r.skip r.limit)))
     (access_of ds r.filter r.sorts way indexes)
 
+-- what `explain` reports of a request in memory to these documents, with these indexes
 abbrev pub explanation_of : List Doc → declared.Request → Choice → List IndexMark → Doc
 explanation_of ds r choice = explanation_for ds (request_view r) (way_of choice)

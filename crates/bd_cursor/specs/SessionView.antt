@@ -21,27 +21,30 @@ use Rattle.bd_cursor_request.specs.{declared.results.Refused.Refused, declared.t
 use Rattle.bd_cursor.specs.declared.cursor.Remainder.TheVariants as remainders
 use Rattle.bd_cursor_request.specs.declared.results.Refused.TheVariants as reasons
 
+-- the position in an answer that a token in memory has
 abbrev pub mark_of : Token → Mark
 mark_of t = record { given = t.given; last = t.last }
 
+-- the token that one in memory stands for
 abbrev pub marked_token : Token → MarkedToken
 marked_token t = record { mark = mark_of t; digest = t.digest }
 
--- what a cursor that goes on where it stands has left:
--- the match that it found, and those among the documents that it did
--- not look at
+-- what a scanning cursor has left: the match that it found,
+-- and after those to be skipped the matches among the documents that it did not look at
 abbrev pub scan_left : ℕ → (ℕ → Bool) → ScanPosition → List ℕ
 scan_left count hits a =
     at_most a.most (cons_option a.found (drop a.skip (filter hits (range_with_len a.next (count - a.next)))))
 
+-- the matches of a filter in a dump that a scanning cursor has yet to give
 abbrev pub scan_left_in : Dump → Filter → ScanPosition → List ℕ
 scan_left_in dump filter a = scan_left (length (documents dump)) (hits_of (documents dump) (filter_tree filter)) a
 
--- the places that a cursor has left
+-- the document numbers that a cursor in memory has left
 abbrev pub places_left : Selection → Remainder → List ℕ
 places_left a (remainders.Scanned position) = scan_left a.count a.hits position
 places_left a (remainders.Listed ps) = ps
 
+-- the cursor of the machine that one in memory stands for
 abbrev pub open_cursor : Dump → Cursor → OpenCursor
 open_cursor dump c = record {
   id = c.id;
@@ -50,6 +53,7 @@ open_cursor dump c = record {
   left = places_left (query_of dump c.request).selection c.left;
 }
 
+-- the state of the machine that a session in memory is in
 abbrev pub state_of : Session → State
 state_of s = record {
   indexes = map index_mark s.indexes.items;
@@ -59,30 +63,32 @@ state_of s = record {
 
 -- ---- calls
 
--- the path of the index that is to be used
+-- the path of the index that is asked for, if one is
 abbrev pub path_named : Way → Option (List ℕ)
 path_named (by_one path) = Some path
 path_named _ = None
 
+-- the path of the index that a `Choice` names, if it names one
 abbrev pub hint_of : Choice → Option (List ℕ)
 hint_of choice = path_named (way_of choice)
 
+-- the index on this path, sparse or not
 abbrev pub path_mark : Bool → Path → IndexMark
 path_mark sparse path = record { path = string_bytes path.text; is_sparse = sparse }
 
--- to make an index of documents
+-- the call that makes this index of these documents
 abbrev pub make_of : List Doc → IndexMark → Call
 make_of ds i = make_call i (index_counts ds i)
 
--- of a dump, sparse or not
+-- the call that makes an index of a dump on this path, sparse or not
 abbrev pub make_index : Bool → Dump → Path → Call
 make_index sparse dump path = make_of (documents dump) (path_mark sparse path)
 
--- to explain a request to a dump
+-- the call that explains a request to a dump
 abbrev pub explain_request : Dump → Request → Choice → Call
 explain_request dump r choice = explain_call (hint_of choice) (explanation_of (documents dump) r choice)
 
--- a call that is granted and takes memory
+-- The reply grants a call that takes memory.
 abbrev pub TakesMemory : Reply → Type 0
 TakesMemory (opened id) = Unit {0}
 TakesMemory (gave batch) = Unit {0}
@@ -90,7 +96,7 @@ TakesMemory (made counts) = Unit {0}
 TakesMemory (explained e) = Unit {0}
 TakesMemory reply = ⊥
 
--- why a call is refused is the machine's reply, or memory ran out for one that it grants
+-- The call is refused for the reason of this reply; or memory ran out for one that it grants.
 abbrev pub IsRefusedCall : Reply → Refused → Type 0
 IsRefusedCall reply reasons.NoIndex = reply ≡ no_index
 IsRefusedCall reply reasons.IndexThere = reply ≡ index_there
@@ -103,34 +109,35 @@ IsRefusedCall reply reasons.Range = reply ≡ out_of_range
 IsRefusedCall reply reasons.NoMemory = TakesMemory reply
 IsRefusedCall reply _ = ⊥
 
--- a batch as the machine gives it
+-- the batch that one in memory stands for
 abbrev pub given_batch : Batch → GivenBatch
 given_batch b = record { places = b.places.items; token = option_map marked_token b.token; ends = b.end }
 
--- the dump that a session is over
+-- the dump that a session answers from
 abbrev pub dump_of : Session → Dump
 dump_of s = s.documents.dump
 
 -- ---- steps
 
--- a call that has a value steps as the machine does, whose reply the value tells
+-- The call moved the session as the machine moves, with this reply; the dump is unchanged.
 pub record IsStep (r : Reply) (call : Call) (old new : Session) : Type 0 where
   pub replies : reply (state_of old) call ≡ r
   pub moves : state_of new ≡ state_after (state_of old) call
   pub dump : dump_of new ≡ dump_of old
 
--- and one that is refused changes nothing, also where memory ran out
+-- The call is refused for this reason, or memory ran out; the session and its dump are unchanged.
 pub record IsRefused (why : Refused) (call : Call) (old new : Session) : Type 0 where
   pub because : IsRefusedCall (reply (state_of old) call) why
   pub stays : state_of new ≡ state_of old
   pub dump : dump_of new ≡ dump_of old
 
--- a call on a session, with the reply that its value tells
+-- A call on a session: if it has a value, it is a step of the machine with that reply;
+-- if it is refused, nothing changed.
 abbrev pub Steps : {A : Type 0} → (A → Reply) → Call → Session → Result A Refused → Session → Type 0
 Steps told call old (Ok v) new = IsStep (told v) call old new
 Steps told call old (Err why) new = IsRefused why call old new
 
--- an index may be made
+-- The machine grants that this index is made.
 abbrev pub IsGranted : Session → IndexMark → Type 0
 IsGranted s i = reply (state_of s) (make_of (documents (dump_of s)) i) ≡ made (index_counts (documents (dump_of s)) i)
 

@@ -24,6 +24,7 @@ tied x y Less _ e a b = let g : ⊥ = cc in absurd g
 tied x y _ Less e a b = let g : ⊥ = cc in absurd g
 tied x y _ _ e a b = let g : ⊥ = cc in absurd g
 
+-- the order of an answer, ties in file order, is a strict total order
 pub before_strict : (by : ℕ → ℕ → Ordering) → IsTotalOrder by → IsStrictOrder (before by)
 before_strict by o =
     let w : IsTotalOrder (λ i j. ordering_then (by i j) (nat_cmp i j)) = then_total o nat_cmp_total in
@@ -43,12 +44,15 @@ matching_in a p h =
     let s = range_in 0 a.count p r.0 in
     (omega arith, r.1)
 
+-- each document that matches is among the ordered ones
 pub in_ordered : (a : Selection) (p : ℕ) → p < a.count → a.hits p ≡ true → In p (ordered a)
 in_ordered a p h e = in_insert_all (before a.by) [] (matching a) p (inr (in_matching a p h e))
 
+-- each of the ordered documents is one of the dump, and matches
 pub ordered_in : (a : Selection) (p : ℕ) → In p (ordered a) → (p < a.count) × (a.hits p ≡ true)
 ordered_in a p h = elim (insert_all_in (before a.by) [] (matching a) p h) [ inl b ↦ absurd b | inr b ↦ matching_in a p b ]
 
+-- each of the ordered documents comes before all later ones
 pub ordered_rises : (a : Selection) → IsTotalOrder a.by → Rises (before a.by) (ordered a)
 ordered_rises a o = insert_all_rises (before_strict a.by o) [] (matching a) (filter_apart a.hits (range_with_len 0 a.count) (range_apart 0 a.count)) (λ x h g. h) tt
 
@@ -56,11 +60,13 @@ ordered_rises a o = insert_all_rises (before_strict a.by o) [] (matching a) (fil
 pub contains_in : (xs : List ℕ) (x : ℕ) → Contains xs x → In x xs
 contains_in xs x h = subst (λ y. In y xs) h.2 (in_at xs h.0 x h.1)
 
+-- a list contains its members
 pub in_contains : (xs : List ℕ) (x : ℕ) → In x xs → Contains xs x
 in_contains [] x h = absurd h
 in_contains (y ∷ ys) x (inl e) = (0, omega arith, sym e)
 in_contains (y ∷ ys) x (inr h) = let r = in_contains ys x h in (suc r.0, omega arith, r.2)
 
+-- a list in which each member comes before all later ones is ascending
 pub rises_ascending : (lt : ℕ → ℕ → Bool) (xs : List ℕ) → Rises lt xs → IsAscending lt xs
 rises_ascending lt [] h i j d a b = absurd (omega arith)
 rises_ascending lt (x ∷ xs) h i zero d a b = absurd (omega arith)
@@ -78,6 +84,7 @@ take_in (suc n) [] x h = absurd h
 take_in (suc n) (y ∷ ys) x (inl e) = inl e
 take_in (suc n) (y ∷ ys) x (inr h) = inr (take_in n ys x h)
 
+-- the first n of an ascending list are ascending
 pub take_rises : (lt : ℕ → ℕ → Bool) (n : ℕ) (xs : List ℕ) → Rises lt xs → Rises lt (take n xs)
 take_rises lt zero xs h = tt
 take_rises lt (suc n) [] h = tt
@@ -154,6 +161,7 @@ from_mark a xs after most old k t l m =
     let on : filter (before a.by t.last) (ordered a) ≡ drop k xs = ap (λ p. filter (before a.by p) (ordered a)) last ∙ after (k - 1) 0 inside ∙ ap (λ n. drop n xs) one in
     ap (λ n. cut a.limit n (filter (before a.by t.last) (ordered a))) m.2 ∙ ap (λ ys. cut a.limit (min most (old + k)) ys) on ∙ cut_drop a.limit most old k xs l few
 
+-- the rest after a mark is what remains after the documents up to it
 pub rest_follows : (a : Selection) → IsTotalOrder a.by → (most : ℕ) → a.limit ≤ most → (t : Option MarkedToken) (k : ℕ) (m : Mark)
     → IsMarkAfter most (given_by t) k (left_after a t) m → rest a m ≡ drop k (left_after a t)
 rest_follows a o most l None k m =

@@ -4,6 +4,7 @@ use Rattle.std.proofs.lemmas.Bool.{cases_lt, cond_both, false_from_ne_true, true
 use Rattle.std.specs.List.{range_with_len}
 use Rattle.bd_cursor_model.specs.{Answer.insert, Answer.insert_all, Laws.IsStrictOrder}
 
+-- The number is a member of the list.
 abbrev pub In : ℕ → List ℕ → Type 0
 In x [] = ⊥
 In x (y ∷ ys) = (x ≡ y) ⊎ In x ys
@@ -13,6 +14,7 @@ abbrev pub Rises : (ℕ → ℕ → Bool) → List ℕ → Type 0
 Rises lt [] = Unit {0}
 Rises lt (x ∷ xs) = ((y : ℕ) → In y xs → lt x y ≡ true) × Rises lt xs
 
+-- No number is in the list twice.
 abbrev pub Apart : List ℕ → Type 0
 Apart [] = Unit {0}
 Apart (x ∷ xs) = (In x xs → ⊥) × Apart xs
@@ -24,24 +26,28 @@ in_filter test (y ∷ ys) x (inl a) e = rw (ap test (sym a) ∙ e) (inl a)
 in_filter test (y ∷ ys) x (inr a) e =
     let rest = in_filter test ys x a e in cond_both (test y) (y ∷ filter test ys) (filter test ys) (In x) (λ f. inr rest) (λ f. rest)
 
+-- what a filter keeps of a list is in it, and passes
 pub filter_in : (test : ℕ → Bool) (xs : List ℕ) (x : ℕ) → In x (filter test xs) → In x xs × (test x ≡ true)
 filter_in test [] x h = absurd h
 filter_in test (y ∷ ys) x h = cond_both (test y) (y ∷ filter test ys) (filter test ys) (λ zs. In x zs → In x (y ∷ ys) × (test x ≡ true))
     (λ f h. elim h [ inl a ↦ (inl a, ap test a ∙ f) | inr a ↦ (let r = filter_in test ys x a in (inr r.0, r.1)) ])
     (λ f h. let r = filter_in test ys x h in (inr r.0, r.1)) h
 
+-- what a filter keeps of a list without repeats has none
 pub filter_apart : (test : ℕ → Bool) (xs : List ℕ) → Apart xs → Apart (filter test xs)
 filter_apart test [] h = tt
 filter_apart test (y ∷ ys) h =
     let rest = filter_apart test ys h.1 in
     cond_both (test y) (y ∷ filter test ys) (filter test ys) Apart (λ f. (λ e. h.0 (filter_in test ys y e).0, rest)) (λ f. rest)
 
+-- what a filter keeps of an ascending list is ascending
 pub filter_rises : (lt : ℕ → ℕ → Bool) (test : ℕ → Bool) (xs : List ℕ) → Rises lt xs → Rises lt (filter test xs)
 filter_rises lt test [] h = tt
 filter_rises lt test (y ∷ ys) h =
     let rest = filter_rises lt test ys h.1 in
     cond_both (test y) (y ∷ filter test ys) (filter test ys) (Rises lt) (λ f. (λ z e. h.0 z (filter_in test ys z e).0, rest)) (λ f. rest)
 
+-- a filter that each member passes keeps the whole list
 pub filter_all : (test : ℕ → Bool) (xs : List ℕ) → ((x : ℕ) → In x xs → test x ≡ true) → filter test xs ≡ xs
 filter_all test [] h = refl
 filter_all test (x ∷ xs) h = rw (h x (inl refl)) (ap (λ ys. x ∷ ys) (filter_all test xs (λ y e. h y (inr e))))
@@ -58,6 +64,7 @@ pub in_range : (k n x : ℕ) → k ≤ x → x < k + n → In x (range_with_len 
 in_range k zero x a b = absurd (omega arith)
 in_range k (suc n) x a b = elim (cases_lt k x) [ inl e ↦ inr (in_range (k + 1) n x (omega arith) (omega arith)) | inr e ↦ inl (omega arith) ]
 
+-- the members of a range of n numbers from k on are at least k and below k + n
 pub range_in : (k n x : ℕ) → In x (range_with_len k n) → (k ≤ x) × (x < k + n)
 range_in k zero x h = absurd h
 range_in k (suc n) x (inl e) = (omega arith, omega arith)
@@ -82,6 +89,7 @@ insert_in lt p (q ∷ qs) x h = cond_both (lt p q) (p ∷ q ∷ qs) (q ∷ inser
 pub other_way : {lt : ℕ → ℕ → Bool} → IsStrictOrder lt → (p q : ℕ) → (p ≡ q → ⊥) → lt p q ≡ false → lt q p ≡ true
 other_way {lt = lt} o p q ne e = true_from_ne_false (lt q p) (λ f. ne (o.connected p q e f))
 
+-- in a strict order no two come before each other
 pub not_both : {lt : ℕ → ℕ → Bool} → IsStrictOrder lt → (p q : ℕ) → lt p q ≡ true → lt q p ≡ false
 not_both {lt = lt} o p q e = false_from_ne_true (lt q p) (λ f. true≢false (sym (o.transitive p q p e f) ∙ o.irreflexive p))
 
@@ -94,6 +102,7 @@ insert_rises {lt = lt} o p (q ∷ qs) new up = cond_both (lt p q) (p ∷ q ∷ q
       insert_rises o p qs (λ h. new (inr h)) up.1,
     ))
 
+-- what was in the list, or is put into it, is in it afterwards
 pub in_insert_all : (lt : ℕ → ℕ → Bool) (kept ps : List ℕ) (x : ℕ) → In x kept ⊎ In x ps → In x (insert_all lt kept ps)
 in_insert_all lt kept [] x (inl h) = h
 in_insert_all lt kept [] x (inr h) = absurd h
@@ -101,10 +110,12 @@ in_insert_all lt kept (p ∷ ps) x (inl h) = in_insert_all lt (insert lt p kept)
 in_insert_all lt kept (p ∷ ps) x (inr (inl h)) = in_insert_all lt (insert lt p kept) ps x (inl (in_insert lt p kept x (inl h)))
 in_insert_all lt kept (p ∷ ps) x (inr (inr h)) = in_insert_all lt (insert lt p kept) ps x (inr h)
 
+-- what is in the list afterwards was in it, or was put into it
 pub insert_all_in : (lt : ℕ → ℕ → Bool) (kept ps : List ℕ) (x : ℕ) → In x (insert_all lt kept ps) → In x kept ⊎ In x ps
 insert_all_in lt kept [] x h = inl h
 insert_all_in lt kept (p ∷ ps) x h = elim (insert_all_in lt (insert lt p kept) ps x h) [ inl a ↦ elim (insert_in lt p kept x a) [ inl b ↦ inr (inl b) | inr b ↦ inl b ] | inr a ↦ inr (inr a) ]
 
+-- numbers put into an ascending list one by one leave it ascending
 pub insert_all_rises : {lt : ℕ → ℕ → Bool} → IsStrictOrder lt → (kept ps : List ℕ) → Apart ps → ((x : ℕ) → In x kept → In x ps → ⊥) → Rises lt kept → Rises lt (insert_all lt kept ps)
 insert_all_rises {lt = lt} o kept [] a new up = up
 insert_all_rises {lt = lt} o kept (p ∷ ps) a new up =

@@ -293,6 +293,7 @@ begins q t earlier later id fair of e =
     gives_in_turn q id (with_open s q.digest t (left_after q.selection t)) c later fair (omega (arith, e))
     (last_is id s.cursors c (below_run new_state earlier (λ i l. refl) id (omega (arith, e))) e) (record { left = refl; digest = of })
 
+-- the batches of a cursor that `find` opened are its answer in turn, whatever calls come before and between
 pub find_gives : (earlier later : List Call) (q : Query) (hint : Option (List ℕ)) (id : ℕ) → IsFair q → let s = state_after_all new_state earlier in
     reply s (find_call q hint) ≡ opened id → GivesInTurn q id (answer q.selection) later (batches_to id later (replies (state_after s (find_call q hint)) later))
 find_gives earlier later q hint id fair =
@@ -303,6 +304,8 @@ find_gives earlier later q hint id fair =
     go r t (keeps b o e n z) is = absurd (let f : ⊥ = (let g = ap opened_in is in cc) in f)
     go r t finds is = begins q None earlier later id fair refl cc
 
+-- the batches of a cursor that `resume` opened are the rest after the token in turn,
+-- whatever calls come before and between
 pub resume_gives : (earlier later : List Call) (q : Query) (hint : Option (List ℕ)) (m : MarkedToken) (id : ℕ) → IsFair q → let s = state_after_all new_state earlier in
     reply s (resume_call q hint m) ≡ opened id → GivesInTurn q id (rest q.selection m.mark) later (batches_to id later (replies (state_after s (resume_call q hint m)) later))
 resume_gives earlier later q hint m id fair =

@@ -19,6 +19,7 @@ taken_more test found old new all p e told h = append_assoc found (p ∷ []) (fi
 pub left_out_more : (test : ℕ → Bool) (found old new all : List ℕ) (p : ℕ) → old ≡ p ∷ new → found ++ filter test old ≡ all → test p ≡ false → found ++ filter test new ≡ all
 left_out_more test found old new all p e told h = ap (λ b. found ++ cond b (p ∷ filter test new) (filter test new)) (sym h) ∙ ap (λ ps. found ++ filter test ps) (sym e) ∙ told
 
+-- if all document numbers are below n, so are those after the first
 pub below_more : (n : ℕ) (old new : List ℕ) (p : ℕ) → old ≡ p ∷ new → All (λ x. x < n) old → All (λ x. x < n) new
 below_more n old new p e h = All-tail (λ x. x < n) p new (subst (λ ps. All (λ x. x < n) ps) e h)
 
@@ -36,6 +37,7 @@ apart_at (x ∷ xs) h (suc i) (suc j) d a b e = apart_at xs h.1 i j d (omega ari
 flips : (x y : ℕ) → eqb x y ≡ eqb y x
 flips x y = elim (cases_eq x y) [ inl e ↦ eq-eqb x y e ∙ sym (eq-eqb y x (sym e)) | inr e ↦ ne_eqb x y e ∙ sym (ne_eqb y x (λ k. e (sym k))) ]
 
+-- a list without repeats has none in another order
 pub permuted_apart : (xs ys : List ℕ) → IsPermutation xs ys → Apart xs → Apart ys
 permuted_apart xs ys p h = pairs_apart ys (λ i j d a b. eqb-false (get_or ys i d) (get_or ys j d) (apart_from_distinct eqb ys i j d
     (IsDistinct-IsPermutation eqb flips xs ys p (IsDistinct-from_apart eqb xs (λ i j d a b. ne_eqb (get_or xs i d) (get_or xs j d) (apart_at xs h i j d a b)))) a b))
@@ -56,6 +58,7 @@ sorted_tail lt x xs h k d a b =
     let e : suc k + 1 ≡ suc (k + 1) = omega arith in
     subst (λ n. lt (get_or (x ∷ xs) n d) (get_or xs k d) ≡ false) e (h (suc k) d (omega arith) (omega arith))
 
+-- a sorted list without repeats is ascending
 pub sorted_rises : (lt : ℕ → ℕ → Bool) → IsStrictOrder lt → IsStrictWeakOrder lt → (xs : List ℕ) → IsSortedBy lt xs → Apart xs → Rises lt xs
 sorted_rises lt o w [] h a = tt
 sorted_rises lt o w (x ∷ xs) h a = (
@@ -89,6 +92,7 @@ from_definition a ps s after p h =
     let t = ordered_in a p r.0 in
     in_filter (passes a.hits a.by after) ps p (contains_in ps p (s.complete p t.0 t.1)) (and_from (a.hits p) (is_after (before a.by) after p) t.1 r.1)
 
+-- the matches of a source that is in order, from a document number on, are the answer from there on
 pub batch_in_order : (a : Selection) → IsTotalOrder a.by → (ps : List ℕ) → IsSource a.count a.hits ps → IsAscending (before a.by) ps
     → (after : Option ℕ) → filter (passes a.hits a.by after) ps ≡ places_after a after
 batch_in_order a o ps s up after =
@@ -129,9 +133,11 @@ pub filter_same : (f g : ℕ → Bool) (xs : List ℕ) → ((x : ℕ) → In x x
 filter_same f g [] h = refl
 filter_same f g (x ∷ xs) h = rw (h x (inl refl)) (ap (λ ys. cond (g x) (x ∷ ys) ys) (filter_same f g xs (λ y i. h y (inr i))))
 
+-- after no document comes the whole answer
 pub all_places : (a : Selection) → places_after a None ≡ ordered a
 all_places a = filter_all (λ p. true) (ordered a) (λ x h. refl)
 
+-- without a sort the answer is the matches in file order
 pub unsorted_ordered : (a : Selection) → IsTotalOrder a.by → IsUnsorted a → ordered a ≡ filter a.hits (range_with_len 0 a.count)
 unsorted_ordered a o u =
     sym (all_places a) ∙ sym (of_range a o u None) ∙ filter_same (passes a.hits a.by None) a.hits (range_with_len 0 a.count) (λ x h. and-true (a.hits x))

@@ -8,36 +8,39 @@ use Rattle.bd_cursor_model.specs.Answer.{Selection, Mark, answer, batches, rest}
 use Rattle.bd_cursor_model.specs.Session.{Call, GivenBatch, Query, Reply, State, gave, kill_call, most_given}
 use Rattle.bd_cursor_model.specs.Session.{next_call, reply, state_after}
 
+-- a strict total order: nothing comes before itself, it is transitive,
+-- and of two different ones one comes first
 pub record IsStrictOrder (lt : ℕ → ℕ → Bool) : Type 0 where
   pub irreflexive : (x : ℕ) → lt x x ≡ false
   pub transitive : (x y z : ℕ) → lt x y ≡ true → lt y z ≡ true → lt x z ≡ true
   pub connected : (x y : ℕ) → lt x y ≡ false → lt y x ≡ false → x ≡ y
 
--- each earlier one is before each later one, so that none comes twice
+-- Each member comes before all later ones, so none comes twice.
 abbrev pub IsAscending : (ℕ → ℕ → Bool) → List ℕ → Type 0
 IsAscending lt = AllPairs (λ x y. lt x y ≡ true)
 
--- a mark after k places of a list, of which some were given before;
--- the count of those given stays at its greatest value
+-- The position after the first k of some documents, of which `old` were given before;
+-- the count given stays at `most`.
 abbrev pub IsMarkAfter : ℕ → ℕ → ℕ → List ℕ → Mark → Type 0
 IsMarkAfter most old k ps m =
     (0 < k) × (k ≤ length ps) × (m.given ≡ min most (old + k)) × ((d : ℕ) → m.last ≡ slice_index_or ps (k - 1) d)
 
 -- ---- parts
 
--- what is asked of documents: which match, how the sort keys of two of them stand,
--- how many of the first are left out, and how many there are at most, where 0 is no limit
+-- a request in terms of documents: which match, how the sort keys of two compare, how many are skipped,
+-- and the limit (0: none)
 pub record DocumentRequest (A : Type 0) : Type 0 where
   pub matches : A → Bool
   pub by : A → A → Ordering
   pub skip : ℕ
   pub limit : ℕ
 
+-- whether there is a document, and it passes the test
 abbrev pub matches_some : {A : Type 0} → (A → Bool) → Option A → Bool
 matches_some test None = false
 matches_some test (Some d) = test d
 
--- the request at the places of a collection
+-- what a request selects of a collection, in terms of document numbers
 abbrev pub selection_over : {A : Type 0} → DocumentRequest A → List A → Selection
 selection_over r ds = record {
   count = length ds;
@@ -47,20 +50,20 @@ selection_over r ds = record {
   limit = r.limit;
 }
 
--- the documents that answer a request: those at the places of its answer, in turn
+-- the documents that answer a request, in order
 abbrev pub found_in : {A : Type 0} → DocumentRequest A → List A → List A
 found_in r ds = filter_map (slice_get ds) (answer (selection_over r ds))
 
--- what a part is asked in place of a request: to leave out none, and to give at most so many
+-- the request that a part of a collection is asked: none is skipped, and at most `limit` are given (0: all)
 abbrev pub part_request : {A : Type 0} → DocumentRequest A → ℕ → DocumentRequest A
 part_request r limit = record r { skip = 0; limit = limit }
 
--- a part's limit is enough where it is none, or where the request has one,
--- and skip and limit together are within the part's
+-- The limit for a part is enough: there is none;
+-- or the request has one too, and skip and limit together are within the part's.
 abbrev pub IsEnough : {A : Type 0} → DocumentRequest A → ℕ → Type 0
 IsEnough r limit = limit ≢ 0 → (r.limit ≢ 0) × (r.skip + r.limit ≤ limit)
 
--- a selection that says of the places of a collection what the request says of the documents there
+-- The selection says of document numbers what the request says of the documents.
 pub record IsSelectionOf {A : Type 0} (r : DocumentRequest A) (ds : List A) (a : Selection) : Type 0 where
   pub count : a.count ≡ length ds
   pub hits : (i : ℕ) (d : A) → slice_get ds i ≡ Some d → a.hits i ≡ r.matches d
@@ -70,18 +73,22 @@ pub record IsSelectionOf {A : Type 0} (r : DocumentRequest A) (ds : List A) (a :
 
 -- ---- sessions
 
+-- a new session: no index, no open cursor, and cursor numbers start at 1
 abbrev pub new_state : State
 new_state = record { indexes = []; next_id = 1; cursors = [] }
 
+-- the state of a session after some calls, one after the other
 abbrev pub state_after_all : State → List Call → State
 state_after_all s [] = s
 state_after_all s (c ∷ cs) = state_after_all (state_after s c) cs
 
+-- the replies to calls made one after the other, each in the state that those before it left
 abbrev pub replies : State → List Call → List Reply
 replies s [] = []
 replies s (c ∷ cs) = reply s c ∷ replies (state_after s c) cs
 
--- the sizes that the calls ask of a cursor, until it is killed; those that are too great are left out
+-- the batch sizes that the calls ask of a cursor, until it is killed;
+-- those above 2,147,483,647 are refused and left out
 abbrev pub sizes_to : ℕ → List Call → List ℕ
 sizes_to id [] = []
 sizes_to id (next_call i n ∷ cs) =
@@ -89,42 +96,47 @@ sizes_to id (next_call i n ∷ cs) =
 sizes_to id (kill_call i ∷ cs) = if i == id then [] else sizes_to id cs
 sizes_to id (call ∷ cs) = sizes_to id cs
 
--- the batches that the replies give to a cursor
+-- the batch that a reply gives, if it gives one
 abbrev pub batch_in : Reply → List GivenBatch
 batch_in (gave b) = b ∷ []
 batch_in r = []
 
+-- the batch that a call gets from the cursor of this number, if it asks that cursor and is not refused
 abbrev pub batch_to : ℕ → Call → Reply → List GivenBatch
 batch_to id (next_call i n) r = if i == id then batch_in r else []
 batch_to id c r = []
 
+-- the batches that calls get from the cursor of this number, in turn
 abbrev pub batches_to : ℕ → List Call → List Reply → List GivenBatch
 batches_to id calls rs = flat_map (λ p. batch_to id p.0 p.1) (zip calls rs)
 
--- each batch's token is of the request, and leads on to what is left after the batch
+-- Each batch's token is of this request, and what remains after it is what remains after the batch.
 abbrev pub TokensFollow : Query → List ℕ → List GivenBatch → Type 0
 TokensFollow q left [] = Unit {0}
 TokensFollow q left (b ∷ bs) = let later = drop (length b.places) left in
     IfSome b.token (λ t. (t.digest ≡ q.digest) × (rest q.selection t.mark ≡ later)) × TokensFollow q later bs
 
--- the batches of a list of places, by the sizes that the calls ask, with tokens that lead on
+-- The batches are those of this list, by the sizes that the calls ask for,
+-- and each token leads on to what remains.
 abbrev pub GivesInTurn : Query → ℕ → List ℕ → List Call → List GivenBatch → Type 0
 GivesInTurn q id ps calls given =
     (map (λ (b : GivenBatch). b.places) given ≡ batches ps (sizes_to id calls)) × TokensFollow q ps given
 
--- the order of the sort keys is one, and the limit one that can be counted
+-- The sort keys are in a total order, and the limit is at most 2^64 - 1.
 abbrev pub IsFair : Query → Type 0
 IsFair q = IsTotalOrder q.selection.by × (q.selection.limit ≤ most_given)
 
--- calls, each with whether it was refused because memory ran out: then it changed nothing, and has no reply
+-- the state after calls, each with whether it ran out of memory: such a call changes nothing
 abbrev pub state_after_attempts : State → List (Call × Bool) → State
 state_after_attempts s [] = s
 state_after_attempts s (a ∷ later) = state_after_attempts (if a.1 then s else state_after s a.0) later
 
+-- the replies to calls of which some ran out of memory: for these None
 abbrev pub attempt_replies : State → List (Call × Bool) → List (Option Reply)
 attempt_replies s [] = []
 attempt_replies s (a ∷ later) =
     (if a.1 then None else Some (reply s a.0)) ∷ attempt_replies (if a.1 then s else state_after s a.0) later
 
+-- the calls that did not run out of memory, in turn
 abbrev pub answered_calls : List (Call × Bool) → List Call
 answered_calls = filter_map (λ a. if a.1 then None else Some a.0)

@@ -5,28 +5,31 @@ use Rattle.std.specs.{List.filter, List.list_any, Str.bytes_eq}
 use Rattle.bd_value.specs.{Limits.greatest_count, Limits.most_cursors, Limits.most_indexes, Tree.Doc}
 use Rattle.bd_cursor_model.specs.Answer.{Selection, Mark, answer, is_empty, rest}
 
--- a request to a dump; the digest ties its tokens to both
+-- a request to a dump: what it selects, and the digest that ties its tokens to both
 pub record Query : Type 0 where
   pub selection : Selection
   pub digest : List ℕ
 
+-- a token: how many documents were given up to it and the number of the last one,
+-- and the digest that ties it to a dump and a request
 pub record MarkedToken : Type 0 where
   pub mark : Mark
   pub digest : List ℕ
 
--- an open cursor: its request's digest, the token after what it gave last, and the places that it has left
+-- an open cursor: its number, its request's digest, the token after what it gave last,
+-- and the document numbers that remain
 pub record OpenCursor : Type 0 where
   pub id : ℕ
   pub digest : List ℕ
   pub token : Option MarkedToken
   pub left : List ℕ
 
--- what is left of the answer of a request after a token; without one, all of it
+-- what remains of an answer after a token; without one, all of it
 abbrev pub left_after : Selection → Option MarkedToken → List ℕ
 left_after a None = answer a
 left_after a (Some t) = rest a t.mark
 
--- an index, of which there is one a path: a sparse one leaves out fields that are not there
+-- an index of a session, by its path; a sparse one has no entry for a missing field
 pub record IndexMark : Type 0 where
   pub path : List ℕ
   pub is_sparse : Bool
@@ -36,7 +39,8 @@ pub record IndexCounts : Type 0 where
   pub entries : ℕ
   pub is_multikey : Bool
 
--- the indexes in the order in which they were made, the number of the next cursor, and the open cursors
+-- the state of a session: its indexes in the order in which they were made,
+-- the number of the next cursor, the open cursors
 pub record State : Type 0 where
   pub indexes : List IndexMark
   pub next_id : ℕ
@@ -54,11 +58,14 @@ pub data Call : Type 0 where
   drop_call : List ℕ → Call
   explain_call : Option (List ℕ) → (List IndexMark → Doc) → Call
 
+-- a batch of a cursor: the document numbers, the token after them (None if no document was ever given),
+-- and whether nothing remains
 pub record GivenBatch : Type 0 where
   pub places : List ℕ
   pub token : Option MarkedToken
   pub ends : Bool
 
+-- the reply to a call: what was opened, given, made or explained, or why it is refused, which changes nothing
 pub data Reply : Type 0 where
   opened : ℕ → Reply
   gave : GivenBatch → Reply
@@ -75,27 +82,30 @@ pub data Reply : Type 0 where
   token_place : Reply
   out_of_range : Reply
 
--- the count of documents given stays there
+-- the greatest count of documents given: 2^64 - 1, where it stays
 abbrev pub most_given : ℕ
 most_given = 2 ^ 64 - 1
 
+-- the open cursor of that number, if there is one
 abbrev pub cursor_of : ℕ → List OpenCursor → Option OpenCursor
 cursor_of id [] = None
 cursor_of id (c ∷ cs) = if c.id == id then Some c else cursor_of id cs
 
+-- the open cursors except the one of that number
 abbrev pub without : ℕ → List OpenCursor → List OpenCursor
 without id cs = filter (λ (c : OpenCursor). not (c.id == id)) cs
 
+-- how many documents were given up to a token; 0 without one
 abbrev pub given_by : Option MarkedToken → ℕ
 given_by None = 0
 given_by (Some t) = t.mark.given
 
--- a token keeps its digest; the first one has that of the request
+-- the digest of a cursor's next token: that of its last one, or without one that of its request
 abbrev pub digest_after : List ℕ → Option MarkedToken → List ℕ
 digest_after digest None = digest
 digest_after digest (Some t) = t.digest
 
--- the token after some more places; where none is given it stays
+-- the token of a cursor after some more documents; after none it is the same as before
 abbrev pub token_after : List ℕ → Option MarkedToken → List ℕ → Option MarkedToken
 token_after digest t [] = t
 token_after digest t (p ∷ ps) = Some (record {
@@ -103,29 +113,34 @@ token_after digest t (p ∷ ps) = Some (record {
   digest = digest_after digest t;
 })
 
+-- whether an index is on the path of that text
 abbrev pub is_on : List ℕ → IndexMark → Bool
 is_on path i = bytes_eq path i.path
 
--- the index that is named is there
+-- whether the index that is named is there; true if none is named
 abbrev pub has_index : List IndexMark → Option (List ℕ) → Bool
 has_index indexes None = true
 has_index indexes (Some path) = list_any (is_on path) indexes
 
--- as many cursors are open as may be, or the last number was given
+-- whether no cursor can be opened: 64 are open, or the number 2^63 - 1 was given
 abbrev pub is_full : State → Bool
 is_full s = not (nat_lt (length s.cursors) most_cursors) || nat_lt (2 ^ 63 - 1) s.next_id
 
+-- the reply to a call that opens a cursor: refused if the named index is not there,
+-- then if there are too many cursors
 abbrev pub open_reply : State → Option (List ℕ) → Reply
 open_reply s hint =
     if has_index s.indexes hint then (if is_full s then too_many_cursors else opened s.next_id) else no_index
 
+-- the state with one more cursor, which has these document numbers to give;
+-- the next cursor gets the next number
 abbrev pub with_open : State → List ℕ → Option MarkedToken → List ℕ → State
 with_open s digest t ps = record s {
   next_id = s.next_id + 1;
   cursors = s.cursors ++ record { id = s.next_id; digest = digest; token = t; left = ps } ∷ [];
 }
 
--- a batch of n places, and the cursor after it
+-- the batch that a cursor gives for n documents
 abbrev pub batch_of : OpenCursor → ℕ → GivenBatch
 batch_of c n =
     record {
@@ -134,19 +149,22 @@ batch_of c n =
       ends = is_empty (drop n c.left);
     }
 
+-- a cursor once it has given n more documents
 abbrev pub moved : OpenCursor → ℕ → OpenCursor
 moved c n = record c { token = token_after c.digest c.token (take n c.left); left = drop n c.left }
 
--- the cursor of that number moved on
+-- the open cursors after the one of that number gave n more documents
 abbrev pub with_moved : ℕ → ℕ → List OpenCursor → List OpenCursor
 with_moved id n [] = []
 with_moved id n (c ∷ cs) = if c.id == id then moved c n ∷ cs else c ∷ with_moved id n cs
 
+-- the reply to a call for n documents: refused if there is no such cursor, then if n is above 2,147,483,647
 abbrev pub next_reply : Option OpenCursor → ℕ → Reply
 next_reply None n = no_cursor
 next_reply (Some c) n = if nat_lt greatest_count n then out_of_range else gave (batch_of c n)
 
--- refusals are tried in this order: the token's digest, its place, the index, the number of cursors.
+-- The reply to a call. Refusals are tried in this order:
+-- the token's digest, its document number, the index, the number of cursors.
 abbrev pub reply : State → Call → Reply
 reply s (find_call q hint) = open_reply s hint
 reply s (resume_call q hint t) = if bytes_eq t.digest q.digest
@@ -170,5 +188,6 @@ changed_by (made counts) (make_call i _) s = record s { indexes = s.indexes ++ i
 changed_by dropped (drop_call path) s = record s { indexes = filter (λ (i : IndexMark). not (is_on path i)) s.indexes }
 changed_by reply call s = s
 
+-- the state of a session after one call
 abbrev pub state_after : State → Call → State
 state_after s call = changed_by (reply s call) call s

@@ -1,35 +1,35 @@
--- What a source of places hands out.
+-- A source of document numbers, and what it hands out.
 use Rattle.std.specs.Prelude.{ℕ, ◌<◌, ◌≡◌, ◌≢◌, ◌-◌, ◌&&◌, Bool, true, List, [], ◌∷◌, Option, Some, None, Contains}
 use Rattle.std.specs.{List.All, List.AllPairs, List.filter, List.range_with_len, declared.cmp.Ordering.Ordering}
 use Rattle.std.proofs.{Common.arith, Common.◌∙◌, Common.zero-add, lemmas.List.FromFn.get_or-range_with_len}
 use Rattle.std.proofs.{lemmas.List.FromFn.length-range_with_len}
 use Rattle.bd_cursor_model.specs.Answer.{Selection, before, ordered}
 
--- a source of places for n documents: no match is missing, none comes twice, and each is the place of a document
+-- a list of numbers of n documents in which no match is missing and none comes twice
 pub record IsSource (n : ℕ) (hits : ℕ → Bool) (ps : List ℕ) : Type 0 where
   pub below : All (λ p. p < n) ps
   pub distinct : AllPairs (λ x y. x ≢ y) ps
   pub complete : (p : ℕ) → p < n → hits p ≡ true → Contains ps p
 
--- the first place is handed out; where there is none, there is none after that either
+-- The next document number is handed out; None says that there is none, then or later.
 abbrev pub HandsOut : Option ℕ → List ℕ → List ℕ → Type 0
 HandsOut None old new = (old ≡ []) × (new ≡ [])
 HandsOut (Some p) old new = old ≡ p ∷ new
 
--- p comes after a place, where there is one
+-- whether p comes after another document number; true without one
 abbrev pub is_after : (ℕ → ℕ → Bool) → Option ℕ → ℕ → Bool
 is_after lt None p = true
 is_after lt (Some q) p = lt q p
 
--- p matches and comes after a place, where there is one
+-- whether p matches, and comes after another document number, if there is one
 abbrev pub passes : (ℕ → Bool) → (ℕ → ℕ → Ordering) → Option ℕ → ℕ → Bool
 passes hits by last p = hits p && is_after (before by) last p
 
--- the places that match and come after a place, in their order
+-- the numbers of the matches that come after a document, in order; of all without one
 abbrev pub places_after : Selection → Option ℕ → List ℕ
 places_after a last = filter (is_after (before a.by) last) (ordered a)
 
--- a scan is a source
+-- the numbers of all documents in file order are a source: no match is missing, and none comes twice
 pub scan_law : (next count n : ℕ) (hits : ℕ → Bool) → next ≡ 0 → count ≡ n →
     IsSource n hits (range_with_len next (count - next))
 scan_law next count n hits e f = rw (e, f) (let z : n - 0 ≡ n = omega arith in rw z (record {

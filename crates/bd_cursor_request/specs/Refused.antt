@@ -1,11 +1,11 @@
--- Why a call is refused, in words and by its number.
+-- Why a call is refused, as a message and as a number.
 use Rattle.std.specs.Prelude.{◌≡◌, ◌⊎◌, ℕ, List, Result, Ok, Err, codes}
 use Rattle.std.specs.Result.{result_map_both}
 use Rattle.bd_query_filter.specs.Fault.{Refusal, filter_fault_words, refusal_of}
 use Rattle.bd_cursor_request.specs.{declared.results.Refused.Refused}
 use Rattle.bd_cursor_request.specs.declared.results.Refused.TheVariants as reasons
 
--- the number by which a reply tells it
+-- the number of a session's refusal in a reply
 abbrev pub refused_number : Refused → ℕ
 refused_number reasons.BadSort = 1
 refused_number reasons.NoIndex = 2
@@ -20,7 +20,7 @@ refused_number reasons.Range = 10
 refused_number reasons.NoMemory = 11
 refused_number (reasons.BadFilter fault) = 12
 
--- what is wrong, in words; of a filter those of its fault
+-- the message of a session's refusal; that of a filter is the message of its fault
 unfoldable pub refused_words : Refused → List ℕ
 refused_words (reasons.BadFilter fault) = filter_fault_words fault.kind
 refused_words reasons.BadSort = codes "not a sort"
@@ -35,29 +35,29 @@ refused_words reasons.TokenPlace = codes "token place past the dump"
 refused_words reasons.Range = codes "number out of range"
 refused_words reasons.NoMemory = codes "no memory"
 
--- the reason of a refusal: that of a filter as its definition has it
+-- why something is refused: a rule that its filter breaks, and where, or another refusal
 pub data Reason : Type 0 where
   bad_filter : Refusal → Reason
   plain : Refused → Reason
 
+-- the reason that a `Refused` in memory stands for
 abbrev pub reason_of : Refused → Reason
 reason_of (reasons.BadFilter fault) = bad_filter (refusal_of fault)
 reason_of refused = plain refused
 
--- a part of what is asked for is what it stands for, or it is refused for a reason;
--- the part after it counts where it is not
+-- what comes after a part that is not refused; a refusal stays
 abbrev pub then_part : {A B Why : Type 0} → Result A Why → (A → Result B Why) → Result B Why
 then_part (Ok x) next = next x
 then_part (Err why) next = Err why
 
--- a part whose reason is told so
+-- the part, with the reason of its refusal in another form
 abbrev pub told_as : {A Why Told : Type 0} → (Why → Told) → Result A Why → Result A Told
 told_as told part = result_map_both (λ x. x) told part
 
--- it is refused for this, and that holds, unless memory ran out
+-- It is refused for this reason, and `Holds`; or memory ran out.
 abbrev pub IsRefusedAs : Refused → Refused → Type 0 → Type 0
 IsRefusedAs refused reason Holds = (refused ≡ reasons.NoMemory) ⊎ ((refused ≡ reason) × Holds)
 
--- it is refused for this reason, unless memory ran out
+-- It is refused for the reason of this part; or memory ran out.
 abbrev pub IsRefusedPart : {A : Type 0} → Result A Reason → Refused → Type 0
 IsRefusedPart part refused = (refused ≡ reasons.NoMemory) ⊎ (part ≡ Err (reason_of refused))

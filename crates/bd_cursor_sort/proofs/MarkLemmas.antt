@@ -10,6 +10,7 @@ use Rattle.bd_cursor_model.proofs.AnswerLemmas.{before_strict}
 use Rattle.bd_bson_dump.specs.Collection.{document_at}
 use Rattle.bd_cursor_sort.specs.{Sorting.marked_cmp, Sorting.marked_keys, Selection.order_of_keys}
 
+-- the order of documents by their sort keys is total, with ties
 pub keys_total : (ds : List Doc) (ss : List SortPath) → IsTotalOrder (order_of_keys ds ss)
 keys_total ds ss = on_total (document_at ds) (sort_total ss)
 

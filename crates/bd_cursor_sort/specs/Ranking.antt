@@ -1,6 +1,5 @@
--- Documents while they are put in order by one path after the other.
--- Each has a rank by the paths so far: the lower rank is first,
--- and those that tie have one rank.
+-- Documents that are sorted by one path after the other.
+-- By the paths so far each has a rank: the lower rank comes first, and documents that tie have the same rank.
 use Rattle.std.specs.Prelude.{◌≡◌, ◌<◌, ℕ, ◌+◌, List, [], ◌∷◌, length, map, Option, Some, None, if◌then◌else◌}
 use Rattle.std.specs.Prelude.{slice_index_or}
 use Rattle.std.specs.Ordering.{is_lt, nat_cmp, ordering_then}
@@ -12,42 +11,46 @@ use Rattle.bd_bson_dump.specs.Collection.{document_at}
 use Rattle.bd_index_prefix.specs.Front.{kept_key}
 use Rattle.bd_cursor_sort.specs.{Selection.order_of_keys, declared.ranking.Ranked.Ranked, declared.ranking.Row.Row}
 
--- a document with its key on a path
+-- a document by its rank on the paths so far, its number, and its key on the next path
 pub record Keyed : Type 0 where
   pub rank : ℕ
   pub place : ℕ
   pub key : Tree
 
+-- the document, rank and key that a row in memory stands for
 abbrev pub keyed_row : Row → Keyed
 keyed_row r = record { rank = r.rank; place = r.place; key = kept_key r.key.key }
 
+-- a ranked document with its sort key on the next path
 abbrev pub keyed : List Doc → SortPath → Ranked → Keyed
 keyed ds s r = record { rank = r.rank; place = r.place; key = sort_key s.dir (document_at ds r.place) s.path }
 
--- by rank, and where the ranks are one by key
+-- the order of documents by rank, and in one rank by their keys
 abbrev pub keyed_cmp : Dir → Keyed → Keyed → Ordering
 keyed_cmp dir a b = ordering_then (nat_cmp a.rank b.rank) (dir_cmp dir a.key b.key)
 
--- then by place
+-- the order of documents by rank, then by key, then by number
 abbrev pub rows_cmp : Dir → Keyed → Keyed → Ordering
 rows_cmp dir a b = ordering_then (keyed_cmp dir a b) (nat_cmp a.place b.place)
 
--- the new rank of a document, after one of a rank
+-- the new rank of a document in a sorted list:
+-- one more than the last one's if it comes after it by rank and key, else the same
 abbrev pub next_rank : Dir → ℕ → Option Keyed → Keyed → ℕ
 next_rank dir rank None y = rank
 next_rank dir rank (Some x) y = if is_lt (keyed_cmp dir x y) then rank + 1 else rank
 
--- the new ranks of documents that are in order
+-- the new ranks of sorted documents, from `rank` on
 abbrev pub ranks_from : Dir → ℕ → Option Keyed → List Keyed → List Ranked
 ranks_from dir rank last [] = []
 ranks_from dir rank last (y ∷ ys) =
     record { rank = next_rank dir rank last y; place = y.place }
     ∷ ranks_from dir (next_rank dir rank last y) (Some y) ys
 
+-- the document number of a ranked document
 abbrev pub place_of : Ranked → ℕ
 place_of r = r.place
 
--- documents in order, with ranks that say how they stand
+-- The documents are these, in the order of the sort, and their ranks compare as their sort keys do.
 pub record AreRanked (ds : List Doc) (ss : List SortPath) (ps : List ℕ) (rs : List Ranked) : Type 0 where
   pub same : IsPermutation ps (map place_of rs)
   pub rises : IsSortedBy (before (order_of_keys ds ss)) (map place_of rs)

@@ -9,26 +9,28 @@ use Rattle.bd_query_filter.specs.{Filter.Filter, FilterMatch.matches, Filter.fil
 use Rattle.bd_cursor_request.specs.{Token.token_digest, Request.Request, Request.request_view}
 use Rattle.bd_cursor_request.specs.declared.request.Request as declared
 
--- which documents match
+-- whether the document with that number matches the filter
 abbrev pub hits_of : List Doc → Filter → ℕ → Bool
 hits_of ds f p = matches f (document_at ds p)
 
--- how the sort keys of two documents stand
+-- the order of two documents, by their numbers, in a sort by these paths
 abbrev pub order_of_keys : List Doc → List SortPath → ℕ → ℕ → Ordering
 order_of_keys ds ss p q = sort_cmp ss (document_at ds p) (document_at ds q)
 
--- what a filter, a sort, a skip and a limit select
+-- what a filter, a sort, a skip and a limit select of these documents
 abbrev pub selection_for : List Doc → Filter → List SortPath → ℕ → ℕ → Selection
 selection_for ds f ss skip limit =
     record { count = length ds; hits = hits_of ds f; by = order_of_keys ds ss; skip = skip; limit = limit }
 
+-- what a request in memory selects of these documents
 abbrev pub selection_of : List Doc → declared.Request → Selection
 selection_of ds r = selection_for ds (filter_tree r.filter) (sort_paths r.sort.items) r.skip r.limit
 
--- a request to a dump of these bytes, which are these documents, with what ties its tokens to the bytes and to its text
+-- a request to a dump of these bytes, which are these documents, with the digest that ties its tokens to both
 abbrev pub query_to : List ℕ → List Doc → Request → Query
 query_to bytes ds r =
     record { selection = selection_for ds r.filter r.sorts r.skip r.limit; digest = token_digest bytes r.text }
 
+-- a request in memory to a dump, with the digest that ties its tokens to both
 abbrev pub query_of : Dump → declared.Request → Query
 query_of dump r = query_to (bytes_of dump) (documents dump) (request_view r)

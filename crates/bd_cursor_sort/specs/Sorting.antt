@@ -1,5 +1,5 @@
--- The first so many places of a list, and a document that others are compared with,
--- by its keys on the paths of a sort: its mark.
+-- The first n documents of a sorted list, and a mark:
+-- a document that others are compared with, by its keys on the paths of a sort.
 use Rattle.std.specs.Prelude.{◌≡◌, ◌-◌, ◌≤◌, ℕ, nat_lt, not, Bool, true, false, List, [], ◌∷◌, length, map, take}
 use Rattle.std.specs.Prelude.{slice_index_or}
 use Rattle.std.specs.{Prelude.Option, Prelude.Some, Prelude.None, Prelude.option_map, List.Sorted.IsPermutation}
@@ -11,47 +11,47 @@ use Rattle.bd_bson_dump.specs.Collection.{document_at}
 use Rattle.bd_index_prefix.specs.Front.{kept_key}
 use Rattle.bd_cursor_sort.specs.{declared.mark.Mark.Mark, declared.mark.MarkKey.MarkKey}
 
--- the first so many of a list put in order
+-- The list is the first `most` of the other one, sorted.
 pub record AreFirst (lt : ℕ → ℕ → Bool) (most : ℕ) (old new : List ℕ) : Type 0 where
   pub sorted : List ℕ
   pub same : IsPermutation old sorted
   pub rises : IsSortedBy lt sorted
   pub is : new ≡ take most sorted
 
--- the last of so many places, where there are as many
+-- The document number, if there is one, is the last of `most`.
 abbrev pub IsEnd : ℕ → List ℕ → Option ℕ → Type 0
 IsEnd most ps None = Unit {0}
 IsEnd most ps (Some p) = (most ≤ length ps) × (p ≡ slice_index_or ps (most - 1) 0)
 
--- p comes before a place, where there is one
+-- whether p comes before another document number; true without one
 abbrev pub is_before_mark : (ℕ → ℕ → Bool) → Option ℕ → ℕ → Bool
 is_before_mark lt None p = true
 is_before_mark lt (Some q) p = lt p q
 
--- so many are as many as are wanted at most
+-- whether as many were found as are needed; without such a number never
 abbrev pub has_enough : Option ℕ → ℕ → Bool
 has_enough None count = false
 has_enough (Some most) count = not (nat_lt count most)
 
 -- ---- marks
 
--- paths of a sort with the keys on them
+-- the paths of a sort, each with a key in memory
 abbrev pub marks_in : List MarkKey → List (SortPath × Tree)
 marks_in ks = map (λ (k : MarkKey). (record { path = names_of k.path.now; dir = k.dir }, kept_key k.key.key)) ks
 
--- the keys of the document at a place
+-- the paths of a sort, each with the key of the document with that number
 abbrev pub marked_keys : List Doc → ℕ → List SortPath → List (SortPath × Tree)
 marked_keys ds p ss = map (λ s. (s, sort_key s.dir (document_at ds p) s.path)) ss
 
--- how a document stands to them: the first one decides that differs
+-- the order of a document to one with these keys: the first path on which they differ decides
 abbrev pub marked_cmp : List (SortPath × Tree) → Tree → Ordering
 marked_cmp [] t = Equal
 marked_cmp (m ∷ ms) t = ordering_then (dir_cmp m.0.dir (sort_key m.0.dir t m.0.path) m.1) (marked_cmp ms t)
 
--- its keys are those of the document at its place
+-- The keys in memory are those of the document with its number.
 abbrev pub IsMark : List Doc → List SortPath → Mark → Type 0
 IsMark ds ss m = marks_in m.keys.items ≡ marked_keys ds m.place ss
 
--- the place of a mark, where there is one
+-- the document number of a mark, if there is one
 abbrev pub mark_place : Option Mark → Option ℕ
 mark_place = option_map (λ m. m.place)

@@ -375,6 +375,7 @@ document_sound (Some (doc fs)) d p e =
     subst (FieldsFit IsUtf8) same p
 document_sound _ d p e = absurd cc
 
+-- a document that is read of a text fits its types, with UTF-8 in its texts and names
 pub reads_sound : (text : List ℕ) (d : Doc) → ReadsAs text d → Fits (doc (fields_of d))
 reads_sound text d = go (reads.json text) (json_texts text)
   where

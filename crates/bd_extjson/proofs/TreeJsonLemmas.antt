@@ -33,6 +33,7 @@ long_json z = wrapped (codes "$numberLong") (kit.string (signed_decimal z))
 abbrev id_json : List ℕ → Json
 id_json id = wrapped (codes "$oid") (kit.string (hex_text id))
 
+-- the JSON value that the canonical text of a scalar is
 abbrev pub scalar_json : Scalar → Json
 scalar_json min_key = wrapped (codes "$minKey") (kit.number (codes "1"))
 scalar_json undefined = wrapped (codes "$undefined") (kit.boolean true)
@@ -53,16 +54,19 @@ scalar_json (code s) = wrapped (codes "$code") (kit.string s)
 scalar_json max_key = wrapped (codes "$maxKey") (kit.number (codes "1"))
 
 abbrev mutual
+  -- the JSON value that the canonical text of a value is
   pub json : Tree → Json
   json (leaf s) = scalar_json s
   json (doc fs) = kit.object (members_json fs)
   json (array ts) = kit.array (elements_json ts)
   json (code_scope s fs) = two (codes "$code") (kit.string s) (codes "$scope") (kit.object (members_json fs))
 
+  -- the JSON values of the elements of an array
   pub elements_json : Items → kit.Items
   elements_json no_items = kit.no_items
   elements_json (item t ts) = kit.item (json t) (elements_json ts)
 
+  -- the JSON members of a document's fields
   pub members_json : Fields → kit.Members
   members_json no_fields = kit.no_members
   members_json (field n t fs) = kit.member n (json t) (members_json fs)
@@ -217,6 +221,7 @@ mutual
 
 -- ---- so the grammar reads the text as that value
 
+-- the tokens of a value's canonical text are its JSON value, with none left over
 pub value-text : (t : Tree) (n : ℕ) → FitsTypes t → kit_tree.depth (json t) ≤ n → value n (tokens (text t)) ≡ Some (json t, [])
 value-text t n fits deep =
     let j = json t in

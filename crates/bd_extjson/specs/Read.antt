@@ -1,5 +1,4 @@
--- Which document a text is (Extended JSON v2, canonical form, and bare whole numbers):
--- which value a JSON value stands for.
+-- Which document a text is (RFC 8259, then Extended JSON v2, canonical form, and bare whole numbers).
 use Rattle.std.specs.Prelude.{◌≡◌, ℕ, zero, suc, ◌-◌, ℤ, List, if◌then◌else◌, Option, Some, None, option_map}
 use Rattle.std.specs.Prelude.{option_and_then}
 use Rattle.std.specs.{Option.option_map_or, Str.is_utf8}
@@ -18,20 +17,23 @@ abbrev pub bare_number : Option ℤ → Option Tree
 bare_number None = None
 bare_number (Some z) = Some (leaf (if fits_bits 31 z then trees.int32 z else trees.int64 z))
 
--- so many levels more may stand here, one in the other
+-- the result, if one more level of documents and arrays may be opened here; else None
 abbrev pub nested : {A : Type 0} → ℕ → Option A → Option A
 nested zero r = None
 nested (suc room) r = r
 
+-- an element put before the others of an array; None if one of them could not be read
 abbrev pub add_item : Option Tree → Option Items → Option Items
 add_item (Some t) (Some ts) = Some (item t ts)
 add_item _ _ = None
 
+-- a field put before the others of a document;
+-- None if one of them could not be read, or the name holds a zero byte
 abbrev pub add_field : List ℕ → Option Tree → Option Fields → Option Fields
 add_field name (Some t) (Some fs) = if has_zero name then None else Some (field name t fs)
 add_field _ _ _ = None
 
--- code with scope, of the code's text and the scope's value
+-- code with scope, if the code is a text and the scope a document
 abbrev pub with_scope : Option (List ℕ) → Option Tree → Option Tree
 with_scope (Some s) (Some (doc fs)) = Some (code_scope s fs)
 with_scope _ _ = None
@@ -43,6 +45,8 @@ two kinds.Scope j t (Some kinds.Code) i u kit.no_members = with_scope (as_str i)
 two _ j t _ i u _ = None
 
 abbrev mutual
+  -- The value that a JSON value stands for, with at most `room` levels of documents and arrays;
+  -- None if it has no reading, such as a number with a fraction.
   pub wrap : ℕ → Json → Option Tree
   wrap room kit.null = Some (leaf trees.null)
   wrap room (kit.boolean b) = Some (leaf (trees.boolean b))
@@ -51,10 +55,12 @@ abbrev mutual
   wrap room (kit.array js) = nested room (option_map array (wrap_items (room - 1) js))
   wrap room (kit.object ms) = wrap_object room ms
 
+  -- the elements of a JSON array, each read; None if one has no reading
   pub wrap_items : ℕ → kit.Items → Option Items
   wrap_items room kit.no_items = Some no_items
   wrap_items room (kit.item j js) = add_item (wrap room j) (wrap_items room js)
 
+  -- a JSON object: the value that it wraps if its first name is a wrapper name, else a document
   pub wrap_object : ℕ → kit.Members → Option Tree
   wrap_object room kit.no_members = nested room (Some (doc no_fields))
   wrap_object room (kit.member n j ms) = option_map_or (λ w. wrapped room w j (wrap (room - 1) j) ms) (wrapper_of n)
@@ -65,6 +71,7 @@ abbrev mutual
   wrapped room w j t kit.no_members = option_map leaf (single w j)
   wrapped room w j t (kit.member name i ms) = nested room (two w j t (wrapper_of name) i (wrap (room - 1) i) ms)
 
+  -- the members of a JSON object as fields, in order, names that repeat kept; None if one has no reading
   pub wrap_fields : ℕ → kit.Members → Option Fields
   wrap_fields room kit.no_members = Some no_fields
   wrap_fields room (kit.member name j ms) = add_field name (wrap room j) (wrap_fields room ms)
@@ -73,12 +80,16 @@ abbrev mutual
 abbrev pub json : List ℕ → Option Json
 json text = if is_utf8 text then option_and_then (λ p. if_last p.0 p.1) (value most_brackets (tokens text)) else None
 
+-- the fields of a value, if it is a document
 abbrev pub document : Tree → Option Fields
 document (doc fs) = Some fs
 document _ = None
 
+-- the document that a text is: JSON (RFC 8259) read as Extended JSON v2,
+-- with at most 200 levels; None if it is none
 abbrev pub reading : List ℕ → Option Doc
 reading text = option_map pairs_of (option_and_then document (option_and_then (wrap most_levels) (json text)))
 
+-- The text is Extended JSON of this document; a text is one document at most.
 abbrev pub ReadsAs : List ℕ → Doc → Type 0
 ReadsAs text d = reading text ≡ Some d

@@ -172,6 +172,7 @@ pub wrapped : (front value back whole text inside after rest : List ℕ) → tex
     → whole ≡ front ++ (value ++ back) → text ≡ whole ++ rest
 wrapped front value back whole text inside after rest a b c spelled = rw (a, b, c, spelled) (simp append_assoc)
 
+-- a wrapper of a number that was read is the canonical text of that number, whatever follows
 pub number_read : (make : ℤ → Scalar) (front back text inside after rest : List ℕ) (z y : ℤ) → text ≡ front ++ inside → inside ≡ quoted (signed_decimal z) ++ after → after ≡ back ++ rest → z ≡ y
     → scalar_text (make z) ≡ front ++ (quoted (signed_decimal z) ++ back) → text ≡ scalar_text (make y) ++ rest
 number_read make front back text inside after rest z y a b c same spelled = rw (← same) (wrapped front (quoted (signed_decimal z)) back (scalar_text (make z)) text inside after rest a b c spelled)
@@ -214,6 +215,7 @@ pub scalar_element : (whole rest name old new : List ℕ) (s given : Scalar) →
     → new ≡ old ++ element (leaf given) name (bytes_of (leaf given)) → (t : Tree) × (whole ≡ text t ++ rest) × IsCanonical 0 t × (new ≡ old ++ element t name (bytes_of t))
 scalar_element whole rest name old new s given same is fits none put = (leaf s, is, leaf_canonical s fits none, rw (← same) put)
 
+-- a JSON string that was read is packed as an element with that string
 pub string_element : (whole rest name s old new : List ℕ) → whole ≡ quoted s ++ rest → IsUtf8 s → new ≡ old ++ element (leaf (trees.text s)) name (string s)
     → (t : Tree) × (whole ≡ text t ++ rest) × IsCanonical 0 t × (new ≡ old ++ element t name (bytes_of t))
 unfolding scalar_text
@@ -377,9 +379,11 @@ none_any : (p : ℕ → Bool) (xs : List ℕ) → ((k : ℕ) → k < length xs �
 none_any p [] quiet = refl
 none_any p (x ∷ xs) quiet = rw (quiet 0 (omega arith)) (none_any p xs (λ k lt. quiet (suc k) (omega arith)))
 
+-- The first n bytes of the text need no escape in JSON.
 abbrev pub IsQuiet : List ℕ → ℕ → Type 0
 IsQuiet text n = (k : ℕ) → k < n → needs_escape (get_or text k 0) ≡ false
 
+-- bytes that each need no escape hold none that does
 pub quiet_front : (text bytes : List ℕ) (n : ℕ) → bytes ≡ text → n ≤ length bytes → IsQuiet bytes n → list_any needs_escape (take n text) ≡ false
 quiet_front text bytes n same le quiet =
     let long = length-take-le n bytes le in

@@ -172,6 +172,7 @@ of_tree (Some (doc fs)) d p e =
     rw same p
 of_tree _ d p e = absurd cc
 
+-- a document that is read of a text is plain: no document in it begins with the name of a wrapper
 pub reads_plain : (text : List ℕ) (d : Doc) → ReadsAs text d → IsPlain d
 reads_plain text d = of_json (reads.json text)
   where

@@ -10,33 +10,34 @@ use Rattle.bd_extjson_fault.specs.declared.json_fault.JsonFaultKind.TheVariants 
 use Rattle.bd_extjson_pack.specs.declared.line.LineFault.{LineFault}
 use Rattle.bd_extjson_pack.specs.declared.line.LineFault.TheVariants as faults
 
--- the bytes of a document
+-- the BSON of a document, with array elements named by their indexes
 abbrev pub plain : Doc → List ℕ
 plain d = bytes_of (doc (fields_of d))
 
--- a line is the document, which is not too long
+-- The line is Extended JSON of this document, whose BSON is at most 16,793,600 bytes.
 abbrev pub IsPackable : List ℕ → Doc → Type 0
 IsPackable line d = ReadsAs line d × (length (plain d) ≤ longest_document)
 
--- a line is no document, or too long; which fault is told of a text that is UTF-8 is taken as given
+-- The line is no document, or too long. Which fault is reported of a line that is UTF-8, no definition says.
 abbrev pub IsBad : List ℕ → LineFault → Type 0
 IsBad line (faults.Unread f) = (f.kind ≢ kinds.NoMemory) × ((d : Doc) → ReadsAs line d → ⊥)
     × IsPlaced (length line) f × TellsBadUtf8 line f
 IsBad line faults.TooLong = (d : Doc) × ReadsAs line d × (longest_document < length (plain d))
 
--- a tree, at most so deep, that its canonical text stands for alone: it is read back as the tree
+-- A value of at most `room` levels that is read back from its canonical text:
+-- it fits, its text is of no other value, and no `cstring` has a zero.
 pub record IsCanonical (room : ℕ) (t : Tree) : Type 0 where
   pub fits : Fits t
   pub determined : IsPlain t
   pub no_zero : zero_in t ≡ false
   pub shallow : depth t ≤ room
 
--- each of them is
+-- Each of these values is read back from its canonical text.
 abbrev pub AreCanonical : ℕ → List Tree → Type 0
 AreCanonical room [] = Unit {0}
 AreCanonical room (t ∷ ts) = IsCanonical room t × AreCanonical room ts
 
--- each value is, and no name is that of a wrapper or has a zero
+-- Each value is read back from its canonical text; each name is UTF-8 without a zero, and no wrapper name.
 abbrev pub AreCanonicalFields : ℕ → Doc → Type 0
 AreCanonicalFields room [] = Unit {0}
 AreCanonicalFields room (p ∷ ps) =

@@ -28,6 +28,7 @@ pub escape_byte-plain : (b : ℕ) → needs_escape b ≡ false → escape_byte b
 unfolding escape_byte
 escape_byte-plain b h = grind (arith, common_steps)
 
+-- digits stand for themselves in a JSON string
 pub escaped-digits : (ds : List ℕ) → AllDigits 10 ds → escaped ds ≡ ds
 escaped-digits [] h = refl
 escaped-digits (d ∷ ds) h =
@@ -35,6 +36,7 @@ escaped-digits (d ∷ ds) h =
     let plain : needs_escape d ≡ false = grind (arith, common_steps) in
     rw (escape_byte-plain d plain) (ap (λ (l : List ℕ). d ∷ l) (escaped-digits ds h.1))
 
+-- bytes that need no escape stand for themselves in a JSON string
 pub escaped-plain : (xs : List ℕ) → list_any needs_escape xs ≡ false → escaped xs ≡ xs
 escaped-plain [] h = refl
 escaped-plain (b ∷ bs) h =
@@ -78,14 +80,17 @@ run_step xs out total i n e len so_far =
 
 -- ---- numbers
 
+-- an int32 is within 63 bits and a sign
 pub fits_32 : (z : ℤ) → FitsSigned w32 z → mag z < 2 ^ 63
 fits_32 (pos n) fits = omega (arith, ints)
 fits_32 (negsuc n) fits = omega (arith, ints)
 
+-- an int64 is within 63 bits and a sign
 pub fits_64 : (z : ℤ) → FitsSigned w64 z → mag z < 2 ^ 63
 fits_64 (pos n) fits = omega (arith, ints)
 fits_64 (negsuc n) fits = omega (arith, ints)
 
+-- an int32 is an int64 too
 pub wider : (z : ℤ) → FitsSigned w32 z → FitsSigned w64 z
 wider (pos n) fits = record { sfits = omega (arith, ints) }
 wider (negsuc n) fits = record { sfits = omega (arith, ints) }

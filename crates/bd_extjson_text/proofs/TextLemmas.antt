@@ -150,6 +150,7 @@ short_text _ u is a b c d e f = absurd cc
 
 -- ---- pieces one after the other, with a separator between each two
 
+-- the separator before a piece, unless it is the first
 abbrev pub before : Bool → ℕ → List ℕ
 before later separator = if later then separator ∷ [] else []
 
@@ -162,6 +163,7 @@ after : (c : ℕ) (x : List ℕ) (xs : List (List ℕ)) → x ++ to_come true c 
 after c x [] = append-nil x
 after c x (y ∷ ys) = ap (λ (l : List ℕ). x ++ c ∷ l) (after c y ys)
 
+-- at the start all pieces are to come, joined by the separator
 pub to_come-all : (c : ℕ) (xs : List (List ℕ)) → to_come false c xs ≡ join_with_byte c xs
 to_come-all c [] = refl
 to_come-all c (x ∷ xs) = after c x xs

@@ -1,4 +1,4 @@
--- Text that is written into place, with room after it.
+-- Text that is written into a buffer at an offset.
 use Rattle.std.specs.Prelude.{◌≡◌, ◌≤◌, ◌++◌, ℕ, List, length, take, Result, MatchResult}
 
 -- How `new` comes from `old`, whose first `end` bytes are text: these bytes stand after it, up to the result.

@@ -13,7 +13,8 @@ use Rattle.bd_value.specs.Tree.{array, code_scope, Items, no_items, item, Fields
 abbrev pub needs_escape : ℕ → Bool
 needs_escape b = b == 34 || b == 92 || nat_lt b 32
 
--- RFC 8259, section 7: the short escape where there is one, else \u00 and two lower-case digits, else the byte itself.
+-- RFC 8259, section 7: the short escape if there is one,
+-- else \u00 and two lower-case digits, else the byte itself.
 -- Bytes from 128 on, and so all characters beyond ASCII, stand for themselves.
 unfoldable pub escape_byte : ℕ → List ℕ
 escape_byte b = if b == 34 || b == 92 then 92 ∷ b ∷ []
@@ -25,10 +26,11 @@ escape_byte b = if b == 34 || b == 92 then 92 ∷ b ∷ []
     else (if nat_lt b 32 then codes "\\u00" ++ (digit_char (b / 16) ∷ digit_char (b % 16) ∷ [])
     else b ∷ []))))))
 
+-- RFC 8259, section 7: what stands between the quotation marks of a string
 abbrev pub escaped : List ℕ → List ℕ
 escaped = flat_map escape_byte
 
--- RFC 8259, section 7: a string.
+-- RFC 8259, section 7: a string with this content, between quotation marks.
 unfoldable pub quoted : List ℕ → List ℕ
 quoted s = 34 ∷ (escaped s ++ 34 ∷ [])
 
@@ -36,32 +38,36 @@ quoted s = 34 ∷ (escaped s ++ 34 ∷ [])
 abbrev pub listed : List (List ℕ) → List ℕ
 listed values = 91 ∷ (join_with_byte 44 values ++ 93 ∷ [])
 
--- RFC 8259, section 4: an object of these members, and a member.
+-- RFC 8259, section 4: an object of these members.
 abbrev pub object : List (List ℕ) → List ℕ
 object members = 123 ∷ (join_with_byte 44 members ++ 125 ∷ [])
 
+-- RFC 8259, section 4: a member: its name as a string, a colon, the text of its value
 abbrev pub member : List ℕ → List ℕ → List ℕ
 member name value = quoted name ++ 58 ∷ value
 
--- an object of one member
+-- a JSON object of this one member
 abbrev pub wrapper_text : List ℕ → List ℕ → List ℕ
 wrapper_text name value = object (member name value ∷ [])
 
--- RFC 4648, section 4, with padding
+-- RFC 4648, section 4: bytes in base64, with padding
 unfoldable pub base64_text : List ℕ → List ℕ
 base64_text bytes = encode_of standard bytes
 
--- two lower-case digits a byte
+-- bytes in hexadecimal, two lower-case digits each
 unfoldable pub hex_text : List ℕ → List ℕ
 hex_text bytes = encode_lower bytes
 
--- Extended JSON v2, conversion table, column "Canonical Extended JSON".
+-- Extended JSON v2, conversion table, canonical: an int64, `{"$numberLong":".."}`.
 abbrev pub long_text : ℤ → List ℕ
 long_text z = wrapper_text (codes "$numberLong") (quoted (signed_decimal z))
 
+-- Extended JSON v2, conversion table, canonical: an ObjectId, `{"$oid":".."}` with 24 lower-case digits
 abbrev pub id_text : List ℕ → List ℕ
 id_text id = wrapper_text (codes "$oid") (quoted (hex_text id))
 
+-- Extended JSON v2, conversion table, column "Canonical Extended JSON":
+-- the text of a scalar, without white space
 unfoldable pub scalar_text : Scalar → List ℕ
 scalar_text min_key = wrapper_text (codes "$minKey") (codes "1")
 scalar_text undefined = wrapper_text (codes "$undefined") (codes "true")
@@ -91,6 +97,7 @@ scalar_text max_key = wrapper_text (codes "$maxKey") (codes "1")
 
 -- The same for the values that hold values: each of these by its own text, in the stored order.
 abbrev mutual
+  -- the canonical Extended JSON v2 of any value, without white space
   pub text : Tree → List ℕ
   text (leaf s) = scalar_text s
   text (doc fs) = object (fields_text fs)
@@ -98,10 +105,12 @@ abbrev mutual
   text (code_scope s fs) =
       object (member (codes "$code") (quoted s) ∷ member (codes "$scope") (object (fields_text fs)) ∷ [])
 
+  -- the texts of the elements of an array, in order
   pub items_text : Items → List (List ℕ)
   items_text no_items = []
   items_text (item t ts) = text t ∷ items_text ts
 
+  -- the members of a document's text, in stored order; a name that repeats is written each time
   pub fields_text : Fields → List (List ℕ)
   fields_text no_fields = []
   fields_text (field n t fs) = member n (text t) ∷ fields_text fs

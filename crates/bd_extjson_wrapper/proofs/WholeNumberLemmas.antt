@@ -11,6 +11,7 @@ use Rattle.std.proofs.lemmas.Str.Parse.{numerals_by_value, tells_all_ascii_digit
 use Rattle.std.specs.Prelude.{option_map, option_and_then}
 use Rattle.bd_extjson_wrapper.specs.WholeNumber.{are_digits, digits_number, fits_bits, if_fits, begins_digits, unsigned, whole, whole_64}
 
+-- the decimal digits of a text, with what they are worth, are numerals as `parse` has them
 pub own : IsNumeralModel (λ ds. all_ascii_digits ds ≡ true) (digits_value 10)
 own = numerals_by_value (λ ds. all_ascii_digits ds ≡ true) tells_all_ascii_digits
 

@@ -33,6 +33,7 @@ Rises by es = Ascends (λ a b. is_lt (entry_by by a b)) es
 pub by_total : {by : Tree → Tree → Ordering} → IsTotalOrder by → IsTotalOrder (entry_by by)
 by_total total = then_total (on_total (λ e. e.0) total) (on_total (λ e. e.1) nat_cmp_total)
 
+-- the order of entries, by key and then by document number, is total
 pub entry_total : IsTotalOrder entry_cmp
 entry_total = by_total cmp_total
 
@@ -58,6 +59,7 @@ same_between k x e h low high =
     let first = (ranks_by entry_total (λ y. y)).chain k e x before high in
     sym (ties_are_same k x) ∙ ap₂ (λ (a b : Bool). not a && not b) first low
 
+-- in a sorted list no later member is before an earlier one
 pub ascends : {A : Type 0} (lt : A → A → Bool) → IsStrictWeakOrder lt → (xs : List A) → IsSortedBy lt xs → Ascends lt xs
 ascends {A} lt weak xs h = go xs (sorted_far lt weak xs h)
   where
@@ -65,16 +67,19 @@ ascends {A} lt weak xs h = go xs (sorted_far lt weak xs h)
     go [] f = tt
     go (y ∷ ys) f = (recursion_from_All _ ys (λ k d lt. f 0 (suc k) d (omega arith) (omega arith)), go ys (λ i j d le lt. f (suc i) (suc j) d (omega arith) (omega arith)))
 
+-- in sorted entries no later key is less than an earlier one
 pub keys_rise : (es : List KeyAt) → IsSortedBy (λ a b. is_lt (entry_cmp a b)) es → (i j : ℕ) (d : KeyAt) → i ≤ j → j < length es
     → is_lt (cmp (get_or es j d).0 (get_or es i d).0) ≡ false
 keys_rise es sorted i j d le lt = first_not_less _ _ (sorted_far (λ x y. is_lt (entry_cmp x y)) (ranks_by entry_total (λ x. x)) es sorted i j d le lt)
 
 -- ---- entries seen through a view
 
+-- some member that was kept passes a test exactly if some member passes both
 pub any_filter : {A : Type 0} (t p : A → Bool) (xs : List A) → list_any t (filter p xs) ≡ list_any (λ x. p x && t x) xs
 any_filter t p [] = refl
 any_filter t p (x ∷ xs) = grind (arith, any_filter t p xs)
 
+-- some image passes a test exactly if some member does whose image passes it
 pub any_map : {A B : Type 0} (test : B → Bool) (f : A → B) (xs : List A) → list_any (λ x. test (f x)) xs ≡ list_any test (map f xs)
 any_map test f [] = refl
 any_map test f (x ∷ xs) = ap (λ (b : Bool). test (f x) || b) (any_map test f xs)
@@ -94,6 +99,7 @@ any_by_count p (x ∷ xs) = positive (p x) (count_by p xs) (list_any p xs) (any_
     positive : (b : Bool) (c : ℕ) (r : Bool) → r ≡ nat_lt 0 c → (b || r) ≡ nat_lt 0 (cond b 1 0 + c)
     positive b c r h = grind (arith, nat_tests)
 
+-- two lists with as many members that pass a test both have one, or neither has
 pub any_as_counts : {A : Type 0} (p : A → Bool) (xs ys : List A) → count_by p xs ≡ count_by p ys → list_any p xs ≡ list_any p ys
 any_as_counts p xs ys h = any_by_count p xs ∙ ap (nat_lt 0) h ∙ sym (any_by_count p ys)
 
@@ -103,6 +109,7 @@ pub none_pass : {A : Type 0} (p : A → Bool) (xs : List A) → All (λ x. p x �
 none_pass p [] h = refl
 none_pass p (x ∷ xs) h = rw (h 0 x (omega arith)) (none_pass p xs (λ k d lt. h (suc k) d (omega arith)))
 
+-- a list whose members all pass is kept whole
 pub all_pass : {A : Type 0} (p : A → Bool) (xs : List A) → All (λ x. p x ≡ true) xs → filter p xs ≡ xs
 all_pass p [] h = refl
 all_pass {A} p (x ∷ xs) h = rw (h 0 x (omega arith)) (ap (λ (l : List A). x ∷ l) (all_pass p xs (λ k d lt. h (suc k) d (omega arith))))
@@ -123,6 +130,7 @@ zip_at R (a ∷ xs) (b ∷ ys) (suc i) d e all lt = zip_at R xs ys i d e all.1 (
 pub as_many_kept : (bytes : List ℕ) (kept : List Entry) (es : List KeyAt) → KeepsEntries bytes kept es → length es ≡ length kept
 as_many_kept bytes kept es all = AllZip-long (KeepsEntry bytes) kept es all
 
+-- an index has as many entries in memory as those that it stands for
 pub count_kept : (dump : Dump) (index : Index) (h : IsIndexOf dump index) → length h.keeps.entries ≡ length index.entries.items
 count_kept dump index h = as_many_kept (bytes_of dump) index.entries.items h.keeps.entries h.keeps.stand
 

@@ -124,6 +124,7 @@ module _ {A : Type 0} (same : A → A → Bool) (laws : IsEquivalence same) wher
 
 -- ---- of found keys in their order those without repeats are the firsts
 
+-- whether the entry of a key that was found comes before that of another
 abbrev pub found_lt : FoundKey → FoundKey → Bool
 found_lt a b = is_lt (entry_cmp (found_entry a) (found_entry b))
 

@@ -1,4 +1,4 @@
--- Which dump an index is of: where its entries stand in the bytes of one, as it keeps them and as they were found.
+-- Which dump an index in memory is of: where the keys of its entries are in the bytes of the dump.
 use Rattle.std.proofs.Common.{sym, ◌∙◌}
 use Rattle.std.proofs.Props.{props}
 use Rattle.std.specs.Prelude.{◌≡◌, ℕ, List, [], ◌∷◌, Bool}
@@ -12,27 +12,29 @@ use Rattle.bd_path.specs.{PathNames.names_of, Reach.Names}
 use Rattle.bd_index.specs.Entries.{AreEntries, KeyAt, is_multikey}
 use Rattle.bd_index.specs.{declared.entry.Entry.Entry, declared.entry.FoundKey.FoundKey, declared.index.Index.Index}
 
--- the key stands in the bytes where the entry says, and the place is that
+-- The entry in memory is this one: its key begins in the bytes where it says,
+-- and it has the same document number.
 abbrev pub KeepsEntry : List ℕ → Entry → KeyAt → Type 0
 KeepsEntry bytes kept e = StandsAt bytes kept.key e.0 × (kept.place ≡ e.1)
 
+-- The entries in memory are these, in the same order, each with its key in the bytes of the dump.
 abbrev pub KeepsEntries : List ℕ → List Entry → List KeyAt → Type 0
 KeepsEntries bytes kept es = AllZip (KeepsEntry bytes) kept es
 
--- these are kept for the entries of this dump's documents
+-- The entries in memory are those of this dump's documents on the path, sparse or not.
 pub record KeepsDump (sparse : Bool) (path : Names) (dump : Dump) (kept : List Entry) : Type 0 where
   pub entries : List KeyAt
   pub stand : KeepsEntries (bytes_of dump) kept entries
   pub are : AreEntries sparse path (documents dump) entries
 
--- the index holds the entries of this dump's documents
+-- The index in memory has the entries of this dump's documents, and says rightly whether it is multikey.
 pub record IsIndexOf (dump : Dump) (index : Index) : Type 0 where
   pub keeps : KeepsDump index.sparse (names_of index.path) dump index.entries.items
   pub many : index.multikey ≡ is_multikey (names_of index.path) (documents dump)
 
 -- ---- there is one proof of it at most, so that a ghost field may hold it
 
--- what is kept stands for one list at most
+-- entries in memory stand for one list of entries at most
 pub same_entries : (bytes : List ℕ) (kept : List Entry) (es fs : List KeyAt) → KeepsEntries bytes kept es →
     KeepsEntries bytes kept fs → es ≡ fs
 same_entries bytes [] [] [] p q = λ i. []
@@ -68,22 +70,25 @@ KeepsDump-prop sparse path dump kept p q =
 pub IsIndexOf-prop : (dump : Dump) (index : Index) → IsProp (IsIndexOf dump index)
 IsIndexOf-prop dump index = hlevel (KeepsDump-prop, props)
 
--- each of the indexes is of this dump
+-- Each of the indexes is an index of this dump.
 abbrev pub AreIndexesOf : Dump → List Index → Type 0
 AreIndexesOf dump indexes = All (IsIndexOf dump) indexes
 
 pub AreIndexesOf-prop : (dump : Dump) (indexes : List Index) → IsProp (AreIndexesOf dump indexes)
 AreIndexesOf-prop dump indexes = hlevel IsIndexOf-prop
 
+-- the value that a view into the bytes of a dump stands for
 abbrev pub raw_tree : RawValue → Tree
 raw_tree v = stands v.sound
 
+-- the bytes that a view is into
 abbrev pub raw_source : RawValue → List ℕ
 raw_source v = v.bytes.now
 
+-- the entry that was found: the value of its key, and its document number
 abbrev pub found_entry : FoundKey → KeyAt
 found_entry f = (stands f.key.sound, f.place)
 
--- it is a view into these bytes
+-- The key that was found is a view into these bytes.
 abbrev pub IsFoundIn : List ℕ → FoundKey → Type 0
 IsFoundIn bytes f = f.key.bytes.now ≡ bytes

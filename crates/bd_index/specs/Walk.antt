@@ -13,16 +13,17 @@ use Rattle.bd_path.specs.{Reach.Names, Sort.sort_cmp, declared.sort.Dir.Dir}
 use Rattle.bd_path.proofs.SortLemmas.{sort_total}
 use Rattle.bd_index.specs.{Entries.KeyAt, Entries.downward, declared.entry_order.EntryOrder.EntryOrder}
 
--- how the sort keys of two documents stand
+-- the order of two documents, by their numbers, in a sort by this one path
 abbrev pub walk_order : Dir → Names → List Doc → ℕ → ℕ → Ordering
 walk_order dir path ds p q = sort_cmp (record { path = path; dir = dir } ∷ []) (document_at ds p) (document_at ds q)
 
--- the place of each document, once, in the order of the sort, ties in that of the documents
+-- The numbers of all documents, each once, in the order of the sort;
+-- documents with equal sort keys are in file order.
 pub record WalksAll (dir : Dir) (path : Names) (ds : List Doc) (places : List ℕ) : Type 0 where
   pub order : IsAscending (before (walk_order dir path ds)) places
   pub all : (p : ℕ) → list_any (λ q. q == p) places ≡ nat_lt p (length ds)
 
--- the walk of some documents, as many as the number
+-- These numbers are the walk of some n documents.
 pub record WalksEach (n : ℕ) (places : List ℕ) : Type 0 where
   pub dir : Dir
   pub path : Names
@@ -34,6 +35,7 @@ contained : (ps : List ℕ) (q : ℕ) → list_any (λ m. m == q) ps ≡ true �
 contained ps q h = let a = Any-from_list_any (λ m. m == q) ps h in
     (a.0, a.2, subst (λ (m : ℕ). get_or ps a.0 m ≡ m) (eqb-true a.1 q a.4) a.3)
 
+-- the document numbers of an index walk are a source: no match is missing, and none comes twice
 pub walk_law : (n : ℕ) (hits : ℕ → Bool) (ps : List ℕ) → WalksEach n ps → IsSource n hits ps
 walk_law n hits ps w = record {
   below = λ k d lt. let p = get_or ps k d in
@@ -52,13 +54,17 @@ walk_law n hits ps w = record {
       ∙ lt-ltb p (length w.documents) (let c = w.count in omega arith));
 }
 
+-- the entries that a walk has not come to yet, in its order:
+-- the rest of the current run, then downward those below
 abbrev pub entries_ahead : EntryOrder → List KeyAt
 entries_ahead o = slice_range o.indexed.keeps.entries o.next o.end ++ downward (take o.below o.indexed.keeps.entries)
 
+-- the document numbers of the entries that a walk has not come to yet;
+-- a document comes once for each of its entries
 abbrev pub places_ahead : EntryOrder → List ℕ
 places_ahead o = map (λ e. e.1) (entries_ahead o)
 
--- those that are not marked, each once
+-- of these document numbers those that were not seen before, each once
 abbrev pub fresh_places : List Bool → List ℕ → List ℕ
 fresh_places seen [] = []
 fresh_places seen (p ∷ ps) =

@@ -19,6 +19,7 @@ use Rattle.bd_index_bounds.specs.declared.bounds.Edge.TheVariants as edges
 
 -- ---- what is left of a list
 
+-- what remains of a list from an index on is the member there and the rest
 pub one_off : {A B C : Type 0} (F : List B → C) (f : A → B) (xs : List A) (i : ℕ) (x : A) → i < length xs → x ≡ get_or xs i x
     → F (map f (drop i xs)) ≡ F (f x ∷ map f (drop (i + 1) xs))
 one_off F f xs i x lt is = at_drop_more (λ ys. F (map f ys)) xs i x lt ∙ ap (λ y. F (f y ∷ map f (drop (i + 1) xs))) (sym is)
@@ -52,6 +53,7 @@ either_in_turn (Some s) None c = refl
 either_in_turn (Some s) (Some u) None = refl
 either_in_turn (Some s) (Some u) (Some v) = ap Some (fun_ext (λ k. grind arith))
 
+-- the bounds that are the union of some parts
 abbrev pub some_parts : List Bounds → KeyBounds
 some_parts parts = Some (union (map keys_within parts))
 
@@ -69,6 +71,7 @@ one_wider F f xs i x next parts after first lt is added so_far =
 pub no_part_left : (parts : List Bounds) → disjunction (some_parts parts) (Some no_key) ≡ some_parts parts
 no_part_left parts = ap Some (fun_ext (λ k. grind arith))
 
+-- the keys within a union in memory are those within some part
 pub keys_within-Or : (v : Vec Bounds Global) → keys_within (Or v) ≡ union (map keys_within v.items)
 keys_within-Or v = search (rules, folds.the_lemmas)
 
@@ -114,5 +117,6 @@ edges_rise (edges.Value v) j k h = in_order cmp cmp_total j k (tree_of v.now) h
 edges_rise (edges.Class class) j k h =
     in_order nat_cmp nat_cmp_total (class_rank (class_of j)) (class_rank (class_of k)) (class_rank class) (first_not_less (class_cmp k j) (same_class_cmp k j) h)
 
+-- a key that is not above one before a cut is before the cut too
 pub falls_once : (cut : Cut) (j k : Tree) → is_lt (cmp k j) ≡ false → is_before cut k ≡ true → is_before cut j ≡ true
 falls_once cut j k h b = lower cut.after (edge_cmp j cut.edge) (edge_cmp k cut.edge) (edges_rise cut.edge j k h) b

@@ -10,12 +10,14 @@ use Rattle.bd_path.specs.Reach.{ends, gathering_at, each_gathering, first_gather
 use Rattle.bd_path.proofs.SortLemmas.{has_a_key, missing_gives_null}
 use Rattle.bd_path.proofs.ReachLemmas.{In, in_left, in_right, in_cases, in_either, Found}
 
+-- the key of a missing field
 abbrev pub null : Tree
 null = leaf trees.null
 
 abbrev pub nulls : List Tree
 nulls = null ∷ []
 
+-- the keys of a document on a path, with equal ones
 abbrev pub keys_of : Tree → Names → List Tree
 keys_of t p = all_keys false t p
 
@@ -102,6 +104,7 @@ element_is_key : (w x : Tree) → In x (elements_in w) → In x (keys_of w [])
 element_is_key (array ts) x h = in_or_else x (list_of ts) (leaf trees.undefined ∷ []) h
 element_is_key _ x h = absurd h
 
+-- an element of an array that a path ends at is a key
 pub element_of_end : (t w x : Tree) (p : Names) → In (Some w) (reach t p) → In x (elements_in w) → In x (keys_of t p)
 element_of_end t w x p h g = end_is_key t w x p h (element_is_key w x g)
 

@@ -16,56 +16,65 @@ use Rattle.bd_query_filter.specs.{FilterMatch.is_array, FilterMatch.is_related, 
 
 -- ---- sets of keys
 
+-- a set of index keys: for each key whether it is inside; equal keys are both inside or both outside
 abbrev pub KeySet : Type 0
 KeySet = Tree → Bool
 
--- None: unbounded, each key may be that of a match
+-- the bounds of an index: a set of keys; None is unbounded: each key may be that of a match
 abbrev pub KeyBounds : Type 0
 KeyBounds = Option KeySet
 
+-- the empty set: no key is inside, so no document can match
 abbrev pub no_key : KeySet
 no_key k = false
 
+-- the keys that compare as equal to a value
 abbrev pub keys_equal_to : Tree → KeySet
 keys_equal_to v k = equal k v
 
+-- the keys of one class of the comparison order, such as all numbers
 abbrev pub is_of_class : Class → KeySet
 is_of_class class k = class_rank (class_of k) == class_rank class
 
+-- the keys in at least one of the sets; of no set, no key
 abbrev pub union : List KeySet → KeySet
 union sets k = list_any (λ set. set k) sets
 
+-- the keys in each of the sets; of no set, every key
 abbrev pub intersection : List KeySet → KeySet
 intersection sets k = list_all (λ set. set k) sets
 
--- `$type`: the classes of the types
+-- `$type`: the keys in the classes of these types
 abbrev pub keys_of_types : List Kind → KeySet
 keys_of_types types = union (map (λ kind. is_of_class (class_of_kind kind)) types)
 
--- `$eq`: an array in a document has its elements for keys, and an empty one has undefined
+-- `$eq`: the keys equal to the value, and for an array also those equal to its first element,
+-- or to undefined if it is empty
 abbrev pub keys_of_equal : Tree → KeySet
 keys_of_equal v k = equal k v || (is_array v && equal k (get_or (elements_in v) 0 (leaf trees.undefined)))
 
--- `$all`: in a multikey index the keys of its first member, else those of each member, and without members none
+-- `$all`: in a multikey index the keys of its first member,
+-- else the keys of each member; of no member, no key
 abbrev pub keys_of_each : Bool → List KeySet → KeySet
 keys_of_each multikey [] = no_key
 keys_of_each true (set ∷ sets) = set
 keys_of_each false (set ∷ sets) = intersection (set ∷ sets)
 
--- Where a document may have several keys, one may be within the first bounds and another within the second: then the
--- first count alone.
+-- Both of two bounds. Where a document may have several keys,
+-- one may be within the first bounds and another within the second: then the first count alone.
 abbrev pub conjunction : Bool → KeyBounds → KeyBounds → KeyBounds
 conjunction multikey None second = second
 conjunction multikey (Some first) None = Some first
 conjunction true (Some first) (Some second) = Some first
 conjunction false (Some first) (Some second) = Some (λ k. first k && second k)
 
+-- `$or` of two: the keys inside either; unbounded if one of them is
 abbrev pub disjunction : KeyBounds → KeyBounds → KeyBounds
 disjunction None second = None
 disjunction (Some first) None = None
 disjunction (Some first) (Some second) = Some (λ k. first k || second k)
 
--- an operator of an element by itself, which is a key: whatever the index, it bounds that key
+-- the bounds that an operator of `$elemMatch` gives for one element, which is itself the key, in any index
 abbrev pub element_bounds : Operator → KeyBounds
 element_bounds (equals v) = Some (keys_equal_to v)
 element_bounds (compares r v) = Some (is_related r v)
@@ -74,14 +83,17 @@ element_bounds (has_all vs) = Some (keys_of_each false (map keys_equal_to vs))
 element_bounds (has_type types) = Some (keys_of_types types)
 element_bounds _ = None
 
+-- the operators of `$elemMatch`: the intersection of those that bound a key; unbounded if none does
 abbrev pub all_element_bounds : Operators → KeyBounds
 all_element_bounds no_operators = None
 all_element_bounds (operator o os) = conjunction false (element_bounds o) (all_element_bounds os)
 
+-- whether a kind is among the types of `$type`
 abbrev pub is_listed : Kind → List Kind → Bool
 is_listed kind types = list_any (λ k. is_kind k kind) types
 
--- an operator at the path of the index. An array that is compared, or that `$type` asks for, is itself no key.
+-- The bounds that an operator gives at the path of the index.
+-- An array that is compared, or that `$type` asks for, is itself no key.
 abbrev pub bounds_here : Operator → Bool → KeyBounds
 bounds_here (equals v) multikey = Some (keys_of_equal v)
 bounds_here (compares r v) multikey = if is_array v then None else Some (is_related r v)
@@ -96,44 +108,51 @@ bounds_here (has_document fs) multikey = Some (is_of_class classes.Doc)
 
 -- ---- filters
 
--- what is left of a path after a beginning of it; None where it begins otherwise
+-- what remains of a path after this beginning; None if it begins otherwise
 abbrev pub rest_after : Names → Names → Option Names
 rest_after [] path = Some path
 rest_after (name ∷ start) [] = None
 rest_after (name ∷ start) (other ∷ path) = if bytes_eq name other then rest_after start path else None
 
 abbrev mutual
+  -- The bounds that a filter gives to an index on this path, multikey or not:
+  -- each document that matches has a key inside. None is unbounded: the filter says nothing of the keys.
   pub bounds : Filter → Names → Bool → KeyBounds
   bounds (all_of fs) path multikey = all_bounds fs path multikey
   bounds (some_of fs) path multikey = some_bounds fs path multikey
   bounds (none_of fs) path multikey = None
   bounds (at_path start os) path multikey = operator_bounds os (rest_after start path) multikey
 
+  -- `$and`, and the pairs of a document: the intersection of the bounded members,
+  -- in a multikey index only the first of them; unbounded if none is bounded
   pub all_bounds : Filters → Names → Bool → KeyBounds
   all_bounds no_filters path multikey = None
   all_bounds (filter f fs) path multikey = conjunction multikey (bounds f path multikey) (all_bounds fs path multikey)
 
+  -- `$or`: the union of its members; unbounded if one of them is
   pub some_bounds : Filters → Names → Bool → KeyBounds
   some_bounds no_filters path multikey = Some no_key
   some_bounds (filter f fs) path multikey = disjunction (bounds f path multikey) (some_bounds fs path multikey)
 
-  -- operators at a path, and what is left of the path of the index after it
+  -- the bounds of all operators of a path; `rest` is what remains of the index's path after it
   pub operator_bounds : Operators → Option Names → Bool → KeyBounds
   operator_bounds no_operators rest multikey = None
   operator_bounds (operator o os) rest multikey =
       conjunction multikey (bounds_at o rest multikey) (operator_bounds os rest multikey)
 
-  -- where the path of the index goes on, the filter of `$elemMatch` bounds the keys of documents in an array
+  -- the bounds of one operator of a path; if the index's path goes on,
+  -- only a filter in `$elemMatch` gives any
   pub bounds_at : Operator → Option Names → Bool → KeyBounds
   bounds_at o None multikey = None
   bounds_at o (Some []) multikey = bounds_here o multikey
   bounds_at (has_document fs) (Some path) multikey = all_bounds fs path multikey
   bounds_at _ _ _ = None
 
+-- whether a key is inside bounds; without bounds each key is
 abbrev pub is_among : KeyBounds → Tree → Bool
 is_among None k = true
 is_among (Some set) k = set k
 
--- a key inside the bounds of a filter, or any where it has none
+-- whether a key is inside the bounds of a filter; each key is if there are none
 abbrev pub is_inside : Filter → Names → Bool → Tree → Bool
 is_inside f path multikey k = is_among (bounds f path multikey) k

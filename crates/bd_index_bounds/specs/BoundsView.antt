@@ -1,4 +1,4 @@
--- The keys in bounds in memory.
+-- The set of keys that bounds in memory stand for.
 use Rattle.std.specs.Prelude.{Bool, if◌then◌else◌, ◌&&◌, not, List, [], ◌∷◌, map, Option, Some, None, option_map}
 use Rattle.std.specs.{declared.cmp.Ordering.Ordering, Ordering.is_le, Ordering.is_lt, Ordering.nat_cmp}
 use Rattle.bd_value.specs.{Order.cmp, Order.class_of, Order.class_rank, Tree.Tree, View.tree_of}
@@ -7,30 +7,34 @@ use Rattle.bd_index_bounds.specs.{declared.bounds.Bounds.TheFolds.fold-Bounds, d
 use Rattle.bd_index_bounds.specs.Bounds.{KeyBounds, KeySet, intersection, union}
 use Rattle.bd_index_bounds.specs.declared.bounds.Edge.TheVariants as edges
 
--- how a key stands to a value, or to the keys of a class
+-- the order of a key to a value, or of its class to a class
 abbrev pub edge_cmp : Tree → Edge → Ordering
 edge_cmp k (edges.Value v) = cmp k (tree_of v.now)
 edge_cmp k (edges.Class class) = nat_cmp (class_rank (class_of k)) (class_rank class)
 
+-- whether a key is below a cut: less than its edge, or equal to it if the cut is after the edge
 abbrev pub is_before : Cut → Tree → Bool
 is_before cut k = if cut.after then is_le (edge_cmp k cut.edge) else is_lt (edge_cmp k cut.edge)
 
+-- the keys from one cut to another: not below the first, and below the second
 abbrev pub keys_between : Cut → Cut → KeySet
 keys_between from to k = not (is_before from k) && is_before to k
 
--- one level of bounds, with each part inside already seen so
+-- one level of bounds in memory, whose parts are already read so
 abbrev pub keys_step : Bounds-F KeySet → KeySet
 keys_step (Bounds-F.Range from to) = keys_between from to
 keys_step (Bounds-F.And parts) = intersection parts.items
 keys_step (Bounds-F.Or parts) = union parts.items
 
+-- the set of keys that bounds in memory stand for
 abbrev pub keys_within : Bounds → KeySet
 keys_within = fold-Bounds KeySet keys_step
 
+-- the bounds that bounds in memory stand for; None is unbounded
 abbrev pub seen_bounds : Option Bounds → KeyBounds
 seen_bounds b = option_map keys_within b
 
--- of parts that hold together; without a part, unbounded
+-- the intersection of bounds in memory; unbounded if there are none
 abbrev pub parts_bounds : List Bounds → KeyBounds
 parts_bounds [] = None
 parts_bounds (b ∷ bs) = Some (intersection (map keys_within (b ∷ bs)))

@@ -8,9 +8,11 @@ use Rattle.bd_io_device.specs.Devices.{after_more, between, BreaksAfter, BreaksW
 use borrow.Rule.Slice.PartMut.{put_mid, post_of}
 use lib.Seq.{take-add, take-append-le}
 
+-- before the first read nothing was given
 pub reads_none : {S : Type 0} {gives : S → Option (List ℕ) → S → Type 0} (s : S) (bytes : List ℕ) → bytes ≡ [] → AreReads gives 0 s bytes s
 reads_none {S} {gives} s bytes e = let P : List ℕ → Type 0 = λ l. AreReads gives 0 s l s in subst P (sym e) (no_read s)
 
+-- one more read that gave bytes, after some reads
 pub reads_more : {S : Type 0} {gives : S → Option (List ℕ) → S → Type 0} (n : ℕ) (s t u : S) (front part all : List ℕ)
     → AreReads gives n s front t → gives t (Some part) u → 0 < length part → all ≡ front ++ part → AreReads gives (n + 1) s all u
 reads_more {S} {gives} n s t u front part all reads last some e =
@@ -37,6 +39,7 @@ reads_at_least {S} {gives} n s t bytes (no_read v) = omega arith
 reads_at_least {S} {gives} n s t bytes (more_reads k w v x front part first last some) =
     let h = reads_at_least k w v front first in omega (arith, h, length-append front part)
 
+-- bytes taken from a device in two runs are taken in one
 pub Consumes-more : (a b c : Option (List ℕ)) (front part all : List ℕ) → Consumes a b front → Consumes b c part → all ≡ front ++ part → Consumes a c all
 Consumes-more a b c front part all p q e = subst (Consumes a c) (sym e) (Consumes-trans a b c front part p q)
 
@@ -66,9 +69,11 @@ rest_none : (front rest : List ℕ) → front ++ rest ≡ [] → rest ≡ []
 rest_none [] rest none = none
 rest_none (x ∷ front) rest none = absurd cc
 
+-- a writer that was not called took the empty text
 pub takes_none : (same : Writer) → TakesText (between same same) []
 takes_none same = (Appends-nil same.held, refl, λ none. refl)
 
+-- a writer that took two texts, one after the other, took them joined
 pub takes_both : (old mid new : Writer) (first second : List ℕ) → TakesText (between old mid) first → TakesText (between mid new) second → TakesText (between old new) (first ++ second)
 takes_both old mid new first second a b = (
   Appends-trans old.held mid.held new.held first second a.0 b.0,
@@ -76,10 +81,12 @@ takes_both old mid new first second a b = (
   λ none. b.2 (rest_none first second none) ∙ a.2 (front_none first second none),
 )
 
+-- a writer that failed within the first of two texts failed within both joined
 pub breaks_first : (old new : Writer) (first second : List ℕ) → BreaksWithin (between old new) first → BreaksWithin (between old new) (first ++ second)
 breaks_first old new first second (front, rest, split, some, held, failed) =
     (front, rest ++ second, ap (λ x. x ++ second) split ∙ append_assoc front rest second, λ none. some (front_none rest second none), held, failed)
 
+-- a writer that took the first of two texts and failed within the second failed within both joined
 pub breaks_second : (old mid new : Writer) (first second : List ℕ) → TakesText (between old mid) first → BreaksWithin (between mid new) second → BreaksWithin (between old new) (first ++ second)
 breaks_second old mid new first second a (front, rest, split, some, held, failed) = (
   first ++ front,

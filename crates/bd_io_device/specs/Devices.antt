@@ -5,29 +5,34 @@ use Rattle.std.specs.Io.KnownBytes.{Appends, Consumes}
 use Rattle.bd_io_device.specs.declared.{input.Tally.Tally, reading.Limits.Limits, reading.ReadFault.ReadFault}
 use Rattle.bd_io_device.specs.declared.reading.ReadFault.TheVariants as reads
 
--- the count after n more, which stays at the greatest of 64 bits
+-- the greatest count of 64 bits, 2^64 - 1
 abbrev pub greatest : ℕ
 greatest = 18446744073709551615
 
+-- the count n after `more` further calls; it stays at the greatest of 64 bits
 abbrev pub after_more : ℕ → ℕ → ℕ
 after_more n more = min (n + more) greatest
 
--- a reader: the bytes that it will still give, where they are known, how many reads were made, and how many failed
+-- a reader: the bytes that it will still give (None:
+-- not known), how many reads were made, and how many failed
 pub record Reader : Type 0 where
   pub left : Option (List ℕ)
   pub calls : ℕ
   pub failures : ℕ
 
--- a writer: the bytes that it holds, where they are known, how many writes were made, and how many failed
+-- a writer: the bytes that it holds (None: not known), how many writes were made, and how many failed
 pub record Writer : Type 0 where
   pub held : Option (List ℕ)
   pub calls : ℕ
   pub failures : ℕ
 
--- the same with the counts of calls; `min`, since in a law a count is any number
+-- a reader with these bytes to give (None: not known) after these counts of
+-- reads and of failures, each at most 2^64 - 1
 abbrev pub reader_of : Option (List ℕ) → Tally → Reader
 reader_of left tally = record { left = left; calls = min tally.calls greatest; failures = min tally.failures greatest }
 
+-- a writer that took these bytes (None: not known) after these counts of
+-- writes and of failures, each at most 2^64 - 1
 abbrev pub writer_of : Option (List ℕ) → Tally → Writer
 writer_of held tally = record { held = held; calls = min tally.calls greatest; failures = min tally.failures greatest }
 
@@ -36,10 +41,11 @@ pub record Over (Device : Type 0) : Type 0 where
   pub before : Device
   pub after : Device
 
+-- the two states of a device around a run: the one before it and the one after it
 abbrev pub between : {Device : Type 0} → Device → Device → Over Device
 between before after = record { before = before; after = after }
 
--- the same for a value that has such a device, as the state of it tells
+-- the two states around a run of the device that a value has
 abbrev pub over : {D Device : Type 0} → (D → Device) → D → D → Over Device
 over state old new = between (state old) (state new)
 
@@ -52,57 +58,59 @@ TakesText out text = Appends out.before.held out.after.held text × (out.after.f
 abbrev pub TakesFront : Over Writer → List ℕ → Type 0
 TakesFront out text = (front : List ℕ) × (rest : List ℕ) × (text ≡ front ++ rest) × TakesText out front
 
--- the writer took the first text whole and a prefix of the second, and then a write of what is left of it failed
+-- the writer took the first text whole and a prefix of the second, and then a write of the rest failed
 abbrev pub BreaksAfter : Over Writer → List ℕ → List ℕ → Type 0
 BreaksAfter out whole text = (front : List ℕ) × (rest : List ℕ) × (text ≡ front ++ rest) × (rest ≢ [])
     × Appends out.before.held out.after.held (whole ++ front)
     × (out.after.failures ≡ after_more out.before.failures 1)
 
--- the writer took a prefix of the text, and then a write of what is left of it failed
+-- the writer took a prefix of the text, and then a write of the rest failed
 abbrev pub BreaksWithin : Over Writer → List ℕ → Type 0
 BreaksWithin out text = BreaksAfter out [] text
 
--- the reader gave no more than so many bytes
+-- the reader gave at most `limit` bytes
 abbrev pub TakesAtMost : ℕ → Over Reader → Type 0
 TakesAtMost limit file = (given : List ℕ) × Consumes file.before.left file.after.left given × (length given ≤ limit)
 
--- what a read into this room gave: its bytes, or none where it failed
+-- what a read into a buffer gave: the bytes at its start, or None if the read failed
 abbrev pub bytes_given : {E : Type 0} → Result ℕ E → List ℕ → Option (List ℕ)
 bytes_given (Ok n) room = Some (take n room)
 bytes_given (Err _) room = None
 
--- how many bytes a write took, or none where it failed
+-- how many bytes a write took, or None if the write failed
 abbrev pub count_taken : {E : Type 0} → Result ℕ E → Option ℕ
 count_taken (Ok n) = Some n
 count_taken (Err _) = None
 
--- so many reads in a row led from one device to the other; each gave a byte at least, and all of them gave these bytes
+-- n reads in a row led from one device to the other;
+-- each gave at least one byte, and these are all bytes that they gave
 pub data AreReads {S : Type 0} (gives : S → Option (List ℕ) → S → Type 0) : ℕ → S → List ℕ → S → Type 0 where
   no_read : (s : S) → AreReads gives 0 s [] s
   more_reads : (n : ℕ) (s t u : S) (front part : List ℕ) → AreReads gives n s front t
       → gives t (Some part) u → 0 < length part → AreReads gives (suc n) s (front ++ part) u
 
--- writes in a row led from one device to the other; each was of all that was left of the bytes and took some of them
+-- writes in a row led from one device to the other;
+-- each was given all that remained of the bytes, and took at least one
 pub data AreWrites {S : Type 0} (takes : S → List ℕ → Option ℕ → S → Type 0)
     (bytes : List ℕ) : S → List ℕ → S → Type 0 where
   no_write : (s : S) → AreWrites takes bytes s bytes s
   more_writes : (s t u : S) (rest : List ℕ) (n : ℕ) → AreWrites takes bytes s rest t
       → takes t rest (Some n) u → 0 < n → AreWrites takes bytes s (drop n rest) u
 
--- of a reader, whose read may give these bytes, or fail at `None`, and leave this reader
+-- For a reader whose read gives these bytes, or fails (None), and leaves the reader so.
 module _ {S : Type 0} (gives : S → Option (List ℕ) → S → Type 0) where
-  -- so many reads led from one device to the other: all but the last gave these bytes, each one at least,
-  -- and the last one gave this, or failed
+  -- Reads led from one device to the other: all but the last gave these bytes, each at least one,
+  -- and the last gave `answer`, or failed if that is None.
   abbrev pub ReadsUntil : ℕ → S → List ℕ → Option (List ℕ) → S → Type 0
   ReadsUntil turns s bytes answer t =
       (n : ℕ) × (last : S) × (turns ≡ suc n) × AreReads gives n s bytes last × gives last answer t
 
-  -- so many reads gave these bytes: they are as many as the room has, or one more read found the end
+  -- Reads gave these bytes: as many as the buffer takes, or fewer, and one more read found the end.
   abbrev pub FillsRoom : ℕ → ℕ → S → List ℕ → S → Type 0
   FillsRoom size turns s bytes t = ((length bytes ≡ size) × AreReads gives turns s bytes t)
       ⊎ ((length bytes < size) × ReadsUntil turns s bytes (Some []) t)
 
-  -- the reads of a room of that size that was not filled within the limits, and what they gave
+  -- A buffer of that size was not filled within the limits, for this reason, and this is what the reads gave.
   abbrev pub FailsToFill : (S → Reader) → Limits → ℕ → S → S → ReadFault → Type 0
   FailsToFill state limits size s t reads.TooLong =
       (turns : ℕ) × (given : List ℕ) × (last : List ℕ) × (turns ≤ limits.turns) × ReadsUntil turns s given (Some last) t
@@ -116,7 +124,7 @@ module _ {S : Type 0} (gives : S → Option (List ℕ) → S → Type 0) where
       × Consumes (state s).left (state t).left given × (length given < size) × (length given ≤ limits.bytes)
   FailsToFill state limits size s t reads.NoMemory = ⊥
 
--- why a device was not read to its end, in words
+-- the message of an input that was not read to its end
 abbrev pub read_words : ReadFault → List ℕ
 read_words reads.Device = codes "cannot read"
 read_words reads.TooLong = codes "input too long"

@@ -7,35 +7,36 @@ use Rattle.bd_value.specs.Limits.{longest_command}
 use Rattle.bd_io_lines.specs.{Lines.IsFirstLine, Lines.IsLine, Lines.IsPart}
 use Rattle.bd_io_lines.specs.{declared.line_buffer.LineBuffer.LineBuffer}
 
--- the bytes that the device gave after the line
+-- the bytes that the device gave after the current line
 abbrev pub held_after : LineBuffer → List ℕ
 held_after lines = drop lines.start lines.block.items
 
--- of a reader, whose read may give these bytes, or fail, and leave this reader
+-- For a reader whose read gives these bytes, or fails (None), and leaves the reader so.
 module _ {R : Type 0} (gives : R → Option (List ℕ) → R → Type 0) where
-  -- so many reads gave these bytes; where the end was found, the last of them gave none, and each other a byte at least
+  -- Reads gave these bytes, each at least one; if the end was found, the last of the reads gave none.
   abbrev pub ReadsTo : Bool → ℕ → R → List ℕ → R → Type 0
   ReadsTo false turns old given new = AreReads gives turns old given new
   ReadsTo true turns old given new =
       (n : ℕ) × (last : R) × (turns ≡ suc n) × AreReads gives n old given last × gives last (Some []) new
 
-  -- reads gave this front, and one more gave this part, or it failed and gave none
+  -- Reads gave this prefix, and one more read gave this part, or it failed and gave none.
   abbrev pub EndsByOneRead : List ℕ → List ℕ → R → R → Type 0
   EndsByOneRead front part old new = (turns : ℕ) × (last : R) × AreReads gives turns old front last
       × (gives last (Some part) new ⊎ ((part ≡ []) × gives last None new))
 
-  -- reads gave these bytes, and those before the last one gave this front
+  -- Reads gave these bytes, and those before the last read gave this prefix.
   abbrev pub GivesBeforeLast : List ℕ → R → List ℕ → R → Type 0
   GivesBeforeLast front old given new = (part : List ℕ) × (given ≡ front ++ part) × EndsByOneRead front part old new
 
-  -- no read was made; or bytes of a line were there before the last one, so none was made once its newline was
+  -- No read was made once the line had its newline:
+  -- there was none, or the bytes before the last one are part of the line.
   abbrev pub IsLazy : List ℕ → List ℕ → R → R → Type 0
   IsLazy head given old new =
       ((given ≡ []) × (new ≡ old)) ⊎ ((front : List ℕ) × IsLine (head ++ front) × GivesBeforeLast front old given new)
 
-  -- Why the line that these bytes begin was not read,
-  -- where a reader gave `given` and may give as many bytes as the limit.
-  -- `TooLong`: the line is too long; or the last read, while a part of the line was there, went past the limit.
+  -- Why the line that begins with these bytes was not read;
+  -- the reader gave `given`, and may give `limit` bytes.
+  -- `TooLong`: the line is too long; or the last read, with a part of the line buffered, passed the limit.
   abbrev pub IsCause : ℕ → List ℕ → List ℕ → R → R → ReadFault → Type 0
   IsCause limit bytes given old new ReadFault.TooLong =
       (((line : List ℕ) × (rest : List ℕ) × (bytes ≡ line ++ rest) × IsLine line × (longest_command < length line))
@@ -45,9 +46,9 @@ module _ {R : Type 0} (gives : R → Option (List ℕ) → R → Type 0) where
   IsCause limit bytes given old new ReadFault.NoMemory = length given ≤ limit
   IsCause limit bytes given old new fault = IsPart bytes × (length given ≤ limit)
 
--- the same, where this is told of each state of the reader
+-- For such a reader, and what contracts see of each of its states.
 module _ {R : Type 0} (state : R → Reader) (gives : R → Option (List ℕ) → R → Type 0) where
-  -- the reader gave these bytes, and what it may still be asked for went down from `limits` to `left`
+  -- The reader gave these bytes, and what it may still be asked for fell from `limits` to `left`.
   pub record GivesBytes (limits left : Limits) (ended : Bool) (given : List ℕ) (old new : R) : Type 0 where
     pub turns : ℕ
     pub gave : Consumes (state old).left (state new).left given
@@ -58,20 +59,20 @@ module _ {R : Type 0} (state : R → Reader) (gives : R → Option (List ℕ) �
     pub well : (state new).failures ≡ (state old).failures
     pub end : ended ≡ true → IsAtEnd (state new).left
 
-  -- the next line was read, and no block after the one that ends it
+  -- The next line was read, and nothing after the read that brought its newline.
   pub record ReadsLine (before after : LineBuffer) (old new : R) : Type 0 where
     pub given : List ℕ
     pub reads : GivesBytes before.left after.left after.ended given old new
     pub line : IsFirstLine (held_after before ++ given) after.line.items (held_after after) after.ended
     pub lazy : IsLazy gives (held_after before) given old new
 
-  -- there is no next line
+  -- There is no next line: the device is at its end, and nothing is buffered.
   pub record FindsNoLine (before after : LineBuffer) (old new : R) : Type 0 where
     pub none : (held_after before ≡ []) × (after.line.items ≡ [])
     pub ended : after.ended ≡ true
     pub reads : before.ended ≡ false → GivesBytes before.left after.left true [] old new
 
-  -- the last of so many reads that gave these bytes, where a fault of reading came
+  -- Reads gave these bytes, and ended in this fault of reading.
   abbrev pub LastRead : Limits → ℕ → R → List ℕ → R → ReadFault → Type 0
   LastRead limits turns old given new ReadFault.Device =
       (last : R) × AreReads gives turns old given last × gives last None new
@@ -82,7 +83,7 @@ module _ {R : Type 0} (state : R → Reader) (gives : R → Option (List ℕ) �
   LastRead limits turns old given new fault =
       AreReads gives turns old given new × ((state new).failures ≡ (state old).failures)
 
-  -- the reader gave these bytes up to a fault of reading
+  -- The reader gave these bytes, and then this fault of reading came.
   pub record StopsReading (limits : Limits) (given : List ℕ) (old new : R) (fault : ReadFault) : Type 0 where
     pub turns : ℕ
     pub within : turns ≤ limits.turns
@@ -90,7 +91,7 @@ module _ {R : Type 0} (state : R → Reader) (gives : R → Option (List ℕ) �
     pub reads : LastRead limits turns old given new fault
     pub calls : (state new).calls ≤ after_more (state old).calls limits.turns
 
-  -- the line that begins with these bytes was not read
+  -- The line that begins with these bytes was not read, because of this fault.
   pub record FailsToReadLine (limits : Limits) (head : List ℕ) (old new : R) (fault : ReadFault) : Type 0 where
     pub given : List ℕ
     pub stops : StopsReading limits given old new fault

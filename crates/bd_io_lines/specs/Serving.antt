@@ -7,30 +7,30 @@ use Rattle.bd_io_lines.specs.Lines.{AreShort, AreWhole, IsFirstLine, commands_of
 use Rattle.bd_io_lines.specs.LineBuffer.{GivesBeforeLast, GivesBytes, IsCause, StopsReading}
 use Rattle.bd_io_lines.specs.declared.serving.ServeFault.{ServeFault}
 
--- this text is the replies to these commands in turn, each with a newline after it;
--- they lead from one state to the other
+-- The text is the replies to these commands in turn, each followed by a newline; they lead from state s to t.
 abbrev pub RepliesInTurn : {S : Type 0} → (S → List ℕ → List ℕ → S → Type 0) → S → List (List ℕ) → List ℕ → S → Type 0
 RepliesInTurn replies s [] text t = (t ≡ s) × (text ≡ [])
 RepliesInTurn {S} replies s (command ∷ commands) text t =
     (reply : List ℕ) × (mid : S) × (rest : List ℕ) × replies s command reply mid
     × RepliesInTurn replies mid commands rest t × (text ≡ reply ++ 10 ∷ rest)
 
--- memory ran out at this command: it left the state as it was,
--- or one in which the command has a reply that was not made
+-- Memory ran out at this command: the state is unchanged, or it is one after the command,
+-- whose reply was not made.
 abbrev pub StarvesAt : {S : Type 0} → (S → S → Type 0) → (S → List ℕ → List ℕ → S → Type 0) → S → List ℕ → S → Type 0
 StarvesAt stays replies s command t = stays s t ⊎ ((reply : List ℕ) × replies s command reply t)
 
--- no read was made; or the reads but the last gave no more newlines than these whole lines have
+-- No reply was late: no read was made, or the reads before the last
+-- gave no more newlines than these lines have.
 abbrev pub IsReadInTime : {R : Type 0} → (R → Option (List ℕ) → R → Type 0) → List ℕ → List ℕ → R → R → Type 0
 IsReadInTime gives whole given old new = ((given ≡ []) × (new ≡ old))
     ⊎ ((front : List ℕ) × (count_by is_newline front ≤ count_by is_newline whole)
     × GivesBeforeLast gives front old given new)
 
--- Of a reader, which of its reads may give what, and which replies a command may have.
--- The reader goes from one state to the other.
+-- For a reader whose reads may give these bytes, and for the replies that a command may have.
+-- The reader goes from `old` to `new`.
 module _ {R S : Type 0} (state : R → Reader) (gives : R → Option (List ℕ) → R → Type 0)
     (replies : S → List ℕ → List ℕ → S → Type 0) (limits : Limits) (old new : R) where
-  -- a command was read, this text is the replies to the commands before it, and they led from one state to the other
+  -- A command was read, and the text is the replies to those before it, which led from state s to t.
   pub record ServesBefore (s : S) (command text : List ℕ) (t : S) : Type 0 where
     pub whole : List ℕ
     pub rest : List ℕ
@@ -46,7 +46,7 @@ module _ {R S : Type 0} (state : R → Reader) (gives : R → Option (List ℕ) 
     pub replied : RepliesInTurn replies s (commands_of whole) text t
 
   module _ (out : Over Writer) (s t : S) where
-    -- the reader gave all its bytes, and the replies to all their commands were written
+    -- The reader gave all its bytes, and the replies to all commands in them were written.
     pub record ServesAll : Type 0 where
       pub left : Limits
       pub given : List ℕ
@@ -70,8 +70,8 @@ module _ {R S : Type 0} (state : R → Reader) (gives : R → Option (List ℕ) 
       pub replied : RepliesInTurn replies s (commands_of whole) text t
       pub written : TakesText out text
 
-    -- not all commands had a reply, for this reason:
-    -- the replies before it were written, and `stays` tells what is as it was
+    -- Not each command had a reply, for this reason:
+    -- those before had theirs, and `stays` says what is unchanged.
     abbrev pub StopsServing : (S → S → Type 0) → ServeFault → Type 0
     StopsServing stays (ServeFault.Unread fault) = StopsUnread fault
     -- the reply to a command was not made

@@ -34,6 +34,7 @@ module _ {D : Type 0} (o : Output D) where
   pub TakesAllBytes-nil : (s : D) → TakesAllBytes o s [] s
   TakesAllBytes-nil s = record { held = takes_none (o.state s); writes = none_taken s }
 
+  -- writes in a row that left nothing over took all of the bytes
   pub TakesAllBytes-writes : (s t : D) (bytes : List ℕ) → TakesText (over o.state s t) bytes → AreWrites o.write_takes bytes s [] t → TakesAllBytes o s bytes t
   TakesAllBytes-writes s t bytes held writes =
       let (taken, split, all) = taken_of s t [] writes in
@@ -46,6 +47,7 @@ module _ {D : Type 0} (o : Output D) where
     writes = taken_append s t u first second a.writes b.writes;
   }
 
+  -- writes in a row of which the last one failed broke off within the bytes
   pub Breaks-writes : (s t : D) (bytes : List ℕ) → BreaksWithin (over o.state s t) bytes
       → ((rest : List ℕ) × (last : D) × AreWrites o.write_takes bytes s rest last × (rest ≢ []) × (o.write_takes last rest None t ⊎ o.write_takes last rest (Some 0) t))
       → Breaks o s bytes t

@@ -16,7 +16,8 @@ pub record TakesAllBytes {D : Type 0} (o : Output D) (old : D) (bytes : List ℕ
   pub held : TakesText (over o.state old new) bytes
   pub writes : AreTaken o.write_takes old bytes new
 
--- the device took a front of these bytes; then a write of some that come next failed, and none was made after it
+-- the device took a prefix of these bytes; then a write of some that come next failed,
+-- and none was made after it
 pub record Breaks {D : Type 0} (o : Output D) (old : D) (bytes : List ℕ) (new : D) : Type 0 where
   pub held : BreaksWithin (over o.state old new) bytes
   pub writes : (taken : List ℕ) × (text : List ℕ) × (later : List ℕ) × (last : D)
@@ -30,7 +31,7 @@ abbrev pub Gathers : {D : Type 0} (o : Output D) → Gathering D o → List ℕ 
 Gathers o old bytes new = (handed : List ℕ) × (old.waiting.items ++ bytes ≡ handed ++ new.waiting.items)
     × TakesAllBytes o old.device handed new.device
 
--- bytes that waited were handed on, or a write of them failed; after a loss there is no write
+-- Bytes that waited were passed on, or a write of them failed; after a failed write nothing more is written.
 pub record HandsOn {D : Type 0} (o : Output D) (old new : Gathering D o) : Type 0 where
   pub kept : new.fate ≡ Kept → (old.fate ≡ Kept) × Gathers o old [] new
   pub broken : old.fate ≡ Kept → new.fate ≢ Kept → (new.fate ≡ Lost) × Breaks o old.device old.waiting.items new.device

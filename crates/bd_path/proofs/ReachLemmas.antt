@@ -10,6 +10,7 @@ use Rattle.bd_path.specs.Reach.{index_of, Names, Gathering, gathering, gathering
 use Rattle.std.proofs.lemmas.Bool.{false≢true, or_cases, or_from, or_left, or_parts, or_right}
 use Rattle.std.proofs.lemmas.List.Folds.{list_any-append}
 
+-- no scalar is an array
 pub scalar_is_no_array : (s : Scalar) → scalar_kind s ≡ kinds.Array → ⊥
 scalar_is_no_array trees.min_key k = cc
 scalar_is_no_array _ k = cc
@@ -20,6 +21,7 @@ first_in_smaller : (name : List ℕ) (fs : Fields) (u : Tree) → first_of name 
 first_in_smaller name no_fields u e = absurd cc
 first_in_smaller name (field n t fs) u e = grind (arith, first_in_smaller name fs u)
 
+-- a value of a document is smaller than the document
 pub first_smaller : (name : List ℕ) (t u : Tree) → first_of name (pairs_in t) ≡ Some u → tree_size u < tree_size t
 first_smaller name (doc fs) u e = let l = first_in_smaller name fs u e in omega arith
 first_smaller name _ u e = absurd cc
@@ -29,17 +31,20 @@ element_in_smaller no_items i u e = absurd cc
 element_in_smaller (item t ts) zero u e = let same : t ≡ u = cc in let s = ap tree_size same in omega arith
 element_in_smaller (item t ts) (suc i) u e = let l = element_in_smaller ts i u e in omega arith
 
+-- an element of an array is smaller than the array
 pub element_smaller : (t : Tree) (i : ℕ) (u : Tree) → slice_get (elements_in t) i ≡ Some u → tree_size u < tree_size t
 element_smaller (array ts) i u e = let l = element_in_smaller ts i u e in omega arith
 element_smaller _ i u e = absurd cc
 
 -- ---- the elements of an array
 
+-- the parts of an array are its elements
 pub parts_are : (t : Tree) (ps : Doc) → kind_of t ≡ kinds.Array → AreParts t ps → values_of ps ≡ elements_in t
 parts_are (array ts) ps k h = h
 parts_are (doc fs) ps k h = absurd cc
 parts_are _ ps k h = absurd h
 
+-- the length of an array counts its elements
 pub length_elements : (t : Tree) → kind_of t ≡ kinds.Array → length_of t ≡ length (elements_in t)
 length_elements (doc fs) k = absurd cc
 length_elements _ k = refl
@@ -90,15 +95,18 @@ module _ {A : Type 0} (g : Gathering A) where
   at_index (x ∷ es) zero u r e = let same : x ≡ u = cc in ap (λ (y : Tree). gathering g y r) same
   at_index (x ∷ es) (suc i) u r e = at_index es i u r e
 
+-- The value is a member of the list.
 abbrev pub In : {A : Type 0} → A → List A → Type 0
 In x [] = ⊥
 In x (y ∷ ys) = (x ≡ y) ⊎ In x ys
 
+-- a member of the first of two lists is one of both joined
 pub in_left : {A : Type 0} (x : A) (xs ys : List A) → In x xs → In x (xs ++ ys)
 in_left x [] ys h = absurd h
 in_left x (z ∷ xs) ys (inl e) = inl e
 in_left x (z ∷ xs) ys (inr h) = inr (in_left x xs ys h)
 
+-- a member of the second of two lists is one of both joined
 pub in_right : {A : Type 0} (x : A) (xs ys : List A) → In x ys → In x (xs ++ ys)
 in_right x [] ys h = h
 in_right x (z ∷ xs) ys h = inr (in_right x xs ys h)
@@ -113,6 +121,7 @@ pub in_either : {A B : Type 0} (t : Bool) (x : A) (y : B) (ws vs : List A) (bs c
 in_either true x y ws vs bs cs f g h = f h
 in_either false x y ws vs bs cs f g h = g h
 
+-- if a member passes a test, some member does
 pub any_at : {A : Type 0} (test : A → Bool) (xs : List A) (x : A) → In x xs → test x ≡ true → list_any test xs ≡ true
 any_at test [] x h e = absurd h
 any_at test (y ∷ ys) x (inl p) e = or_left (test y) (list_any test ys) (ap test (sym p) ∙ e)
@@ -129,6 +138,7 @@ pub record Found {A : Type 0} (test : A → Bool) (xs : List A) : Type 0 where
   pub is_in : In it xs
   pub passes : test it ≡ true
 
+-- if some member passes a test, there is such a member
 pub found_from : {A : Type 0} (test : A → Bool) (xs : List A) → list_any test xs ≡ true → Found test xs
 found_from test [] h = absurd (false≢true h)
 found_from test (x ∷ xs) h = elim (or_cases (test x) (list_any test xs) h) [
@@ -142,6 +152,7 @@ contains_from x [] h = absurd h
 contains_from x (y ∷ ys) (inl e) = (0, omega arith, sym e)
 contains_from x (y ∷ ys) (inr h) = let r = contains_from x ys h in (suc r.0, omega (arith, r.1), r.2)
 
+-- a list that contains a value has it as a member
 pub in_from : {A : Type 0} (x : A) (xs : List A) → Contains xs x → In x xs
 in_from {A} x xs h = go xs h.0 h.1 h.2
   where

@@ -17,6 +17,7 @@ use Rattle.bd_path.proofs.ReachLemmas.{In, any_still, found_from, in_left, in_ri
 use Rattle.bd_path.proofs.WalkLemmas as stop
 use Rattle.bd_path.proofs.WalkLemmas.{ends_are, keys_are, some_stop, stop_ends}
 
+-- the order of keys is total in either direction
 pub dir_total : (dir : Dir) → IsTotalOrder (dir_cmp dir)
 dir_total Up = cmp_total
 dir_total Down = record {
@@ -213,14 +214,17 @@ absent t p h = elim (no_values (reach t p) h) [
   | inr b ↦ missing t p b
 ]
 
+-- a document has at least one key on each path
 pub has_a_key : (t : Tree) (p : Names) → keys t p ≢ []
 has_a_key t p none = earliest_there Up t p (ap (earliest_key Up) (sym none) ∙ earliest_is Up t p)
 
 -- ---- equal values
 
+-- a value compares as equal to itself
 pub equal_itself : (x : Tree) → equal x x ≡ true
 equal_itself x = ap is_eq (tied_itself cmp_total x)
 
+-- values that compare as equal to a third one compare as equal
 pub equal_on : (x y z : Tree) → equal x y ≡ true → equal y z ≡ true → equal x z ≡ true
 equal_on x y z e f = ap is_eq (cmp_total.congr x y z (equal_is (cmp x y) e)) ∙ f
 
@@ -250,6 +254,7 @@ its_equal : (b : Bool) (ks : List Tree) (k : Tree) → list_any (λ y. equal y k
 its_equal true ks k e = let f = found_from (λ y. equal y k) ks e in record { it = f.it; is_in = f.is_in; same = f.passes }
 its_equal false ks k e = record { it = k; is_in = in_right k ks (k ∷ []) (inl refl); same = equal_itself k }
 
+-- a key that was added is among the keys, or an equal one is
 pub distinct_has : (ts ks : List Tree) (x : Tree) → In x ts → HasEqual x (with_keys ks ts)
 distinct_has [] ks x h = absurd h
 distinct_has (t ∷ ts) ks x (inl e) =
@@ -260,6 +265,7 @@ distinct_has (t ∷ ts) ks x (inr h) = distinct_has ts (with_key ks t) x h
 null_is_key : (t : Tree) (p : Names) → In null (all_keys false t p) → In null (keys t p)
 null_is_key t p h = let r = distinct_has (all_keys false t p) [] null h in rw (only_null r.it r.same) at r.is_in
 
+-- a missing field on a path gives the key null
 pub missing_gives_null : (t : Tree) (p : Names) → In None (reach t p) → In null (keys t p)
 missing_gives_null t p h = null_is_key t p (missing t p h)
 
@@ -303,6 +309,7 @@ from_others x (y ∷ xs) h = go (is_other y) h (from_others x xs)
     go true (inr r) more = inr (more r)
     go false r more = inr (more r)
 
+-- a key other than null is in a sparse index too
 pub sparse_has : (t : Tree) (p : Names) (k : Tree) → In k (keys t p) → equal k null ≡ false → In k (sparse_keys t p)
 sparse_has t p k h other =
     let same : filter is_other (all_keys false t p) ≡ filter is_other (all_keys true t p) = rw (keys_are false t p, keys_are true t p) (sym (others_at (stops t p))) in
@@ -311,6 +318,7 @@ sparse_has t p k h other =
 
 -- ---- the order of a sort
 
+-- the order of documents by several paths is total, with ties
 pub sort_total : (sort : List SortPath) → IsTotalOrder (sort_cmp sort)
 sort_total [] = record { antisymm = λ x y. refl; trans = λ x y z e f. e; congr = λ x y z e. refl }
 sort_total (s ∷ ss) = then_total (on_total (λ t. sort_key s.dir t s.path) (dir_total s.dir)) (sort_total ss)

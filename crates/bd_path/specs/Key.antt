@@ -1,4 +1,4 @@
--- The keys of a document on a path: what it is sorted by, and what an index has of it.
+-- The keys of a document on a path: by them it is sorted, and an index has them as entries.
 use Rattle.std.specs.Prelude.{◌≡◌, ℕ, List, [], ◌∷◌, ◌++◌, Bool, true, false, not, map, All, if◌then◌else◌}
 use Rattle.std.specs.List.{flat_map, list_any}
 use Rattle.bd_value.specs.Order.{equal}
@@ -7,105 +7,119 @@ use Rattle.bd_path.specs.{Reach.Gathering, Reach.Names, Reach.gathering, Walk.St
 use Rattle.bd_path.specs.{declared.walk.Stop.Stop, declared.walk.Stop.TheVariants.Value}
 use Rattle.bd_path.specs.declared.key.Key.TheVariants.{Node, Null, Undefined}
 
--- what stands for a field that is missing: a null, and in a sparse index nothing
+-- the keys that a missing field gives: null, and in a sparse index none
 abbrev pub missing_key : Bool → List Tree
 missing_key true = []
 missing_key false = leaf null ∷ []
 
+-- the first list, or if it is empty the second
 abbrev pub or_else : List Tree → List Tree → List Tree
 or_else [] ys = ys
 or_else (x ∷ xs) ys = x ∷ xs
 
--- the elements of an array, an undefined for an empty one; every other value itself
+-- the keys that a value at the end of a path gives:
+-- the elements of an array, undefined if it is empty, else the value itself
 abbrev pub end_keys : Tree → List Tree
 end_keys (array ts) = or_else (list_of ts) (leaf undefined ∷ [])
 end_keys t = t ∷ []
 
--- an array that gives no key has what stands for a missing field
+-- gathers the keys on a path; an array that gives no key gives what a missing field gives
 abbrev pub key_gathering : List Tree → Gathering Tree
 key_gathering missing = record { at_end = end_keys; missing = missing; of_array = λ ks. or_else ks missing }
 
--- the keys with equal ones
+-- the keys of a document on a path, equal ones repeated
 abbrev pub all_keys : Bool → Tree → Names → List Tree
 all_keys sparse t path = gathering (key_gathering (missing_key sparse)) t path
 
--- one key more, which is dropped where it equals an earlier one
+-- the keys and one more, unless it equals one of them
 abbrev pub with_key : List Tree → Tree → List Tree
 with_key ks k = if list_any (λ x. equal x k) ks then ks else ks ++ k ∷ []
 
+-- the keys with some more after them, each of these dropped if it equals an earlier one
 abbrev pub with_keys : List Tree → List Tree → List Tree
 with_keys ks [] = ks
 with_keys ks (t ∷ ts) = with_keys (with_key ks t) ts
 
+-- the keys without those that equal an earlier one: of an int32 5 and an int64 5 the first stays
 abbrev pub distinct : List Tree → List Tree
 distinct ks = with_keys [] ks
 
--- those that an index has: in a sparse one without the nulls of missing fields
+-- the keys that an index has of a document, sparse or not: of equal ones the first
 abbrev pub indexed_keys : Bool → Tree → Names → List Tree
 indexed_keys sparse t path = distinct (all_keys sparse t path)
 
+-- The keys of a document on a path, never none, of equal ones the first: the values that the path reaches,
+-- of an array its elements, null for a missing field, and undefined for an empty array.
 abbrev pub keys : Tree → Names → List Tree
 keys t path = indexed_keys false t path
 
+-- the keys that a sparse index has of a document:
+-- those of `keys` without the nulls of missing fields; there may be none
 abbrev pub sparse_keys : Tree → Names → List Tree
 sparse_keys t path = indexed_keys true t path
 
 -- ---- keys in memory
 
+-- the value of a key in memory: that of its node, or null or undefined
 abbrev pub key_tree : {N : Type 0} → (N → Tree) → Key N → Tree
 key_tree tree (Node n) = tree n
 key_tree tree Null = leaf null
 key_tree tree Undefined = leaf undefined
 
+-- the values of some keys in memory, in order
 abbrev pub key_trees : {N : Type 0} → (N → Tree) → List (Key N) → List Tree
 key_trees tree ks = map (key_tree tree) ks
 
--- a node among the keys stands in these bytes
+-- If the key is a node, that is a value in these bytes.
 abbrev pub IsKeyOf : {N : Type 0} → (N → List ℕ) → List ℕ → Key N → Type 0
 IsKeyOf source bytes (Node n) = source n ≡ bytes
 IsKeyOf source bytes _ = Unit {0}
 
+-- Each node among the keys is a value in these bytes.
 abbrev pub AreKeysOf : {N : Type 0} → (N → List ℕ) → List ℕ → List (Key N) → Type 0
 AreKeysOf source bytes ks = All (IsKeyOf source bytes) ks
 
--- no value stands there
+-- whether a walk stops here without a value
 abbrev pub is_no_value : Stop Tree → Bool
 is_no_value (Value t) = false
 is_no_value _ = true
 
+-- whether a walk stops here at an empty array
 abbrev pub is_empty_array : Stop Tree → Bool
 is_empty_array (Value (array no_items)) = true
 is_empty_array _ = false
 
--- A key is a node where a value stands: null is for a value that is not there,
--- and for none in a sparse index; undefined is for an empty array.
+-- A key comes from these stops: null from one without a value, and not in a sparse index;
+-- undefined from an empty array; else it is a node.
 abbrev pub IsKeyAt : {N : Type 0} → Bool → Stops → Key N → Type 0
 IsKeyAt sparse ss (Node n) = Unit {0}
 IsKeyAt sparse ss Null = (sparse ≡ false) × (list_any is_no_value ss ≡ true)
 IsKeyAt sparse ss Undefined = list_any is_empty_array ss ≡ true
 
+-- Each of the keys comes from one of these stops.
 abbrev pub AreKeysAt : {N : Type 0} → Bool → Stops → List (Key N) → Type 0
 AreKeysAt sparse ss ks = All (IsKeyAt sparse ss) ks
 
 -- ---- keys found so far, of which those that equal an earlier one count for nothing
 
--- the keys that a stop gives
+-- the keys that a stop of a walk gives
 abbrev pub stop_keys : Bool → Stop Tree → List Tree
 stop_keys sparse (Value t) = end_keys t
 stop_keys sparse _ = missing_key sparse
 
--- to the keys that were there, these were added
+-- The keys after are the keys before and these, of equal ones the first.
 abbrev pub AddsKeys : {N : Type 0} → (N → Tree) → List (Key N) → List (Key N) → List Tree → Type 0
 AddsKeys tree before after more = distinct (key_trees tree after) ≡ distinct (key_trees tree before ++ more)
 
--- a key equals none of some
+-- whether a key equals none of these keys
 abbrev pub is_new : List Tree → Tree → Bool
 is_new ks k = not (list_any (λ x. equal x k) ks)
 
+-- whether a stop gives a key that equals none of those found so far
 abbrev pub gives_new : Bool → List Tree → Stop Tree → Bool
 gives_new sparse ks s = list_any (is_new (distinct ks)) (stop_keys sparse s)
 
--- the keys are those of some stops
+-- The keys found are those of these stops, of equal ones the first, and each node is in these bytes.
 pub record AreKeysFrom {N : Type 0} (tree : N → Tree) (source : N → List ℕ) (sparse : Bool) (ks : List (Key N))
     (bytes : List ℕ) (ss : Stops) : Type 0 where
   pub listed : distinct (key_trees tree ks) ≡ distinct (flat_map (stop_keys sparse) ss)

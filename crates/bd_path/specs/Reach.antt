@@ -9,32 +9,36 @@ use Rattle.bd_value.specs.Tree.{Fields, no_fields, field}
 abbrev pub Names : Type 0
 Names = List (List ℕ)
 
--- a name is `0`, or digits of which the first is not 0
+-- whether a name can be an array index: `0`, or digits of which the first is not 0
 abbrev pub is_index : List ℕ → Bool
 is_index [] = false
 is_index (c ∷ []) = is_ascii_digit c
 is_index (c ∷ d ∷ cs) = if c == 48 then false else all_ascii_digits (c ∷ d ∷ cs)
 
+-- the array index that a name is, such as 0 of `a.0`; None if it is no such number.
+-- It may be past the end of every array.
 abbrev pub index_of : List ℕ → Option ℕ
 index_of name = if is_index name then Some (digits_value 10 name) else None
 
--- the same, where an index past every array counts as the greatest number of 64 bits
+-- the array index that a name is, as the code keeps it: above 2^64 - 1 it counts as that
 abbrev pub held_index : List ℕ → Option ℕ
 held_index name = option_map (λ i. min i 18446744073709551615) (index_of name)
 
+-- whether a value is a document; an array is none
 abbrev pub is_document : Tree → Bool
 is_document (doc fs) = true
 is_document _ = false
 
--- What is gathered on the way down a path:
--- from a value at its end, where a field is missing, and of what was gathered from
--- the elements of an array.
+-- What is gathered on the way down a path: from a value at its end, from a missing field,
+-- and of what the elements of an array gave.
 pub record Gathering (A : Type 0) : Type 0 where
   pub at_end : Tree → List A
   pub missing : List A
   pub of_array : List A → List A
 
 abbrev mutual
+  -- What is gathered from a value down a path. A name leads from a document to its first field of that name,
+  -- and from an array into each document in it; a name that is an index leads to that element too.
   pub gathering : {A : Type 0} → Gathering A → Tree → Names → List A
   gathering g t [] = g.at_end t
   gathering g (leaf s) (name ∷ rest) = g.missing
@@ -43,38 +47,43 @@ abbrev mutual
       g.of_array (each_gathering g ts (name ∷ rest) ++ gathering_at g ts (index_of name) rest)
   gathering g (code_scope s fs) (name ∷ rest) = g.missing
 
-  -- from the first field of that name
+  -- what is gathered from the first field of that name; as from a missing field if there is none
   pub first_gathering : {A : Type 0} → Gathering A → Fields → List ℕ → Names → List A
   first_gathering g no_fields name rest = g.missing
   first_gathering g (field n t fs) name rest = if bytes_eq n name then gathering g t rest
       else first_gathering g fs name rest
 
-  -- from each element that is a document, with the same path
+  -- what is gathered from each element that is a document, with the same path
   pub each_gathering : {A : Type 0} → Gathering A → Items → Names → List A
   each_gathering g no_items path = []
   each_gathering g (item t ts) path = (if is_document t then gathering g t path else []) ++ each_gathering g ts path
 
-  -- from the element at an index
+  -- what is gathered from the element at an index, with the rest of the path; nothing if there is none
   pub gathering_at : {A : Type 0} → Gathering A → Items → Option ℕ → Names → List A
   gathering_at g no_items i rest = []
   gathering_at g (item t ts) None rest = []
   gathering_at g (item t ts) (Some zero) rest = gathering g t rest
   gathering_at g (item t ts) (Some (suc i)) rest = gathering_at g ts (Some i) rest
 
--- a value that a path reaches; None where a field is missing
+-- what a path reaches: a value, or None for a missing field
 abbrev pub End : Type 0
 End = Option Tree
 
+-- gathers each value that a path reaches, and None for each field that is missing
 abbrev pub ends : Gathering End
 ends = record { at_end = λ t. Some t ∷ []; missing = None ∷ []; of_array = λ es. es }
 
+-- what a path reaches from a value, in stored order: values, and None for each missing field;
+-- an array with no document in it may give nothing
 abbrev pub reach : Tree → Names → List End
 reach t path = gathering ends t path
 
--- what is gathered from the documents in an array, and from the element whose index the first component is
+-- what is gathered from the documents in an array, with the whole path
 abbrev pub document_gathering : {A : Type 0} → Gathering A → Tree → Names → List A
 document_gathering g t path = each_gathering g (items_of (elements_in t)) path
 
+-- what is gathered from the element whose index the first name of the path is;
+-- nothing if there is no such element
 abbrev pub index_gathering : {A : Type 0} → Gathering A → Tree → Names → List A
 index_gathering g t [] = []
 index_gathering g t (name ∷ rest) = gathering_at g (items_of (elements_in t)) (index_of name) rest

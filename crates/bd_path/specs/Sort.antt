@@ -1,4 +1,4 @@
--- The key by which a document stands in a sort, and the order of two documents in it.
+-- The sort key of a document, and the order of two documents in a sort (MongoDB manual, "cursor.sort()").
 use Rattle.std.specs.Prelude.{◌≡◌, ℕ, Bool, false, true, List, [], ◌∷◌, map, Option, Some, None, IfSome, option_map}
 use Rattle.std.specs.Prelude.{unwrap_or, if◌then◌else◌}
 use Rattle.std.specs.{List.flat_map, List.list_any, Ordering.is_lt, Ordering.ordering_reverse, Ordering.ordering_then}
@@ -8,50 +8,56 @@ use Rattle.bd_path.specs.{Key.IsKeyAt, Key.IsKeyOf, Key.key_tree, Key.keys, Key.
 use Rattle.bd_path.specs.{Reach.Names, Walk.Stops, declared.key.Key.Key, declared.path.Path.Path, declared.sort.Dir.Dir}
 use Rattle.bd_path.specs.{declared.sort.Dir.TheVariants.Up, declared.sort.Dir.TheVariants.Down, declared.walk.Stop.Stop}
 
+-- the order of two keys in a direction of a sort: for 1 (Up) the comparison order, for -1 (Down) the reverse
 abbrev pub dir_cmp : Dir → Tree → Tree → Ordering
 dir_cmp Up a b = cmp a b
 dir_cmp Down a b = ordering_reverse (cmp a b)
 
--- the earlier of two keys, where both are there; the first of two that are equal
+-- the one of two keys that comes first in the direction, of equal ones the first;
+-- if one is missing, the other
 abbrev pub earlier_key : Dir → Option Tree → Option Tree → Option Tree
 earlier_key dir None b = b
 earlier_key dir (Some a) None = Some a
 earlier_key dir (Some a) (Some b) = if is_lt (dir_cmp dir b a) then Some b else Some a
 
+-- the key that comes first in the direction: the least for 1, the greatest for -1; of equal ones the first
 abbrev pub earliest_key : Dir → List Tree → Option Tree
 earliest_key dir [] = None
 earliest_key dir (k ∷ ks) = earlier_key dir (Some k) (earliest_key dir ks)
 
--- the least of the keys, or the greatest; a document has a key on each path
+-- the key by which a document is sorted: the least of its keys on the path for 1,
+-- the greatest for -1 (MongoDB manual, "Sort")
 abbrev pub sort_key : Dir → Tree → Names → Tree
 sort_key dir t path = unwrap_or (earliest_key dir (keys t path)) (leaf null)
 
--- one path of a sort
+-- one path of a sort, and its direction
 pub record SortPath : Type 0 where
   pub path : Names
   pub dir : Dir
 
--- the first pair whose keys differ decides
+-- the order of two documents in a sort: the first path on which their
+-- sort keys differ decides; else they are equal
 abbrev pub sort_cmp : List SortPath → Tree → Tree → Ordering
 sort_cmp [] a b = Equal
 sort_cmp (s ∷ ss) a b =
     ordering_then (dir_cmp s.dir (sort_key s.dir a s.path) (sort_key s.dir b s.path)) (sort_cmp ss a b)
 
+-- the paths and directions of a sort in memory, in order
 abbrev pub sort_paths : List (Path × Dir) → List SortPath
 sort_paths sort = map (λ s. record { path = names_of s.0; dir = s.1 }) sort
 
 -- ---- the earliest of the keys found so far
 
--- a key would be taken in place of the earliest so far
+-- whether a key comes before the earliest so far, or is the first one
 abbrev pub is_earlier : Dir → Option Tree → Tree → Bool
 is_earlier dir None k = true
 is_earlier dir (Some e) k = is_lt (dir_cmp dir k e)
 
--- a stop gives such a key
+-- whether a stop gives a key that comes before the earliest so far
 abbrev pub gives_earlier : Dir → Option Tree → Stop Tree → Bool
 gives_earlier dir e s = list_any (is_earlier dir e) (stop_keys false s)
 
--- the earliest of the keys of some stops
+-- The key is the earliest of those that these stops give, and if it is a node, that is in these bytes.
 pub record IsEarliestFrom {N : Type 0} (tree : N → Tree) (source : N → List ℕ) (dir : Dir) (key : Option (Key N))
     (bytes : List ℕ) (ss : Stops) : Type 0 where
   pub earliest : option_map (key_tree tree) key ≡ earliest_key dir (flat_map (stop_keys false) ss)

@@ -10,6 +10,7 @@ use Rattle.bd_query_filter.proofs.MembersLemmas.{any_alike, any_mapped}
 pub of_value : (f : End → Bool) (t : Tree) → (f (Some t) || list_any (λ x. f (Some x)) (elements_in t)) ≡ list_any f (candidates (Some t))
 of_value f t = ap (λ b. f (Some t) || b) (sym (any_mapped f Some (elements_in t)))
 
+-- a list that is not empty stays so if each member is replaced
 pub some_mapped : {A B : Type 0} (h : A → B) (xs : List A) → 1 ≤ length xs → is_nonempty (map h xs) ≡ true
 some_mapped h [] le = absurd (omega arith)
 some_mapped h (x ∷ xs) le = refl

@@ -8,11 +8,12 @@ use Rattle.bd_query_filter.specs.FilterMatch.{all_accept, all_match, is_value}
 use Rattle.bd_query.specs.declared.filter_match.Body.{Body}
 use Rattle.bd_query.specs.declared.filter_match.Body.TheVariants.{Operators, Filters}
 
--- an element suits it
+-- whether an element meets the body of `$elemMatch`:
+-- all operators hold of it, or it is a document that matches the filter
 abbrev pub suits : Body → Tree → Bool
 suits (Operators os) t = all_accept (operators_from (map operator_tree os.now)) t
 suits (Filters fs) t = is_document t && all_match (filters_from (map filter_tree fs.now)) t
 
--- an element of an array suits it
+-- whether an end of a path is an array with an element that meets the body of `$elemMatch`
 abbrev pub is_suited : Body → End → Bool
 is_suited body = is_value (λ t. list_any (suits body) (elements_in t))

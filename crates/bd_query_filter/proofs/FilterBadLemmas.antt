@@ -205,5 +205,6 @@ where_refused (Err q) IsBad r h is = let same : q ≡ r = cc in subst IsBad same
 pub none_bad_where_taken : (d : Doc) (f : Filter) → filter_of d ≡ Ok f → (r : Refusal) → IsBadAt d r → ⊥
 none_bad_where_taken d f is = where_taken (filter_of d) (IsBadAt d) f (document_agrees d) is
 
+-- the refusal of a document is a rule that it breaks at that place
 pub bad_where_refused : (d : Doc) (r : Refusal) → filter_of d ≡ Err r → IsBadAt d r
 bad_where_refused d r is = where_refused (filter_of d) (IsBadAt d) r (document_agrees d) is

@@ -41,12 +41,14 @@ none_yet (Err r) = refl
 pub none_read : {A B : Type 0} (view : A → B) (xs : List A) (whole : Result (List B) Refusal) → xs ≡ [] → joined (map view xs) whole ≡ whole
 none_read view xs whole none = ap (λ ys. joined (map view ys) whole) none ∙ none_yet whole
 
+-- one more part was read, before those still to be read
 pub one_read : {A B : Type 0} (view : A → B) (xs ys : List A) (x : A) (name : List ℕ) (part : Result B Refusal) (left rest whole : Result (List B) Refusal)
     → ys ≡ xs ++ x ∷ [] → part ≡ Ok (view x) → left ≡ read_at name part rest → joined (map view xs) left ≡ whole → joined (map view ys) rest ≡ whole
 one_read view xs ys x name part left rest whole pushed is next so_far =
     ap (λ zs. joined (map view zs) rest) pushed ∙ ap (λ zs. joined zs rest) (map_push view xs x) ∙ sym (one_more (map view xs) name (view x) rest)
     ∙ sym (ap (joined (map view xs)) (next ∙ ap (λ p. read_at name p rest) is)) ∙ so_far
 
+-- all parts were read, and none is left
 pub all_read : {B : Type 0} (xs : List B) (rest whole : Result (List B) Refusal) → joined xs rest ≡ whole → rest ≡ Ok [] → whole ≡ Ok xs
 all_read xs rest whole so_far none = sym so_far ∙ ap (joined xs) none ∙ no_more xs
 
@@ -205,15 +207,18 @@ else_is false x y is = refl
 
 -- ---- filters in memory, a level at a time
 
+-- the filter of `$and` in memory is that of its members
 pub filter_tree-And : (v : Vec Filter Global) → filter_tree (And v) ≡ all_of (filters_from (map filter_tree v.items))
 filter_tree-And v = search (rules, folds.the_lemmas)
 
 pub operator_tree-Not : (v : Vec Operator Global) → operator_tree (Not v) ≡ negates (operators_from (map operator_tree v.items))
 operator_tree-Not v = search (rules, folds.the_lemmas)
 
+-- the operator of `$elemMatch` in memory is that of its operators
 pub operator_tree-ElemMatch : (v : Vec Operator Global) → operator_tree (ElemMatch v) ≡ has_element (operators_from (map operator_tree v.items))
 operator_tree-ElemMatch v = search (rules, folds.the_lemmas)
 
+-- the operator of `$elemMatch` in memory is that of its filters
 pub operator_tree-ElemMatchDocument : (v : Vec Filter Global) → operator_tree (ElemMatchDocument v) ≡ has_document (filters_from (map filter_tree v.items))
 operator_tree-ElemMatchDocument v = search (rules, folds.the_lemmas)
 

@@ -8,6 +8,7 @@ use Rattle.std.proofs.{lemmas.List.Sorted.searchable_from_sorted}
 use Rattle.bd_value.specs.{Tree.Tree, View.tree_of, declared.document.Value.Value}
 use Rattle.bd_query_filter.specs.Indexes.{tree_at}
 
+-- some image passes a test exactly if some member does whose image passes it
 pub any_mapped : {A B : Type 0} (f : B → Bool) (h : A → B) (xs : List A) → list_any f (map h xs) ≡ list_any (λ x. f (h x)) xs
 any_mapped f h [] = refl
 any_mapped f h (x ∷ xs) = ap (λ b. f (h x) || b) (any_mapped f h xs)

@@ -1,21 +1,25 @@
--- Why a document is no filter: which rule a pair or a member of it breaks, and the names from the top down to that.
+-- Why a document is no filter: which rule a pair or a member breaks,
+-- and its path of names and positions from the top.
 use Rattle.std.specs.Prelude.{◌≡◌, ℕ, List, [], ◌∷◌, Result, Ok, Err, map, string_bytes, codes}
 use Rattle.bd_query_filter.specs.declared.fault.{FilterFault.FilterFault, FilterFaultKind.FilterFaultKind, Stop.Stop}
 use Rattle.bd_query_filter.specs.declared.fault.FilterFaultKind.TheVariants as kinds
 use Rattle.bd_query_filter.specs.declared.fault.Stop.TheVariants as stops
 
+-- why a document is no filter: the rule that is broken,
+-- and the path of names and array positions from the top to the pair or member that breaks it
 pub record Refusal : Type 0 where
   pub kind : FilterFaultKind
   pub place : List (List ℕ)
 
+-- a refusal by this rule of the pair or member itself: names are put before its path on the way up
 abbrev pub refuse : {A : Type 0} → FilterFaultKind → Result A Refusal
 refuse kind = Err (record { kind = kind; place = [] })
 
--- the same refusal, seen from one name up
+-- the same refusal with a name put before its path, as the document around it reports it
 abbrev pub deeper : List ℕ → Refusal → Refusal
 deeper name r = record { kind = r.kind; place = name ∷ r.place }
 
--- the number by which a reply tells it
+-- the number of a filter fault in a reply
 abbrev pub filter_fault_number : FilterFaultKind → ℕ
 filter_fault_number kinds.UnknownOperator = 1
 filter_fault_number kinds.NotInProfile = 2
@@ -25,7 +29,7 @@ filter_fault_number kinds.Path = 5
 filter_fault_number kinds.TooDeep = 6
 filter_fault_number kinds.NoMemory = 7
 
--- what is wrong, in words
+-- the message of a filter fault
 unfoldable pub filter_fault_words : FilterFaultKind → List ℕ
 filter_fault_words kinds.UnknownOperator = codes "unknown operator"
 filter_fault_words kinds.NotInProfile = codes "not in the profile"
@@ -35,24 +39,25 @@ filter_fault_words kinds.Path = codes "bad path"
 filter_fault_words kinds.TooDeep = codes "too deep"
 filter_fault_words kinds.NoMemory = codes "no memory"
 
+-- the refusal that a `FilterFault` in memory reports
 abbrev pub refusal_of : FilterFault → Refusal
 refusal_of f = record { kind = f.kind; place = map string_bytes f.place.items }
 
--- no memory was given: the fault has no place
+-- The fault in memory says that memory ran out, and has the empty path.
 abbrev pub IsStarved : FilterFault → Type 0
 IsStarved f = (f.kind ≡ kinds.NoMemory) × (f.place.items ≡ [])
 
--- which refusal reading stopped at, unless memory ran out
+-- Reading stopped at this refusal, or memory ran out.
 abbrev pub TellsMisfit : Stop → Refusal → Type 0
 TellsMisfit stops.NoMemory r = Unit {0}
 TellsMisfit (stops.Fault f) r = r ≡ refusal_of f
 
--- reading stopped at the refusal that a part of a filter is, unless memory ran out
+-- This part of a filter is refused, and reading stopped at that refusal; or memory ran out.
 abbrev pub StopsAt : {B : Type 0} → Stop → Result B Refusal → Type 0
 StopsAt stops.NoMemory part = Unit {0}
 StopsAt (stops.Fault f) part = part ≡ Err (refusal_of f)
 
--- a part of a filter is what was read, or reading stopped at its refusal
+-- This part of a filter is what was read; or it is refused, and reading stopped there, or memory ran out.
 abbrev pub ReadsPart : {A B : Type 0} → (A → B) → Result A Stop → Result B Refusal → Type 0
 ReadsPart view (Ok x) part = part ≡ Ok (view x)
 ReadsPart view (Err stop) part = StopsAt stop part

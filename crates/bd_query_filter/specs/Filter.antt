@@ -10,19 +10,21 @@ use Rattle.bd_query_filter.specs.declared.operand.Relation.TheVariants as relati
 
 -- A list inside a filter has to be a type of its own: `Filters` and `Operators` are lists of them.
 mutual
-  -- each of some filters, as `$and` and the pairs of a document have it; some of them, `$or`; none of them, `$nor`;
-  -- and operators that must all hold at a path
+  -- a filter: each of some filters (`$and`, the pairs of a document), at least one (`$or`), or none (`$nor`);
+  -- or operators of a path, which must all hold
   pub data Filter : Type 0 where
     all_of : Filters → Filter
     some_of : Filters → Filter
     none_of : Filters → Filter
     at_path : Names → Operators → Filter
 
+  -- a list of filters
   pub data Filters : Type 0 where
     no_filters : Filters
     filter : Filter → Filters → Filters
 
-  -- `$ne` is what `$eq` is not, and `$nin` what `$in` is not; `$elemMatch` has operators for an element, or filters
+  -- an operator of a path; `$ne` and `$nin` are the negations of `$eq` and `$in`,
+  -- and `$elemMatch` has operators for an element, or a filter
   pub data Operator : Type 0 where
     equals : Tree → Operator
     compares : Relation → Tree → Operator
@@ -35,38 +37,43 @@ mutual
     has_element : Operators → Operator
     has_document : Filters → Operator
 
+  -- a list of operators of one path
   pub data Operators : Type 0 where
     no_operators : Operators
     operator : Operator → Operators → Operators
 
+-- a list of filters in the form that a filter holds, in the same order
 abbrev pub filters_from : List Filter → Filters
 filters_from [] = no_filters
 filters_from (f ∷ fs) = filter f (filters_from fs)
 
+-- a list of operators in the form that a filter holds, in the same order
 abbrev pub operators_from : List Operator → Operators
 operators_from [] = no_operators
 operators_from (o ∷ os) = operator o (operators_from os)
 
--- what an operator is not
+-- the operator that holds if this one does not
 abbrev pub negation_of : Operator → Operator
 negation_of o = negates (operator o no_operators)
 
 -- ---- in memory
 
--- the members of `$in` and `$nin`, in the order of the query, and what they stand for
+-- the members of `$in` and `$nin` in memory, in the order of the query
 abbrev pub values_in : Members → List Value
 values_in members = members.values.items
 
+-- the values of the members of `$in` and `$nin`, in the order of the query
 abbrev pub trees_in : Members → List Tree
 trees_in members = map tree_of (values_in members)
 
--- one level of a filter and of an operator, with each part inside already seen so
+-- one level of a filter in memory, whose parts are already read so
 abbrev pub filter_step : Filter-F Filter Operator → Filter
 filter_step (Filter-F.And fs) = all_of (filters_from fs.items)
 filter_step (Filter-F.Or fs) = some_of (filters_from fs.items)
 filter_step (Filter-F.Nor fs) = none_of (filters_from fs.items)
 filter_step (Filter-F.Field path os) = at_path (names_of path) (operators_from os.items)
 
+-- one level of an operator, whose parts are already read so; `$ne` and `$nin` become negations
 abbrev pub operator_step : Operator-F Filter Operator → Operator
 operator_step (Operator-F.Equal v) = equals (tree_of v)
 operator_step (Operator-F.NotEqual v) = negation_of (equals (tree_of v))
@@ -84,8 +91,10 @@ operator_step (Operator-F.Not os) = negates (operators_from os.items)
 operator_step (Operator-F.ElemMatch os) = has_element (operators_from os.items)
 operator_step (Operator-F.ElemMatchDocument fs) = has_document (filters_from fs.items)
 
+-- the filter that a `Filter` in memory stands for
 abbrev pub filter_tree : FilterInMemory → Filter
 filter_tree = fold-Filter Filter Operator filter_step operator_step
 
+-- the operator that an `Operator` in memory stands for
 abbrev pub operator_tree : OperatorInMemory → Operator
 operator_tree = fold-Operator Filter Operator filter_step operator_step

@@ -1,5 +1,5 @@
--- Which pairs and members of a document break a rule of filters (MongoDB manual, "Query and Projection Operators"), and
--- where. Nothing is read in turn: each is bad or not, whatever stands before it.
+-- Which pairs and members of a document break a rule of filters (MongoDB manual, "Query and Projection
+-- Operators"), and where. Nothing is read in turn: each breaks a rule or not by itself.
 -- `FilterOf` says what one operand may be.
 use Rattle.std.specs.Prelude.{◌≡◌, ◌⊎◌, ℕ, zero, ◌+◌, ◌-◌, List, [], Err, is_err, decimal, IsTrue, IsFalse}
 use Rattle.bd_value.specs.Limits.{most_filter_levels}
@@ -13,40 +13,42 @@ use Rattle.bd_query_filter.specs.declared.fault.FilterFaultKind.TheVariants as f
 use Rattle.bd_query_filter.specs.declared.filter_of.PlainOperator.TheVariants as plain
 use Rattle.bd_query_filter.specs.declared.filter_of.Word.TheVariants as words
 
--- a rule is broken at the pair or member itself
+-- The refusal is of this rule, at the pair or member itself.
 abbrev pub BreaksHere : FilterFaultKind → Refusal → Type 0
 BreaksHere kind r = r ≡ record { kind = kind; place = [] }
 
--- a rule is broken inside it, under this name or position
+-- The refusal is inside the part under this name or position.
 abbrev pub BreaksUnder : List ℕ → (Refusal → Type 0) → Refusal → Type 0
 BreaksUnder name IsBad r = (inner : Refusal) × (r ≡ deeper name inner) × IsBad inner
 
--- a level further in, or at itself where there is no room for one
+-- The refusal is inside the part, a level further in;
+-- or of the part itself, which is too deep if no level is left.
 abbrev pub BreaksInside : ℕ → (Refusal → Type 0) → Refusal → Type 0
 BreaksInside zero IsBad r = BreaksHere faults.TooDeep r
 BreaksInside room IsBad r = IsBad r
 
--- some member of the array of `$in`, `$nin` and `$all`, from this position on
+-- Some member of the array of `$in`, `$nin` or `$all`, from this position on, is refused.
 abbrev pub HasBadElement : ℕ → Items → Refusal → Type 0
 HasBadElement i no_items r = ⊥
 HasBadElement i (item t ts) r = BreaksUnder (decimal i) (λ q. member_value t ≡ Err q) r ⊎ HasBadElement (i + 1) ts r
 
--- an operand: each member of a list by itself, and else as it is read
+-- The operand of an operator is refused: a list by some member, any other as it is read.
 abbrev pub IsBadPlain : PlainOperator → Tree → Refusal → Type 0
 IsBadPlain plain.In (array ts) r = HasBadElement 0 ts r
 IsBadPlain plain.NotIn (array ts) r = HasBadElement 0 ts r
 IsBadPlain plain.All (array ts) r = HasBadElement 0 ts r
 IsBadPlain p t r = plain_operator p t ≡ Err r
 
--- a pair of a document, by what its name stands for: `$and` and its kin by their filters, a field by its path and its
--- value, each whatever the other is. No other operator stands outside a field.
+-- A pair of a filter is refused, by what its name is: `$and` and its kin by their filters,
+-- a field by its path or by its value, each whatever the other is. No other operator may be there.
 abbrev pub IsBadPair : Word → List ℕ → (Refusal → Type 0) → (Refusal → Type 0) → Refusal → Type 0
 IsBadPair (words.Logical l) name AreBad IsBad r = AreBad r
 IsBadPair words.Field name AreBad IsBad r = (IsTrue (is_err (path_of name)) × BreaksHere faults.Path r) ⊎ IsBad r
 IsBadPair words.LeftOut name AreBad IsBad r = BreaksHere faults.NotInProfile r
 IsBadPair w name AreBad IsBad r = BreaksHere faults.UnknownOperator r
 
--- a pair among operators, by what its name stands for: `$not` and `$elemMatch` by their bodies
+-- A pair among operators is refused, by what its name is:
+-- `$not` and `$elemMatch` by their bodies, others by their operand.
 abbrev pub IsBadOperator : Word → Tree → (Refusal → Type 0) → (Refusal → Type 0) → Refusal → Type 0
 IsBadOperator (words.Plain p) t InNot InElemMatch r = IsBadPlain p t r
 IsBadOperator words.Not t InNot InElemMatch r = InNot r
@@ -56,48 +58,53 @@ IsBadOperator words.Field t InNot InElemMatch r = BreaksHere faults.MixedOperato
 IsBadOperator w t InNot InElemMatch r = BreaksHere faults.UnknownOperator r
 
 abbrev mutual
-  -- some pair of a document; so many levels more may stand inside
+  -- Some pair of a document is refused; `room` more levels may be inside.
   pub HasBadPair : ℕ → Fields → Refusal → Type 0
   HasBadPair room no_fields r = ⊥
   HasBadPair room (field n t fs) r =
       BreaksUnder n (IsBadPair (word_of n) n (AreBadFilters room t) (IsBadValue room t)) r ⊎ HasBadPair room fs r
 
-  -- `$and`, `$or` and `$nor` take an array, and one that is not empty
+  -- The operand of `$and`, `$or` or `$nor` is refused: it is no array, or empty, or some member is refused.
   pub AreBadFilters : ℕ → Tree → Refusal → Type 0
   AreBadFilters room (array (item t ts)) r = HasBadMember room 0 (item t ts) r
   AreBadFilters room t r = BreaksHere faults.BadOperand r
 
-  -- some member of it, from this position on: each is a document, which is a level more
+  -- Some member of the array of `$and`, `$or` or `$nor`, from this position on, is refused.
   pub HasBadMember : ℕ → ℕ → Items → Refusal → Type 0
   HasBadMember room i no_items r = ⊥
   HasBadMember room i (item t ts) r = BreaksUnder (decimal i) (IsBadMember room t) r ⊎ HasBadMember room (i + 1) ts r
 
+  -- a member of `$and`, `$or` or `$nor`: it is no document, too deep, or a pair in it breaks a rule
   pub IsBadMember : ℕ → Tree → Refusal → Type 0
   IsBadMember room (doc fs) r = BreaksInside room (HasBadPair (room - 1) fs) r
   IsBadMember room t r = BreaksHere faults.BadOperand r
 
-  -- the value of a path: operators, or a value that is to be equalled
+  -- The value of a path is refused: some operator in it,
+  -- or a value to equal that may not be there, a regular expression.
   pub IsBadValue : ℕ → Tree → Refusal → Type 0
   IsBadValue room (doc fs) r = IsTrue (first_is_operator fs) × HasBadOperator room fs r
   IsBadValue room t r = path_operators room t ≡ Err r
 
+  -- some pair among the operators of a path breaks a rule; `room` more levels may be inside
   pub HasBadOperator : ℕ → Fields → Refusal → Type 0
   HasBadOperator room no_fields r = ⊥
   HasBadOperator room (field n t fs) r =
       BreaksUnder n (IsBadOperator (word_of n) t (IsBadNot room t) (IsBadElemMatch room t)) r ⊎ HasBadOperator room fs r
 
-  -- `$not` takes operators, which are a level more; any other operand is bad as it is read
+  -- The operand of `$not` is refused: it must be a document of operators, which is a level further in.
   pub IsBadNot : ℕ → Tree → Refusal → Type 0
   IsBadNot room (doc fs) r = (IsFalse (first_is_operator fs) × BreaksHere faults.BadOperand r)
       ⊎ (IsTrue (first_is_operator fs) × BreaksInside room (HasBadOperator (room - 1) fs) r)
   IsBadNot room t r = not_operator room t ≡ Err r
 
-  -- `$elemMatch` takes a document, which is a level more: operators for an element, or the pairs of a filter
+  -- The operand of `$elemMatch` is refused: it must be a document,
+  -- of operators or of the pairs of a filter, a level further in.
   pub IsBadElemMatch : ℕ → Tree → Refusal → Type 0
   IsBadElemMatch room (doc fs) r = (IsTrue (has_value_form fs) × BreaksInside room (HasBadOperator (room - 1) fs) r)
       ⊎ (IsFalse (has_value_form fs) × BreaksInside room (HasBadPair (room - 1) fs) r)
   IsBadElemMatch room t r = BreaksHere faults.BadOperand r
 
--- a pair or a member breaks the rule at the place: a filter has fifty levels at most, and its top is one
+-- A pair or a member of the document breaks this rule at this path.
+-- A filter has 50 levels at most, the top is level 1.
 abbrev pub IsBadAt : Doc → Refusal → Type 0
 IsBadAt d r = HasBadPair (most_filter_levels - 1) (fields_of d) r

@@ -1,5 +1,5 @@
--- Which filter a document is (MongoDB manual, "Query and Projection Operators"), and which pair or member of any other
--- document is the first that is no part of one.
+-- Which filter a document is (MongoDB manual, "Query and Projection Operators");
+-- and if it is none, the first pair or member that is refused.
 use Rattle.std.specs.Prelude.{ℕ, zero, ◌+◌, ◌-◌, pos, Bool, true, false, not, ◌||◌, List, [], ◌∷◌, ◌++◌, Option, Some}
 use Rattle.std.specs.Prelude.{None, Result, Ok, Err, if◌then◌else◌, decimal}
 use Rattle.std.specs.{Option.option_and_then, Option.option_map, Ordering.int_eq}
@@ -19,11 +19,12 @@ use Rattle.bd_query_filter.specs.declared.filter_of.LogicalOperator.TheVariants 
 use Rattle.bd_query_filter.specs.declared.filter_of.PlainOperator.TheVariants as plain
 use Rattle.bd_query_filter.specs.declared.filter_of.Word.TheVariants as words
 
+-- what is made of a part that is not refused; a refusal stays
 abbrev pub read_as : {A B : Type 0} → (A → B) → Result A Refusal → Result B Refusal
 read_as f (Ok x) = Ok (f x)
 read_as f (Err r) = Err r
 
--- the part under a name, or at a position, and those after it; the first refusal counts
+-- the part under a name or position and those after it, as a list; or the first refusal among them
 abbrev pub read_at : {A : Type 0} → List ℕ → Result A Refusal → Result (List A) Refusal → Result (List A) Refusal
 read_at name (Err r) rest = Err (deeper name r)
 read_at name (Ok x) (Err r) = Err r
@@ -31,75 +32,83 @@ read_at name (Ok x) (Ok xs) = Ok (x ∷ xs)
 
 -- ---- operands
 
+-- whether the operand is a regular expression, which only `$eq` takes
 abbrev pub is_regex : Tree → Bool
 is_regex (leaf (trees.regex p o)) = true
 is_regex t = false
 
--- below or above all values
+-- whether the operand is MinKey or MaxKey
 abbrev pub is_bound : Tree → Bool
 is_bound (leaf trees.min_key) = true
 is_bound (leaf trees.max_key) = true
 is_bound t = false
 
+-- whether the first name begins with `$`: then a field's value is a
+-- document of operators, not a value to equal
 abbrev pub first_is_operator : Fields → Bool
 first_is_operator no_fields = false
 first_is_operator (field n t fs) = begins_with_dollar n
 
--- a document that begins as operators do
+-- whether the value is a document whose first name begins with `$`
 abbrev pub has_operators : Tree → Bool
 has_operators (doc fs) = first_is_operator fs
 has_operators t = false
 
--- an operand, unless it is left out
+-- the operand, or the refusal `not in the profile` if it is recognised but not supported
 abbrev pub unless_left_out : Bool → Tree → Result Tree Refusal
 unless_left_out left_out t = if left_out then refuse faults.NotInProfile else Ok t
 
--- a member of the array of `$in`, `$nin` and `$all`, and the members from this position on
+-- a member of `$in`, `$nin` or `$all`: any value but a regular expression and a document of operators
 abbrev pub member_value : Tree → Result Tree Refusal
 member_value t = unless_left_out (is_regex t || has_operators t) t
 
+-- the members of `$in`, `$nin` or `$all` from this position on, or the first refusal among them
 abbrev pub member_values : ℕ → Items → Result (List Tree) Refusal
 member_values i no_items = Ok []
 member_values i (item t ts) = read_at (decimal i) (member_value t) (member_values (i + 1) ts)
 
+-- the members that `$in`, `$nin` and `$all` have: their operand must be an array, which may be empty
 abbrev pub members_of : Tree → Result (List Tree) Refusal
 members_of (array ts) = member_values 0 ts
 members_of t = refuse faults.BadOperand
 
--- a whole number that is not below zero
+-- the operand of `$size`: an int32 or int64 of 0 or more
 abbrev pub size_value : Tree → Option ℕ
 size_value (leaf (trees.int32 (pos n))) = Some n
 size_value (leaf (trees.int64 (pos n))) = Some n
 size_value t = None
 
--- a truth value, or a whole number for one
+-- the operand of `$exists`: a boolean, or an int32 or int64, of which 0 is false
 abbrev pub truth_value : Tree → Option Bool
 truth_value (leaf (trees.boolean b)) = Some b
 truth_value (leaf (trees.int32 z)) = Some (not (int_eq z (pos 0)))
 truth_value (leaf (trees.int64 z)) = Some (not (int_eq z (pos 0)))
 truth_value t = None
 
--- the kinds of one type, by its name or its number
+-- the kinds of one type of `$type`, by its name or its number
 abbrev pub type_kinds : Tree → Option (List Kind)
 type_kinds (leaf (trees.text s)) = kinds_named s
 type_kinds (leaf (trees.int32 z)) = kinds_numbered z
 type_kinds (leaf (trees.int64 z)) = kinds_numbered z
 type_kinds t = None
 
+-- the kinds of all types in an array; None if a member is no type
 abbrev pub all_kinds : Items → Option (List Kind)
 all_kinds no_items = Some []
 all_kinds (item t ts) = option_and_then (λ kinds. option_map (λ more. kinds ++ more) (all_kinds ts)) (type_kinds t)
 
--- one type, or some in an array
+-- the operand of `$type`: the kinds of one type, or of some in an array that is not empty
 abbrev pub operand_kinds : Tree → Option (List Kind)
 operand_kinds (array (item t ts)) = all_kinds (item t ts)
 operand_kinds t = type_kinds t
 
+-- the operand that was read, or the refusal `bad operand`
 abbrev pub or_bad_operand : {A : Type 0} → Option A → Result A Refusal
 or_bad_operand None = refuse faults.BadOperand
 or_bad_operand (Some x) = Ok x
 
--- `$eq` takes any value; no other takes a regular expression, and none that orders takes the bounds of the order
+-- the operator of this name and operand, or why it is refused:
+-- no regular expression but after `$eq`, and no MinKey or MaxKey after `$gt`, `$gte`, `$lt`, `$lte`
 abbrev pub plain_operator : PlainOperator → Tree → Result Operator Refusal
 plain_operator plain.Equal t = Ok (equals t)
 plain_operator plain.NotEqual t = read_as (λ v. negation_of (equals v)) (unless_left_out (is_regex t) t)
@@ -113,27 +122,31 @@ plain_operator plain.Type t = read_as has_type (or_bad_operand (operand_kinds t)
 
 -- ---- filters
 
+-- the filter that `$and`, `$or` or `$nor` is of these filters
 abbrev pub logical_filter : LogicalOperator → List Filter → Filter
 logical_filter logical.And fs = all_of (filters_from fs)
 logical_filter logical.Or fs = some_of (filters_from fs)
 logical_filter logical.Nor fs = none_of (filters_from fs)
 
--- a level more, where there is room for one
+-- a part that is a level further in, or the refusal `too deep` if no level is left
 abbrev pub inner_part : {A : Type 0} → ℕ → Result A Refusal → Result A Refusal
 inner_part zero part = refuse faults.TooDeep
 inner_part room part = part
 
--- operators for an element, and not a filter
+-- whether `$elemMatch` has operators for an element if its body begins with this name
 abbrev pub is_value_form : Word → Bool
 is_value_form (words.Logical l) = false
 is_value_form words.Field = false
 is_value_form w = true
 
+-- whether the body of `$elemMatch` is operators for an element:
+-- its first name begins with `$`, and is not `$and`, `$or` or `$nor`
 abbrev pub has_value_form : Fields → Bool
 has_value_form no_fields = false
 has_value_form (field n t fs) = is_value_form (word_of n)
 
--- a pair, by its name, of that as a path, and of its value as filters and as what a path is asked
+-- the filter that a pair is, by what its name is:
+-- `$and` and its kin of their filters, a field of its path and operators
 abbrev pub pair_filter : Word → Result Names PathFault → Result (List Filter) Refusal → Result (List Operator) Refusal
     → Result Filter Refusal
 pair_filter (words.Logical l) path filters operators = read_as (logical_filter l) filters
@@ -142,7 +155,7 @@ pair_filter words.Field (Ok path) filters operators = read_as (λ os. at_path pa
 pair_filter words.LeftOut path filters operators = refuse faults.NotInProfile
 pair_filter w path filters operators = refuse faults.UnknownOperator
 
--- a pair among operators, by its name, of its value, and of that as the body of `$not` and of `$elemMatch`
+-- the operator that a pair among operators is, by what its name is
 abbrev pub operator_of : Word → Tree → Result Operator Refusal → Result Operator Refusal → Result Operator Refusal
 operator_of (words.Plain p) t inverse element = plain_operator p t
 operator_of words.Not t inverse element = inverse
@@ -152,37 +165,42 @@ operator_of words.Field t inverse element = refuse faults.MixedOperators
 operator_of w t inverse element = refuse faults.UnknownOperator
 
 abbrev mutual
-  -- the pairs of a document; so many levels more may stand inside
+  -- the filters that the pairs of a document are, in order, or the first refusal;
+  -- `room` more levels may be inside
   pub filters_of : ℕ → Fields → Result (List Filter) Refusal
   filters_of room no_fields = Ok []
   filters_of room (field n t fs) =
       read_at n (pair_filter (word_of n) (path_of n) (operand_filters room t) (path_operators room t))
       (filters_of room fs)
 
-  -- the filters of `$and`, `$or`, `$nor`: at least one
+  -- the filters of `$and`, `$or` or `$nor`: their operand is an array that is not empty
   pub operand_filters : ℕ → Tree → Result (List Filter) Refusal
   operand_filters room (array (item t ts)) = member_filters room 0 (item t ts)
   operand_filters room t = refuse faults.BadOperand
 
+  -- the filters of `$and`, `$or` or `$nor` from this position on, or the first refusal among them
   pub member_filters : ℕ → ℕ → Items → Result (List Filter) Refusal
   member_filters room i no_items = Ok []
   member_filters room i (item t ts) = read_at (decimal i) (member_filter room t) (member_filters room (i + 1) ts)
 
+  -- one member of `$and`, `$or` or `$nor`: a document, which is a level further in
   pub member_filter : ℕ → Tree → Result Filter Refusal
   member_filter room (doc fs) = inner_part room (read_as (λ xs. all_of (filters_from xs)) (filters_of (room - 1) fs))
   member_filter room t = refuse faults.BadOperand
 
-  -- the value of a path: operators, or a value that is to be equalled
+  -- the operators that the value of a path is: those of a document of operators, else equality with the value
   pub path_operators : ℕ → Tree → Result (List Operator) Refusal
   path_operators room (doc fs) = if first_is_operator fs then operators_of room fs else Ok (equals (doc fs) ∷ [])
   path_operators room t = read_as (λ v. equals v ∷ []) (unless_left_out (is_regex t) t)
 
+  -- the operators of a path, in order, or the first refusal among them; `room` more levels may be inside
   pub operators_of : ℕ → Fields → Result (List Operator) Refusal
   operators_of room no_fields = Ok []
   operators_of room (field n t fs) =
       read_at n (operator_of (word_of n) t (not_operator room t) (element_operator room t)) (operators_of room fs)
 
-  -- `$not` takes operators; the manual has a regular expression there too, which is left out
+  -- `$not`: a document of operators, a level further in;
+  -- the manual has a regular expression there too, which is not supported
   pub not_operator : ℕ → Tree → Result Operator Refusal
   not_operator room (doc fs) =
       if first_is_operator fs
@@ -190,6 +208,8 @@ abbrev mutual
       else refuse faults.BadOperand
   not_operator room t = if is_regex t then refuse faults.NotInProfile else refuse faults.BadOperand
 
+  -- `$elemMatch`: operators for an element, or a filter for an element that is a document;
+  -- its body is a level further in
   pub element_operator : ℕ → Tree → Result Operator Refusal
   element_operator room (doc fs) =
       if has_value_form fs then inner_part room
@@ -197,6 +217,6 @@ abbrev mutual
       else inner_part room (read_as (λ xs. has_document (filters_from xs)) (filters_of (room - 1) fs))
   element_operator room t = refuse faults.BadOperand
 
--- a filter has fifty levels at most, and its top is one
+-- the filter that a document is, or its first refusal; a filter has 50 levels at most, the top is level 1
 abbrev pub filter_of : Doc → Result Filter Refusal
 filter_of d = read_as (λ xs. all_of (filters_from xs)) (filters_of (most_filter_levels - 1) (fields_of d))

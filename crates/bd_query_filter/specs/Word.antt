@@ -1,4 +1,4 @@
--- The names that stand for something in a filter (MongoDB manual, "Query and Projection Operators").
+-- The names that mean something in a filter (MongoDB manual, "Query and Projection Operators").
 use Rattle.std.specs.Prelude.{ℕ, ℤ, pos, negsuc, Bool, false, ◌==◌, List, [], ◌∷◌, codes, Option, Some, option_map}
 use Rattle.std.specs.Prelude.{if◌then◌else◌, unwrap_or}
 use Rattle.std.specs.{List.find, List.list_any, Ordering.int_eq, Str.bytes_eq}
@@ -11,10 +11,12 @@ use Rattle.bd_query_filter.specs.declared.filter_of.Word.{Word}
 use Rattle.bd_query_filter.specs.declared.filter_of.Word.TheVariants as words
 use Rattle.bd_query_filter.specs.declared.operand.Relation.TheVariants as relation
 
+-- whether a name begins with `$`, so that it is no field name in a filter
 abbrev pub begins_with_dollar : List ℕ → Bool
 begins_with_dollar [] = false
 begins_with_dollar (c ∷ cs) = c == 36
 
+-- the operators of queries that are supported, by name
 abbrev pub query_operators : List (List ℕ × Word)
 query_operators =
     (codes "$and", words.Logical logical.And) ∷ (codes "$or", words.Logical logical.Or)
@@ -30,7 +32,7 @@ query_operators =
     ∷ (codes "$type", words.Plain plain.Type)
     ∷ (codes "$not", words.Not) ∷ (codes "$elemMatch", words.ElemMatch) ∷ []
 
--- the operators of the manual that are left out, and the names of a DBRef
+-- the names that are recognised but not supported: operators of the manual, and the names of a DBRef
 abbrev pub left_out_names : List (List ℕ)
 left_out_names =
     codes "$regex" ∷ codes "$options" ∷ codes "$mod" ∷ codes "$expr" ∷ codes "$where"
@@ -40,12 +42,16 @@ left_out_names =
     ∷ codes "$bitsAnySet" ∷ codes "$bitsAllClear" ∷ codes "$bitsAnyClear" ∷ codes "$ref"
     ∷ codes "$id" ∷ codes "$db" ∷ []
 
+-- whether a name is recognised but not supported
 unfoldable pub is_left_out : List ℕ → Bool
 is_left_out name = list_any (λ left_out. bytes_eq left_out name) left_out_names
 
+-- the supported operator that a name is, if it is one
 unfoldable pub known_operator : List ℕ → Option Word
 known_operator name = option_map (λ row. row.1) (find (λ row. bytes_eq row.0 name) query_operators)
 
+-- what a name in a filter is: a field, if it does not begin with `$`;
+-- else a supported operator, one that is recognised but not supported, or unknown
 unfoldable pub word_of : List ℕ → Word
 word_of name =
     if begins_with_dollar name
@@ -67,14 +73,17 @@ query_types =
     ∷ (pos 19, codes "decimal", [])
     ∷ (negsuc 0, codes "minKey", kinds.MinKey ∷ []) ∷ (pos 127, codes "maxKey", kinds.MaxKey ∷ []) ∷ []
 
--- `number` stands for the two whole numbers
+-- the kinds of a type by its name (MongoDB manual, "$type"); `number` is int32 and int64;
+-- None if no type has the name
 unfoldable pub kinds_named : List ℕ → Option (List Kind)
 kinds_named name = if bytes_eq name (codes "number") then Some (kinds.Int32 ∷ kinds.Int64 ∷ [])
     else option_map (λ row. row.2) (find (λ row. bytes_eq row.1 name) query_types)
 
+-- the kinds of a type by its number (MongoDB manual, "$type");
+-- of double and decimal none, since they are not supported; None if no type has the number
 unfoldable pub kinds_numbered : ℤ → Option (List Kind)
 kinds_numbered number = option_map (λ row. row.2) (find (λ row. int_eq row.0 number) query_types)
 
--- `==` of kinds
+-- whether two kinds are the same
 abbrev pub is_kind : Kind → Kind → Bool
 is_kind = sameb the_type

@@ -45,6 +45,7 @@ module _ (P Q : List ℕ → Type 0) (so : (s : List ℕ) → P s → Q s) where
     fields_fit_with no_fields fits = tt
     fields_fit_with (field n t fs) fits = (so n fits.0, (fits_with t fits.1.0, fields_fit_with fs fits.1.1))
 
+-- a tree whose texts are UTF-8 also fits if nothing is asked of its texts
 pub fits_types : (t : Tree) → Fits t → FitsTypes t
 fits_types = fits_with _ _ (λ s utf8. tt)
 

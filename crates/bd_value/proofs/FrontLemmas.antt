@@ -18,14 +18,17 @@ regroup a b c = append_assoc a b c
 
 pub ruleset fronts = (seam, whole, parts, regroup)
 
+-- a prefix stays one if more is appended
 pub front_more : (a b x c : List ℕ) → StartsWith b a → c ≡ b ++ x → StartsWith c a
 front_more a b x c front is =
     let d = drop (length a) b in
     let cut : c ≡ a ++ (d ++ x) = is ∙ ap (λ (l : List ℕ). l ++ x) (sym (take-append-drop (length a) b) ∙ ap (λ (l : List ℕ). l ++ d) front) ∙ append_assoc a d x in
     ap (λ (l : List ℕ). take (length a) l) cut ∙ take-append_seam a (d ++ x)
 
+-- a prefix of a prefix is a prefix of the whole
 pub front_then : (a b c : List ℕ) → StartsWith b a → StartsWith c b → StartsWith c a
 front_then a b c front more = front_more a b (drop (length b) c) c front (sym (take-append-drop (length b) c) ∙ ap (λ (l : List ℕ). l ++ drop (length b) c) more)
 
+-- what bytes were before more was appended is a prefix of them
 pub front_all : (a x : List ℕ) {c : List ℕ} → c ≡ a ++ x → StartsWith c a
 front_all a x {c} is = ap (λ (l : List ℕ). take (length a) l) is ∙ take-append_seam a x

@@ -187,6 +187,7 @@ mutual
       (once (class_cmp a b) (bytes_cmp m k) (same_class_cmp a b) ∙ ap (λ o. ordering_then (class_cmp a b) (ordering_then (bytes_cmp m k) o)) (agree a n b (omega arith)))
       (agree_fields fs n gs (omega arith))
 
+-- the comparison order of values is total: of any two, one is less or they are equal, and it is transitive
 pub cmp_total : IsTotalOrder cmp
 cmp_total = record {
   antisymm = λ x y. let n = height x + height y in agree x n y (omega arith) ∙ (total_to n).antisymm x y ∙ ap ordering_reverse (sym (agree y n x (omega arith)));

@@ -22,17 +22,20 @@ two_maps (p ∷ ps) = ap (λ (x : Doc). pair_of p ∷ x) (two_maps ps)
 pub pairs_fold : (d : Document) → folds.fold-Document Tree Doc tree_step pairs_step d ≡ pairs d
 pairs_fold d = folds.fold_out-Document Tree Doc tree_step pairs_step d ∙ two_maps d.pairs.items
 
+-- the tree of a document in memory is the document of its pairs
 pub tree_of-Doc : (d : Document) → tree_of (values.Doc d) ≡ doc (fields_of (pairs d))
 tree_of-Doc d =
     let e : tree_of (values.Doc d) ≡ doc (fields_of (folds.fold-Document Tree Doc tree_step pairs_step d)) = search (rules, folds.the_lemmas) in
     e ∙ ap (λ (x : Doc). doc (fields_of x)) (pairs_fold d)
 
+-- the tree of an array in memory is the array of its elements' trees
 pub tree_of-Array : (v : Vec Value Global) → tree_of (values.Array v) ≡ array (items_of (map tree_of v.items))
 tree_of-Array v = search (rules, folds.the_lemmas)
 
 pub pairs_length : (d : Document) → length (pairs d) ≡ length d.pairs.items
 pairs_length d = length-map d.pairs.items pair_of
 
+-- the tree of code with scope in memory is its code and the pairs of its scope
 pub tree_of-CodeScope : (s : String Global) (d : Document) → tree_of (values.CodeScope s d) ≡ code_scope (string_bytes s) (fields_of (pairs d))
 tree_of-CodeScope s d =
     let e : tree_of (values.CodeScope s d) ≡ code_scope (string_bytes s) (fields_of (folds.fold-Document Tree Doc tree_step pairs_step d)) = search (rules, folds.the_lemmas) in
@@ -46,6 +49,7 @@ pair_at d i p lt is =
 
 -- ---- going down a document and an array
 
+-- from the index of a member on, a list is that member and those after it
 pub next_at : {A : Type 0} (xs : List A) (i : ℕ) (x : A) → slice_get xs i ≡ Some x → drop i xs ≡ x ∷ drop (i + 1) xs
 next_at [] i x is = absurd cc
 next_at (y ∷ xs) zero x is = cc
@@ -58,21 +62,26 @@ tree_at vs i v lt is = slice_get-map tree_of vs i ∙ rw (slice_get-get_or vs i 
 -- ---- the first pair of a name
 
 module _ (name : List ℕ) (ps : Doc) (i : ℕ) (p : Pair) (total : Option Tree) (at : slice_get ps i ≡ Some p) (so_far : first_of name (drop i ps) ≡ total) where
+  -- a pair of another name does not change which value is the first of the name
   pub skipped : false ≡ bytes_eq p.0 name → first_of name (drop (i + 1) ps) ≡ total
   skipped other = sym (ap (first_of name) (next_at ps i p at) ∙ rw (← other) refl) ∙ so_far
 
+  -- a pair of the name, with none before it, has the first value of the name
   pub found : true ≡ bytes_eq p.0 name → total ≡ Some p.1
   found same = sym so_far ∙ ap (first_of name) (next_at ps i p at) ∙ rw (← same) refl
 
 -- ---- nodes
 
+-- a list of values put into a tree and taken out again is unchanged
 pub list_of-items_of : (ts : List Tree) → list_of (items_of ts) ≡ ts
 list_of-items_of [] = refl
 list_of-items_of (t ∷ ts) = ap (λ (x : List Tree). t ∷ x) (list_of-items_of ts)
 
+-- a node over a document in memory stands for the tree of its pairs
 pub is_doc : (s : node.Tree) (v : Bor Value) (d : Document) → s ≡ nodes.Value v → v.now ≡ values.Doc d → held s ≡ doc (fields_of (pairs d))
 is_doc s v d is e = ap held is ∙ ap tree_of e ∙ tree_of-Doc d
 
+-- a node over an array in memory stands for the tree of its values
 pub is_array : (s : node.Tree) (v : Bor Value) (xs : Vec Value Global) → s ≡ nodes.Value v → v.now ≡ values.Array xs → held s ≡ array (items_of (map tree_of xs.items))
 is_array s v xs is e = ap held is ∙ ap tree_of e ∙ tree_of-Array xs
 

@@ -11,7 +11,7 @@ use Rattle.bd_value.specs.declared.node.Kind.TheVariants as kinds
 use Rattle.bd_value.specs.declared.node.Class.TheVariants as classes
 use Rattle.bd_value.specs.declared.order.Rank as memory
 
--- the seventeen classes of values
+-- the class of a kind in the comparison order: one of seventeen
 abbrev pub class_of_kind : Kind → Class
 class_of_kind kinds.MinKey = classes.MinKey
 class_of_kind kinds.Undefined = classes.Undefined
@@ -33,10 +33,11 @@ class_of_kind kinds.Code = classes.Code
 class_of_kind kinds.CodeScope = classes.CodeScope
 class_of_kind kinds.MaxKey = classes.MaxKey
 
+-- the class by which a value is compared first; int32 and int64 share one, and so do strings and symbols
 abbrev pub class_of : Tree → Class
 class_of t = class_of_kind (kind_of t)
 
--- the place of a class among them, least first
+-- the position of a class in the comparison order (MongoDB manual, "Comparison/Sort Order"); 0 is the least
 abbrev pub class_rank : Class → ℕ
 class_rank classes.MinKey = 0
 class_rank classes.Undefined = 1
@@ -56,8 +57,8 @@ class_rank classes.Code = 14
 class_rank classes.CodeScope = 15
 class_rank classes.MaxKey = 16
 
--- What a scalar is compared by within its class: a number, a size, a lesser number, bytes, and more bytes, in turn.
--- What its class has not is 0 or empty.
+-- What a scalar is compared by within its class: a number, a size, a lesser number, bytes, and more bytes,
+-- in turn. What its class does not use is 0 or empty.
 pub record Rank : Type 0 where
   pub number : ℤ
   pub size : ℕ
@@ -65,16 +66,21 @@ pub record Rank : Type 0 where
   pub bytes : List ℕ
   pub more : List ℕ
 
+-- the rank of a value that is compared by one number alone
 abbrev pub by_number : ℤ → Rank
 by_number n = record { number = n; size = 0; lesser = 0; bytes = []; more = [] }
 
+-- the rank of a value that is compared by bytes, and if these are equal by more bytes
 abbrev pub by_bytes : List ℕ → List ℕ → Rank
 by_bytes first second = record { number = pos 0; size = 0; lesser = 0; bytes = first; more = second }
 
--- the size that BSON writes: subtype 02 has four bytes more, which count the rest
+-- the size by which binary is compared, as BSON writes it:
+-- in subtype 02 four bytes more, which count the rest
 abbrev pub binary_size : ℕ → List ℕ → ℕ
 binary_size subtype payload = if subtype == 2 then length payload + 4 else length payload
 
+-- what a scalar is compared by in its class: a timestamp by seconds, then increment; binary by size,
+-- then subtype, then data; a boolean as 0 or 1. In a class of one value, such as null, all ranks are equal.
 abbrev pub scalar_rank : Scalar → Rank
 scalar_rank (int32 n) = by_number n
 scalar_rank (int64 n) = by_number n
@@ -92,45 +98,49 @@ scalar_rank (db_pointer space id) = by_bytes space id
 scalar_rank (code s) = by_bytes s []
 scalar_rank _ = by_number (pos 0)
 
--- of a scalar, or of the code of code with scope
+-- what a scalar, or the code of code with scope, is compared by within its class
 abbrev pub own_rank : Own → Rank
 own_rank (own s) = scalar_rank s
 own_rank (own_code s) = by_bytes s []
 
--- a rank of the code, without where its bytes lie
+-- the rank that one in memory stands for, wherever its bytes are
 abbrev pub rank_view : memory.Rank → Rank
 rank_view r = record { number = r.number; size = r.size; lesser = r.lesser; bytes = r.bytes.now; more = r.more.now }
 
--- texts by their UTF-8 bytes, and bytes: a proper prefix is less
+-- the order of texts, by their UTF-8 bytes, and of bytes: a proper prefix is less
 abbrev pub bytes_cmp : List ℕ → List ℕ → Ordering
 bytes_cmp a b = slice_cmp nat_cmp a b
 
+-- the order of two scalars of one class: the first part of their ranks that differs decides
 abbrev pub rank_cmp : Rank → Rank → Ordering
 rank_cmp a b =
     ordering_then (int_cmp a.number b.number)
     (ordering_then (ordering_then (nat_cmp a.size b.size) (nat_cmp a.lesser b.lesser))
     (ordering_then (bytes_cmp a.bytes b.bytes) (bytes_cmp a.more b.more)))
 
+-- the order of the classes of two values: Equal for an int32 and an int64, or for a string and a symbol
 abbrev pub class_cmp : Tree → Tree → Ordering
 class_cmp a b = nat_cmp (class_rank (class_of a)) (class_rank (class_of b))
 
--- what a value of a class holds; of any other value nothing
+-- the rank of a scalar, or of code with scope by its code; a document and an array have the rank of 0
 abbrev pub rank_in : Tree → Rank
 rank_in (leaf s) = scalar_rank s
 rank_in (code_scope s fs) = by_bytes s []
 rank_in _ = by_number (pos 0)
 
+-- the fields of a document, or of the scope of code with scope; any other value has none
 abbrev pub fields_in : Tree → Fields
 fields_in (doc fs) = fs
 fields_in (code_scope s fs) = fs
 fields_in _ = no_fields
 
+-- the elements of an array; any other value has none
 abbrev pub items_in : Tree → Items
 items_in (array ts) = ts
 items_in _ = no_items
 
 abbrev mutual
-  -- two values of one class: code with scope by its code, then by its scope
+  -- the order of two values of one class; code with scope by its code, then by its scope
   pub same_class_cmp : Tree → Tree → Ordering
   same_class_cmp (leaf s) b = rank_cmp (scalar_rank s) (rank_in b)
   same_class_cmp (doc fs) b = fields_cmp fs (fields_in b)
@@ -138,7 +148,8 @@ abbrev mutual
   same_class_cmp (code_scope s fs) b =
       ordering_then (rank_cmp (by_bytes s []) (rank_in b)) (fields_cmp fs (fields_in b))
 
-  -- pair by pair: the class of the value, then the name, then the value; no further pair is less
+  -- the order of two documents, pair by pair: by the class of the value, then the name, then the value;
+  -- the one without a further pair is less
   pub fields_cmp : Fields → Fields → Ordering
   fields_cmp no_fields no_fields = Equal
   fields_cmp no_fields (field n b gs) = Less
@@ -147,7 +158,7 @@ abbrev mutual
       ordering_then (ordering_then (class_cmp a b) (ordering_then (bytes_cmp m n) (same_class_cmp a b)))
       (fields_cmp fs gs)
 
-  -- element by element; a proper prefix is less
+  -- the order of two arrays, element by element; a proper prefix is less
   pub items_cmp : Items → Items → Ordering
   items_cmp no_items no_items = Equal
   items_cmp no_items (item b us) = Less
@@ -155,12 +166,16 @@ abbrev mutual
   items_cmp (item a ts) (item b us) =
       ordering_then (ordering_then (class_cmp a b) (same_class_cmp a b)) (items_cmp ts us)
 
--- two pairs of a document
+-- the order of two pairs of documents: by the class of the value, then the name, then the value
 abbrev pub pair_cmp : List ℕ → Tree → List ℕ → Tree → Ordering
 pair_cmp m a n b = ordering_then (class_cmp a b) (ordering_then (bytes_cmp m n) (same_class_cmp a b))
 
+-- The comparison order of any two values: by class, then within the class. Equal does not mean identical:
+-- an int32 5 and an int64 5 compare as equal.
 abbrev pub cmp : Tree → Tree → Ordering
 cmp a b = ordering_then (class_cmp a b) (same_class_cmp a b)
 
+-- whether two values compare as equal, as `$eq` asks:
+-- int32 5 and int64 5 do, a string and a symbol of one text do
 abbrev pub equal : Tree → Tree → Bool
 equal a b = is_eq (cmp a b)

@@ -92,6 +92,7 @@ named all None r size x h is = absurd cc
 named all (Some t) None size x h is = absurd cc
 named all (Some t) (Some k) size x h is = sized all t k (size t k) x (λ n e. h t k n refl e) is
 
+-- the element at the start of bytes fits into them, and its value is not shorter than its type asks
 pub front_fits : (bytes : List ℕ) (x : ElementType × ℕ × ℕ) → front bytes ≡ Some x → FrontFits (length bytes) x
 unfolding front
 front_fits [] x is = absurd cc
@@ -164,6 +165,7 @@ scope_cases count size n at false is h =
     let e : 8 + count ≡ at = cc in
     let f : 8 + count + 5 ≤ size = grind (arith, nat_tests, is) in (omega arith, omega arith)
 
+-- the scope of code with scope begins at byte 8 or later, and at least five bytes before the end
 pub scope_inside : (value : List ℕ) (at : ℕ) → scope_at value ≡ Some at → (8 ≤ at) × (at + 5 ≤ length value)
 unfolding scope_at
 scope_inside value at h =
@@ -194,10 +196,12 @@ nested_keeps Is others keeps (suc room) holders.CodeScope path value new some is
 pub long_enough : (bytes : List ℕ) → nat_lt (length bytes) 5 ≡ false → 5 ≤ length bytes
 long_enough bytes at = grind (arith, nat_tests)
 
+-- what may be written of a document's bytes, by whether they are fewer than five
 abbrev pub WholeTurn : Writes → Others → List ℕ → List ℕ → Bool → Type 0
 WholeTurn Is others bytes new true = new ≡ bytes
 WholeTurn Is others bytes new false = IsNested Is others 200 holders.Document [] bytes new
 
+-- what may be written of bytes is what may be written of a document, if there are five or more
 pub to_whole : (Is : Writes) (others : Others) (bytes new : List ℕ) → IsRewritten Is others bytes new → WholeTurn Is others bytes new (nat_lt (length bytes) 5)
 unfolding IsRewritten
 to_whole Is others bytes new = elim (nat_lt (length bytes) 5) as (λ b. (elim b [ true ↦ new ≡ bytes | false ↦ IsNested Is others 200 holders.Document [] bytes new ]) → WholeTurn Is others bytes new b) [ true ↦ λ h. h | false ↦ λ h. h ]

@@ -29,6 +29,7 @@ bytes_take n bytes h i = elim (cases_lt i n) [
 
 -- ---- a writer that keeps what is not refused
 
+-- A number that is not refused stays as it is, and so does what cannot be passed on.
 pub record Same (Is : Writes) (others : Others) (refuses : Refuses) : Type 0 where
   pub element : (room : ℕ) (path : List ℕ) (t : ElementType) (head value new : List ℕ) → refuses room path t value ≡ None → Is path t head value new → new ≡ head ++ value
   pub rest : (bytes : List ℕ) → others bytes ≡ bytes
@@ -212,6 +213,7 @@ nested_same Is others refuses same (suc room) holders.Array path at value new so
 nested_same Is others refuses same (suc room) holders.CodeScope path at value new some counts fits clear is =
     scoped_same (IsNested Is others room holders.Document path) (refused_nested refuses room holders.Document path) (λ a v n s c b e i. nested_same Is others refuses same room holders.Document path a v n s c b e i) at value new some counts fits clear is
 
+-- a document in which no number is refused stays as it is
 pub rewritten_same : (Is : Writes) (others : Others) (refuses : Refuses) → Same Is others refuses → (bytes new : List ℕ) → number_of bytes ≡ length bytes → IsBytes bytes
     → first_refused refuses bytes ≡ None → IsRewritten Is others bytes new → new ≡ bytes
 unfolding first_refused holder_least

@@ -55,6 +55,7 @@ Turned Is others nested own n bytes f new = elim f [
       × AreElements Is others nested own n (drop x.2 rest) two × (new ≡ one ++ two)
 ]
 
+-- what may be written of elements is what may be written of the first one and of the others
 pub to_turn : (Is : Writes) (others : Others) (nested : Nested) (own : List ℕ → List ℕ) (n b : ℕ) (bytes new : List ℕ) → AreElements Is others nested own (suc n) (b ∷ bytes) new → Turn Is others nested own n (b ∷ bytes) (front (b ∷ bytes)) new
 unfolding AreElements
 to_turn Is others nested own n b bytes new = elim (front (b ∷ bytes)) as (λ f. Turned Is others nested own n (b ∷ bytes) f new → Turn Is others nested own n (b ∷ bytes) f new) [ None ↦ λ h. h | Some x ↦ λ h. h ]
@@ -63,6 +64,7 @@ pub from_turn : (Is : Writes) (others : Others) (nested : Nested) (own : List �
 unfolding AreElements
 from_turn Is others nested own n b bytes new = elim (front (b ∷ bytes)) as (λ f. Turn Is others nested own n (b ∷ bytes) f new → Turned Is others nested own n (b ∷ bytes) f new) [ None ↦ λ h. h | Some x ↦ λ h. h ]
 
+-- after the last turn the rest stays as it is
 pub no_turn : (Is : Writes) (others : Others) (nested : Nested) (own : List ℕ → List ℕ) (bytes new : List ℕ) → AreElements Is others nested own zero bytes new → new ≡ bytes
 unfolding AreElements
 no_turn Is others nested own bytes new h = h
@@ -72,6 +74,7 @@ unfolding AreElements
 none Is others nested own zero = refl
 none Is others nested own (suc n) = refl
 
+-- of no elements nothing is written
 pub none_only : (Is : Writes) (others : Others) (nested : Nested) (own : List ℕ → List ℕ) (n : ℕ) (new : List ℕ) → AreElements Is others nested own n [] new → new ≡ []
 unfolding AreElements
 none_only Is others nested own zero new h = h
@@ -127,6 +130,7 @@ Comes Is others nested own bytes rest old out = (more : List ℕ) → AreElement
 pub begins : (Is : Writes) (others : Others) (nested : Nested) (own : List ℕ → List ℕ) (bytes old : List ℕ) → Comes Is others nested own bytes bytes old old
 begins Is others nested own bytes old = λ more h. (more, h, refl)
 
+-- after one more element is written, what is written is of the bytes up to the next
 pub stepped : (Is : Writes) (others : Others) (nested : Nested) (own : List ℕ → List ℕ) (bytes old out now rest head more value left path : List ℕ) (t : ElementType) (k n : ℕ)
     → Comes Is others nested own bytes rest old out → Some (t, k, n) ≡ front rest
     → head ≡ take k rest → more ≡ drop k rest → value ≡ take n more → left ≡ drop n more → path ≡ own head → Adds (IsElement Is nested path t head value) out now
@@ -232,6 +236,7 @@ from_scope document value new = elim (scope_at value) as (λ o. ScopeTurn docume
   | Some at ↦ (scope : List ℕ) × document (drop at value) scope × (new ≡ number (at + length scope) ++ (take (at - 4) (drop 4 value) ++ scope))
 ])) [ None ↦ λ h. h | Some at ↦ λ h. h ]
 
+-- what may be written of code with scope is what may be written of its scope, behind its code
 pub to_scope : (document : List ℕ → List ℕ → Type 0) (value new : List ℕ) → IsScoped document value new → ScopeTurn document value new (scope_at value)
 unfolding IsScoped
 to_scope document value new = elim (scope_at value) as (λ o. (elim o [
@@ -290,6 +295,7 @@ pub as_part : (Is : Writes) (nested : Nested) (path : List ℕ) (type : ElementT
     → Adds (IsPart Is nested (Some part) path type head value) a c → Adds (IsElement Is nested path type head value) a c
 as_part Is nested path type part head value a c is h = (h.0, part_of_element Is nested path type (Some part) head value h.0 is h.1, h.2)
 
+-- an element that has values in it has the bytes that its kind needs at least
 pub holds_least : (type : ElementType) (holder : Holder) → part_of type ≡ Some (parts.Values holder) → holder_least holder ≤ least type
 unfolding part_of least holder_least
 holds_least (Kept kinds.Doc) holders.Document is = omega arith

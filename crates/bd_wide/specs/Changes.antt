@@ -1,4 +1,4 @@
--- What a writer of numbers says of itself, so that the walker does less.
+-- What a writer of numbers may promise of itself, so that the walker has less to do.
 use Rattle.std.specs.Prelude.{◌≡◌, ◌⊎◌, ℕ, List, ◌∷◌, ◌++◌, drop, Some, None}
 use Rattle.bd_bson_view.specs.declared.raw_parts.ElementType.{ElementType}
 use Rattle.bd_wide.specs.declared.element.Change.{Change}
@@ -6,29 +6,29 @@ use Rattle.bd_wide.specs.declared.element.Change.TheVariants as changes
 use Rattle.bd_wide.specs.declared.element.Part.TheVariants as parts
 use Rattle.bd_wide.specs.Rewritten.{Writes, part_of}
 
--- what may be written is the same at every path
+-- What may be written of a number is the same at every path.
 abbrev pub IgnoresPaths : Writes → Type 0
 IgnoresPaths Is = (path other : List ℕ) (type : ElementType) (head value new : List ℕ)
     → Is path type head value new → Is other type head value new
 
--- a path that serves as the other: it is the other, or paths are ignored
+-- What may be written at the one path may be written at the other: they are equal, or paths are ignored.
 abbrev pub ServesAs : Writes → List ℕ → List ℕ → Type 0
 ServesAs Is path other = (path ≡ other) ⊎ IgnoresPaths Is
 
--- an element with a number of this type may stay as it is
+-- An element with a number of this type may stay as it is.
 abbrev pub Leaves : Writes → ElementType → Type 0
 Leaves Is type = (path head value : List ℕ) → Is path type head value (head ++ value)
 
--- so may each element of this type
+-- An element of this type may stay as it is: it is not looked into, or is a number that may stay.
 abbrev pub Stays : Writes → ElementType → Type 0
 Stays Is type = (part_of type ≡ None) ⊎ ((part_of type ≡ Some parts.Number) × Leaves Is type)
 
--- an element with a number of this type may get this type, and otherwise stay as it is
+-- An element with a number of this type may get this type byte and stay as it is otherwise.
 abbrev pub Retypes : Writes → ElementType → ℕ → Type 0
 Retypes Is type byte = (path head value : List ℕ)
     → Is path type head value (byte ∷ (drop 1 head ++ value))
 
--- such a change of an element of this type is one that may be made
+-- This change of an element of this type may be made.
 abbrev pub Allows : Writes → ElementType → Change → Type 0
 Allows Is type changes.Nothing = Stays Is type
 Allows Is type (changes.Type byte) = (part_of type ≡ Some parts.Number) × Retypes Is type byte

@@ -18,7 +18,7 @@ use Rattle.bd_wide.specs.declared.order.Outcome.TheVariants as outcomes
 use Rattle.bd_wide.specs.declared.order.Unfiltered.TheVariants as unfiltered
 use Rattle.bd_wide.specs.declared.order.Unordered.TheVariants as unordered
 
--- the number that a value is, if it is one
+-- the number that a value of this type is, if it is one
 unfoldable pub number_at : ElementType → List ℕ → Option Number
 number_at Double value = Some (numbers.Double (long_of value))
 number_at Decimal128 value = Some (numbers.Decimal128 (long_of value) (long_of (drop 8 value)))
@@ -26,76 +26,84 @@ number_at (Kept kinds.Int32) value = Some (numbers.Whole (cast_signed w32 (numbe
 number_at (Kept kinds.Int64) value = Some (numbers.Whole (cast_signed w64 (long_of value)))
 number_at (Kept _) value = None
 
--- an int64, or why there is none
+-- an int64, or the refusal of a number that has no code
 abbrev pub coded : Refusal → Option ℤ → Outcome
 coded why (Some z) = outcomes.Int64 z
 coded why None = outcomes.Nothing why
 
--- what becomes of a number that is asked for, with a power of ten or without
+-- what becomes of a number at a path that is asked for, with a power of ten or without
 abbrev pub code_at : Option ℕ → Number → Outcome
 code_at None number = coded NoDouble (number_code None (value_of number))
 code_at (Some power) number = coded NotWhole (number_code (Some power) (value_of number))
 
--- what becomes of any other: an int32 and an int64 stay
+-- what becomes of a number at any other path: an int32 and an int64 stay,
+-- others become an int64 if they are whole
 abbrev pub whole_at : ElementType → Number → Outcome
 whole_at (Kept kind) number = outcomes.Itself
 whole_at _ number = coded NotWhole (whole_code (value_of number))
 
--- by what is asked for at its path
+-- what becomes of a value, by what is asked for at its path
 abbrev pub outcome_of : Option (Option ℕ) → ElementType → Option Number → Outcome
 outcome_of asked type None = outcomes.Itself
 outcome_of None type (Some number) = whole_at type number
 outcome_of (Some power) type (Some number) = code_at power number
 
+-- what `order` makes of a value: an int64, its code if its path is asked for, else its own value; or itself;
+-- or nothing, for a reason
 abbrev pub outcome_at : List OrderPath → List ℕ → ElementType → List ℕ → Outcome
 outcome_at paths path type value = outcome_of (asked_at paths path) type (number_at type value)
 
--- an element with an int64, under the name of another element
+-- an element with this int64, under the name of another element
 unfoldable pub int64_element : List ℕ → ℤ → List ℕ
 int64_element head z = 18 ∷ (drop 1 head ++ long (cast_unsigned w64 z))
 
+-- the element with what became of its number; one that is refused stays
 abbrev pub became : List ℕ → List ℕ → Outcome → List ℕ
 became head value outcomes.Itself = head ++ value
 became head value (outcomes.Int64 z) = int64_element head z
 became head value (outcomes.Nothing why) = head ++ value
 
+-- This is what `order` writes of an element with a number, by the paths that are asked for.
 abbrev pub IsOrdered : List OrderPath → Writes
 IsOrdered paths path type head value new = new ≡ became head value (outcome_at paths path type value)
 
--- what becomes nothing is refused
+-- why a number is refused, if nothing becomes of it
 abbrev pub refusal_in : Outcome → Option Refusal
 refusal_in outcomes.Itself = None
 refusal_in (outcomes.Int64 z) = None
 refusal_in (outcomes.Nothing why) = Some why
 
+-- why `order` refuses a number: no int64 stands for it at its path
 abbrev pub refuses_unordered : List OrderPath → Refuses
 refuses_unordered paths room path type value = refusal_in (outcome_at paths path type value)
 
 -- ---- a document
 
--- a document with one field more before its last byte: `~n`, an int64, the number of the document
+-- the document with one more field at its end: `~n`, an int64, its number n in the dump
 unfoldable pub numbered : ℕ → List ℕ → List ℕ
 numbered n document = number (length document + 12)
     ++ (drop 4 (take (length document - 1) document) ++ (18 ∷ (codes "~n" ++ 0 ∷ long n) ++ drop (length document - 1) document))
 
--- what may be written of a document with this number, however long it is
+-- This may be written of the document with number n, however long it is.
 abbrev pub IsNumbered : List OrderPath → ℕ → List ℕ → List ℕ → Type 0
 IsNumbered paths n bytes new = (document : List ℕ)
     × IsRewritten (IsOrdered paths) (λ others. others) bytes document × (new ≡ numbered n document)
 
--- no number of it is refused, and it is not too long
+-- This may be written of the document with number n:
+-- none of its numbers is refused, and it does not get too long.
 abbrev pub IsOrderedDocument : List OrderPath → ℕ → List ℕ → List ℕ → Type 0
 IsOrderedDocument paths n bytes new = (first_refused (refuses_unordered paths) bytes ≡ None)
     × IsNumbered paths n bytes new × (length new ≤ longest_document)
 
--- why nothing may be written of it, and the path of a refused number
+-- Why nothing may be written of the document: its first number that is refused,
+-- at this path, or it gets too long.
 abbrev pub IsUnordered : List OrderPath → ℕ → List ℕ → List ℕ → Unordered → Type 0
 IsUnordered paths n bytes path (unordered.Number found) =
     first_refused (refuses_unordered paths) bytes ≡ Some (record { at = found.at; path = path; why = found.why })
 IsUnordered paths n bytes path unordered.TooLong = (first_refused (refuses_unordered paths) bytes ≡ None)
     × ((new : List ℕ) × IsNumbered paths n bytes new × (longest_document < length new))
 
--- or memory ran out
+-- Why nothing was written of a document: for this reason, or memory ran out.
 abbrev pub IsUnfiltered : (Unordered → Type 0) → Unfiltered → Type 0
 IsUnfiltered Is unfiltered.NoMemory = Unit {0}
 IsUnfiltered Is (unfiltered.Refused why) = Is why

@@ -1,4 +1,4 @@
--- The first number of a document that is refused, from left to right, and where it stands.
+-- The first number of a document that is refused, from left to right, and where it is.
 use Rattle.std.specs.Prelude.{◌≡◌, ℕ, zero, suc, ◌+◌, ◌-◌, List, [], ◌∷◌, ◌++◌, length, take, drop, Option, Some, None, option_map, true, false, nat_lt, if◌then◌else◌}
 use Rattle.std.specs.Io.{StartsWith}
 use Rattle.bd_bson_view.specs.declared.raw_parts.ElementType.{ElementType}
@@ -14,40 +14,46 @@ use Rattle.bd_wide.specs.Rewritten.{front, part_of, path_of, scope_at, separator
 abbrev pub Refuses : Type 0
 Refuses = ℕ → List ℕ → ElementType → List ℕ → Option Refusal
 
--- a refused number: how many bytes stand before its element, its path, and why it is refused
+-- a refused number: the byte offset of its element in the document, its path, and why it is refused
 pub record Refused : Type 0 where
   pub at : ℕ
   pub path : List ℕ
   pub why : Refusal
 
+-- the refused number at this byte offset and path, if there is a reason
 abbrev pub refused_at : ℕ → List ℕ → Option Refusal → Option Refused
 refused_at at path why = option_map (λ w. record { at = at; path = path; why = w }) why
 
 -- ---- by recursion, as `IsRewritten`; the number is how many bytes stand before what is looked at
 
--- what holds values: by its kind, and by its path as `path_of` has it
+-- the first refused number in what holds values, by its kind, its path as `path_of` has it,
+-- its offset and its bytes
 abbrev pub Nested : Type 0
 Nested = Holder → List ℕ → ℕ → List ℕ → Option Refused
 
--- an element with its path, a head of so many bytes and a value
+-- the first refused number in an element, by its type, its path, its offset,
+-- the size of its head, and its value
 abbrev pub Element : Type 0
 Element = ElementType → List ℕ → ℕ → ℕ → List ℕ → Option Refused
 
--- the first of two
+-- the first of two refused numbers, if there is one
 abbrev pub first_of_two : Option Refused → Option Refused → Option Refused
 first_of_two None next = next
 first_of_two (Some first) next = Some first
 
--- by what of it is looked into
+-- the first refused number in an element, by what of it is looked into
 abbrev pub refused_part : (List ℕ → ElementType → List ℕ → Option Refusal) → Nested → Option Part → Element
 refused_part refuses nested None type path at k value = None
 refused_part refuses nested (Some parts.Number) type path at k value = refused_at at path (refuses path type value)
 refused_part refuses nested (Some (parts.Values holder)) type path at k value =
     nested holder (path ++ separator holder) (at + k) value
 
+-- the first refused number in an element: the element itself, or one inside it
 unfoldable pub refused_element : (List ℕ → ElementType → List ℕ → Option Refusal) → Nested → Element
 refused_element refuses nested type path at k value = refused_part refuses nested (part_of type) type path at k value
 
+-- the first refused number among elements, from left to right, up to the first that cannot be passed on.
+-- The first number bounds the turns: the count of the bytes is always enough.
 unfoldable pub refused_elements : Element → (List ℕ → List ℕ) → ℕ → ℕ → List ℕ → Option Refused
 refused_elements element own zero at bytes = None
 refused_elements element own (suc n) at [] = None
@@ -59,13 +65,18 @@ refused_elements element own (suc n) at (b ∷ bytes) = elim (front (b ∷ bytes
       (refused_elements element own n (at + x.1 + x.2) (drop x.2 rest))
 ]
 
+-- the first refused number in a document or an array,
+-- whose elements stand between its length and its last byte
 unfoldable pub refused_body : Element → (List ℕ → List ℕ) → ℕ → List ℕ → Option Refused
 refused_body element own at value =
     let inner = take (length value - 5) (drop 4 value) in refused_elements element own (length inner) (at + 4) inner
 
+-- the first refused number in the scope of code with scope;
+-- none if the scope does not end where the value does
 unfoldable pub refused_scope : (ℕ → List ℕ → Option Refused) → ℕ → List ℕ → Option Refused
 refused_scope document at value = elim (scope_at value) [ None ↦ None | Some k ↦ document (at + k) (drop k value) ]
 
+-- the first refused number in what holds values, at most `room` levels deep
 unfoldable pub refused_nested : Refuses → ℕ → Nested
 refused_nested refuses zero holder path at value = None
 refused_nested refuses (suc room) holders.Document path at value =
@@ -75,16 +86,16 @@ refused_nested refuses (suc room) holders.Array path at value =
 refused_nested refuses (suc room) holders.CodeScope path at value =
     refused_scope (refused_nested refuses room holders.Document path) at value
 
--- of the document that all of the bytes are
+-- the first refused number of a document, which is all of the bytes
 unfoldable pub first_refused : Refuses → List ℕ → Option Refused
 first_refused refuses bytes = if nat_lt (length bytes) 5 then None else refused_nested refuses 200 holders.Document [] 0 bytes
 
--- what is found, and the path where there is none is as it was
+-- This number was found to be refused, and the path is its path; if none was, the path is unchanged.
 abbrev pub Finds : Option Refused → List ℕ → List ℕ → Option Found → Type 0
 Finds refused old new None = (refused ≡ None) × (new ≡ old)
 Finds refused old new (Some f) = refused ≡ Some (record { at = f.at; path = new; why = f.why })
 
--- the same, but where there is none the path may have got longer
+-- This number was found to be refused, and the path is its path; if none was, the path may have grown.
 abbrev pub FindsPlaced : Option Refused → List ℕ → List ℕ → Option Found → Type 0
 FindsPlaced refused old new None = (refused ≡ None) × StartsWith new old
 FindsPlaced refused old new (Some f) = refused ≡ Some (record { at = f.at; path = new; why = f.why })

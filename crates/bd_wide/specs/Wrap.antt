@@ -9,51 +9,54 @@ use Rattle.bd_wide.specs.declared.find.Refusal.TheVariants.{TooDeep}
 use Rattle.bd_wide.specs.declared.wrap.Number.{Number}
 use Rattle.bd_wide.specs.declared.wrap.Number.TheVariants as numbers
 
--- the text of a number
+-- The text is that of the double or the decimal128.
 abbrev pub IsNumberText : Number → List ℕ → Type 0
 IsNumberText (numbers.Double bits) text = IsDoubleText bits text
 IsNumberText (numbers.Decimal128 low high) text = text ≡ decimal128_text low high
 
--- the name of its wrapper
+-- the name that Extended JSON v2 wraps the number in
 abbrev pub wrapper_name : Number → List ℕ
 wrapper_name (numbers.Double bits) = codes "$numberDouble"
 wrapper_name (numbers.Decimal128 low high) = codes "$numberDecimal"
 
--- `{"$numberDouble": text}`, as BSON
+-- the BSON document with one string under this name, such as `{"$numberDouble":text}`
 unfoldable pub wrapper : List ℕ → List ℕ → List ℕ
 wrapper name text = framed (2 ∷ (name ++ 0 ∷ string text))
 
+-- The bytes are the BSON document of Extended JSON v2 for the number:
+-- `$numberDouble` or `$numberDecimal` with its text.
 abbrev pub IsWrapper : Number → List ℕ → Type 0
 IsWrapper number new = (text : List ℕ) × IsNumberText number text × (new ≡ wrapper (wrapper_name number) text)
 
--- its text as a string of BSON
+-- The bytes are the text of the number as a BSON `string`.
 abbrev pub IsStringOf : Number → List ℕ → Type 0
 IsStringOf number new = (text : List ℕ) × IsNumberText number text × (new ≡ string text)
 
--- an element with such a document, under the name of another element
+-- The bytes are an element with the document that wraps the number, under the name of another element.
 abbrev pub IsElementOf : List ℕ → Number → List ℕ → Type 0
 IsElementOf head number new = (document : List ℕ) × IsWrapper number document × (new ≡ 3 ∷ (drop 1 head ++ document))
 
--- an element with a double or a decimal128 becomes such an element
+-- This is what `wrap` writes of an element with a number:
+-- a double or decimal128 as its document, any other unchanged.
 abbrev pub IsWrapped : Writes
 IsWrapped path Double head value new = IsElementOf head (numbers.Double (long_of value)) new
 IsWrapped path Decimal128 head value new = IsElementOf head (numbers.Decimal128 (long_of value) (long_of (drop 8 value))) new
 IsWrapped path (Kept _) head value new = new ≡ head ++ value
 
--- what is wrapped needs a level more
+-- why `wrap` keeps a document: a double or decimal128 at the deepest level, whose document would be too deep
 abbrev pub refuses_deepest : Refuses
 refuses_deepest zero path Double value = Some TooDeep
 refuses_deepest zero path Decimal128 value = Some TooDeep
 refuses_deepest room path type value = None
 
--- what may be written of a document: it is wrapped, or it stays as it is where it would be too deep or too long
+-- This is what `wrap` writes of a document: wrapped, or unchanged if it would be too deep or too long.
 abbrev pub IsWrappedDocument : List ℕ → Bool → List ℕ → Type 0
 IsWrappedDocument bytes true new = (first_refused refuses_deepest bytes ≡ None)
     × IsRewritten IsWrapped (λ others. others) bytes new × (length new ≤ longest_document)
 IsWrappedDocument bytes false new = (new ≡ bytes) × (IsSome (first_refused refuses_deepest bytes)
     ⊎ ((long : List ℕ) × IsRewritten IsWrapped (λ others. others) bytes long × (longest_document < length long)))
 
--- what is wrapped, wherever it stands; the reason tells nothing
+-- each double and decimal128 is refused, wherever it is; the reason means nothing
 abbrev pub refuses_wide : Refuses
 refuses_wide room path Double value = Some TooDeep
 refuses_wide room path Decimal128 value = Some TooDeep

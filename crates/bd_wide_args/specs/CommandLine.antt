@@ -1,4 +1,5 @@
--- What the words of a line order, by the parser's own definition of the lines that it takes.
+-- The command lines that `bsonwide` accepts, by the parser's own definition,
+-- and the command that each asks for.
 use Rattle.std.specs.Prelude.{List, [], ◌∷◌, if◌then◌else◌, map, slice_get, codes, string_bytes, unwrap_or, Option, Some, None, option_map, option_and_then, true}
 use Rattle.std.specs.Str.{bytes_eq}
 use Rattle.clap.specs.Lexer.{usize_max}
@@ -10,52 +11,55 @@ use Rattle.bd_cli_args.specs.CommandLine.{file_app, refusal_told, with_file_comm
 use Rattle.bd_cli_args.specs.declared.order.WordsFault.{WordsFault}
 use Rattle.bd_wide_args.specs.declared.command_line.Order.{Order}
 
--- the line without its commands
+-- the command line of `bsonwide` before its commands are added: one of them is required
 abbrev pub top_app : App
 top_app = on_top (λ s. record s { no_binary_name = true; subcommand_required = true; disable_help_subcommand = true })
     (new_app (codes "bsonwide"))
 
--- the argument PATH, of which there may be any number
+-- the argument PATH, which may be given any number of times
 abbrev pub paths_rule : Rule
 paths_rule = record (new_rule (codes "path")) {
   range = Some (record { start_inclusive = 1; end_inclusive = usize_max });
   action = Some ArgAction.Append;
 }
 
--- `order`, which takes paths after its file
+-- `order`, which takes a file and then paths
 abbrev pub order_app : App
 order_app = with_rule (file_app (codes "order")) paths_rule
 
--- the line: the other commands take a file alone
+-- the command lines that `bsonwide` accepts: `mask` or `wrap` with one file,
+-- and `order` with one file and any paths
 abbrev pub line_app : App
 line_app = with_subcommand (with_file_commands top_app (codes "mask" ∷ codes "wrap" ∷ [])) order_app.top
 
--- what the lines order
+-- a command: what the arguments ask for, with texts as their bytes
 pub data OrderView : Type 0 where
   mask : Text → OrderView
   wrap : Text → OrderView
   order : Text → List Text → OrderView
 
+-- the command that an `Order` in memory stands for
 abbrev pub meant : Order → OrderView
 meant (Order.Mask file) = mask (string_bytes file)
 meant (Order.Wrap file) = wrap (string_bytes file)
 meant (Order.Order file paths) = order (string_bytes file) (map string_bytes paths.items)
 
--- the texts of an argument, which may be none
+-- the texts of an argument, none if it is not given
 abbrev pub texts_in : Text → List Row → List Text
 texts_in name rows = unwrap_or (all_of name rows) []
 
--- the order of a command's name and its matches
+-- the command that a name and its parsed arguments ask for
 abbrev pub ordered_by : Text → List Row → Option OrderView
 ordered_by name rows = if bytes_eq name (codes "mask") then option_map mask (first_of (codes "file") rows)
     else (if bytes_eq name (codes "wrap") then option_map wrap (first_of (codes "file") rows)
     else (if bytes_eq name (codes "order")
     then option_map (λ file. order file (texts_in (codes "path") rows)) (first_of (codes "file") rows) else None))
 
--- the order of words that are taken
+-- the command that arguments ask for; None if they are refused
 abbrev pub order_of : List Text → Option OrderView
 order_of words = option_and_then (λ p. ordered_by p.0 p.1) (subcommand_of line_app words)
 
--- how the parser's refusal is told, or none; where it may be of several kinds, all are told as the first
+-- how the parser's refusal of arguments is reported; None if it accepts them.
+-- All its faults are reported as the first one.
 abbrev pub fault_for : List Text → Option WordsFault
 fault_for words = option_map refusal_told (slice_get (fault_of line_app words) 0)

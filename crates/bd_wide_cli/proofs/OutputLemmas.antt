@@ -7,10 +7,12 @@ use Rattle.bd_io_device.proofs.DevicesLemmas.{breaks_first, breaks_second, takes
 
 -- ---- one text after the other
 
+-- a fact also holds if there is an error
 pub on_err : {A E : Type 0} (r : Result A E) (P : Type 0) → P → OnErr r P
 on_err (Ok x) P h = _
 on_err (Err e) P h = h
 
+-- if P holds on an error, and Q follows from P, then Q holds on it
 pub on_err_map : {A E : Type 0} (r : Result A E) (P Q : Type 0) → OnErr r P → (P → Q) → OnErr r Q
 on_err_map (Ok x) P Q h f = _
 on_err_map (Err e) P Q h f = f h
@@ -25,6 +27,7 @@ pub broke_of : {A E : Type 0} (r : Result A E) (P : Type 0) → is_err r ≡ tru
 broke_of (Ok x) P is h = absurd (true≢false (sym is))
 broke_of (Err e) P is h = h
 
+-- if P holds on each value, and the result is no error, then P holds
 pub took_of : {A E : Type 0} (r : Result A E) (P : Type 0) → is_err r ≡ false → OnOk r P → P
 took_of (Ok x) P is h = h
 took_of (Err e) P is h = absurd (true≢false is)

@@ -17,7 +17,8 @@ use Rattle.bd_wide_cli.specs.declared.frame.Next.TheVariants as nexts
 use Rattle.bd_wide_cli.specs.declared.running.Stop.{Stop}
 use Rattle.bd_wide_cli.specs.declared.running.Stop.TheVariants as stops
 
--- what may be written of a document with this number, which is filtered or stays as it is
+-- This may be written of the document with number n;
+-- the Boolean says whether it was filtered, or stays since `wrap` could not.
 abbrev pub IsFiltered : Filter → ℕ → List ℕ → Bool → List ℕ → Type 0
 IsFiltered Mask n bytes true new = IsRewritten IsMasked masked_others bytes new
 IsFiltered Mask n bytes false new = ⊥
@@ -25,72 +26,78 @@ IsFiltered Wrap n bytes filtered new = IsWrappedDocument bytes filtered new
 IsFiltered (Order order) n bytes true new = IsOrderedDocument order.paths.items n bytes new
 IsFiltered (Order order) n bytes false new = ⊥
 
--- why nothing may be: `order` refuses a number, which has this path, or the length
+-- Why nothing may be written of the document: `order` refuses a number, which has this path, or the length.
 abbrev pub IsRefused : Filter → ℕ → List ℕ → List ℕ → Unordered → Type 0
 IsRefused Mask n bytes path why = ⊥
 IsRefused Wrap n bytes path why = ⊥
 IsRefused (Order order) n bytes path why = IsUnordered order.paths.items n bytes path why
 
--- the bytes are one document, as far as its length says
+-- The bytes are one document, as far as its length says: from 5 to 16,793,600 bytes.
 pub record IsFrame (bytes : List ℕ) : Type 0 where
   pub whole : number_of bytes ≡ length bytes
   pub least : 5 ≤ length bytes
   pub most : length bytes ≤ longest_document
 
--- a number of four bytes is the length of no document
+-- The first four bytes are a length that no document has: below 5, or above 16,793,600.
 abbrev pub IsBadLength : List ℕ → Type 0
 IsBadLength bytes = (number_of bytes < 5) ⊎ (longest_document < number_of bytes)
 
--- the bytes begin with no document: the length is cut short or bad, or goes past the end
+-- The bytes begin with no document: its length is cut short, bad, or past the end.
 abbrev pub BeginsWithNone : List ℕ → Type 0
 BeginsWithNone bytes = (length bytes < 4) ⊎ IsBadLength bytes ⊎ (length bytes < number_of bytes)
 
--- so many documents in a row, how many of them stay as they are, and what is written of all; the first has the number 0
+-- n documents in a row, numbered from 0; `kept` of them stay as they are, and this is written of all of them.
 pub data AreDocuments (filter : Filter) : ℕ → List ℕ → ℕ → List ℕ → Type 0 where
   none : AreDocuments filter 0 [] 0 []
   more : (n : ℕ) (documents written bytes new : List ℕ) (kept : ℕ) (filtered : Bool)
       → AreDocuments filter n documents kept written → IsFrame bytes → IsFiltered filter n bytes filtered new
       → AreDocuments filter (n + 1) (documents ++ bytes) (if filtered then kept else kept + 1) (written ++ new)
 
--- a dump: its documents are filtered, and from the first bad length on all bytes stay as they are
+-- This is written of a dump: its documents filtered, and from the first bad length on all bytes as they are;
+-- `kept` documents stay.
 abbrev pub AreFiltered : Filter → List ℕ → ℕ → List ℕ → Type 0
 AreFiltered filter bytes kept new = (n : ℕ) × (documents : List ℕ) × (written : List ℕ) × (rest : List ℕ)
     × AreDocuments filter n documents kept written × BeginsWithNone rest × (bytes ≡ documents ++ rest) × (new ≡ written ++ rest)
 
--- a prefix of a dump: its documents are filtered, and of what follows nothing is written unless it begins with none
+-- This is written of the bytes read so far: their documents filtered, and of what follows nothing,
+-- unless it begins with none.
 abbrev pub ArePartlyFiltered : Filter → List ℕ → List ℕ → Type 0
 ArePartlyFiltered filter bytes new = (n : ℕ) × (documents : List ℕ) × (written : List ℕ) × (rest : List ℕ) × (kept : ℕ)
     × AreDocuments filter n documents kept written × (bytes ≡ documents ++ rest)
     × ((new ≡ written) ⊎ (BeginsWithNone rest × (new ≡ written ++ rest)))
 
--- why a number is refused
+-- the message of a number that is refused
 abbrev pub refusal_words : Refusal → List ℕ
 refusal_words refusals.TooDeep = codes "too deep"
 refusal_words refusals.NotWhole = codes "not a whole number of 64 bits"
 refusal_words refusals.NoDouble = codes "no double equals it"
 
+-- where a refused number is, by the byte offset of its element in the
+-- dump and by its path, and why it is refused
 abbrev pub found_text : ℕ → List ℕ → Found → List ℕ
 found_text start path found = codes ", byte " ++ (decimal (start + found.at)
     ++ (codes ", path " ++ (quoted path ++ (codes ": " ++ refusal_words found.why))))
 
--- which document is refused, and why: by its number, by how many bytes stand before it, and by the path of a refused number
+-- the message of a document that is refused: its number,
+-- and of a number in it the byte offset in the dump and the path
 abbrev pub refusal_text : ℕ → ℕ → List ℕ → Unordered → List ℕ
 refusal_text n start path unordereds.TooLong = codes "document " ++ (decimal n ++ codes ": document too long")
 refusal_text n start path (unordereds.Number found) = codes "document " ++ (decimal n ++ found_text start path found)
 
--- the end of a run at such a document; or memory ran out
+-- The run stopped at the document that is refused, with its message, or memory ran out.
 abbrev pub TellsRefusal : ℕ → ℕ → List ℕ → Unordered → Stop → Type 0
 TellsRefusal n start path why (stops.Refused text) = text.items ≡ refusal_text n start path why
 TellsRefusal n start path why stops.NoMemory = Unit {0}
 TellsRefusal n start path why _ = ⊥
 
--- of a dump that ends with the refused document all others are written, and the text tells of it
+-- The input ends with a document that is refused: this is written of those before it, and the text says why.
 abbrev pub IsRefusedDump : Filter → List ℕ → List ℕ → List ℕ → Type 0
 IsRefusedDump filter bytes new text = (n : ℕ) × (documents : List ℕ) × (kept : ℕ) × (last : List ℕ) × (path : List ℕ)
     × (why : Unordered) × AreDocuments filter n documents kept new × IsFrame last × (bytes ≡ documents ++ last)
     × IsRefused filter n last path why × (text ≡ refusal_text n (length documents) path why)
 
--- what stands in the buffer: a document, four bytes that are no length of one, or what the device had left
+-- What is in the buffer: a document, four bytes that are a bad length,
+-- or the fewer bytes that the device had left.
 abbrev pub IsNext : Next → List ℕ → Option (List ℕ) → Type 0
 IsNext nexts.Document bytes left = IsFrame bytes
 IsNext nexts.BadLength bytes left = (length bytes ≡ 4) × IsBadLength bytes
@@ -98,33 +105,36 @@ IsNext nexts.Last bytes left = IsAtEnd left × ((length bytes < 4) ⊎ (length b
 
 -- ---- a run
 
--- an input was read to its end and filtered
+-- The input was read to its end and filtered, and standard output has all of it.
 abbrev pub FiltersAll : Filter → Over Reader → Over Writer → ℕ → Type 0
 FiltersAll filter file out kept = (bytes : List ℕ) × (new : List ℕ) × Consumes file.before.left file.after.left bytes
     × IsAtEnd file.after.left × AreFiltered filter bytes kept new × TakesText out new
 
--- standard output has a prefix; a document is refused only where all before it were written
+-- Standard output has a prefix of this, after a run that stopped for a reason other than a refusal.
 abbrev pub IsWritten : Stop → Over Writer → List ℕ → Type 0
 IsWritten stops.Unwritten out new = BreaksWithin out new
 IsWritten (stops.Refused text) out new = ⊥
 IsWritten _ out new = TakesFront out new
 
--- a prefix of it was read and filtered, and standard output has a prefix of that; up to a refused document it has all
+-- A prefix of the input was filtered, and standard output has a prefix of that;
+-- before a document that is refused it has all.
 abbrev pub Ends : Filter → List ℕ → List ℕ → Over Writer → Stop → Type 0
 Ends filter bytes new out (stops.Refused text) = IsRefusedDump filter bytes new text.items × TakesText out new
 Ends filter bytes new out stop = ArePartlyFiltered filter bytes new × IsWritten stop out new
 
+-- The run stopped for this reason: a prefix of the input was read and filtered,
+-- and of what is to be written standard output has a prefix.
 abbrev pub FiltersPartly : Filter → Over Reader → Over Writer → Stop → Type 0
 FiltersPartly filter file out stop = (bytes : List ℕ) × (new : List ℕ) × Consumes file.before.left file.after.left bytes
     × Ends filter bytes new out stop
 
 -- ---- its parts
 
--- a document with this number was written, filtered or as it is
+-- The document with number n was written, filtered or as it is.
 abbrev pub WritesDocument : Filter → ℕ → List ℕ → Over Writer → Bool → Type 0
 WritesDocument filter n bytes out filtered = (new : List ℕ) × IsFiltered filter n bytes filtered new × TakesText out new
 
--- or memory ran out before anything was written, or it is refused, or a write failed
+-- The document with number n was not written whole: memory ran out, it is refused, or a write failed.
 abbrev pub StopsDocument : Filter → ℕ → ℕ → List ℕ → Over Writer → Stop → Type 0
 StopsDocument filter n start bytes out stops.NoMemory = TakesText out []
 StopsDocument filter n start bytes out (stops.Refused text) = TakesText out []
@@ -133,19 +143,21 @@ StopsDocument filter n start bytes out stops.Unwritten =
     (new : List ℕ) × (filtered : Bool) × IsFiltered filter n bytes filtered new × BreaksWithin out new
 StopsDocument filter n start bytes out (stops.Unread fault) = ⊥
 
--- all that the input still gave was written
+-- All that the input still gave was written.
 abbrev pub CopiesRest : Over Reader → Over Writer → Type 0
 CopiesRest file out = (bytes : List ℕ) × Consumes file.before.left file.after.left bytes
     × IsAtEnd file.after.left × TakesText out bytes
 
+-- Copying the rest of the input stopped for this reason: standard output has a prefix of what was read.
 abbrev pub StopsCopying : Over Reader → Over Writer → Stop → Type 0
 StopsCopying file out stop = (bytes : List ℕ) × Consumes file.before.left file.after.left bytes × IsWritten stop out bytes
 
--- bytes that begin with no document were written, and all that the input still gave
+-- Bytes that begin with no document were written, and all that the input still gave.
 abbrev pub PassesOn : List ℕ → Over Reader → Over Writer → Type 0
 PassesOn bytes file out = (rest : List ℕ) × BeginsWithNone (bytes ++ rest) × Consumes file.before.left file.after.left rest
     × IsAtEnd file.after.left × TakesText out (bytes ++ rest)
 
+-- Passing on bytes that begin with no document, and the rest of the input, stopped for this reason.
 abbrev pub StopsPassing : List ℕ → Over Reader → Over Writer → Stop → Type 0
 StopsPassing bytes file out stop = (rest : List ℕ) × BeginsWithNone (bytes ++ rest)
     × Consumes file.before.left file.after.left rest × IsWritten stop out (bytes ++ rest)

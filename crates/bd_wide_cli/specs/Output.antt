@@ -1,4 +1,4 @@
--- What a run tells on standard error, and its status.
+-- What a run writes on standard error, and its status.
 use Rattle.std.specs.Prelude.{◌≡◌, ◌⊎◌, ℕ, ◌==◌, List, [], ◌∷◌, ◌++◌, codes, decimal, if◌then◌else◌}
 use Rattle.bd_io_device.specs.Devices.{BreaksWithin, Over, Reader, TakesText, Writer, read_words}
 use Rattle.bd_cli_args.specs.declared.order.WordsFault.{WordsFault}
@@ -10,30 +10,34 @@ use Rattle.bd_wide_cli.specs.declared.running.Stop.{Stop}
 use Rattle.bd_wide_cli.specs.declared.running.Stop.TheVariants as stops
 use Rattle.bd_wide_cli.specs.Filtered.{FiltersAll, FiltersPartly}
 
+-- a line of standard error: `bsonwide: `, the message, a newline
 abbrev pub error_line : List ℕ → List ℕ
 error_line message = codes "bsonwide: " ++ (message ++ 10 ∷ [])
 
+-- the message of a run that stopped before the end of its input
 abbrev pub stop_words : Stop → List ℕ
 stop_words stops.NoMemory = codes "no memory"
 stop_words stops.Unwritten = codes "cannot write"
 stop_words (stops.Unread fault) = read_words fault
 stop_words (stops.Refused text) = text.items
 
--- how many documents stay as they are, where some do
+-- the line on standard error that says how many documents stay as they are; nothing if none does
 abbrev pub kept_line : ℕ → List ℕ
 kept_line kept = if kept == 0 then [] else decimal kept ++ codes " documents too long or too deep to wrap\n"
 
--- standard error took the message, and the status is this; or a write failed, and the status is 1
+-- Standard error took the message, and the status is the one expected;
+-- or a write failed, and the status is 1.
 abbrev pub TellsMessage : Over Writer → List ℕ → Status → Status → Type 0
 TellsMessage err message wanted status =
     (TakesText err message × (status ≡ wanted)) ⊎ (BreaksWithin err message × (status ≡ Failed))
 
--- all of an input was filtered, or a prefix of it, and standard error says why no more
+-- A filter ran: all of the input was filtered, or a prefix of it, and standard error says why no more.
 abbrev pub FiltersInput : Filter → Over Reader → Over Writer → Over Writer → Status → Type 0
 FiltersInput filter file out err status =
     ((kept : ℕ) × FiltersAll filter file out kept × TellsMessage err (kept_line kept) Done status)
     ⊎ ((stop : Stop) × FiltersPartly filter file out stop × TellsMessage err (error_line (stop_words stop)) Failed status)
 
+-- the usage of `bsonwide`, three lines
 abbrev pub usage_text : List ℕ
 usage_text =
     codes "usage: bsonwide mask FILE\n       bsonwide wrap FILE\n       bsonwide order FILE [PATH..]\n"

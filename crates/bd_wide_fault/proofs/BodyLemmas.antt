@@ -133,6 +133,7 @@ top_test false n m h = refl
 frame_tests : (top : Bool) (n m : ℕ) → 5 ≤ n → n ≤ m → (top ≡ true → n ≡ m) → (nat_lt n 5 || nat_lt longest_document n || nat_lt m n || (top && not (n == m))) ≡ nat_lt longest_document n
 frame_tests top n m low le all = or_middle (nat_lt n 5) (nat_lt longest_document n) (nat_lt m n) (top && not (n == m)) (le-ltb _ _ low) (le-ltb _ _ le) (top_test top n m all)
 
+-- the elements of a frame whose length is right, by where they end and what follows
 pub frame_is : (top : Bool) (e : ℕ) (four inner : List ℕ) (last : ℕ) (r : List ℕ) → length four ≡ 4 → from_le_bytes w32 four ≡ length inner + 5 → (top ≡ true → r ≡ [])
     → past_frame top e (four ++ (inner ++ last ∷ r)) ≡ frame_told e inner last r
 unfolding past_frame
@@ -147,6 +148,7 @@ unfoldable pub last_told : ℕ → ℕ → ℕ → Result (Unit {0}) Fault → R
 last_told e l zero s = s
 last_told e l (suc b) s = fault NoTerminator (e - suc l)
 
+-- the fault of a document's own length and last byte, around the result of its elements
 abbrev pub body_told : ℕ → ℕ → ℕ → ℕ → Result (Unit {0}) Fault → Result (Unit {0}) Fault
 body_told e m last l s = if nat_lt longest_document (m + 5) then fault BadLength (e - (m + 5 + l)) else last_told e l last s
 

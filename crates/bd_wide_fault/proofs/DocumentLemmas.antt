@@ -203,6 +203,7 @@ to_whole : (bytes new : List ℕ) → IsRewritten IsMasked masked_others bytes n
 unfolding IsRewritten
 to_whole bytes new = elim (nat_lt (length bytes) 5) as (λ b. (elim b [ true ↦ new ≡ bytes | false ↦ IsNested IsMasked masked_others 200 holders.Document [] bytes new ]) → WholeTurn bytes new b) [ true ↦ λ h. h | false ↦ λ h. h ]
 
+-- a masked document has the first fault that the document has if doubles and decimal128 are read
 pub faults_stay : (base : ℕ) (bytes new : List ℕ) → IsBytes bytes → number_of bytes ≡ length bytes → IsRewritten IsMasked masked_others bytes new → first_fault base new ≡ wide_fault base bytes
 faults_stay base bytes new fits count h =
     let cases : (b : Bool) → nat_lt (length bytes) 5 ≡ b → WholeTurn bytes new b → DocumentAlike bytes new = elim [

@@ -26,23 +26,27 @@ FailAlike a b = (f : Fault) × (a ≡ Err f) × (b ≡ Err f)
 
 -- ---- kinds
 
+-- the kind of what holds values
 abbrev pub holder_kind : Holder → Kind
 holder_kind holders.Document = kinds.Doc
 holder_kind holders.Array = kinds.Array
 holder_kind holders.CodeScope = kinds.CodeScope
 
+-- a kind is that of a scalar, or of what holds values
 pub kind_is : (kind : Kind) → (holds kind ≡ false) ⊎ ((h : Holder) × (kind ≡ holder_kind h))
 kind_is kinds.Doc = inr (holders.Document, refl)
 kind_is kinds.Array = inr (holders.Array, refl)
 kind_is kinds.CodeScope = inr (holders.CodeScope, refl)
 kind_is _ = inl refl
 
+-- what a scalar's bytes are checked for does not depend on how nested values are checked
 pub scalar_same : (kind : Kind) (f g : Nested) (q e : ℕ) (bytes : List ℕ) → holds kind ≡ false → past_value f kind q e bytes ≡ past_value g kind q e bytes
 scalar_same kinds.Doc f g q e bytes bare = absurd cc
 scalar_same kinds.Array f g q e bytes bare = absurd cc
 scalar_same kinds.CodeScope f g q e bytes bare = absurd cc
 scalar_same _ f g q e bytes bare = refl
 
+-- what holds values is checked as nested values are
 pub holder_value : (h : Holder) (f : Nested) (q e : ℕ) (bytes : List ℕ) → past_value f (holder_kind h) q e bytes ≡ f h q e bytes
 holder_value holders.Document f q e bytes = refl
 holder_value holders.Array f q e bytes = refl
@@ -108,6 +112,7 @@ pub named_fail : (text : Result (Unit {0}) Fault) (place : Option ℕ) (name : L
 named_fail (Ok u) place name a b (f, p, q) = (_, ap (within (label place name)) p, ap (within (label place name)) q)
 named_fail (Err d) place name a b h = (d, refl, refl)
 
+-- If the length of what holds values is bad, both checks report the same fault.
 abbrev pub NestedFails : Nested → Nested → Type 0
 NestedFails f g = (h : Holder) (q e : ℕ) (bytes : List ℕ) → counted (holder_least h) 0 bytes ≡ None → FailAlike (f h q e bytes) (g h q e bytes)
 

@@ -19,6 +19,7 @@ gives (Err f) r = Err f
 abbrev pub Local : (List ℕ → Result (List ℕ) Fault) → List ℕ → ℕ → Type 0
 Local past v l = (s : Result (Unit {0}) Fault) × ((r : List ℕ) → length r ≡ l → past (v ++ r) ≡ gives s r)
 
+-- The check reports some fault.
 abbrev pub Fails : {A : Type 0} → Result A Fault → Type 0
 Fails given = (f : Fault) × (given ≡ Err f)
 
@@ -48,6 +49,7 @@ fixed_cases : (b : Bool) (m l n : ℕ) → nat_lt l m ≡ b → (if b then None 
 fixed_cases true m l n at is = absurd cc
 fixed_cases false m l n at is = let e : m ≡ n = cc in let le : m ≤ l = grind (arith, nat_tests, at) in (e, omega arith)
 
+-- a value of m bytes takes m, and they are there
 pub fixed_is : (m : ℕ) (bytes : List ℕ) (n : ℕ) → fixed m bytes ≡ Some n → (m ≡ n) × (n ≤ length bytes)
 fixed_is m bytes n is = fixed_cases (nat_lt (length bytes) m) m (length bytes) n refl is
 
@@ -66,9 +68,11 @@ counted_cases false low others bytes n at is =
     let some : low ≤ number_of bytes = grind (arith, nat_tests, at) in
     record { four = four; some = some; all = f.0; inside = f.1 }
 
+-- a value that begins with its count takes that and the bytes beside it, and they are there
 pub counted_is : (low others : ℕ) (bytes : List ℕ) (n : ℕ) → counted low others bytes ≡ Some n → CountedIs low others bytes n
 counted_is low others bytes n is = counted_cases (nat_lt (length bytes) 4 || nat_lt (number_of bytes) low) low others bytes n refl is
 
+-- a number of four bytes reads the same, whatever follows
 pub number_cut : (v r : List ℕ) → 4 ≤ length v → number_of (v ++ r) ≡ number_of v
 number_cut v r four =
     let cut : take 4 (v ++ r) ≡ take 4 v = ap (λ (x : List ℕ). take 4 (x ++ r)) (sym (take-append-drop 4 v)) ∙ ap (take 4) (append_assoc (take 4 v) (drop 4 v) r)
@@ -96,6 +100,7 @@ boolean_local e (b ∷ []) l len = goes (nat_lt 1 b) refl
 
 -- ---- texts
 
+-- past the four bytes of a number comes what follows them
 pub number_is : (short : FaultKind) (e : ℕ) (four more : List ℕ) → length four ≡ 4 → past_number short e (four ++ more) ≡ Ok (from_le_bytes w32 four, more)
 number_is short e four more len =
     let long : nat_lt (length (four ++ more)) 4 ≡ false = le-ltb _ _ (omega (arith, length-append four more)) in
@@ -123,6 +128,7 @@ one_left [] len = absurd (omega arith)
 one_left (x ∷ []) len = (x, refl)
 one_left (x ∷ y ∷ xs) len = absurd (omega arith)
 
+-- the check of a string depends on its bytes, and on how many follow
 pub string_local : (e : ℕ) (v : List ℕ) (l : ℕ) → 1 ≤ number_of v → length v ≡ 4 + number_of v → Local (past_string e) v l
 string_local e v l some size =
     let n : ℕ = number_of v in
@@ -138,6 +144,7 @@ string_local e v l some size =
           ∙ ap (λ k. gives (string_told e text last.0 k) r) h,
     )
 
+-- No byte is zero.
 abbrev pub NoZero : List ℕ → Type 0
 NoZero = AllByRecursion (λ b. b ≢ 0)
 
@@ -153,6 +160,7 @@ pub record Split (bytes : List ℕ) (k : ℕ) : Type 0 where
   pub size : length name ≡ k
   pub whole : bytes ≡ name ++ 0 ∷ rest
 
+-- the first zero splits bytes into a name without zeros and the rest
 pub zero_split : (bytes : List ℕ) (k : ℕ) → first_zero bytes ≡ Some k → Split bytes k
 zero_split bytes k is =
     let p = position-Some (λ b. b == 0) bytes k 0 is in
@@ -165,6 +173,7 @@ zero_place_is name rest h =
     let long : nat_lt (length name) (length (name ++ 0 ∷ rest)) ≡ true = grind (arith, nat_tests, length-append name (0 ∷ rest)) in
     rw (zero_place name rest h, long) refl
 
+-- past a name and its zero comes what follows it, if the name is UTF-8
 pub name_is : (kind : FaultKind) (e : ℕ) (name rest : List ℕ) → NoZero name → past_name kind e (name ++ 0 ∷ rest) ≡ (text_at (e - length (name ++ 0 ∷ rest)) name >>= λ t. Ok (t, rest))
 unfolding past_name
 name_is kind e name rest h =

@@ -232,6 +232,7 @@ decimal_stepped f g b name v r one is h size given =
 
 -- ---- each type
 
+-- What is written of nested values has the same length, and the check of it gives the same fault or none.
 abbrev pub NestedAlike : Nested → Nested → written.Nested → Type 0
 NestedAlike f g into = (h : Holder) (path v new : List ℕ) → holder_least h ≤ length v → number_of v ≡ length v → IsBytes v → into h path v new
     → (length new ≡ length v) × ((q e : ℕ) (r two : List ℕ) → length two ≡ length r → Alike r two (f h q e (v ++ r)) (g h q e (new ++ two)))

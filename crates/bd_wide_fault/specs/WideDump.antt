@@ -5,22 +5,26 @@ use Rattle.bd_bson_check.specs.Fault.{Fault}
 use Rattle.bd_bson_check.specs.declared.fault.FaultKind.{FaultKind}
 use Rattle.bd_wide_fault.specs.WideFault.{wide_fault}
 
--- the fault of the document at the front, of its length or of the bytes it counts
+-- the fault of the document at the start, whose length was read or is at fault,
+-- if doubles and decimal128 are read
 abbrev pub wide_framed : ℕ → List ℕ → Result (Option ℕ) FaultKind → Option Fault
 wide_framed base bytes (Ok None) = None
 wide_framed base bytes (Ok (Some n)) = wide_fault base (take n bytes)
 wide_framed base bytes (Err kind) = Some (record { kind = kind; offset = base; path = [] })
 
+-- the first fault of the document at the start of bytes, the first of which is at this offset of the dump,
+-- if doubles and decimal128 are read; None if it has none, and at the end of the bytes
 abbrev pub wide_frame_fault : ℕ → List ℕ → Option Fault
 wide_frame_fault base bytes = wide_framed base bytes (frame_length bytes)
 
--- so many documents in a row, none of which has a fault
+-- n documents in a row, none of which has a fault if doubles and decimal128 are read
 pub data AreFaultless : ℕ → List ℕ → Type 0 where
   none : AreFaultless 0 []
   more : (n : ℕ) (documents bytes : List ℕ) → AreFaultless n documents
       → wide_fault (length documents) bytes ≡ None → AreFaultless (n + 1) (documents ++ bytes)
 
--- so many documents have no fault and are all, or the one after them has this fault
+-- The bytes are n documents without a fault; or they begin with these,
+-- and the document after them has this fault.
 abbrev pub IsWideWalk : ℕ → Option Fault → List ℕ → Type 0
 IsWideWalk n None bytes = AreFaultless n bytes
 IsWideWalk n (Some f) bytes = (front : List ℕ) × (rest : List ℕ) × AreFaultless n front

@@ -96,6 +96,7 @@ module _ (x unit size : ℕ) (some : 0 < unit) (is : x * unit ≡ size) where
 multiple : (size unit : ℕ) → size % unit ≡ 0 → (size / unit) * unit ≡ size
 multiple size unit h = let split = div-add-mod' size unit in omega arith
 
+-- the least double is more than no units
 pub least_pos : 0 < least_double
 unfolding least_double
 least_pos = mul-pos (pow_pos 5102) (one-le-pow 6176 5 (omega arith))
@@ -148,6 +149,7 @@ unfolding whole_part
 whole_is negative size w is =
     rw (eq-eqb (size % one) 0 (no_rest w one size one_pos is), quotient w one size one_pos is) refl
 
+-- the whole number of a size is that many ones, at most 2^63 of them, with the sign
 pub whole_gives : (negative : Bool) (size : ℕ) (c : ℤ) → whole_part negative size ≡ Some c
     → (w : ℕ) × (w * one ≡ size) × (w ≤ 2 ^ 63) × (c ≡ signed negative w)
 unfolding whole_part
@@ -208,6 +210,7 @@ module _ (t : ℕ) (unit : one ≡ 2 ^ t * fives) where
 
 -- ---- a number times a power of ten as a double
 
+-- the code of 0 by a double is 0, whatever its sign
 pub zero_double : (negative : Bool) (size : ℕ) → size ≡ 0 → Some (pos 0) ≡ double_part negative size
 zero_double true size e = sym (double_is true size 0 (omega arith) (ap (λ (z : ℕ). z * least_double) (small_magnitude 0 (omega arith)) ∙ zero-mul least_double ∙ sym e))
 zero_double false size e = sym (double_is false size 0 (omega arith) (ap (λ (z : ℕ). z * least_double) (small_magnitude 0 (omega arith)) ∙ zero-mul least_double ∙ sym e))
@@ -232,6 +235,7 @@ module _ (negative : Bool) (number e n : ℕ) (o : Odd) (units : n * fives ≡ n
 
 -- ---- so many units as a whole number
 
+-- the whole number of 0 is 0, whatever its sign
 pub zero_whole : (negative : Bool) (size : ℕ) → size ≡ 0 → Some (pos 0) ≡ whole_part negative size
 zero_whole true size e = sym (whole_is true size 0 (zero-mul one ∙ sym e))
 zero_whole false size e = sym (whole_is false size 0 (zero-mul one ∙ sym e))
@@ -271,6 +275,7 @@ signed_size false n = refl
 pub same_passed : (z : ℤ) → SFits w64 z → Some (to_z w64 (of_z w64 z)) ≡ Some z
 same_passed z fits = ap Some (to_z-of_z w64 z fits)
 
+-- a whole number below 2^63, with its sign, goes through the 64 bits of an int64 unchanged
 pub passed : (negative : Bool) (n : ℕ) (z : ℤ) → n < 2 ^ 63 → z ≡ signed negative n → Some (to_z w64 (of_z w64 z)) ≡ Some (signed negative n)
 passed negative n z few e =
     let size : unsigned_abs z ≡ n = ap unsigned_abs e ∙ signed_size negative n in
@@ -291,10 +296,12 @@ module _ (bits : ℕ) where
   unfolding double_value
   finite_is h = rw (le-ltb infinite_bits (bits % 2 ^ 63) (omega arith), ne_eqb (bits % 2 ^ 63) infinite_bits (omega arith)) refl
 
+  -- the code of a NaN is the least int64
   pub nan_code : infinite_bits < bits % 2 ^ 63 → double_code (double_value bits) ≡ Some (neg_ℤ (pos (2 ^ 63)))
   unfolding double_code
   nan_code h = ap double_code (nan_is h)
 
+  -- the code of a double is its bits without the sign, with the sign as that of a number
   pub bits_code : bits % 2 ^ 63 ≤ infinite_bits → double_code (double_value bits) ≡ Some (signed (has_sign bits) (bits % 2 ^ 63))
   unfolding double_code
   bits_code h = ⊎_elim

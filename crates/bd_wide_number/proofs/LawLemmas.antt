@@ -304,6 +304,7 @@ code_size true zero = rw (none_is, zero-mul) refl
 code_size true (suc b) = negative_times (magnitude (suc b)) least_double
 code_size false b = refl
 
+-- the number that a code by a double stands for is the one that has the code
 pub code_stands : (negative : Bool) (size : ℕ) (c : ℤ) → number_code None (finite negative size) ≡ Some c → code_value c *ℤ pos least_double ≡ signed negative size
 unfolding number_code double_code
 code_stands s n c h =
@@ -339,6 +340,7 @@ from_neg m n l = omega (arith, ints)
 never : (m n : ℕ) → pos m <ℤ negsuc n → ⊥
 never m n l = omega (arith, ints)
 
+-- of two codes by doubles the greater one stands for the greater number
 pub code_values_rise : (c d : ℤ) → c <ℤ d → code_value c <ℤ code_value d
 code_values_rise (pos m) (pos n) l = pos_less (magnitude m) (magnitude n) (rises m n (from_pos m n l))
 code_values_rise (pos m) (negsuc n) l = absurd (never m n l)

@@ -7,6 +7,7 @@ use Rattle.std.specs.Int.{trailing_zeros, w128}
 use Rattle.bd_wide_number.specs.declared.odd.Odd.{Odd}
 use Rattle.bd_wide_number.specs.Odd.{fives, IsOddOf, IsWide}
 
+-- a fact also holds if there is no value
 pub if_none : {A P : Type 0} (o : Option A) → P → IfNone o P
 if_none None p = p
 if_none (Some a) p = tt

@@ -100,6 +100,7 @@ pairs_stay c m n a b h =
     (λ e. ap (λ o. ordering_then o (same_class_cmp (renumber (under m c) a) (renumber (under n c) b))) (sym (classes_stay (under m c) (under n c) a b)) ∙ h (exact_bytes m n e))
 
 mutual
+  -- two values compare the same after renumbering, if the codes keep the order at each path
   pub order_stays : (c : Codes) → AreIncreasing c → (a b : Tree) → IsOf c a → IsOf c b → cmp (renumber c a) (renumber c b) ≡ cmp a b
   order_stays c up (leaf s) (leaf t) p q = leaves (c []) (up []) s t p q
   order_stays c up (leaf s) (doc gs) p q = leaf_doc (c []) s (renumber_fields c gs) gs
@@ -135,5 +136,6 @@ mutual
       ∙ order_stays (under m c) (λ path. up (m ∷ path)) a b p.0 (subst (λ x. IsOf (under x c) b) (sym e) q.0)))
       (fields_stay c up fs gs p.1 q.1)
 
+-- two values are equal after renumbering exactly if they were, if the codes keep the order at each path
 pub equals_stay : (c : Codes) → AreIncreasing c → (a b : Tree) → IsOf c a → IsOf c b → equal (renumber c a) (renumber c b) ≡ equal a b
 equals_stay c up a b p q = ap is_eq (order_stays c up a b p q)

@@ -4,15 +4,17 @@ use Rattle.std.specs.Prelude.{◌≡◌, ℕ, Bool, List, [], ◌∷◌, Option,
 use Rattle.bd_cursor_model.specs.Answer.{Mark}
 use Rattle.bd_cursor_model.specs.Session.{GivenBatch, MarkedToken, OpenCursor, Query, batch_of, left_after, moved}
 
--- a batch: its places, where its token goes on, and whether nothing is left
+-- a batch: its document numbers, the position after it, and whether nothing remains
 pub record Page : Type 0 where
   pub places : List ℕ
   pub mark : Option Mark
   pub ends : Bool
 
+-- the position in an answer that a token has, if there is a token
 abbrev pub mark_of : Option MarkedToken → Option Mark
 mark_of token = option_map (λ t. t.mark) token
 
+-- the page that a batch of a cursor is, whatever the digest of its token
 abbrev pub page_of : GivenBatch → Page
 page_of b = record { places = b.places; mark = mark_of b.token; ends = b.ends }
 
@@ -21,11 +23,11 @@ abbrev pub pages_from : OpenCursor → List ℕ → List Page
 pages_from c [] = []
 pages_from c (size ∷ sizes) = page_of (batch_of c size) ∷ pages_from (moved c size) sizes
 
--- the token of a request that goes on after a mark
+-- the token of a request for a position in its answer
 abbrev pub token_at : Query → Option Mark → Option MarkedToken
 token_at q mark = option_map (λ m. record { mark = m; digest = q.digest }) mark
 
--- a cursor as it is opened: at the start of the answer, or after a mark
+-- a cursor as it is opened: at the start of the answer, or after a position
 abbrev pub cursor_at : Query → Option Mark → OpenCursor
 cursor_at q mark = record {
   id = 0;
@@ -34,11 +36,12 @@ cursor_at q mark = record {
   left = left_after q.selection (token_at q mark);
 }
 
+-- the pages of a request by sizes in turn, from the start of its answer or after a position
 abbrev pub pages : Query → Option Mark → List ℕ → List Page
 pages q mark sizes = pages_from (cursor_at q mark) sizes
 
 -- Two requests, each to its dump, have one answer. They select the same, so their answers, and what is left of these
--- after a mark, are the same places in the same order; and they give the same pages.
+-- after a position, are the same document numbers in the same order; and they give the same pages.
 pub record HaveOneAnswer (q r : Query) : Type 0 where
   pub selection : q.selection ≡ r.selection
   pub pages_alike : (mark : Option Mark) (sizes : List ℕ) → pages q mark sizes ≡ pages r mark sizes

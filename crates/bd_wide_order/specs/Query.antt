@@ -1,6 +1,7 @@
--- The document of a query, in which each number that it compares by is another one, by the path that it is compared at.
--- The operands of `$size`, `$exists` and `$type` stay; in a value that is compared as a whole such names are names as
--- others.
+-- The document of a query with another number in place of each number that it compares by,
+-- depending on the path.
+-- The operands of `$size`, `$exists` and `$type` stay;
+-- inside a value that is compared as a whole these names are ordinary names.
 use Rattle.std.specs.Prelude.{ℕ, List, if◌then◌else◌}
 use Rattle.bd_value.specs.Tree.{Tree, doc, array, Items, no_items, item, Fields, no_fields, field, Doc, fields_of, pairs_of}
 use Rattle.bd_path.specs.Path.{components_of}
@@ -13,12 +14,12 @@ use Rattle.bd_cursor_request.specs.Request.{Request}
 use Rattle.bd_wide_order.specs.Renumber.{AsksOf, Codes, SortsReadAlike, below, renumber, renumber_fields}
 use Rattle.bd_wide_order.specs.Renumber.{renumber_filter}
 
--- the value of a pair, by its name: of `$and` and the like, or of a path
+-- the value of a pair of a query, by its name: filters for `$and` and its kin, else what a path is asked
 abbrev pub pair_value : Word → Tree → Tree → Tree
 pair_value (words.Logical l) members value = members
 pair_value w members value = value
 
--- the operand of an operator that takes values, or of another
+-- the operand of an operator: `$size`, `$exists` and `$type` keep theirs, others get the new value
 abbrev pub plain_operand : PlainOperator → Tree → Tree → Tree
 plain_operand plain.Size t value = t
 plain_operand plain.Exists t value = t
@@ -33,7 +34,7 @@ operand words.ElemMatch t value inverse element = element
 operand w t value inverse element = t
 
 abbrev mutual
-  -- the pairs of a document that is a filter
+  -- the pairs of a document that is a filter, with other numbers
   pub query_fields : Codes → Fields → Fields
   query_fields c no_fields = no_fields
   query_fields c (field n t fs) =
@@ -41,25 +42,28 @@ abbrev mutual
       (pair_value (word_of n) (query_members c t) (query_value (below (components_of n) c) t))
       (query_fields c fs)
 
-  -- the filters of `$and`, `$or`, `$nor`
+  -- the operand of `$and`, `$or` and `$nor`, with other numbers
   pub query_members : Codes → Tree → Tree
   query_members c (array ts) = array (query_items c ts)
   query_members c t = t
 
+  -- the members of the array of `$and`, `$or` or `$nor`, with other numbers
   pub query_items : Codes → Items → Items
   query_items c no_items = no_items
   query_items c (item t ts) = item (query_member c t) (query_items c ts)
 
+  -- one member of `$and`, `$or` or `$nor`, a filter of its own, with other numbers
   pub query_member : Codes → Tree → Tree
   query_member c (doc fs) = doc (query_fields c fs)
   query_member c t = t
 
-  -- the value of a path: operators, or a value that is to be equalled
+  -- the value of a path, operators or a value to equal, with other numbers
   pub query_value : Codes → Tree → Tree
   query_value c (doc fs) =
       if first_is_operator fs then doc (query_operators c fs) else doc (renumber_fields c fs)
   query_value c t = renumber c t
 
+  -- the operators of a path, with other numbers in their operands
   pub query_operators : Codes → Fields → Fields
   query_operators c no_fields = no_fields
   query_operators c (field n t fs) =
@@ -67,24 +71,28 @@ abbrev mutual
       (operand (word_of n) t (renumber c t) (query_inverse c t) (query_element c t))
       (query_operators c fs)
 
-  -- the body of `$not`, and of `$elemMatch`
+  -- the operand of `$not`, with other numbers
   pub query_inverse : Codes → Tree → Tree
   query_inverse c (doc fs) = doc (query_operators c fs)
   query_inverse c t = t
 
+  -- the operand of `$elemMatch`, operators or a filter, with other numbers
   pub query_element : Codes → Tree → Tree
   query_element c (doc fs) =
       if has_value_form fs then doc (query_operators c fs) else doc (query_fields c fs)
   query_element c t = t
 
+-- the document of a query, with another number in place of each number that it compares by
 abbrev pub renumber_query : Codes → Doc → Doc
 renumber_query c d = pairs_of (query_fields c (fields_of d))
 
 -- ---- requests
 
+-- The filter and the sort of a request keep to paths that read alike,
+-- and the filter to numbers that may occur there.
 abbrev pub RequestAsksOf : Codes → Request → Type 0
 RequestAsksOf c r = AsksOf c r.filter × SortsReadAlike c r.sorts
 
--- its filter renumbered, and another text, to which its tokens are tied
+-- the request with a renumbered filter, and with another text, to which its tokens are tied
 abbrev pub renumber_request : Codes → List ℕ → Request → Request
 renumber_request c text r = record r { filter = renumber_filter c r.filter; text = text }

@@ -1,5 +1,5 @@
--- Values, documents and filters in which each whole number is another one, an int64. What it becomes is a matter of its
--- path: the names from the top down to it. Positions in arrays are no part of a path.
+-- Values, documents and filters with another number, an int64, in place of each whole number.
+-- What a number becomes depends on its path: the names from the top down to it, without indexes of arrays.
 use Rattle.std.specs.Prelude.{◌≡◌, ◌<ℤ◌, ℕ, ℤ, Bool, IsTrue, List, [], ◌∷◌, ◌++◌, map, All, codes}
 use Rattle.std.specs.List.{list_any}
 use Rattle.bd_value.specs.Tree.{Scalar, int32, int64, Tree, leaf, doc, array, code_scope, Items, no_items, item}
@@ -12,104 +12,119 @@ use Rattle.bd_query_filter.specs.Filter.{equals, compares, is_in, has_all, has_t
 use Rattle.bd_query_filter.specs.Filter.{has_document, Operators, no_operators, operator}
 use Rattle.bd_query_filter.specs.Word.{is_kind}
 
--- at one path: what each number becomes, and which numbers may occur
+-- for one path: what each number becomes, and which numbers may occur
 pub record Code : Type 0 where
   pub becomes : ℤ → ℤ
   pub occurs : ℤ → Bool
 
+-- a code for each path
 abbrev pub Codes : Type 0
 Codes = Names → Code
 
--- those under a name, and those below all names of a path
+-- the codes below a name
 abbrev pub under : List ℕ → Codes → Codes
 under name c = λ names. c (name ∷ names)
 
+-- the codes below all names of a path
 abbrev pub below : Names → Codes → Codes
 below path c = λ names. c (path ++ names)
 
--- of the numbers that occur, a lesser one becomes a lesser one
+-- Of two numbers that may occur, the lesser one becomes the lesser one.
 abbrev pub IsIncreasing : Code → Type 0
 IsIncreasing c = (m n : ℤ) → IsTrue (c.occurs m) → IsTrue (c.occurs n) → m <ℤ n →
     c.becomes m <ℤ c.becomes n
 
+-- At each path the code keeps the order of the numbers that occur there.
 abbrev pub AreIncreasing : Codes → Type 0
 AreIncreasing c = (path : Names) → IsIncreasing (c path)
 
 -- ---- paths of queries and sorts
 
--- Each reading of a path leads from codes to these: a name that is an index is the name of a field, or a position,
--- which is no part of the path of a value.
+-- Each reading of the path leads from the codes to these:
+-- a name that is an index is the name of a field, or an index, which is no part of a path of values.
 abbrev pub LeadTo : Codes → Names → Codes → Type 0
 LeadTo c [] end = c ≡ end
 LeadTo c (name ∷ rest) end =
     LeadTo (under name c) rest end × (IsTrue (is_index name) → LeadTo c rest end)
 
--- however a path is read, the numbers there have the codes that its names lead to
+-- However the path is read, the numbers there have the codes that its names lead to.
 abbrev pub ReadsAlike : Codes → Names → Type 0
 ReadsAlike c path = LeadTo c path (below path c)
 
--- a name that is an index leads to no other codes
+-- A name that is an index leads to no other codes.
 abbrev pub PassOverIndexes : Codes → Type 0
 PassOverIndexes c = (before : Names) (name : List ℕ) (after : Names) → IsTrue (is_index name) →
     c (before ++ name ∷ after) ≡ c (before ++ after)
 
+-- Each path of a sort reads alike.
 abbrev pub SortsReadAlike : Codes → List SortPath → Type 0
 SortsReadAlike c ss = All (λ s. ReadsAlike c s.path) ss
 
 -- ---- values
 
+-- an int32 or an int64 as the int64 that the code makes of it;
+-- any other scalar stays, a date and a timestamp too
 abbrev pub renumber_scalar : Code → Scalar → Scalar
 renumber_scalar c (int32 n) = int64 (c.becomes n)
 renumber_scalar c (int64 n) = int64 (c.becomes n)
 renumber_scalar c s = s
 
--- the scope of code with scope stands under this name
+-- the name that the scope of code with scope has in a path
 abbrev pub scope_name : List ℕ
 scope_name = codes "$scope"
 
 -- a value, with each number in it; names stay, and so do dates and timestamps
 abbrev mutual
+  -- a value with another number in place of each int32 and int64, at any level
   pub renumber : Codes → Tree → Tree
   renumber c (leaf s) = leaf (renumber_scalar (c []) s)
   renumber c (doc fs) = doc (renumber_fields c fs)
   renumber c (array ts) = array (renumber_items c ts)
   renumber c (code_scope s fs) = code_scope s (renumber_fields (under scope_name c) fs)
 
+  -- the elements of an array with other numbers; an index is no part of a path
   pub renumber_items : Codes → Items → Items
   renumber_items c no_items = no_items
   renumber_items c (item t ts) = item (renumber c t) (renumber_items c ts)
 
+  -- the fields of a document with other numbers, each by the codes under its name
   pub renumber_fields : Codes → Fields → Fields
   renumber_fields c no_fields = no_fields
   renumber_fields c (field n t fs) = field n (renumber (under n c) t) (renumber_fields c fs)
 
+-- a document with another number in place of each number, at any level; names stay
 abbrev pub renumber_document : Codes → Doc → Doc
 renumber_document c d = map (λ p. (p.0, renumber (under p.0 c) p.1)) d
 
+-- the documents of a dump, each with its numbers replaced
 abbrev pub renumber_documents : Codes → List Doc → List Doc
 renumber_documents c ds = map (renumber_document c) ds
 
--- each number in a value is one that may occur at its path
+-- If a scalar is an int32 or an int64, it is a number that may occur.
 abbrev pub ScalarIsOf : Code → Scalar → Type 0
 ScalarIsOf c (int32 n) = IsTrue (c.occurs n)
 ScalarIsOf c (int64 n) = IsTrue (c.occurs n)
 ScalarIsOf c _ = Unit {0}
 
 abbrev mutual
+  -- Each number in a value, at any level, may occur at its path.
   pub IsOf : Codes → Tree → Type 0
   IsOf c (leaf s) = ScalarIsOf (c []) s
   IsOf c (doc fs) = FieldsAreOf c fs
   IsOf c (array ts) = ItemsAreOf c ts
   IsOf c (code_scope s fs) = FieldsAreOf (under scope_name c) fs
 
+  -- Each number in the elements of an array may occur at the array's path: positions are no part of a path.
   pub ItemsAreOf : Codes → Items → Type 0
   ItemsAreOf c no_items = Unit {0}
   ItemsAreOf c (item t ts) = IsOf c t × ItemsAreOf c ts
 
+  -- Each number in the fields of a document may occur at its path.
   pub FieldsAreOf : Codes → Fields → Type 0
   FieldsAreOf c no_fields = Unit {0}
   FieldsAreOf c (field n t fs) = IsOf (under n c) t × FieldsAreOf c fs
 
+-- Each number in the documents of a dump may occur at its path.
 abbrev pub DocumentsAreOf : Codes → List Doc → Type 0
 DocumentsAreOf c ds = All (λ d. IsOf c (doc (fields_of d))) ds
 
@@ -118,16 +133,19 @@ DocumentsAreOf c ds = All (λ d. IsOf c (doc (fields_of d))) ds
 -- A filter, with each value that it compares by: its numbers have the codes of the path that it asks, and of their
 -- own names below that. A size is a count of elements, and stays.
 abbrev mutual
+  -- a filter with other numbers in the values that it compares by
   pub renumber_filter : Codes → Filter → Filter
   renumber_filter c (all_of fs) = all_of (renumber_filters c fs)
   renumber_filter c (some_of fs) = some_of (renumber_filters c fs)
   renumber_filter c (none_of fs) = none_of (renumber_filters c fs)
   renumber_filter c (at_path path os) = at_path path (renumber_operators (below path c) os)
 
+  -- each of the filters with other numbers
   pub renumber_filters : Codes → Filters → Filters
   renumber_filters c no_filters = no_filters
   renumber_filters c (filter f fs) = filter (renumber_filter c f) (renumber_filters c fs)
 
+  -- an operator with other numbers; `$size`, `$exists` and `$type` stay
   pub renumber_operator : Codes → Operator → Operator
   renumber_operator c (equals v) = equals (renumber c v)
   renumber_operator c (compares r v) = compares r (renumber c v)
@@ -140,11 +158,12 @@ abbrev mutual
   renumber_operator c (has_element os) = has_element (renumber_operators c os)
   renumber_operator c (has_document fs) = has_document (renumber_filters c fs)
 
+  -- each of the operators of a path with other numbers
   pub renumber_operators : Codes → Operators → Operators
   renumber_operators c no_operators = no_operators
   renumber_operators c (operator o os) = operator (renumber_operator c o) (renumber_operators c os)
 
--- some types have both kinds of whole numbers, or neither
+-- The types have both int32 and int64 among them, or neither.
 abbrev pub TakeNumbersAlike : List Kind → Type 0
 TakeNumbersAlike ks =
     list_any (λ k. is_kind k kinds.Int32) ks ≡ list_any (λ k. is_kind k kinds.Int64) ks
@@ -152,16 +171,20 @@ TakeNumbersAlike ks =
 -- Each path of a filter reads alike, each number that it compares by may occur there, and no `$type` tells int32 from
 -- int64.
 abbrev mutual
+  -- A filter asks only what renumbering keeps: paths that read alike, numbers that may occur there,
+  -- and no `$type` that tells int32 from int64.
   pub AsksOf : Codes → Filter → Type 0
   AsksOf c (all_of fs) = AllAskOf c fs
   AsksOf c (some_of fs) = AllAskOf c fs
   AsksOf c (none_of fs) = AllAskOf c fs
   AsksOf c (at_path path os) = ReadsAlike c path × OperatorsAskOf (below path c) os
 
+  -- Each of the filters asks only what renumbering keeps.
   pub AllAskOf : Codes → Filters → Type 0
   AllAskOf c no_filters = Unit {0}
   AllAskOf c (filter f fs) = AsksOf c f × AllAskOf c fs
 
+  -- An operator asks only what renumbering keeps.
   pub OperatorAsksOf : Codes → Operator → Type 0
   OperatorAsksOf c (equals v) = IsOf c v
   OperatorAsksOf c (compares r v) = IsOf c v
@@ -174,6 +197,7 @@ abbrev mutual
   OperatorAsksOf c (has_element os) = OperatorsAskOf c os
   OperatorAsksOf c (has_document fs) = AllAskOf c fs
 
+  -- Each of the operators of a path asks only what renumbering keeps.
   pub OperatorsAskOf : Codes → Operators → Type 0
   OperatorsAskOf c no_operators = Unit {0}
   OperatorsAskOf c (operator o os) = OperatorAsksOf c o × OperatorsAskOf c os

@@ -4,7 +4,8 @@ use Rattle.std.specs.Fmt.{sign_text}
 use Rattle.bd_wide_number.specs.Decimal128.{five_bits, coefficient_of, biased_exponent}
 use Rattle.bd_wide_text.specs.Layout.{mantissa, zeros}
 
--- the power of ten of the first digit, which is 6177 below the sum of `biased` and the count of the digits
+-- the exponent of ten of the first digit, as text:
+-- `sum`, its biased exponent plus the count of digits, less 6177
 abbrev pub power_text : ℕ → List ℕ
 power_text sum = if nat_lt sum 6177 then codes "E-" ++ decimal (6177 - sum) else codes "E+" ++ decimal (sum - 6177)
 
@@ -19,12 +20,12 @@ scientific_string digits biased =
     if nat_lt places (length digits) then take (length digits - places) digits ++ (codes "." ++ drop (length digits - places) digits)
     else codes "0." ++ (zeros (places - length digits) ++ digits)))
 
--- without the sign, by the two halves
+-- the text of a decimal128 without its sign, by the two halves of its bits; it is no NaN
 unfoldable pub decimal128_size : ℕ → ℕ → List ℕ
 decimal128_size low high = if five_bits high == 30 then codes "Infinity"
     else scientific_string (decimal (coefficient_of low high)) (biased_exponent high)
 
--- the first of the 128 bits is the sign
+-- the text of a decimal128, by the two halves of its bits; each NaN is `NaN`, without sign and payload
 unfoldable pub decimal128_text : ℕ → ℕ → List ℕ
 decimal128_text low high = if five_bits high == 31 then codes "NaN"
     else sign_text (nat_le (2 ^ 63) high) ++ decimal128_size low high

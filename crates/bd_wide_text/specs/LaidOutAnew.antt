@@ -6,47 +6,47 @@ use Rattle.fast_float.specs.Text.{Parts, digits_of, text_of, nearest}
 use Rattle.ryu.specs.Plain.{IsPlain, IsLaidOut}
 use Rattle.bd_wide_text.specs.{Double.AreSignificant, Double.laid_out, Double.nearest_double, Double.padded, Layout.mantissa, Layout.zeros}
 
--- the float is a number other than zero
+-- The float is a number other than zero.
 abbrev pub IsSized : Float → Type 0
 IsSized nan = ⊥
 IsSized (inf negative) = ⊥
 IsSized (fin negative m e) = 1 ≤ m
 
--- a short text with these parts, laid out as `ryu` has it
+-- The text is short, has these parts, and is laid out as `ryu` has it.
 pub record AreParts (size : List ℕ) (p : Parts) : Type 0 where
   pub text : size ≡ text_of p
   pub plain : IsPlain p
   pub layout : IsLaidOut 16 4 p
   pub short : length size ≤ 25
 
--- digits and the power of ten that the first of them is worth are the number with these parts
+-- The digits, the first of which is worth this power of ten, are the number with these parts.
 abbrev pub IsNumberOf : Parts → List ℕ → ℤ → Type 0
 IsNumberOf p digits power = (negative : Bool) → nearest_double negative digits power ≡ nearest binary64 negative p
 
--- the same number laid out, unless it is zero
+-- The text is the number with these parts, laid out as bsondump does, unless it is zero.
 abbrev pub IsLaidOutAnew : Parts → List ℕ → Type 0
 IsLaidOutAnew p new = (digits_of p ≡ 0)
     ⊎ ((digits : List ℕ) × (power : ℤ) × AreSignificant digits × IsNumberOf p digits power × (new ≡ laid_out digits power))
 
--- so many zeros stand before the other digits
+-- The digits begin with exactly this many zeros.
 pub record AreZerosBefore (digits : List ℕ) (count : ℕ) : Type 0 where
   pub within : count ≤ length digits
   pub zeros_are : take count digits ≡ zeros count
   pub next : count < length digits → slice_index digits count ≢ 48
 
--- so many digits are left without the zeros at their end
+-- The digits without the zeros at their end are this many.
 pub record AreZerosAfter (digits : List ℕ) (count : ℕ) : Type 0 where
   pub some : 0 < count
   pub within : count ≤ length digits
   pub zeros_are : drop count digits ≡ zeros (length digits - count)
   pub last : slice_index digits (count - 1) ≢ 48
 
--- a number below 1, with so many zeros behind the point
+-- the layout of a number below 1 that has `count` zeros behind the point
 abbrev pub small_text : List ℕ → List ℕ → ℕ → List ℕ
 small_text size fraction count = if nat_le count 3 || count == length fraction then size
     else mantissa (drop count fraction ++ []) ++ (codes "E-" ++ padded (decimal (count + 1)))
 
--- a number of 1 or more, whose whole digits are so many without the zeros at their end
+-- the layout of a number of 1 or more, whose whole digits without the zeros at their end are `count`
 abbrev pub large_text : List ℕ → List ℕ → List ℕ → ℕ → List ℕ
 large_text size whole fraction count = if nat_le (length whole) 6 then size
     else (if slice_index fraction (length fraction - 1) == 48
