@@ -1,15 +1,15 @@
 #!/usr/bin/env python3
-"""Runs what the documents show with ./bsonfind and ./bsonwide: README.md up to its first heading, the recipes of docs/GUIDE.md, the
-examples of the man pages.
+"""Runs what the documents show with ./bsonfind and ./bsonwide: README.md up to its first heading, the recipes of docs/GUIDE.md and
+docs/LARGE.md, the examples of the man pages.
 
 usage: tests/docs/guide.py     The last line is 'N passed, M failed'. It needs jq; recipes with pv and node are run where these are there.
 
-- Of README.md and the guide what is printed is compared, line by line in any order.
+- Of README.md and the recipes what is printed is compared, line by line in any order.
 - The status is 0, unless the lines show a fault.
 - Each command that reads a file is also run where this file is damaged, and where it is missing. Its status is then not 0, and no
   script prints a traceback.
 - The first command of a document is `set -o pipefail`, and none throws standard error away.
-- No block of the guide has more than 15 lines of commands or of a script.
+- No block of recipes has more than 15 lines of commands or of a script.
 """
 
 import gzip
@@ -180,7 +180,7 @@ def run(steps: list[Step], room: Path, counts: Counts) -> None:
 
 def main() -> int:
     counts = Counts()
-    for name in ("README.md", "docs/GUIDE.md", "docs/bsonfind.1", "docs/bsonwide.1"):
+    for name in ("README.md", "docs/GUIDE.md", "docs/LARGE.md", "docs/bsonfind.1", "docs/bsonwide.1"):
         text = (ROOT / name).read_text(encoding="utf-8")
         with tempfile.TemporaryDirectory() as folder:
             room = Path(folder)
@@ -194,7 +194,7 @@ def main() -> int:
                 steps = recipes(text.partition("\n## ")[0] if name == "README.md" else text, room)
             counts.want(steps[0].command.partition("  #")[0].rstrip() == "set -o pipefail", f"the first command of {name}", steps[0].command)
             counts.want(not re.search(r"[2&]> *&?/dev/null", text), f"{name} throws no standard error away", "")
-            if name == "docs/GUIDE.md":
+            if name.startswith("docs/") and name.endswith(".md"):
                 counts.want(not (long := long_blocks(text)), f"the blocks of {name} have at most {MOST_LINES} lines", "\n".join(long))
             run(steps, room, counts)
     print(f"{counts.passed} passed, {counts.failed} failed")

@@ -3,7 +3,7 @@
 
 usage: tests/package/engines.py [MEGABYTES]     The last line is 'N passed, M failed'. Without a number the dump has 20 megabytes.
 
-The scripts are those of docs/GUIDE.md. What they print must be what one run over the whole dump prints, byte for byte. The dump has
+The scripts are those of docs/LARGE.md. What they print must be what one run over the whole dump prints, byte for byte. The dump has
 values of mixed kinds with many ties; the request has a filter, a sort, a skip and a limit. Machines are processes of this one:
 
 - Dask has a scheduler and three workers. One is killed while it asks its second part. Then another one no longer answers.
@@ -500,7 +500,7 @@ def run_all(tests: Tests, room: Path, size: int) -> int:
     """Asks by each engine, and gives how many were skipped."""
     scripts = room / "scripts"
     scripts.mkdir()
-    recipes((ROOT / "docs/GUIDE.md").read_text(encoding="utf-8"), scripts)
+    recipes((ROOT / "docs/LARGE.md").read_text(encoding="utf-8"), scripts)
     dump = make_dump(room / "mixed.bson", size)
     bench = Bench(tests, room, scripts, dump, make_faulty(dump))
     skipped = 0
