@@ -49,17 +49,10 @@ pub trait Input {
         false
     }
 
-<<<<<<< HEAD
-    /// The count of reads has 64 bits at most.
-    ghost calls_fit: { (s : Self) → (state s).calls ≤ greatest };
-
-    /// The count of failed reads has 64 bits at most.
-=======
     /// The count of reads is one of 64 bits.
     ghost calls_fit: { (s : Self) → (state s).calls ≤ greatest };
 
     /// The count of reads that failed is one of 64 bits.
->>>>>>> ec00008813849cf51382d4f63ae5ddd1268cddda
     ghost failures_fit: { (s : Self) → (state s).failures ≤ greatest };
 }
 

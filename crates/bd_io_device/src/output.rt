@@ -32,17 +32,10 @@ pub trait Output {
         ensures failed { OnErr result ((state self.new).failures
             ≡ after_more (state self.old).failures 1) };
 
-<<<<<<< HEAD
-    /// The count of writes has 64 bits at most.
-    ghost calls_fit: { (s : Self) → (state s).calls ≤ greatest };
-
-    /// The count of failed writes has 64 bits at most.
-=======
     /// The count of writes is one of 64 bits.
     ghost calls_fit: { (s : Self) → (state s).calls ≤ greatest };
 
     /// The count of writes that failed is one of 64 bits.
->>>>>>> ec00008813849cf51382d4f63ae5ddd1268cddda
     ghost failures_fit: { (s : Self) → (state s).failures ≤ greatest };
 }
 
