@@ -2,6 +2,7 @@
 # make look       prints the documents of FILE, examples/shop.bson without it, by the program as it stands, with no proof
 # make test       passes all tests
 # make edits      tries wrong bodies, of CRATE alone where it is given: the proofs must refuse each
+# make reference  writes docs/REFERENCE.md from the sources
 # make bench      times the commands over a dump of MB megabytes, 20 without it, of documents of a KIND, mixed without it, and draws docs/performance.svg; of several MB how cost grows
 # make install    puts the programs, their man pages, completions, licence, documents and package of Python below PREFIX
 # make uninstall  takes them away
@@ -28,7 +29,7 @@ FISH = $(SHARE)/fish/vendor_completions.d
 PACKAGE = $(DESTDIR)$(shell $(PYTHON) tools/packages.py "$(PREFIX)")/bsonfind
 MODULES = python/bsonfind/*.py python/bsonfind/py.typed python/bsonfind/VERSION
 
-.PHONY: all build look test edits bench install uninstall deb dist clean
+.PHONY: all build look test edits reference bench install uninstall deb dist clean
 
 all: build
 
@@ -52,6 +53,9 @@ test:
 
 edits:
 	@tests/edits.sh $(CRATE)
+
+reference:
+	@$(PYTHON) tools/reference.py
 
 bench: bsonfind bsonwide
 	$(PYTHON) bench/bench.py $(MB) --kind $(KIND)

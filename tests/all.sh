@@ -1,6 +1,6 @@
 #!/bin/sh
 # Runs the gate, then the tests of the programs that the gate proved and built, those of the package of Python, the rows, the rows of
-# the calls that grow, the looks at the examples, the definitions and the imports and two rounds of the edits, and prints the sum of all as its
+# the calls that grow, the looks at the examples, pages, imports and clauses and two rounds of the edits, and prints the sum of all as its
 # last line. The status is 0 where nothing failed.
 set -u
 cd "$(dirname "$0")/.." || exit 1
@@ -47,7 +47,7 @@ if [ -x crates/bd_growth_tests/out/bd_growth_tests_tests ]; then
 else
 	echo 'the gate left no tests of crates/bd_growth_tests: tests/faults/growing_calls.py was not run'
 fi
-for script in docs/examples.py docs/definitions.py docs/imports.py; do
+for script in docs/examples.py docs/reference.py docs/imports.py docs/clauses.py; do
 	"tests/$script" | tee "$log"
 	add
 done

@@ -82,8 +82,10 @@ pub fn next_frame(
     number: u32,
 ) -> Result<Option<Frame>, Fault>
     requires { at ≤ length bytes.now }
-    ensures found { IfOk result (λ f. frame_length (drop at bytes.now) ≡ Ok (option_map (λ x. x.length) f)) }
-    ensures stands { IfOk result (λ f. IfSome f (λ x. (x.start ≡ at) × (at + x.length ≤ length bytes.now))) }
+    ensures found { IfOk result (λ f.
+        frame_length (drop at bytes.now) ≡ Ok (option_map (λ x. x.length) f)) }
+    ensures stands { IfOk result (λ f.
+        IfSome f (λ x. (x.start ≡ at) × (at + x.length ≤ length bytes.now))) }
     ensures fault { IfErr result (λ e. frame_length (drop at bytes.now) ≡ Err e.kind) }
     ensures place { IfErr result (λ e. (e.document ≡ number)
         × (e.offset ≡ at) × (e.path.items ≡ [])) }
@@ -172,7 +174,8 @@ fn next(place: Option<usize>) -> Option<usize>
 fn element(alloc: Global, room: u32, place: Option<usize>, e: u64, bytes: &[u8]) -> Past<'_>
     requires some { 0 < length bytes.now }
     requires inside { length bytes.now ≤ e }
-    ensures gives { GivesItem (λ x. x.now) result (past_element (past_nested room) place e bytes.now) }
+    ensures gives { GivesItem (λ x.
+        x.now) result (past_element (past_nested room) place e bytes.now) }
     ensures after { IfOk result (λ x. length x.now < length bytes.now) }
 {
     let q = e - bytes.len() as u64;
@@ -191,7 +194,8 @@ fn element(alloc: Global, room: u32, place: Option<usize>, e: u64, bytes: &[u8])
 #[cycle(checking)]
 fn value(alloc: Global, room: u32, typed: ElementType, q: u64, e: u64, bytes: &[u8]) -> Past<'_>
     requires { length bytes.now ≤ e }
-    ensures gives { GivesItem (λ x. x.now) result (past_typed (past_nested room) typed q e bytes.now) }
+    ensures gives { GivesItem (λ x.
+        x.now) result (past_typed (past_nested room) typed q e bytes.now) }
     ensures after { IfOk result (λ x. length x.now ≤ length bytes.now) }
 {
     let kind = match typed {
@@ -244,7 +248,8 @@ fn nested(alloc: Global, room: u32, holder: Holder, q: u64, e: u64, bytes: &[u8]
 #[cycle(checking)]
 fn body(alloc: Global, room: u32, in_array: bool, e: u64, bytes: &[u8]) -> Past<'_>
     requires { length bytes.now ≤ e }
-    ensures gives { GivesItem (λ x. x.now) result (past_body (past_nested room) in_array e bytes.now) }
+    ensures gives { GivesItem (λ x.
+        x.now) result (past_body (past_nested room) in_array e bytes.now) }
     ensures after { IfOk result (λ x. length x.now ≤ length bytes.now) }
 {
     let (body, end, rest) = frame(alloc, false, e, bytes)?;
@@ -256,7 +261,8 @@ fn body(alloc: Global, room: u32, in_array: bool, e: u64, bytes: &[u8]) -> Past<
 #[cycle(checking)]
 fn code_scope(alloc: Global, room: u32, q: u64, e: u64, bytes: &[u8]) -> Past<'_>
     requires { length bytes.now ≤ e }
-    ensures gives { GivesItem (λ x. x.now) result (past_code_scope (past_nested room) q e bytes.now) }
+    ensures gives { GivesItem (λ x.
+        x.now) result (past_code_scope (past_nested room) q e bytes.now) }
     ensures after { IfOk result (λ x. length x.now ≤ length bytes.now) }
 {
     let (parts, end, rest) = code_frame(alloc, e, bytes)?;

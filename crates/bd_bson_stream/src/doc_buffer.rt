@@ -189,7 +189,8 @@ impl DocBuffer {
             × Consumes (R.state reader.old).left (R.state reader.new).left head)) }
         ensures reads { IfOk result (λ o. IfSome o (λ head. AreReads R.read_gives
             (self.old.left.turns - self.new.left.turns) reader.old head reader.new)) }
-        ensures counted { OnOk result (CountsReads self.old self.new (over R.state reader.old reader.new)) }
+        ensures counted { OnOk result
+            (CountsReads self.old self.new (over R.state reader.old reader.new)) }
         ensures well { OnOk result ((R.state reader.new).failures ≡ (R.state reader.old).failures) }
         ensures end { result ≡ Ok None →
             FindsEnd R.state R.read_gives self.old self.new reader.old reader.new }
@@ -228,7 +229,8 @@ impl DocBuffer {
             × (self.new.number ≡ self.old.number + 1)
             × (self.new.left.bytes + self.new.size ≡ self.old.left.bytes)) }
         ensures state { self.new.failed ≡ self.old.failed }
-        ensures counted { OnOk result (CountsReads self.old self.new (over R.state reader.old reader.new)) }
+        ensures counted { OnOk result
+            (CountsReads self.old self.new (over R.state reader.old reader.new)) }
         ensures well { OnOk result ((R.state reader.new).failures ≡ (R.state reader.old).failures) }
         ensures grown { OnOk result (HoldsAsMuch
             (length self.old.buffer.items) (length self.new.buffer.items) self.new.size) }

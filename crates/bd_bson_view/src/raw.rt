@@ -18,7 +18,8 @@ pub struct RawValue<'a> {
     pub(crate) kind: Kind,
     ghost inside: { start ≤ length bytes.now },
     ghost short: { length bytes.now ≤ longest_input },
-    ghost sound: { Sound kind (drop start bytes.now) } by { Sound-prop kind (drop start bytes.now) },
+    ghost sound: { Sound kind
+        (drop start bytes.now) } by { Sound-prop kind (drop start bytes.now) },
 }
 
 /// A document in bytes, which are known to spell one.
@@ -28,7 +29,8 @@ pub struct RawDoc<'a> {
     pub(crate) start: usize,
     ghost inside: { start ≤ length bytes.now },
     ghost short: { length bytes.now ≤ longest_input },
-    ghost sound: { Sound kinds.Doc (drop start bytes.now) } by { Sound-prop kinds.Doc (drop start bytes.now) },
+    ghost sound: { Sound kinds.Doc
+        (drop start bytes.now) } by { Sound-prop kinds.Doc (drop start bytes.now) },
 }
 
 /// The elements of a document or an array, from one on.

@@ -59,7 +59,8 @@ impl<'a> RawDoc<'a> {
 impl<'a> RawValue<'a> {
     /// The elements of a document or an array; every other value has none.
     pub fn elements(self) -> Option<Elements<'a>>
-        ensures some { IfSome result (λ x. AreParts (stands self.entry.sound) (elements_left x.left)) }
+        ensures some { IfSome result (λ x.
+            AreParts (stands self.entry.sound) (elements_left x.left)) }
         ensures kept { IfSome result (λ x. x.bytes.now ≡ self.entry.bytes.now) }
         ensures none { IfNone result (HoldsNoParts (stands self.entry.sound)) }
     {
@@ -179,6 +180,7 @@ impl<'a> Reading for RawValue<'a> {
 }
 
 impl<'a> Node<'a> for RawValue<'a> {
+    /// What it holds besides other values. A text of it is no longer than a document may be.
     #[inline(always)]
     fn scalar(self) -> Option<Scalar<'a>>
         ensures scalar { option_map seen result ≡ own_of (stands self.entry.sound) }

@@ -93,7 +93,8 @@ pub fn append_value<N: Reading>(node: N, out: &mut Vec<u8>) -> Result<(), WriteF
     requires { zero_in (N.tree node) ≡ false }
     ensures ok { OnOk result (out.new.items ≡ out.old.items ++ bytes_of (N.tree node)) }
     ensures spells { OnOk result (IsValue (N.tree node) (bytes_of (N.tree node))) }
-    ensures err { IfErr result (OverrunsLimit (length out.old.items + length (bytes_of (N.tree node)))) }
+    ensures err { IfErr result
+        (OverrunsLimit (length out.old.items + length (bytes_of (N.tree node)))) }
     ensures kept { OnErr result (out.new.items ≡ out.old.items) }
 {
     let before = out.len();

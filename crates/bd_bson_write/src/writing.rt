@@ -48,7 +48,8 @@ pub(crate) fn put_value<N: Reading>(node: N, out: &mut Vec<u8>) -> Result<(), Wr
     requires { zero_in (N.tree node) ≡ false }
     ensures ok { OnOk result (out.new.items ≡ out.old.items ++ bytes_of (N.tree node)) }
     ensures spells { OnOk result (IsValue (N.tree node) (bytes_of (N.tree node))) }
-    ensures err { IfErr result (OverrunsLimit (length out.old.items + length (bytes_of (N.tree node)))) }
+    ensures err { IfErr result
+        (OverrunsLimit (length out.old.items + length (bytes_of (N.tree node)))) }
     ensures front { OnErr result (StartsWith out.new.items out.old.items) }
 {
     match node.kind() {
@@ -136,7 +137,8 @@ fn append_leaf<N: Reading>(node: N, out: &mut Vec<u8>) -> Result<(), WriteFault>
     requires zero { zero_in (N.tree node) ≡ false }
     ensures ok { OnOk result (out.new.items ≡ out.old.items ++ bytes_of (N.tree node)) }
     ensures spells { OnOk result (IsValue (N.tree node) (bytes_of (N.tree node))) }
-    ensures err { IfErr result (OverrunsLimit (length out.old.items + length (bytes_of (N.tree node)))) }
+    ensures err { IfErr result
+        (OverrunsLimit (length out.old.items + length (bytes_of (N.tree node)))) }
     ensures front { OnErr result (StartsWith out.new.items out.old.items) }
 {
     let Some(own) = node.leaf() else {

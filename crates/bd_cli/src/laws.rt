@@ -49,7 +49,8 @@ pub fn shows_one_thing()
         RepliesInTurn (RepliesInText bytes ds) new_state (commands_of commands) replies s →
         RepliesInTurn (RepliesInText bytes ds) new_state (commands_of commands) other t →
         (replies ≡ other) × (s ≡ t) }
-    ensures served_alike { (bytes : List ℕ) (ds : List Doc) (commands replies other : List ℕ) (s t : State) →
+    ensures served_alike { (bytes : List ℕ)
+        (ds : List Doc) (commands replies other : List ℕ) (s t : State) →
         RepliesInTurn (RepliesInText bytes ds) new_state (commands_of commands) replies s →
         RepliesInTurn (RepliesInText bytes ds) new_state (commands_of commands) other t →
         AreAlikeTexts (commands_of commands) replies other × (s ≡ t) }

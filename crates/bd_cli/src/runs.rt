@@ -34,7 +34,8 @@ pub fn run<F: Input, C: Input, O: Output, E: Output>(
     out: &mut O,
     err: &mut E,
 ) -> Status
-    ensures ran { CarriesOut C.state C.read_gives commands.old commands.new (over O.state out.old out.new)
+    ensures ran { CarriesOut C.state C.read_gives commands.old commands.new
+        (over O.state out.old out.new)
         (over E.state err.old err.new) result (over F.state file.old file.new) order.now }
     // After a failed read, or at the end, the file is read no more.
     ensures further { ReadsNoFurther F.read_gives file.old file.new }
@@ -42,7 +43,8 @@ pub fn run<F: Input, C: Input, O: Output, E: Output>(
     ensures file { ReadsNoFile order.now → file.new ≡ file.old }
     ensures commands { ReadsNoCommands order.now → commands.new ≡ commands.old }
     // A device that failed is told by the status.
-    ensures failed { DeviceFails (over F.state file.old file.new) (over C.state commands.old commands.new)
+    ensures failed { DeviceFails
+        (over F.state file.old file.new) (over C.state commands.old commands.new)
         (over O.state out.old out.new) (over E.state err.old err.new) → result ≡ Status.Failed }
 {
     match order {
@@ -63,7 +65,8 @@ fn serve<F: Input, C: Input, O: Output, E: Output>(
     out: &mut O,
     err: &mut E,
 ) -> Status
-    ensures serves { ServesInput C.state C.read_gives commands.old commands.new (over O.state out.old out.new)
+    ensures serves { ServesInput C.state C.read_gives commands.old commands.new
+        (over O.state out.old out.new)
         (over E.state err.old err.new) result (over F.state file.old file.new) }
     ensures further { ReadsNoFurther F.read_gives file.old file.new }
 {
@@ -104,7 +107,8 @@ fn serve_dump<C: Input, O: Output, E: Output>(
     out: &mut O,
     err: &mut E,
 ) -> Status
-    ensures { ServesDump C.state C.read_gives commands.old commands.new (over O.state out.old out.new)
+    ensures { ServesDump C.state C.read_gives commands.old commands.new
+        (over O.state out.old out.new)
         (over E.state err.old err.new) result (bytes_of dump) (documents dump) }
 {
     let mut service = Service::new(alloc, dump);

@@ -139,7 +139,8 @@ fn fault_told(error: &Error) -> WordsFault
 #[tactic(auto, using(crate::proofs::LineLemmas::no_file, crate::proofs::LineLemmas::readings))]
 fn order_named(alloc: Global, name: &str, matches: &ArgMatches<'_>) -> Result<Order, WordsFault>
     requires { IsSome (ordered_by name.now (rows_of (found_of matches.now))) }
-    ensures order { IfOk result (λ o. ordered_by name.now (rows_of (found_of matches.now)) ≡ Some (meant o)) }
+    ensures order { IfOk result (λ o.
+        ordered_by name.now (rows_of (found_of matches.now)) ≡ Some (meant o)) }
     ensures fault { IfErr result (λ f. f ≡ NoMemory) }
 {
     let Some(file) = matches.get_str("file") else {
@@ -161,7 +162,8 @@ fn order_named(alloc: Global, name: &str, matches: &ArgMatches<'_>) -> Result<Or
 
 /// What the options say in these matches.
 fn options_of(alloc: Global, matches: &ArgMatches<'_>) -> Result<FindOptions, WordsFault>
-    ensures words { IfOk result (λ o. find_words_of o ≡ find_words_in (rows_of (found_of matches.now))) }
+    ensures words { IfOk result (λ o.
+        find_words_of o ≡ find_words_in (rows_of (found_of matches.now))) }
     ensures fault { IfErr result (λ f. f ≡ NoMemory) }
 {
     let query = text_of(alloc, matches, "query")?;

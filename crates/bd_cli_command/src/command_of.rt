@@ -163,7 +163,8 @@ fn truth_at(document: &Document, field: &str) -> bool
 
 /// A copy of the document of a field; `{}` without one.
 fn document_at(alloc: Global, document: &Document, field: &str) -> Result<Document, NoMemory>
-    ensures { IfOk result (λ d. pairs d ≡ field_value document_field [] field.now (pairs document.now)) }
+    ensures { IfOk result (λ d.
+        pairs d ≡ field_value document_field [] field.now (pairs document.now)) }
 {
     match document.first(field).and_then(document_in) {
         Some(inner) => to_document::<Tree<'_>>(alloc, Tree::Doc(inner).parts()),

@@ -70,7 +70,8 @@ pub fn is_want_of_memory(fault: &Fault) -> bool
 #[tactic(auto, using(crate::proofs::OutputLemmas::taking))]
 pub fn write_error<E: Output>(message: &str, err: &mut E) -> Result<(), DeviceFault>
     ensures ok { OnOk result (TakesText (over E.state err.old err.new) (error_line message.now)) }
-    ensures err { OnErr result (BreaksWithin (over E.state err.old err.new) (error_line message.now)) }
+    ensures err { OnErr result
+        (BreaksWithin (over E.state err.old err.new) (error_line message.now)) }
 {
     write_all(err, b"bsonfind: ")?;
     write_all(err, message.as_bytes())?;
@@ -80,8 +81,10 @@ pub fn write_error<E: Output>(message: &str, err: &mut E) -> Result<(), DeviceFa
 /// Writes a number and the words after it.
 #[tactic(auto, using(crate::proofs::OutputLemmas::taking))]
 pub fn write_count<E: Output>(count: u64, words: &str, err: &mut E) -> Result<(), DeviceFault>
-    ensures ok { OnOk result (TakesText (over E.state err.old err.new) (decimal count ++ words.now)) }
-    ensures err { OnErr result (BreaksWithin (over E.state err.old err.new) (decimal count ++ words.now)) }
+    ensures ok { OnOk result
+        (TakesText (over E.state err.old err.new) (decimal count ++ words.now)) }
+    ensures err { OnErr result
+        (BreaksWithin (over E.state err.old err.new) (decimal count ++ words.now)) }
 {
     let mut buffer = Buffer::new();
     write_all(err, buffer.format(count).as_bytes())?;
@@ -171,7 +174,8 @@ pub fn tell_unwritten<E: Output>(err: &mut E) -> Status
 
 /// Tells why standard output has not all that is to be shown.
 pub fn tell_stop<E: Output>(fault: OutputFault, err: &mut E) -> Status
-    ensures { TellsMessage (over E.state err.old err.new) (error_line (stop_words fault)) Failed result }
+    ensures { TellsMessage
+        (over E.state err.old err.new) (error_line (stop_words fault)) Failed result }
 {
     match fault {
         OutputFault::NoMemory => tell_no_memory(err),
@@ -181,7 +185,8 @@ pub fn tell_stop<E: Output>(fault: OutputFault, err: &mut E) -> Status
 
 /// Tells why an input was not read whole. It takes no memory.
 pub fn tell_read_fault<E: Output>(fault: ReadFault, err: &mut E) -> Status
-    ensures { TellsMessage (over E.state err.old err.new) (error_line (read_words fault)) Failed result }
+    ensures { TellsMessage
+        (over E.state err.old err.new) (error_line (read_words fault)) Failed result }
 {
     tell_error(fault.words(), err)
 }
@@ -250,7 +255,8 @@ pub(crate) fn push_fault(fault: &Fault, text: &mut String) -> Result<(), NoMemor
 
 /// The message of a fault. `NoMemory` is its only error.
 pub(crate) fn fault_message(alloc: Global, fault: &Fault) -> Result<String, NoMemory>
-    ensures { IfOk result (λ s. string_bytes s ≡ fault_text fault.now.document (fault_view fault.now)) }
+    ensures { IfOk result (λ s.
+        string_bytes s ≡ fault_text fault.now.document (fault_view fault.now)) }
 {
     let mut text = String::new(alloc);
     push_fault(fault, &mut text)?;

@@ -144,7 +144,8 @@ fn bad_line_message(alloc: Global, bad: &BadLine) -> Result<String, NoMemory>
 
 /// Appends why a line is bad, after its number.
 fn push_line_fault(fault: &LineFault, text: &mut String) -> Result<(), NoMemory>
-    ensures { OnOk result (string_bytes text.new ≡ string_bytes text.old ++ line_fault_text fault.now) }
+    ensures { OnOk result (string_bytes text.new
+        ≡ string_bytes text.old ++ line_fault_text fault.now) }
 {
     match fault {
         LineFault::Unread(fault) => {

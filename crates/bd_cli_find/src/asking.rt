@@ -58,7 +58,8 @@ impl From<AllocError> for AskingFault {
 
 /// What the options of `find` ask for. Without a query it is each document, without a sort the order of the dump.
 pub(crate) fn read_asking(alloc: Global, options: &FindOptions) -> Result<Asking, AskingFault>
-    ensures asking { IfOk result (λ a. AsksInWords (find_words_of options.now) (Ok (page_request_of a))) }
+    ensures asking { IfOk result (λ a.
+        AsksInWords (find_words_of options.now) (Ok (page_request_of a))) }
     ensures fits { IfOk result (λ a. fits_batch a.size ≡ true) }
     ensures index { IfOk result (λ a.
         option_map (λ path. string_bytes path.text) a.index ≡ (find_words_of options.now).index) }
@@ -98,8 +99,10 @@ fn read_page(
 
 /// The document of a query or a sort, as the name tells; without a text it has no pairs.
 fn read_text(alloc: Global, name: &str, text: &Option<String>) -> Result<Document, AskingFault>
-    ensures document { IfOk result (λ d. ReadsText name.now (option_map string_bytes text.now) (Ok (pairs d))) }
-    ensures fault { IfErr result (TellsAskingFault (ReadsText name.now (option_map string_bytes text.now))) }
+    ensures document { IfOk result (λ d.
+        ReadsText name.now (option_map string_bytes text.now) (Ok (pairs d))) }
+    ensures fault { IfErr result
+        (TellsAskingFault (ReadsText name.now (option_map string_bytes text.now))) }
 {
     let Some(text) = text else {
         return Ok(Document::new(alloc));
@@ -183,7 +186,8 @@ fn read_index(alloc: Global, text: &Option<String>) -> Result<Option<Path>, Aski
 
 /// The token of a text, where there is one. It takes no memory.
 fn read_token(text: &Option<String>) -> Result<Option<Token>, AskingFault>
-    ensures token { IfOk result (λ token. after_part (option_map string_bytes text.now) ≡ Ok token) }
+    ensures token { IfOk result (λ token.
+        after_part (option_map string_bytes text.now) ≡ Ok token) }
     ensures fault { IfErr result (TellsReason (after_part (option_map string_bytes text.now))) }
     ensures known { IfErr result (λ fault. fault ≢ no_memory) }
 {
@@ -246,7 +250,8 @@ fn write_refused<E: Output>(refused: &Refused, err: &mut E) -> Result<(), Device
 #[tactic(auto, using(bd_cli_files::proofs::OutputLemmas::taking))]
 fn write_words<E: Output>(first: &str, second: &str, err: &mut E) -> Result<(), DeviceFault>
     ensures ok { OnOk result (TakesText (over E.state err.old err.new) (first.now ++ second.now)) }
-    ensures err { OnErr result (BreaksWithin (over E.state err.old err.new) (first.now ++ second.now)) }
+    ensures err { OnErr result
+        (BreaksWithin (over E.state err.old err.new) (first.now ++ second.now)) }
 {
     write_all(err, first.as_bytes())?;
     write_all(err, second.as_bytes())

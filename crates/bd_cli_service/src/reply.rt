@@ -96,7 +96,8 @@ fn append_reply(
 /// Appends the reply of an index that was made.
 #[tactic(auto, using(bd_value::proofs::FrontLemmas::fronts))]
 fn append_made(made: Made, out: &mut Vec<u8>) -> Result<(), NoMemory>
-    ensures ok { OnOk result (out.new.items ≡ out.old.items ++ reply_text (makes (made_counts made))) }
+    ensures ok { OnOk result (out.new.items
+        ≡ out.old.items ++ reply_text (makes (made_counts made))) }
     ensures err { OnErr result (StartsWith out.new.items out.old.items) }
 {
     let members = [
@@ -214,7 +215,8 @@ fn append_reason(
 /// Appends the reply of a text that is no document.
 #[tactic(auto, using(bd_value::proofs::FrontLemmas::fronts))]
 fn append_json_fault(fault: JsonFault, out: &mut Vec<u8>) -> Result<(), NoMemory>
-    ensures ok { OnOk result (out.new.items ≡ out.old.items ++ reply_text (refuses (json_refusal fault))) }
+    ensures ok { OnOk result (out.new.items
+        ≡ out.old.items ++ reply_text (refuses (json_refusal fault))) }
     ensures err { OnErr result (StartsWith out.new.items out.old.items) }
 {
     let members = [

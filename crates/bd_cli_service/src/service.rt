@@ -67,12 +67,14 @@ impl Replier for Service {
 
     ghost stays = { KeepsState };
 
+    /// Appends the reply to a line. The session goes on as the call in the line leaves it.
     fn reply(&mut self, command: &[u8], text: &mut Vec<u8>) -> Result<(), AllocError>
         ensures replies { OnOk result ((reply : List ℕ) × (text.new.items ≡ text.old.items ++ reply)
             × RepliesTo self.old command.now reply self.new) }
         ensures kept { OnErr result (text.new.items ≡ text.old.items) }
         // Where memory ran out the session is as it was, or as the call left it whose reply was not made.
-        ensures starved { OnErr result (StarvesAt KeepsState RepliesTo self.old command.now self.new) }
+        ensures starved { OnErr result
+            (StarvesAt KeepsState RepliesTo self.old command.now self.new) }
         ensures dump { service_dump self.new ≡ service_dump self.old }
     {
         let reply = self.answer(command)?;
@@ -108,7 +110,8 @@ fn read_line(alloc: Global, line: &[u8]) -> Result<Document, CallFault>
 /// The command that a document is.
 fn command_in(alloc: Global, document: &Document) -> Result<Command, CallFault>
     ensures command { IfOk result (λ c. command_of (pairs document.now) ≡ Ok (command_tree c)) }
-    ensures fault { IfErr result (RefusesPart (told_as command_refusal (command_of (pairs document.now)))) }
+    ensures fault { IfErr result
+        (RefusesPart (told_as command_refusal (command_of (pairs document.now)))) }
 {
     match read_command(alloc, document) {
         Ok(command) => Ok(command),
@@ -119,7 +122,8 @@ fn command_in(alloc: Global, document: &Document) -> Result<Command, CallFault>
 
 /// Makes a call. It fails only if memory runs out, and then the session is as it was.
 fn perform(session: &mut Session, call: Call) -> Result<Reply, NoMemory>
-    ensures performs { IsPerformed (session_call (dump_of session.old) call) session.old result session.new }
+    ensures performs { IsPerformed
+        (session_call (dump_of session.old) call) session.old result session.new }
 {
     match call_reply(session, call) {
         Ok(reply) => Ok(reply),
@@ -130,7 +134,8 @@ fn perform(session: &mut Session, call: Call) -> Result<Reply, NoMemory>
 
 /// The reply of a call, or why the session refuses it.
 fn call_reply(session: &mut Session, call: Call) -> Result<Reply, Refused>
-    ensures answers { IsAnswered (session_call (dump_of session.old) call) session.old result session.new }
+    ensures answers { IsAnswered
+        (session_call (dump_of session.old) call) session.old result session.new }
 {
     match call {
         Call::CreateIndex {

@@ -13,12 +13,9 @@ pub(crate) const ONE_LINE: &[u8] = b"{\"a\":{\"$numberInt\":\"1\"}}\n";
 /// A document whose field `s` is a string of length 0, which has no room for its zero, and {"a":1}.
 pub(crate) const BAD_AND_ONE: &[u8] = b"\x0c\0\0\0\x02s\0\0\0\0\0\0\x0c\0\0\0\x10a\0\x01\0\0\0\0";
 
-pub(crate) const FAULT: &[u8] = b"document 0, byte 7, path \"s\": bad string length\n";
-
 #[derive(Clone, Copy)]
 pub(crate) enum Command {
     Dump,
-    Check,
     Pack,
     /// All documents.
     Find,
@@ -30,7 +27,6 @@ pub(crate) fn order_of(alloc: Global, command: Command, index: Option<String>) -
     let file = String::new(alloc);
     match command {
         Command::Dump => Order::Dump { file },
-        Command::Check => Order::Check { file },
         Command::Pack => Order::Pack { file },
         Command::Find => Order::Find {
             file,
@@ -54,7 +50,6 @@ pub(crate) struct Devices<'a> {
     pub input: &'a [u8],
     /// How many bytes a call gives or takes at most.
     pub size: usize,
-    pub failing_read: Option<u64>,
     pub failing_err: Option<FailingWrite>,
     /// How many bytes standard output has room for.
     pub room: usize,
@@ -64,7 +59,6 @@ pub(crate) struct Devices<'a> {
 pub(crate) const AMPLE: Devices<'static> = Devices {
     input: b"",
     size: 100,
-    failing_read: None,
     failing_err: None,
     room: 400,
 };
@@ -83,7 +77,7 @@ pub(crate) fn reads(
     }
     let mut out_room = [0; 400];
     let mut err_room = [0; 400];
-    let mut input = MemoryInput::new(devices.input, size, devices.failing_read);
+    let mut input = MemoryInput::new(devices.input, size, None);
     let mut commands = MemoryInput::new(b"{}", 1, None);
     let mut out = MemoryOutput::new(&mut out_room[..devices.room], size, None);
     let mut err = MemoryOutput::new(&mut err_room, size, devices.failing_err);

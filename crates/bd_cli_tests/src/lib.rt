@@ -1,5 +1,5 @@
-//! Tests of `bd_cli_args`, `bd_cli_files`, `bd_cli_find` and `bd_cli`, over their public calls: those that need devices in memory. What the
-//! program shows is tested over the program itself.
+//! Tests of `bd_cli_args`, `bd_cli_files`, `bd_cli_find` and `bd_cli`, over their public calls: those that need devices in memory.
+//! What the program shows, and each read and write of it that fails, is tested over the program itself.
 #![tactic(auto)]
 
 #[cfg(test)]
@@ -14,5 +14,3 @@ mod run_tests;
 mod serve_tests;
 #[cfg(test)]
 mod words_tests;
-#[cfg(test)]
-mod write_tests;

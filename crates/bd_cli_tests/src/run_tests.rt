@@ -1,59 +1,8 @@
 //! Runs over devices in memory, with outcomes that were worked by hand.
-use crate::devices::{AMPLE, BAD_AND_ONE, Command, Devices, FAULT, ONE, ONE_LINE, order_of, reads};
+use crate::devices::{AMPLE, Command, Devices, ONE, ONE_LINE, order_of, reads};
 use bd_cli::Status::{self, Done, Failed};
 use bd_io_device::FailingWrite;
 use std::test::Fail;
-
-/// A read that fails, and what is shown then.
-type Failing = (u64, &'static [u8], &'static str);
-
-/// Of five bytes a read, a document takes three reads.
-const DUMP_READS: [Failing; 4] = [
-    (1, b"", "bsonfind: cannot read\n0 objects found\n"),
-    (2, b"", "bsonfind: cannot read\n0 objects found\n"),
-    (3, b"", "bsonfind: cannot read\n0 objects found\n"),
-    (4, ONE_LINE, "bsonfind: cannot read\n1 objects found\n"),
-];
-
-/// Of seven bytes a read, each document takes three reads.
-const CHECK_READS: [Failing; 5] = [
-    (1, b"", "bsonfind: cannot read\n0 documents, 0 faulty\n"),
-    (3, b"", "bsonfind: cannot read\n0 documents, 0 faulty\n"),
-    (4, FAULT, "bsonfind: cannot read\n1 documents, 1 faulty\n"),
-    (6, FAULT, "bsonfind: cannot read\n1 documents, 1 faulty\n"),
-    (7, FAULT, "bsonfind: cannot read\n2 documents, 1 faulty\n"),
-];
-
-/// Of commands that read their input whole. Of seven bytes a read, two hold a document. A fault that was read is not told.
-const WHOLE_READS: [Failing; 3] = [
-    (1, b"", "bsonfind: cannot read\n"),
-    (2, b"", "bsonfind: cannot read\n"),
-    (3, b"", "bsonfind: cannot read\n"),
-];
-
-/// What was read whole before is shown, and no read is made after it.
-#[test]
-fn ends_at_a_read_that_fails(rt: HostRuntime) {
-    let rows: [(Command, &[u8], usize, &[Failing]); 4] = [
-        (Command::Dump, ONE, 5, &DUMP_READS),
-        (Command::Check, BAD_AND_ONE, 7, &CHECK_READS),
-        (Command::Find, BAD_AND_ONE, 7, &WHOLE_READS),
-        (Command::Pack, b"{\"a\":1}\n{\"a\":1}\n", 7, &WHOLE_READS),
-    ];
-    for (command, input, size, failing) in rows {
-        let order = order_of(rt.alloc(), command, None);
-        for (call, out, err) in failing {
-            let devices = Devices {
-                input,
-                size,
-                failing_read: Some(*call),
-                ..AMPLE
-            };
-            let answer = reads(rt.alloc(), &order, devices, out, err);
-            assert!(rt; answer == Some((*call, Failed)), "read {call}");
-        }
-    }
-}
 
 const UNWRITTEN: &str = "bsonfind: cannot write\n";
 

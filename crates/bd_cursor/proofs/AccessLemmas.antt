@@ -258,6 +258,7 @@ walk_is i _ dir e = absurd (let z : Some dir ≡ None = e in cc)
 
 -- ---- the index that is named, and the first in order
 
+-- an index that serves a sort in a direction has the order of the sort in it
 pub walk_leads : (dump : Dump) (r : Request) (i : Index) (dir : Dir) → IsIndexOf dump i → Some dir ≡ walk_dir (index_mark i) (sort_paths r.sort.items) → HasSortOrder dump r i dir
 walk_leads dump r i dir h e = let w = walk_is i (sort_paths r.sort.items) dir e in record { of_dump = h; whole = w.0; order = w.1 }
 

@@ -281,7 +281,8 @@ impl ScanPosition {
         filter: &Filter,
         n: u64,
     ) -> Result<Vec<u32>, NoMemory>
-        ensures places { IfOk result (λ v. v.items ≡ take n (scan_left_in dump.now filter.now self.old)) }
+        ensures places { IfOk result (λ v.
+            v.items ≡ take n (scan_left_in dump.now filter.now self.old)) }
         ensures left { OnOk result (scan_left_in dump.now filter.now self.new
             ≡ drop n (scan_left_in dump.now filter.now self.old)) }
     {

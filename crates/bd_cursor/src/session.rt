@@ -99,7 +99,8 @@ impl Session {
     ///
     /// `NoIndex` where the path has none.
     pub fn drop_index(&mut self, path: &Path) -> Result<(), Refused>
-        ensures steps { Steps (λ _. dropped) (drop_call (string_bytes path.now.text)) self.old result self.new }
+        ensures steps { Steps (λ _.
+            dropped) (drop_call (string_bytes path.now.text)) self.old result self.new }
     {
         if index_on(&self.indexes, path).is_none() {
             return Err(Refused::NoIndex);
@@ -170,7 +171,8 @@ impl Session {
     /// In this order: `NoCursor` where none has the number, `Range` where `n` is above 2,147,483,647. `NoMemory` where no memory
     /// was given.
     pub fn next(&mut self, id: u64, n: u64) -> Result<Batch, Refused>
-        ensures steps { Steps (λ batch. gave (given_batch batch)) (next_call id n) self.old result self.new }
+        ensures steps { Steps (λ batch.
+            gave (given_batch batch)) (next_call id n) self.old result self.new }
     {
         let Some(place) = place_of(&self.cursors, id) else {
             return Err(Refused::NoCursor);
@@ -202,7 +204,8 @@ impl Session {
 
     /// Whether the index that is asked for is there.
     fn has_choice(&self, choice: &Choice) -> Result<(), Refused>
-        ensures there { OnOk result (IsTrue (has_index (state_of self.now).indexes (hint_of choice.now))) }
+        ensures there { OnOk result
+            (IsTrue (has_index (state_of self.now).indexes (hint_of choice.now))) }
         ensures refused { IfErr result (λ r. (r ≡ Refused.NoIndex)
             × IsFalse (has_index (state_of self.now).indexes (hint_of choice.now))) }
     {
@@ -293,7 +296,8 @@ impl Session {
         ensures opened { OnOk result
             (open_reply (state_of self.now) (hint_of choice.now) ≡ opened self.now.next_id) }
         ensures number { OnOk result (self.now.next_id ≤ 9223372036854775807) }
-        ensures refused { IfErr result (IsRefusedCall (open_reply (state_of self.now) (hint_of choice.now))) }
+        ensures refused { IfErr result
+            (IsRefusedCall (open_reply (state_of self.now) (hint_of choice.now))) }
     {
         self.has_choice(choice)?;
         if self.cursors.len() >= MOST_CURSORS || self.next_id > LAST_ID {

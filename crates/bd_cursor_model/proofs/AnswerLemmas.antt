@@ -161,6 +161,7 @@ from_mark a xs after most old k t l m =
     let on : filter (before a.by t.last) (ordered a) ≡ drop k xs = ap (λ p. filter (before a.by p) (ordered a)) last ∙ after (k - 1) 0 inside ∙ ap (λ n. drop n xs) one in
     ap (λ n. cut a.limit n (filter (before a.by t.last) (ordered a))) m.2 ∙ ap (λ ys. cut a.limit (min most (old + k)) ys) on ∙ cut_drop a.limit most old k xs l few
 
+-- the rest after a mark is what remains after the documents up to it
 pub rest_follows : (a : Selection) → IsTotalOrder a.by → (most : ℕ) → a.limit ≤ most → (t : Option MarkedToken) (k : ℕ) (m : Mark)
     → IsMarkAfter most (given_by t) k (left_after a t) m → rest a m ≡ drop k (left_after a t)
 rest_follows a o most l None k m =

@@ -201,6 +201,7 @@ parts_after r o limit enough front (p ∷ ps) =
     ∙ parts_after r o limit enough (front ++ given) ps
     ∙ ap (found_in r) (append_assoc front given (flat_map (found_in (part_request r limit)) ps))
 
+-- a request over the results of parts gives the answer of the whole
 pub parts_give : {A : Type 0} (r : DocumentRequest A) → IsTotalOrder r.by → (limit : ℕ) → IsEnough r limit → (parts : List (List A))
     → found_in r (flat_map (λ ds. ds) parts) ≡ found_in r (flat_map (found_in (part_request r limit)) parts)
 parts_give r o limit enough parts = parts_after r o limit enough [] parts

@@ -51,7 +51,8 @@ impl Request {
     ) -> Result<Request, Refused>
         ensures request { IfOk result (λ r.
             request_of (pairs filter) (pairs sort) skip limit ≡ Ok (request_view r)) }
-        ensures refused { IfErr result (IsRefusedPart (request_of (pairs filter) (pairs sort) skip limit)) }
+        ensures refused { IfErr result
+            (IsRefusedPart (request_of (pairs filter) (pairs sort) skip limit)) }
     {
         let parsed = read_filter(alloc, &filter)?;
         let pairs = read_sort(alloc, &sort)?;
@@ -72,7 +73,8 @@ impl Request {
 /// The filter of a document.
 fn read_filter(alloc: Global, document: &Document) -> Result<Filter, Refused>
     ensures filter { IfOk result (λ f. filter_of (pairs document.now) ≡ Ok (filter_tree f)) }
-    ensures fault { IfErr result (IsRefusedPart (told_as bad_filter (filter_of (pairs document.now)))) }
+    ensures fault { IfErr result
+        (IsRefusedPart (told_as bad_filter (filter_of (pairs document.now)))) }
 {
     match parse(alloc, document) {
         Ok(filter) => Ok(filter),
@@ -91,7 +93,8 @@ fn text_of(
     skip: u64,
     limit: u64,
 ) -> Result<Vec<u8>, NoMemory>
-    ensures { IfOk result (λ v. v.items ≡ request_text (pairs filter.now) (pairs sort.now) skip limit) }
+    ensures { IfOk result (λ v.
+        v.items ≡ request_text (pairs filter.now) (pairs sort.now) skip limit) }
 {
     let sort = written_sort(alloc, sort)?;
     let mut text = Vec::new(alloc);
@@ -146,7 +149,8 @@ const MOST: usize = 4;
 /// The sort that a document asks for. It fails with `BadSort` where it asks for none, and with `NoMemory`.
 fn read_sort(alloc: Global, document: &Document) -> Result<Vec<(Path, Dir)>, Refused>
     ensures sort { IfOk result (λ v. sort_of (pairs document.now) ≡ Some (sort_paths v.items)) }
-    ensures fault { IfErr result (λ r. IsRefusedAs r BadSort (sort_of (pairs document.now) ≡ None)) }
+    ensures fault { IfErr result (λ r.
+        IsRefusedAs r BadSort (sort_of (pairs document.now) ≡ None)) }
 {
     if document.len() > MOST {
         return Err(Refused::BadSort);

@@ -92,7 +92,8 @@ fn ranked_by(
 /// Puts documents in order: by rank, key and place, so that no two tie.
 fn sort_rows(rows: &mut Vec<Row<'_>>, dir: Dir)
     ensures same { IsPermutation rows.old.items rows.new.items }
-    ensures rises { IsSortedBy (λ a b. is_lt (rows_cmp dir (keyed_row a) (keyed_row b))) rows.new.items }
+    ensures rises { IsSortedBy (λ a b.
+        is_lt (rows_cmp dir (keyed_row a) (keyed_row b))) rows.new.items }
 {
     rows.sort_unstable_by(|a, b| a.compare(b, dir).then(a.place.cmp(&b.place)));
 }

@@ -140,7 +140,8 @@ fn first_places<P: PlaceSource + Drop>(
 ) -> Result<Vec<u32>, NoMemory>
     requires serves { P.serves source (length (documents dump.now))
         (hits_of (documents dump.now) (filter_tree request.now.filter)) }
-    requires last { IfSome last.now (IsMark (documents dump.now) (sort_paths request.now.sort.items)) }
+    requires last { IfSome last.now
+        (IsMark (documents dump.now) (sort_paths request.now.sort.items)) }
     requires some { 0 < most }
     ensures { IfOk result (λ v. v.items ≡ take most
         (places_after (selection_of (documents dump.now) request.now) (mark_place last.now))) }
@@ -170,8 +171,8 @@ fn keep_first<'d>(
 ) -> Result<Option<Mark<'d>>, NoMemory>
     requires below { All (λ p. p < length (documents dump.now)) places.old.items }
     requires some { 0 < most }
-    ensures first { OnOk result (AreFirst (before (order_of_keys (documents dump.now) (sort_paths sort.now)))
-        most places.old.items places.new.items) }
+    ensures first { OnOk result (AreFirst (before (order_of_keys
+        (documents dump.now) (sort_paths sort.now))) most places.old.items places.new.items) }
     ensures mark { IfOk result (λ m. IfSome m (IsMark (documents dump.now) (sort_paths sort.now))) }
     ensures end { IfOk result (λ m. IsEnd most places.new.items (mark_place m)) }
 {
@@ -192,8 +193,10 @@ fn may_be_first(
     end: &Option<Mark<'_>>,
     place: u32,
 ) -> bool
-    requires last { IfSome last.now (IsMark (documents dump.now) (sort_paths request.now.sort.items)) }
-    requires end { IfSome end.now (IsMark (documents dump.now) (sort_paths request.now.sort.items)) }
+    requires last { IfSome last.now
+        (IsMark (documents dump.now) (sort_paths request.now.sort.items)) }
+    requires end { IfSome end.now
+        (IsMark (documents dump.now) (sort_paths request.now.sort.items)) }
     requires below { place < length (documents dump.now) }
     ensures { let by = order_of_keys (documents dump.now) (sort_paths request.now.sort.items)
         in result ≡ (passes (hits_of (documents dump.now) (filter_tree request.now.filter)) by
@@ -204,7 +207,8 @@ fn may_be_first(
 
 /// Whether the document at a place matches and comes after the last one given.
 fn is_wanted(dump: &Dump, request: &Request, last: &Option<Mark<'_>>, place: u32) -> bool
-    requires last { IfSome last.now (IsMark (documents dump.now) (sort_paths request.now.sort.items)) }
+    requires last { IfSome last.now
+        (IsMark (documents dump.now) (sort_paths request.now.sort.items)) }
     requires below { place < length (documents dump.now) }
     ensures { result ≡ passes (hits_of (documents dump.now) (filter_tree request.now.filter))
         (order_of_keys (documents dump.now) (sort_paths request.now.sort.items))

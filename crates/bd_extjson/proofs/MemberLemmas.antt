@@ -23,9 +23,11 @@ pub member_is : {A : Type 0} (f : json.Members → Option A) (k : List ℕ) (dep
 member_is f k depth n ts s j e =
     ap (λ v. through f (option_and_then (λ p. parse_map (json.member k p.0) (members (value depth) n p.1)) v)) e ∙ through_made f (json.member k j) (members (value depth) n s)
 
+-- without a name or an end, nothing is read of members
 pub no_name : {A : Type 0} (f : json.Members → Option A) (depth n : ℕ) (ts : List Token) → read_key ts ≡ None → through f (members (value depth) n ts) ≡ None
 no_name f depth n ts e = ap (through f) (members_no_key (value depth) n ts e)
 
+-- at the end of an object there are no further members
 pub ended : {A : Type 0} (f : json.Members → Option A) (depth n : ℕ) (ts r : List Token) → length ts ≤ n → read_key ts ≡ Some (None, r)
     → through f (members (value depth) n ts) ≡ option_map (λ (a : A). (a, r)) (f json.no_members)
 ended f depth n ts r le e = ap (through f) (members_end (value depth) n ts r le e)

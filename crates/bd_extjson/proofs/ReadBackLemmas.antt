@@ -189,6 +189,7 @@ json_back t fits deep =
     json_is (text t) (is_utf8-from_IsUtf8 (text t) (utf8-text t fits))
     ∙ ap (option_and_then (λ p. if_last p.0 p.1)) (value-text t most_brackets types (omega (arith, (well t types).0)))
 
+-- the text of a plain document within the limits is read as this document
 pub document_back : (d : Doc) → Fits (doc (fields_of d)) → IsPlain (doc (fields_of d))
     → zero_in (doc (fields_of d)) ≡ false → depth (doc (fields_of d)) ≤ most_levels
     → ReadsAs (text (doc (fields_of d))) d

@@ -64,6 +64,7 @@ member_same f g k depth n ts h = turn (value depth ts)
         let r = members (value depth) n p.1 in
         through_made f (kit.member k p.0) r ∙ through_same (λ ms. f (kit.member k p.0 ms)) (λ ms. g (kit.member k p.0 ms)) (h p.0) r ∙ sym (through_made g (kit.member k p.0) r)
 
+-- if no member of this name is accepted, nothing is read from the name on
 pub refused_member : {A : Type 0} (f : kit.Members → Option A) (k : List ℕ) (depth n : ℕ) (ts : List Token) → ((j : Json) (ms : kit.Members) → f (kit.member k j ms) ≡ None)
     → through f (after_key depth n (Some k) ts) ≡ None
 refused_member {A = A} f k depth n ts h =
@@ -94,6 +95,7 @@ pub too_deep_object : (room : ℕ) (ts : List Token) → through (wrap room) (va
 unfolding value
 too_deep_object room ts = refl
 
+-- an object is read by its members, one level deeper
 pub object_read : (room depth : ℕ) (ts : List Token) → 0 < depth → through (wrap room) (value depth (Token.begin_object ∷ ts)) ≡ through (wrap_object room) (members (value (depth - 1)) (length ts) ts)
 object_read room depth ts k = ap (through (wrap room)) (value-begin_object depth ts k) ∙ through_made (wrap room) kit.object (members (value (depth - 1)) (length ts) ts)
 
@@ -156,6 +158,7 @@ items_push : (ts : List Tree) (t : Tree) (rest : Items) → items_before ts (ite
 items_push [] t rest = refl
 items_push (s ∷ ts) t rest = ap (item s) (items_push ts t rest)
 
+-- an element put after those before it, and then the rest, is one list
 pub one_more_item : (ts : List Tree) (t : Tree) (r : Option (Items × List Token)) → parse_map (items_before ts) (parse_map (item t) r) ≡ parse_map (items_before (ts ++ t ∷ [])) r
 one_more_item ts t None = refl
 one_more_item ts t (Some p) = ap (λ x. Some (x, p.1)) (items_push ts t p.0)
@@ -194,6 +197,7 @@ fields_push : (ps : Doc) (k : List ℕ) (t : Tree) (rest : Fields) → fields_be
 fields_push [] k t rest = refl
 fields_push (p ∷ ps) k t rest = ap (field p.0 p.1) (fields_push ps k t rest)
 
+-- a field put after those before it, and then the rest, is one list
 pub one_more_field : (ps : Doc) (k : List ℕ) (t : Tree) (r : Option (Fields × List Token)) → parse_map (fields_before ps) (parse_map (field k t) r) ≡ parse_map (fields_before (ps ++ (k, t) ∷ [])) r
 one_more_field ps k t None = refl
 one_more_field ps k t (Some p) = ap (λ x. Some (x, p.1)) (fields_push ps k t p.0)
@@ -204,6 +208,7 @@ pub fails_by : {A B : Type 0} (e : Trouble) (x : Option A) (y : Option B) → (x
 fails_by troubles.Memory x y f h = tt
 fails_by troubles.Refused x y f h = f h
 
+-- a failure that is no refusal of the text says nothing of it
 pub fails_where : {A : Type 0} (e : Trouble) (x : Option A) → (e ≡ troubles.Refused → x ≡ None) → Fails e x
 fails_where troubles.Memory x f = tt
 fails_where troubles.Refused x f = f refl
@@ -214,12 +219,14 @@ items_refused room depth zero ts e f = refl
 items_refused room depth (suc n) ts e f =
     items_step_is room depth (suc n) ts (omega arith) e ∙ ap (λ o. then o (λ t r. with_one add_item t (through (wrap_items room) (items (value depth) (suc n - 1) r)))) f
 
+-- after an element that is read, the elements that remain are read
 pub items_go_on : (room depth n : ℕ) (ts r : List Token) (t : Tree) → 0 < n → after_end_array ts ≡ None → through (wrap room) (value depth ts) ≡ Some (t, r)
     → through (wrap_items room) (items (value depth) n ts) ≡ parse_map (item t) (through (wrap_items room) (items (value depth) (n - 1) r))
 items_go_on room depth n ts r t h e f =
     items_step_is room depth n ts h e ∙ ap (λ o. then o (λ t r. with_one add_item t (through (wrap_items room) (items (value depth) (n - 1) r)))) f
     ∙ with_item_is t (through (wrap_items room) (items (value depth) (n - 1) r))
 
+-- after a field that is read, the members that remain are read
 pub field_goes_on : (k : List ℕ) (room depth n : ℕ) (ts r : List Token) (t : Tree) → has_zero k ≡ false → through (wrap room) (value depth ts) ≡ Some (t, r)
     → through (wrap_fields room) (after_key depth n (Some k) ts) ≡ parse_map (field k t) (through (wrap_fields room) (members (value depth) n r))
 field_goes_on k room depth n ts r t z f =
@@ -227,12 +234,14 @@ field_goes_on k room depth n ts r t z f =
 
 -- ---- an object after its first name
 
+-- the members of an object are those from its first name on
 pub first_name : (depth : ℕ) (ts r : List Token) (key : Option (List ℕ)) → read_key ts ≡ Some (key, r) → members (value depth) (length ts) ts ≡ after_key depth (length r) key r
 first_name depth ts r key e =
     let one : length ts ≡ length (key_token key ∷ r) = ap (λ l. length l) (read_key_is ts key r e) in
     let less : length ts - 1 ≡ length r = omega (arith, one) in
     next_name depth (length ts) ts r key (omega arith) e ∙ ap (λ m. after_key depth m key r) less
 
+-- an object whose first name is a wrapper's is read as this wrapper
 pub object_is_wrapper : {X : Type 0} (view : X → Tree) (result : Result X Trouble) (rest : List Token) (w : Wrapper) (room depth n : ℕ)
     (ts : List Token) (key : Option (List ℕ)) → option_and_then wrapper_of key ≡ Some w
     → ((name : List ℕ) → wrapper_of name ≡ Some w → Gives (λ x. (view x, rest)) result (through (wrap_object room) (after_key depth n (Some name) ts)))
@@ -240,6 +249,7 @@ pub object_is_wrapper : {X : Type 0} (view : X → Tree) (result : Result X Trou
 object_is_wrapper view result rest w room depth n ts None e f = absurd cc
 object_is_wrapper view result rest w room depth n ts (Some name) e f = f name e
 
+-- an object whose first name is no wrapper's is read as a document
 pub object_is_plain : (room depth n : ℕ) (ts : List Token) (key : Option (List ℕ)) → 0 < room → option_and_then wrapper_of key ≡ None
     → through (wrap_object room) (after_key depth n key ts) ≡ parse_map doc (through (wrap_fields (room - 1)) (after_key depth n key ts))
 object_is_plain room depth n ts None h e = ap (option_map (λ (a : Tree). (a, ts))) (nested_is room (Some (doc no_fields)) h)

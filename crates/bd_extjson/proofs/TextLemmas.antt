@@ -183,6 +183,7 @@ all_of (b ∷ bytes) e =
     let p = or_parts (b == 10) (list_any (λ c. c == 10) bytes) e in
     All-cons (λ b. (b == 10) ≡ false) b bytes p.0 (all_of bytes p.1)
 
+-- a canonical text has no newline
 pub text_line : (t : Tree) → FitsTypes t → All (λ b. (b == 10) ≡ false) (text t)
 text_line t fits = all_of (text t) (tree IsLine ⊥ line-append (λ xs ascii line. line) (λ s utf8. line-quoted s) line-decimal t
     (fits_with IsAny (λ s. ⊥ → IsUtf8 s) (λ s any u. absurd u) t fits))

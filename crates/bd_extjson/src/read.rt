@@ -103,7 +103,8 @@ fn document_of(value: Value) -> Option<Document>
 #[cycle(reading)]
 #[tactic(auto, using(crate::proofs::ReadLemmas::value_steps))]
 fn read_value(alloc: Global, reader: &mut Reader<'_>, room: usize, depth: usize) -> Read<Value>
-    ensures gives { Gives (λ v. (tree_of v, reader.new)) result (through (wrap room) (value depth reader.old)) }
+    ensures gives { Gives (λ v.
+        (tree_of v, reader.new)) result (through (wrap room) (value depth reader.old)) }
     ensures shorter { OnOk result (length reader.new < length reader.old) }
 {
     let token = reader.next().ok_or(Trouble::Refused)?;
@@ -174,7 +175,8 @@ fn read_fields<'a>(
     room: usize,
     depth: usize,
 ) -> Read<Document>
-    ensures gives { Gives (λ d. (fields_of (pairs d), reader.new)) result (through (wrap_fields room)
+    ensures gives { Gives (λ d.
+        (fields_of (pairs d), reader.new)) result (through (wrap_fields room)
         (after_key depth (length reader.old) (option_map (λ s. s.now) first.entry) reader.old)) }
     ensures shorter { OnOk result (length reader.new ≤ length reader.old) }
 {
@@ -304,7 +306,8 @@ fn read_code<'a>(alloc: Global, reader: &mut Reader<'a>, depth: usize) -> Read<j
 /// Code with scope, of the JSON that stands after `$code` and the value that stands after `$scope`.
 #[tactic(auto, using(crate::proofs::MemberLemmas::scope_steps))]
 fn code_with_scope(alloc: Global, code: &json::Value<'_>, scope: Value) -> Read<Value>
-    ensures { Gives tree_of result (with_scope (as_str (value_view code.now)) (Some (tree_of scope))) }
+    ensures { Gives tree_of result
+        (with_scope (as_str (value_view code.now)) (Some (tree_of scope))) }
 {
     let text = code.as_str().ok_or(Trouble::Refused)?;
     let scope = document_of(scope).ok_or(Trouble::Refused)?;

@@ -20,6 +20,7 @@ use Rattle.bd_extjson.specs.Read.{wrap_object}
 use Rattle.bd_extjson.proofs.MemberLemmas as of_members
 use Rattle.bd_extjson_wrapper.specs.declared.wrapper.Wrapper.TheVariants as kinds
 
+-- the bytes of one more field come after those of the fields before it
 pub one_more_field : (ps : Doc) (k : List ℕ) (t : Tree) → fields_bytes (fields_of (ps ++ (k, t) ∷ [])) ≡ fields_bytes (fields_of ps) ++ element t k (bytes_of t)
 one_more_field [] k t = append-nil (element t k (bytes_of t))
 one_more_field (p ∷ ps) k t =
@@ -36,6 +37,7 @@ more_items place (s ∷ ts) t =
     ap (λ x. one ++ x) (more_items (suc place) ts t ∙ ap (λ n. items_bytes (suc place) (items_of ts) ++ element t (decimal n) (bytes_of t)) next)
     ∙ sym (append_assoc one (items_bytes (suc place) (items_of ts)) (element t (decimal (place + suc (length ts))) (bytes_of t)))
 
+-- the bytes of one more element come after those before it, named by its index
 pub one_more_item : (ts : List Tree) (t : Tree) → items_bytes 0 (items_of (ts ++ t ∷ [])) ≡ items_bytes 0 (items_of ts) ++ element t (decimal (length ts)) (bytes_of t)
 one_more_item ts t =
     let here : 0 + length ts ≡ length ts = omega arith in
@@ -53,6 +55,7 @@ body_size r at Q old body out told place is =
     let here = if_ok r at (λ x. x ≡ length old) Q told place in
     omega (arith, here, ap (λ xs. length xs) is, length-append (old ++ number 0) body, length-append old (number 0), number_length 0)
 
+-- a body that is ended where it began is framed
 pub ended : {E : Type 0} (r : Result ℕ E) (at : ℕ) (Q : E → Type 0) (old body out : List ℕ) → Some at ≡ result_ok r → MatchResult r (λ x. x ≡ length old) Q
     → out ≡ (old ++ number 0) ++ body → take at out ++ framed (drop (at + 4) out) ≡ old ++ framed body
 ended r at Q old body out told place is =

@@ -107,7 +107,8 @@ fn put_separator(later: bool, separator: u8, room: &mut [u8], end: usize) -> usi
 #[inline(always)]
 pub(crate) fn append_separator(later: bool, separator: u8, out: &mut Vec<u8>, end: usize) -> End
     requires { end ≤ length out.old.items }
-    ensures text { Appends out.old.items end result out.new.items (if later then separator ∷ [] else []) }
+    ensures text { Appends out.old.items end result out.new.items
+        (if later then separator ∷ [] else []) }
     ensures room { IfOk result (λ e. e + VALUE ≤ length out.new.items) }
 {
     make_room(out, end, 1 + VALUE)?;

@@ -169,7 +169,8 @@ fn put_timestamp(seconds: u32, increment: u32, room: &mut [u8], end: usize) -> u
 /// Binary: base64 with padding, the subtype in two digits.
 fn append_binary(subtype: u8, bytes: &[u8], out: &mut Vec<u8>, end: usize) -> End
     requires { end ≤ length out.old.items }
-    ensures { Appends out.old.items end result out.new.items (scalar_text (binary subtype bytes.now)) }
+    ensures { Appends out.old.items end result out.new.items
+        (scalar_text (binary subtype bytes.now)) }
 {
     let at = append_few(b"{\"$binary\":{\"base64\":\"", out, end)?;
     let at = append_base64(bytes, out, at)?;
@@ -193,7 +194,8 @@ fn append_regex(pattern: &str, options: &str, out: &mut Vec<u8>, end: usize) -> 
 /// DBPointer.
 fn append_pointer(space: &str, id: &[u8; 12], out: &mut Vec<u8>, end: usize) -> End
     requires { end ≤ length out.old.items }
-    ensures { Appends out.old.items end result out.new.items (scalar_text (db_pointer space.now id.now)) }
+    ensures { Appends out.old.items end result out.new.items
+        (scalar_text (db_pointer space.now id.now)) }
 {
     let at = append_led(b"{\"$dbPointer\":{\"$ref\":", space, out, end)?;
     let at = append_few(b",\"$id\":{\"$oid\":\"", out, at)?;
@@ -205,7 +207,8 @@ fn append_pointer(space: &str, id: &[u8; 12], out: &mut Vec<u8>, end: usize) -> 
 /// Appends an object of one string: what leads to the string, the string, and the brace after it.
 fn append_one(lead: &[u8], text: &str, out: &mut Vec<u8>, end: usize) -> End
     requires { (end ≤ length out.old.items) × (length lead.now ≤ 1000) }
-    ensures { Appends out.old.items end result out.new.items (lead.now ++ (quoted text.now ++ 125 ∷ [])) }
+    ensures { Appends out.old.items end result out.new.items
+        (lead.now ++ (quoted text.now ++ 125 ∷ [])) }
 {
     let at = append_led(lead, text, out, end)?;
     append_few(b"}", out, at)

@@ -39,7 +39,8 @@ pub fn write_value(value: &Value, out: &mut Vec<u8>) -> Result<(), NoMemory>
 ///
 /// `NoMemory` leaves `out` as it was.
 pub fn write_doc(document: &Document, out: &mut Vec<u8>) -> Result<(), NoMemory>
-    ensures ok { OnOk result (out.new.items ≡ out.old.items ++ text (doc (fields_of (pairs document.now)))) }
+    ensures ok { OnOk result (out.new.items
+        ≡ out.old.items ++ text (doc (fields_of (pairs document.now)))) }
     ensures err { OnErr result (out.new.items ≡ out.old.items) }
 {
     write_node(Tree::Doc(document), out)
@@ -118,7 +119,8 @@ fn append_scope<N: Reading>(node: N, out: &mut Vec<u8>, end: usize) -> End
 #[inline(never)]
 fn append_fields<N: Reading>(fields: N::Rest, out: &mut Vec<u8>, end: usize) -> End
     requires { end < length out.old.items }
-    ensures { Appends out.old.items end result out.new.items (text (doc (fields_of (N.left fields)))) }
+    ensures { Appends out.old.items end result out.new.items
+        (text (doc (fields_of (N.left fields)))) }
 {
     let mut at = put_byte_in(b'{', out, end);
     let mut later = false;

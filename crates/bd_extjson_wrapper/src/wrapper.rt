@@ -166,7 +166,8 @@ fn regex_of(alloc: Global, part: &json::Value<'_>) -> Result<Value, Trouble>
 }
 
 fn pointer_of(alloc: Global, part: &json::Value<'_>) -> Result<Value, Trouble>
-    ensures { Gives tree_of result (option_map leaf (single kinds.DbPointer (value_view part.now))) }
+    ensures { Gives tree_of result
+        (option_map leaf (single kinds.DbPointer (value_view part.now))) }
 {
     let (space, id) = pair(part, "$ref", "$id").ok_or(Trouble::Refused)?;
     let space = text_in(alloc, space.as_str())?;

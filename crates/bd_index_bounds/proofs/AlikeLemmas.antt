@@ -156,6 +156,7 @@ module _ (x y : Tree) (e : equal x y ≡ true) where
     here = λ o. (refl, same_here o m);
   }
 
+  -- equal keys are inside the bounds of a filter alike
   pub same_bounds : (f : Filter) (p : Names) (m : Bool) → Same (bounds f p m)
   same_bounds f p m = (on_bounds SameOne m m (stays_same m) f p).1
 

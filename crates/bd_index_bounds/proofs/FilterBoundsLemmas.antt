@@ -117,5 +117,6 @@ edges_rise (edges.Value v) j k h = in_order cmp cmp_total j k (tree_of v.now) h
 edges_rise (edges.Class class) j k h =
     in_order nat_cmp nat_cmp_total (class_rank (class_of j)) (class_rank (class_of k)) (class_rank class) (first_not_less (class_cmp k j) (same_class_cmp k j) h)
 
+-- a key that is not above one before a cut is before the cut too
 pub falls_once : (cut : Cut) (j k : Tree) → is_lt (cmp k j) ≡ false → is_before cut k ≡ true → is_before cut j ≡ true
 falls_once cut j k h b = lower cut.after (edge_cmp j cut.edge) (edge_cmp k cut.edge) (edges_rise cut.edge j k h) b

@@ -178,9 +178,11 @@ fit_is_fine false t p fit = all_equal t p (eqb-true (length (keys t p)) 1 fit)
 key_found : (f : Filter) (p : Names) (m : Bool) (t : Tree) → is_fit m p t ≡ true → matches f t ≡ true → Found (is_inside f p m) (keys t p)
 key_found f p m t fit h = found_distinct (is_inside f p m) t p (λ x y e. same_bounds x y e f p m) (sound f p m t (fit_is_fine m t p fit) h)
 
+-- a document that matches has a key inside the bounds
 pub loses_no_match : (f : Filter) (p : Names) (m : Bool) (t : Tree) → is_fit m p t ≡ true → matches f t ≡ true → list_any (is_inside f p m) (keys t p) ≡ true
 loses_no_match f p m t fit h = let k = key_found f p m t fit h in any_at (is_inside f p m) (keys t p) k.it k.is_in k.passes
 
+-- if null is outside the bounds, a sparse key of it is inside
 pub sparse_loses_no_match : (f : Filter) (p : Names) (m : Bool) (t : Tree) → is_fit m p t ≡ true → matches f t ≡ true → is_inside f p m null ≡ false
     → list_any (is_inside f p m) (sparse_keys t p) ≡ true
 sparse_loses_no_match f p m t fit h out =

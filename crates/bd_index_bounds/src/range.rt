@@ -110,7 +110,8 @@ pub(crate) fn bounds_of_equal<'a>(
     alloc: Global,
     values: &'a [Value],
 ) -> Result<Vec<Bounds<'a>>, NoMemory>
-    ensures { IfOk result (λ v. map keys_within v.items ≡ map keys_of_equal (map tree_of values.now)) }
+    ensures { IfOk result (λ v.
+        map keys_within v.items ≡ map keys_of_equal (map tree_of values.now)) }
 {
     let mut parts = Vec::new(alloc);
     for value in values {
@@ -124,7 +125,8 @@ pub(crate) fn ranges_of_equal<'a>(
     alloc: Global,
     values: &'a [Value],
 ) -> Result<Vec<Bounds<'a>>, NoMemory>
-    ensures { IfOk result (λ v. map keys_within v.items ≡ map keys_equal_to (map tree_of values.now)) }
+    ensures { IfOk result (λ v.
+        map keys_within v.items ≡ map keys_equal_to (map tree_of values.now)) }
 {
     let mut parts = Vec::new(alloc);
     for value in values {

@@ -31,7 +31,8 @@ pub trait Input {
         ensures gives { read_gives self.old (bytes_given result room.new) self.new }
         ensures called { (state self.new).calls ≡ after_more (state self.old).calls 1 }
         ensures well { OnOk result ((state self.new).failures ≡ (state self.old).failures) }
-        ensures failed { OnErr result ((state self.new).failures ≡ after_more (state self.old).failures 1) };
+        ensures failed { OnErr result ((state self.new).failures
+            ≡ after_more (state self.old).failures 1) };
 
     /// Fills all of `room` by one read, where the device holds so many bytes and the room is not empty; else it does nothing,
     /// and gives false. A device that holds none gives false always.
@@ -48,10 +49,10 @@ pub trait Input {
         false
     }
 
-    /// The count of reads is one of 64 bits.
+    /// The count of reads has 64 bits at most.
     ghost calls_fit: { (s : Self) → (state s).calls ≤ greatest };
 
-    /// The count of reads that failed is one of 64 bits.
+    /// The count of failed reads has 64 bits at most.
     ghost failures_fit: { (s : Self) → (state s).failures ≤ greatest };
 }
 

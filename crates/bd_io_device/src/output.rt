@@ -29,12 +29,13 @@ pub trait Output {
             (state self.new).failures ≡ (state self.old).failures) }
         ensures none { IfOk result (λ n. n ≡ 0 →
             bytes.now ≢ [] → (state self.new).failures ≡ after_more (state self.old).failures 1) }
-        ensures failed { OnErr result ((state self.new).failures ≡ after_more (state self.old).failures 1) };
+        ensures failed { OnErr result ((state self.new).failures
+            ≡ after_more (state self.old).failures 1) };
 
-    /// The count of writes is one of 64 bits.
+    /// The count of writes has 64 bits at most.
     ghost calls_fit: { (s : Self) → (state s).calls ≤ greatest };
 
-    /// The count of writes that failed is one of 64 bits.
+    /// The count of failed writes has 64 bits at most.
     ghost failures_fit: { (s : Self) → (state s).failures ≤ greatest };
 }
 

@@ -146,7 +146,8 @@ impl<D: Output + Drop> Gathering<D> {
         ensures lost { self.new.fate ≢ Kept →
             IsErr result × (reader.new ≡ reader.old) × (room.new ≡ room.old) }
         ensures bound { ReadsAtMost result room.new }
-        ensures bytes { ReadConsumes (R.remaining reader.old) (R.remaining reader.new) result room.new }
+        ensures bytes { ReadConsumes
+            (R.remaining reader.old) (R.remaining reader.new) result room.new }
     {
         if self.hand_on() != Fate::Kept {
             return Err(refusal());
@@ -162,7 +163,8 @@ impl<D: Output + Drop> Gathering<D> {
         ensures empty { self.new.waiting.items ≡ [] }
         ensures untold { self.new.fate ≡ Lost → IsErr result × (writer.new ≡ writer.old) }
         ensures bound { WritesAtMost result bytes.now }
-        ensures bytes { WriteAppends (E.contents writer.old) (E.contents writer.new) result bytes.now }
+        ensures bytes { WriteAppends
+            (E.contents writer.old) (E.contents writer.new) result bytes.now }
     {
         if self.hand_on() == Fate::Lost {
             return Err(refusal());

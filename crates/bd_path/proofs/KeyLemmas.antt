@@ -13,6 +13,7 @@ use Rattle.bd_path.specs.Walk.{Stops, stops, TakesStops, TakesOrEnds}
 use Rattle.bd_path.proofs.{SortLemmas.distinct_has, SortLemmas.equal_itself, SortLemmas.equal_on, WalkLemmas.at_more, WalkLemmas.keys_are}
 use Rattle.bd_path.proofs.ReachLemmas.{any_at, any_still as none_passes, found_from}
 
+-- what holds anyway holds on success
 pub on_ok_always : {T E Q : Type 0} (r : Result T E) → Q → OnOk r Q
 on_ok_always (Ok x) h = h
 on_ok_always (Err e) h = tt

@@ -10,6 +10,7 @@ use Rattle.bd_path.specs.Reach.{index_of, Names, Gathering, gathering, gathering
 use Rattle.std.proofs.lemmas.Bool.{false≢true, or_cases, or_from, or_left, or_parts, or_right}
 use Rattle.std.proofs.lemmas.List.Folds.{list_any-append}
 
+-- no scalar is an array
 pub scalar_is_no_array : (s : Scalar) → scalar_kind s ≡ kinds.Array → ⊥
 scalar_is_no_array trees.min_key k = cc
 scalar_is_no_array _ k = cc
@@ -20,6 +21,7 @@ first_in_smaller : (name : List ℕ) (fs : Fields) (u : Tree) → first_of name 
 first_in_smaller name no_fields u e = absurd cc
 first_in_smaller name (field n t fs) u e = grind (arith, first_in_smaller name fs u)
 
+-- a value of a document is smaller than the document
 pub first_smaller : (name : List ℕ) (t u : Tree) → first_of name (pairs_in t) ≡ Some u → tree_size u < tree_size t
 first_smaller name (doc fs) u e = let l = first_in_smaller name fs u e in omega arith
 first_smaller name _ u e = absurd cc
@@ -29,17 +31,20 @@ element_in_smaller no_items i u e = absurd cc
 element_in_smaller (item t ts) zero u e = let same : t ≡ u = cc in let s = ap tree_size same in omega arith
 element_in_smaller (item t ts) (suc i) u e = let l = element_in_smaller ts i u e in omega arith
 
+-- an element of an array is smaller than the array
 pub element_smaller : (t : Tree) (i : ℕ) (u : Tree) → slice_get (elements_in t) i ≡ Some u → tree_size u < tree_size t
 element_smaller (array ts) i u e = let l = element_in_smaller ts i u e in omega arith
 element_smaller _ i u e = absurd cc
 
 -- ---- the elements of an array
 
+-- the parts of an array are its elements
 pub parts_are : (t : Tree) (ps : Doc) → kind_of t ≡ kinds.Array → AreParts t ps → values_of ps ≡ elements_in t
 parts_are (array ts) ps k h = h
 parts_are (doc fs) ps k h = absurd cc
 parts_are _ ps k h = absurd h
 
+-- the length of an array counts its elements
 pub length_elements : (t : Tree) → kind_of t ≡ kinds.Array → length_of t ≡ length (elements_in t)
 length_elements (doc fs) k = absurd cc
 length_elements _ k = refl

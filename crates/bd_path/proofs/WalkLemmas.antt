@@ -28,6 +28,7 @@ some_name n = Some n
 abbrev name_of : Component → List ℕ
 name_of c = string_bytes c.name
 
+-- the name at a position of a path is that of the component there
 pub name_at : (cs : List Component) (k : ℕ) (c : Component) → k < length cs → c ≡ get_or cs k c → slice_get (component_names cs) k ≡ Some (string_bytes c.name)
 name_at cs k c l e = slice_get-map name_of cs k ∙ ap (option_map name_of) (slice_get_read cs (length cs) k c refl l e)
 
@@ -35,17 +36,21 @@ pub record Named (path : Names) (k : ℕ) : Type 0 where
   pub name : List ℕ
   pub is_there : slice_get path k ≡ Some name
 
+-- each position of a path before its end has a name
 pub named : (path : Names) (k : ℕ) → k < length path → Named path k
 named path k l = record { name = get_or path k []; is_there = slice_get-get_or path k [] l }
 
+-- a path has as many names as components
 pub as_many : (cs : List Component) → length (component_names cs) ≡ length cs
 as_many cs = length-map cs name_of
 
 -- ---- the elements that are left
 
+-- the first of the elements from an index on is the one at this index
 pub next_is : (es : List Tree) (i : ℕ) (u : Tree) (us : List Tree) → u ∷ us ≡ drop i es → slice_get es i ≡ Some u
 next_is es i u us e = grind (arith, common_steps, gets)
 
+-- the elements after it are those from the next index on
 pub left_after : (es : List Tree) (i : ℕ) (u : Tree) (us : List Tree) → u ∷ us ≡ drop i es → us ≡ drop (i + 1) es
 left_after es i u us e = let more = drop_more es i u (slice_get_within es i u (next_is es i u us e)) in cc
 
@@ -80,15 +85,19 @@ element_at g es n path k i u e l at = rw add-one (indexed_is g es n (drop (suc k
 -- ---- the rest of a path from a component on
 
 module _ {A : Type 0} (g : Gathering A) (t : Tree) (path : Names) (k : ℕ) where
+  -- at the end of the path a value is gathered itself
   pub end_is : k ≡ length path → gathering g t (drop k path) ≡ g.at_end t
   end_is e = ap (gathering g t) (drop_all k path (omega arith))
 
+  -- before the end, a value that is neither a document nor an array lacks the field
   pub other_is : (kind_of t ≡ kinds.Doc → ⊥) → (kind_of t ≡ kinds.Array → ⊥) → k < length path → gathering g t (drop k path) ≡ g.missing
   other_is a b l = let n = named path k l in ap (gathering g t) (drop_at path k n.name n.is_there) ∙ down.of_other g t n.name (drop (suc k) path) a b
 
+  -- a document gathers from its field of the next name, if it has one
   pub field_is : (n : List ℕ) (u : Tree) → kind_of t ≡ kinds.Doc → slice_get path k ≡ Some n → first_of n (pairs_in t) ≡ Some u → gathering g t (drop k path) ≡ gathering g u (drop (k + 1) path)
   field_is n u d at e = rw add-one (ap (gathering g t) (drop_at path k n at) ∙ down.found g t u n (drop (suc k) path) d e)
 
+  -- a document without a field of the next name lacks it
   pub lost_is : (n : List ℕ) → kind_of t ≡ kinds.Doc → slice_get path k ≡ Some n → first_of n (pairs_in t) ≡ None → gathering g t (drop k path) ≡ g.missing
   lost_is n d at e = ap (gathering g t) (drop_at path k n at) ∙ down.lost g t n (drop (suc k) path) d e
 
@@ -117,6 +126,7 @@ module _ {A : Type 0} (f : A → Bool) (g : Gathering A) where
   each_left (x ∷ es) (suc i) u p e d h = each_left es i u p e d (each_parts x es p h).1
 
   module _ (keeps : KeepsParts f g) (t : Tree) (cs : List Component) (w : Visits) (before : GathersNone f g t (component_names cs) w) where
+    -- nothing that passes the test is gathered from a field that is entered as the value was
     pub field_inside : (s : Bor (List ℕ)) (u : Tree) (v : Visits) → kind_of t ≡ kinds.Doc → first_of s.now (pairs_in t) ≡ Some u
         → ((j : ℕ) → IsWalked v j → LedTo (Field s) (component_names cs) w j) → GathersNone f g u (component_names cs) v
     field_inside s u v d e only j o =
@@ -147,10 +157,12 @@ module _ {A : Type 0} (f : A → Bool) (g : Gathering A) where
           let is = indexed_is g (elements_in t) by.led.name (drop (suc by.before) (component_names cs)) i u by.led.takes l e in
           rw by.after (ap (list_any f) (sym (first ∙ is)) ∙ (parts_none by.before by.led.name by.led.is_there by.led.here).1)
 
+      -- nor from a document in an array
       pub document_inside : (i : ℕ) (u : Tree) (v : Visits) → slice_get (elements_in t) i ≡ Some u → i < 18446744073709551615 → is_document u ≡ true
           → ((j : ℕ) → IsWalked v j → LedTo (Element i) (component_names cs) w j ⊎ (j < length cs) × IsWalked w j) → GathersNone f g u (component_names cs) v
       document_inside i u v e l d only j o = elim (only j o) [ inl by ↦ element_none i u j e l by | inr h ↦ document_none j i u e d h.0 h.1 ]
 
+      -- nor from the element at the index that the path names
       pub index_inside : (k i : ℕ) (u : Tree) (v : Visits) → slice_get (elements_in t) i ≡ Some u → i < 18446744073709551615 → (b : Bool) → b ≡ is_document u
           → list_any f (document_gathering g t (drop k (component_names cs))) ≡ false
           → ((j : ℕ) → IsWalked v j → LedTo (Element i) (component_names cs) w j ⊎ (b ≡ true) × ((j ≡ k) ⊎ (j < length cs) × IsWalked w j)) → GathersNone f g u (component_names cs) v
@@ -315,6 +327,7 @@ decided test amounts bytes before after t p false h = rw (ends_are t p, ← any_
 
 -- ---- a key at the stops of a walk
 
+-- a key at some stops is one at these and more
 pub at_more : {N : Type 0} (sparse : Bool) (ss more : Stops) (k : Key N) → IsKeyAt sparse ss k → IsKeyAt sparse (ss ++ more) k
 at_more sparse ss more (Node n) h = tt
 at_more sparse ss more Null h = (h.0, list_any-append is_no_value ss more ∙ or_left _ _ h.1)
@@ -328,15 +341,18 @@ at_last sparse ss more Undefined h = list_any-append is_empty_array ss more ∙ 
 pub among : (f : Stop Tree → Bool) (ss : Stops) (s : Stop Tree) → f s ≡ true → list_any f (ss ++ s ∷ []) ≡ true
 among f ss s h = list_any-append f ss (s ∷ []) ∙ or_right (list_any f ss) (list_any f (s ∷ [])) (or_left (f s) false h)
 
+-- an array without elements is an empty array
 pub empty_array : (t : Tree) → kind_of t ≡ kinds.Array → elements_in t ≡ [] → is_empty_array (Value t) ≡ true
 empty_array (leaf s) k e = absurd (down.scalar_is_no_array s k)
 empty_array (array no_items) k e = refl
 empty_array _ k e = absurd cc
 
+-- a stop that is at no node is at no value
 pub no_value : {N : Type 0} (tree : N → Tree) (s : Stop N) → ((n : N) → s ≡ Value n → ⊥) → is_no_value (stop_tree tree s) ≡ true
 no_value tree (Value n) h = absurd (h n refl)
 no_value tree _ h = refl
 
+-- a stop at no value has the key of a missing field
 pub no_value_keys : (sparse : Bool) (s : Stop Tree) → is_no_value s ≡ true → stop_keys sparse s ≡ missing_key sparse
 no_value_keys sparse (Value t) h = absurd cc
 no_value_keys sparse _ h = refl

@@ -32,9 +32,11 @@ pub enum Key<N> {
 /// value itself, a null for a field that is missing. A key that equals an earlier one is dropped. It fails only if memory
 /// runs out.
 pub fn key_nodes<N: Reading>(alloc: Global, doc: N, path: &Path) -> Result<Vec<Key<N>>, NoMemory>
-    ensures trees { IfOk result (λ ks. key_trees N.tree ks.items ≡ keys (N.tree doc) (names_of path.now)) }
+    ensures trees { IfOk result (λ ks.
+        key_trees N.tree ks.items ≡ keys (N.tree doc) (names_of path.now)) }
     ensures kept { IfOk result (λ ks. AreKeysOf N.source (N.source doc) ks.items) }
-    ensures there { IfOk result (λ ks. AreKeysAt false (stops (N.tree doc) (names_of path.now)) ks.items) }
+    ensures there { IfOk result (λ ks.
+        AreKeysAt false (stops (N.tree doc) (names_of path.now)) ks.items) }
 {
     let all = all_key_nodes(alloc, doc, path, false)?;
     distinct_keys(alloc, &all)
@@ -45,7 +47,8 @@ pub fn sparse_keys<N: Reading>(alloc: Global, doc: N, path: &Path) -> Result<Vec
     ensures trees { IfOk result (λ ks.
         key_trees N.tree ks.items ≡ sparse_keys_of (N.tree doc) (names_of path.now)) }
     ensures kept { IfOk result (λ ks. AreKeysOf N.source (N.source doc) ks.items) }
-    ensures there { IfOk result (λ ks. AreKeysAt true (stops (N.tree doc) (names_of path.now)) ks.items) }
+    ensures there { IfOk result (λ ks.
+        AreKeysAt true (stops (N.tree doc) (names_of path.now)) ks.items) }
 {
     let all = all_key_nodes(alloc, doc, path, true)?;
     distinct_keys(alloc, &all)
@@ -63,7 +66,8 @@ pub fn all_key_nodes<N: Reading>(
     ensures distinct { IfOk result (λ ks. distinct (key_trees N.tree ks.items)
         ≡ indexed_keys sparse (N.tree doc) (names_of path.now)) }
     ensures kept { IfOk result (λ ks. AreKeysOf N.source (N.source doc) ks.items) }
-    ensures there { IfOk result (λ ks. AreKeysAt sparse (stops (N.tree doc) (names_of path.now)) ks.items) }
+    ensures there { IfOk result (λ ks.
+        AreKeysAt sparse (stops (N.tree doc) (names_of path.now)) ks.items) }
 {
     let mut all = Vec::new(alloc);
     let gatherer = KeyGatherer { sparse };
@@ -117,7 +121,8 @@ impl<N: Reading> Gatherer<N> for KeyGatherer {
 
 /// Appends what stands for a field that is missing.
 fn add_missing<N: Reading>(sparse: bool, keys: &mut Vec<Key<N>>) -> Result<(), NoMemory>
-    ensures added { OnOk result (AddsKeys N.tree keys.old.items keys.new.items (missing_key sparse)) }
+    ensures added { OnOk result
+        (AddsKeys N.tree keys.old.items keys.new.items (missing_key sparse)) }
     ensures kept { (bytes : List ℕ) →
         AreKeysOf N.source bytes keys.old.items → AreKeysOf N.source bytes keys.new.items }
     ensures there { OnOk result ((ss : Stops) → list_any is_no_value ss ≡ true →
@@ -131,7 +136,8 @@ fn add_missing<N: Reading>(sparse: bool, keys: &mut Vec<Key<N>>) -> Result<(), N
 
 /// Appends a value, or the elements of an array.
 fn add_end<N: Reading>(node: N, keys: &mut Vec<Key<N>>) -> Result<(), NoMemory>
-    ensures added { OnOk result (AddsKeys N.tree keys.old.items keys.new.items (end_keys (N.tree node))) }
+    ensures added { OnOk result
+        (AddsKeys N.tree keys.old.items keys.new.items (end_keys (N.tree node))) }
     ensures kept { AreKeysOf N.source (N.source node) keys.old.items →
         AreKeysOf N.source (N.source node) keys.new.items }
     ensures there { OnOk result ((sparse : Bool) (ss : Stops) →
@@ -150,7 +156,8 @@ fn add_end<N: Reading>(node: N, keys: &mut Vec<Key<N>>) -> Result<(), NoMemory>
 /// Appends the elements of an array.
 fn add_elements<N: Reading>(node: N, keys: &mut Vec<Key<N>>) -> Result<(), NoMemory>
     requires { kind_of (N.tree node) ≡ kinds.Array }
-    ensures added { OnOk result (AddsKeys N.tree keys.old.items keys.new.items (elements_in (N.tree node))) }
+    ensures added { OnOk result
+        (AddsKeys N.tree keys.old.items keys.new.items (elements_in (N.tree node))) }
     ensures kept { AreKeysOf N.source (N.source node) keys.old.items →
         AreKeysOf N.source (N.source node) keys.new.items }
     ensures there { (sparse : Bool) (ss : Stops) →
@@ -166,7 +173,8 @@ fn add_elements<N: Reading>(node: N, keys: &mut Vec<Key<N>>) -> Result<(), NoMem
 
 /// Appends a key, where it does not equal the last.
 fn add_next<N: Reading>(keys: &mut Vec<Key<N>>, key: Key<N>) -> Result<(), NoMemory>
-    ensures added { OnOk result (AddsKeys N.tree keys.old.items keys.new.items (key_tree N.tree key ∷ [])) }
+    ensures added { OnOk result
+        (AddsKeys N.tree keys.old.items keys.new.items (key_tree N.tree key ∷ [])) }
     ensures kept { (bytes : List ℕ) → AreKeysOf N.source bytes keys.old.items →
         IsKeyOf N.source bytes key → AreKeysOf N.source bytes keys.new.items }
     ensures there { (sparse : Bool) (ss : Stops) → AreKeysAt sparse ss keys.old.items →
@@ -183,7 +191,8 @@ fn add_next<N: Reading>(keys: &mut Vec<Key<N>>, key: Key<N>) -> Result<(), NoMem
 
 /// The keys, without one that equals an earlier one. Each is compared with those before it.
 fn distinct_keys<N: Reading>(alloc: Global, all: &[Key<N>]) -> Result<Vec<Key<N>>, NoMemory>
-    ensures trees { IfOk result (λ ks. key_trees N.tree ks.items ≡ distinct (key_trees N.tree all.now)) }
+    ensures trees { IfOk result (λ ks.
+        key_trees N.tree ks.items ≡ distinct (key_trees N.tree all.now)) }
     ensures kept { (bytes : List ℕ) →
         AreKeysOf N.source bytes all.now → IfOk result (λ ks. AreKeysOf N.source bytes ks.items) }
     ensures there { (sparse : Bool) (ss : Stops) →

@@ -229,7 +229,8 @@ fn indexed_element<N: Reading>(node: N, component: &Component) -> Option<(usize,
     requires { kind_of (N.tree node) ≡ kinds.Array }
     ensures index { IfSome result (λ x. (x.0 < usize.MAX)
         × (index_of (string_bytes component.now.name) ≡ Some x.0)) }
-    ensures element { IfSome result (λ x. slice_get (elements_in (N.tree node)) x.0 ≡ Some (N.tree x.1)) }
+    ensures element { IfSome result (λ x.
+        slice_get (elements_in (N.tree node)) x.0 ≡ Some (N.tree x.1)) }
     ensures kept { IfSome result (λ x. N.source x.1 ≡ N.source node) }
     ensures none { IfNone result (IfSome (index_of (string_bytes component.now.name)) (λ i.
         length (elements_in (N.tree node)) ≤ i)) }

@@ -93,7 +93,8 @@ fn read_pair<N: Reading>(alloc: Global, room: u32, name: &str, value: N) -> Resu
 /// The filters of the operand of `$and`, `$or` and `$nor`.
 #[cycle(parse)]
 fn read_operand<N: Reading>(alloc: Global, room: u32, operand: N) -> Result<Vec<Filter>, Stop>
-    ensures { ReadsPart (λ fs. map filter_tree fs.items) result (operand_filters room (N.tree operand)) }
+    ensures { ReadsPart (λ fs.
+        map filter_tree fs.items) result (operand_filters room (N.tree operand)) }
 {
     let Kind::Array = operand.kind() else {
         return Err(stop_at(alloc, FilterFaultKind::BadOperand));
@@ -138,7 +139,8 @@ fn read_member<N: Reading>(alloc: Global, room: u32, member: N) -> Result<Filter
 /// The operators that the value of a path stands for.
 #[cycle(parse)]
 fn read_value<N: Reading>(alloc: Global, room: u32, value: N) -> Result<Vec<Operator>, Stop>
-    ensures { ReadsPart (λ os. map operator_tree os.items) result (path_operators room (N.tree value)) }
+    ensures { ReadsPart (λ os.
+        map operator_tree os.items) result (path_operators room (N.tree value)) }
 {
     if has_operators(value) {
         return read_operators::<N>(alloc, room, value.parts());

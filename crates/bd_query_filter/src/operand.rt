@@ -52,7 +52,8 @@ fn comparing(relation: Relation, operand: Value) -> Operator
 
 /// A value that is no regular expression, in memory.
 pub(crate) fn plain_value<N: Reading>(alloc: Global, operand: N) -> Result<Value, Stop>
-    ensures { ReadsPart tree_of result (unless_left_out (is_regex (N.tree operand)) (N.tree operand)) }
+    ensures { ReadsPart tree_of result
+        (unless_left_out (is_regex (N.tree operand)) (N.tree operand)) }
 {
     if operand.kind() == Kind::Regex {
         return Err(stop_at(alloc, FilterFaultKind::NotInProfile));

@@ -5,11 +5,13 @@ use Rattle.bd_value.specs.Tree.{own_code, own_of, values_of, scope_of, AreParts,
 use Rattle.bd_value.specs.View.{kind_of}
 use Rattle.bd_value.specs.declared.node.Kind.TheVariants as kinds
 
+-- a document is the fields of its parts
 pub doc_is : (t : Tree) (ps : Doc) → kind_of t ≡ kinds.Doc → AreParts t ps → t ≡ doc (fields_of ps)
 doc_is (doc fs) ps is are = ap doc (sym (ap fields_of are ∙ fields_of-pairs_of fs))
 doc_is (array ts) ps is are = absurd cc
 doc_is _ ps is are = absurd are
 
+-- an array is the values of its parts
 pub array_is : (t : Tree) (ps : Doc) → kind_of t ≡ kinds.Array → AreParts t ps → t ≡ array (items_of (values_of ps))
 array_is (array ts) ps is are = ap array (sym (ap items_of are ∙ items_of-list_of ts))
 array_is (doc fs) ps is are = absurd cc
@@ -31,6 +33,7 @@ values_size : (ps : Doc) → items_size (items_of (values_of ps)) ≡ fields_siz
 values_size [] = refl
 values_size (p ∷ ps) = ap (λ n. suc (tree_size p.1) + n) (values_size ps)
 
+-- the parts of a tree are smaller than it
 pub parts_smaller : (t : Tree) (ps : Doc) → AreParts t ps → fields_size (fields_of ps) < tree_size t
 parts_smaller (doc fs) ps are =
     let e = ap (λ (x : Doc). fields_size (fields_of x)) are ∙ ap fields_size (fields_of-pairs_of fs) in
@@ -40,6 +43,7 @@ parts_smaller (array ts) ps are =
     omega (arith, e)
 parts_smaller _ ps are = absurd are
 
+-- the scope of a tree is smaller than it
 pub scope_smaller : (t u : Tree) → scope_of t ≡ Some u → tree_size u < tree_size t
 scope_smaller (code_scope s fs) u scope = let inside : doc fs ≡ u = cc in let e = ap tree_size inside in omega arith
 scope_smaller _ u scope = absurd cc

@@ -62,9 +62,11 @@ tree_at vs i v lt is = slice_get-map tree_of vs i ∙ rw (slice_get-get_or vs i 
 -- ---- the first pair of a name
 
 module _ (name : List ℕ) (ps : Doc) (i : ℕ) (p : Pair) (total : Option Tree) (at : slice_get ps i ≡ Some p) (so_far : first_of name (drop i ps) ≡ total) where
+  -- a pair of another name does not change which value is the first of the name
   pub skipped : false ≡ bytes_eq p.0 name → first_of name (drop (i + 1) ps) ≡ total
   skipped other = sym (ap (first_of name) (next_at ps i p at) ∙ rw (← other) refl) ∙ so_far
 
+  -- a pair of the name, with none before it, has the first value of the name
   pub found : true ≡ bytes_eq p.0 name → total ≡ Some p.1
   found same = sym so_far ∙ ap (first_of name) (next_at ps i p at) ∙ rw (← same) refl
 
@@ -75,9 +77,11 @@ pub list_of-items_of : (ts : List Tree) → list_of (items_of ts) ≡ ts
 list_of-items_of [] = refl
 list_of-items_of (t ∷ ts) = ap (λ (x : List Tree). t ∷ x) (list_of-items_of ts)
 
+-- a node over a document in memory stands for the tree of its pairs
 pub is_doc : (s : node.Tree) (v : Bor Value) (d : Document) → s ≡ nodes.Value v → v.now ≡ values.Doc d → held s ≡ doc (fields_of (pairs d))
 is_doc s v d is e = ap held is ∙ ap tree_of e ∙ tree_of-Doc d
 
+-- a node over an array in memory stands for the tree of its values
 pub is_array : (s : node.Tree) (v : Bor Value) (xs : Vec Value Global) → s ≡ nodes.Value v → v.now ≡ values.Array xs → held s ≡ array (items_of (map tree_of xs.items))
 is_array s v xs is e = ap held is ∙ ap tree_of e ∙ tree_of-Array xs
 

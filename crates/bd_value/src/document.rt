@@ -137,7 +137,8 @@ impl Document {
 
     /// The value of the first pair of that name; none where no pair has it. It takes no memory.
     pub fn first(&self, name: &str) -> Option<&Value>
-        ensures found { IfSome result (λ v. first_of name.now (pairs self.now) ≡ Some (tree_of v.now)) }
+        ensures found { IfSome result (λ v.
+            first_of name.now (pairs self.now) ≡ Some (tree_of v.now)) }
         ensures none { IfNone result (first_of name.now (pairs self.now) ≡ None) }
     {
         for i in 0..self.len() {

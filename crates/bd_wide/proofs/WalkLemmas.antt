@@ -130,6 +130,7 @@ Comes Is others nested own bytes rest old out = (more : List ℕ) → AreElement
 pub begins : (Is : Writes) (others : Others) (nested : Nested) (own : List ℕ → List ℕ) (bytes old : List ℕ) → Comes Is others nested own bytes bytes old old
 begins Is others nested own bytes old = λ more h. (more, h, refl)
 
+-- after one more element is written, what is written is of the bytes up to the next
 pub stepped : (Is : Writes) (others : Others) (nested : Nested) (own : List ℕ → List ℕ) (bytes old out now rest head more value left path : List ℕ) (t : ElementType) (k n : ℕ)
     → Comes Is others nested own bytes rest old out → Some (t, k, n) ≡ front rest
     → head ≡ take k rest → more ≡ drop k rest → value ≡ take n more → left ≡ drop n more → path ≡ own head → Adds (IsElement Is nested path t head value) out now
@@ -294,6 +295,7 @@ pub as_part : (Is : Writes) (nested : Nested) (path : List ℕ) (type : ElementT
     → Adds (IsPart Is nested (Some part) path type head value) a c → Adds (IsElement Is nested path type head value) a c
 as_part Is nested path type part head value a c is h = (h.0, part_of_element Is nested path type (Some part) head value h.0 is h.1, h.2)
 
+-- an element that has values in it has the bytes that its kind needs at least
 pub holds_least : (type : ElementType) (holder : Holder) → part_of type ≡ Some (parts.Values holder) → holder_least holder ≤ least type
 unfolding part_of least holder_least
 holds_least (Kept kinds.Doc) holders.Document is = omega arith

@@ -13,6 +13,7 @@ use Rattle.bd_wide_cli.specs.declared.running.Stop.TheVariants as stops
 use Rattle.bd_wide_cli.specs.Filtered.{AreDocuments, none, more, ArePartlyFiltered, BeginsWithNone, Ends, FiltersAll, FiltersPartly, IsBadLength, IsFrame, IsNext, IsWritten, CopiesRest, PassesOn, StopsCopying, StopsDocument, StopsPassing, WritesDocument, refusal_text}
 use Rattle.bd_io_device.proofs.DevicesLemmas.{breaks_second, takes_both, takes_none}
 
+-- the documents that were read and passed on so far, and what was written of them
 pub record Progress (filter : Filter) (file left : Reader) (old new : Writer) (number start kept : ℕ) : Type 0 where
   pub documents : List ℕ
   pub written : List ℕ

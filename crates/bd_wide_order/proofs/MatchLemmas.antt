@@ -122,6 +122,7 @@ module _ (c : Codes) where
         (λ e d. ap (λ t. equal t (r v)) (null_stays e) ∙ equals_stay c up (value_or_null e) v (null_is_of e d) a) es b
 
 mutual
+  -- a renumbered document matches the renumbered filter exactly if the document matches the filter
   pub match_stays : (c : Codes) → AreIncreasing c → (f : Filter) → AsksOf c f → (d : Tree) → IsOf c d → matches (renumber_filter c f) (renumber c d) ≡ matches f d
   match_stays c up (all_of fs) a d b = all_stay c up fs a d b
   match_stays c up (some_of fs) a d b = some_stay c up fs a d b

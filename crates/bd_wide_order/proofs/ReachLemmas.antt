@@ -166,6 +166,7 @@ module _ {A : Type 0} (end : Codes) (Q : A → Type 0) (from : Gathering A) (giv
 ends_carry : (end : Codes) → Carries end (option_map (renumber end)) ends ends
 ends_carry end = record { at_end = λ t. refl; missing = refl; of_array = λ xs. refl }
 
+-- a path reaches in a renumbered value the renumbered values that it reaches in the value
 pub reach_stays : (c : Codes) (p : Names) → ReadsAlike c p → (t : Tree) → reach (renumber c t) p ≡ map (option_map (renumber (below p c))) (reach t p)
 reach_stays c p lead t = gathers (below p c) (option_map (renumber (below p c))) ends ends (ends_carry (below p c)) c t p lead
 
@@ -326,6 +327,7 @@ all_sorts_stay : (c : Codes) → AreIncreasing c → (ss : List SortPath) → Ea
 all_sorts_stay c up [] leads a b p q = refl
 all_sorts_stay c up (s ∷ ss) leads a b p q = ap₂ ordering_then (sort_stays c up s.path leads.0 s.dir a b p q) (all_sorts_stay c up ss leads.1 a b p q)
 
+-- renumbered documents are in the order of a sort in which the documents are
 pub sorts_stay : (c : Codes) → AreIncreasing c → (ss : List SortPath) → SortsReadAlike c ss → (a b : Tree) → IsOf c a → IsOf c b
     → sort_cmp ss (renumber c a) (renumber c b) ≡ sort_cmp ss a b
 sorts_stay c up ss leads a b p q = all_sorts_stay c up ss (recursion_from_All (λ s. ReadsAlike c s.path) ss leads) a b p q

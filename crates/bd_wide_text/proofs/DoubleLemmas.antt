@@ -152,6 +152,7 @@ pub text_is : (x : Float) (s : Bool) (size : List ℕ) (old before new : List �
 text_is x s size old before new is sized e laid =
     (sign_text s ++ laid.0, by_digits x s (scan size) laid.0 is laid.1 sized, laid.2 ∙ ap (λ t. t ++ laid.0) e ∙ append_assoc old (sign_text s) laid.0)
 
+-- what follows from a property on success holds on success
 pub ok_on : {A B : Type 0} (r : Result A B) (P Q : Type 0) → OnOk r P → (P → Q) → OnOk r Q
 ok_on (Ok x) P Q p q = q p
 ok_on (Err e) P Q p q = _

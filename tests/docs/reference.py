@@ -1,0 +1,119 @@
+#!/usr/bin/env python3
+"""Looks whether docs/REFERENCE.md is what `make reference` writes, and whether the pages and the roots name what there is.
+
+usage: tests/docs/reference.py     The last line is 'N passed, M failed'. It needs neither the program nor a proof.
+
+- docs/REFERENCE.md is current, and each line of it has its comment in the sources; so has each definition that it does not name,
+  and each lemma that more than one other file uses.
+- docs/PROVED.md names each law. What it has in backquotes is the name of a crate, function, type, clause or definition.
+- docs/ARCHITECTURE.md has each crate but those of tests, and no page names a crate that does not exist.
+- Each link of a page leads to a file, and to a heading of it.
+- The root of each crate names its modules, and each file of specs that it names exists.
+"""
+
+import re
+import sys
+from collections.abc import Iterator
+from pathlib import Path
+
+ROOT = Path(__file__).resolve().parents[2]
+sys.path.insert(0, str(ROOT / "tools"))
+
+import reference
+
+PAGES = sorted([*ROOT.glob("*.md"), *ROOT.glob("docs/*.md"), ROOT / "python/README.md"])
+# Commands, names of formats and of the system, which docs/PROVED.md has in backquotes.
+WORDS = {"main", "check", "dump", "pack", "find", "serve", "mask", "wrap", "order", "$oid", '{"$oid":..}'}
+
+
+def text_of(path: Path) -> str:
+    return path.read_text(encoding="utf-8")
+
+
+def laws() -> Iterator[str]:
+    """Yield the names of the public functions that have no body: their contracts are laws."""
+    for file in reference.code():
+        if file.stem == "laws":
+            yield from re.findall(r"^pub fn (\w+)", text_of(file), re.M)
+
+
+def names() -> set[str]:
+    """Return the names of crates, of functions, types and clauses, and of definitions."""
+    found = {path.rpartition(".")[2] for path in reference.definitions("specs")}
+    for _, name in reference.crates():
+        code = "".join(text_of(it) for it in reference.files_of(name, "src/**/*.rt"))
+        found |= {name, *re.findall(r"\b(?:fn|struct|enum|trait|ensures) (\w+)", code)}
+    return found
+
+
+def comments() -> Iterator[tuple[bool, str]]:
+    lacking = list(reference.missing())
+    for _, name in reference.crates():
+        found = [what for crate, what in lacking if crate == name]
+        yield not found, f"{name}: without a comment: {', '.join(found)}"
+
+
+def proved() -> Iterator[tuple[bool, str]]:
+    quoted = set(re.findall(r"`([^`\n]+)`", text_of(ROOT / "docs/PROVED.md")))
+    for name in laws():
+        yield name in quoted, f"docs/PROVED.md does not name the law {name}"
+    known = names()
+    for name in sorted(quoted - WORDS):
+        yield known.issuperset(name.split("::")), f"docs/PROVED.md names {name}, which does not exist"
+
+
+def crates() -> Iterator[tuple[bool, str]]:
+    drawn = set(re.findall(r"\bb[ds]\w+", text_of(ROOT / "docs/ARCHITECTURE.md")))
+    for _, name in reference.crates():
+        yield name in drawn, f"docs/ARCHITECTURE.md does not draw {name}"
+    for page in PAGES:
+        for name in sorted(set(re.findall(r"\bbd_[a-z_]*[a-z]\b", text_of(page)))):
+            is_there = any((ROOT / "crates").glob(f"{name}*"))
+            yield is_there, f"{page.relative_to(ROOT)} names {name}, which is no crate"
+
+
+def anchors(page: Path) -> set[str]:
+    """Return the anchors of the headings of a page, as GitHub makes them."""
+    found = set()
+    for heading in re.findall(r"^#+ (.*)$", re.sub(r"^```.*?^```", "", text_of(page), flags=re.M | re.S), re.M):
+        shown = re.sub(r"\[([^\]]*)\]\([^)]*\)", r"\1", heading)
+        found.add(re.sub(r"[^\w\- ]", "", shown.lower()).replace(" ", "-"))
+    return found
+
+
+def links() -> Iterator[tuple[bool, str]]:
+    for page in PAGES:
+        for link in sorted(set(re.findall(r"\]\(([^)\s]+)\)", text_of(page)))):
+            if "://" not in link:
+                name, _, anchor = link.partition("#")
+                file = page.parent / name if name else page
+                leads = file.exists() and (not anchor or file.suffix != ".md" or anchor in anchors(file))
+                yield leads, f"{page.relative_to(ROOT)}: {link} leads nowhere"
+
+
+def roots() -> Iterator[tuple[bool, str]]:
+    for _, name in reference.crates():
+        crate = ROOT / "crates" / name
+        path = next(it for it in (crate / "src/lib.rt", crate / "src/main.rt") if it.exists())
+        head = reference.first_comment(path, "//!")
+        for module in re.findall(r"^(?:pub )?mod (\w+);", text_of(path), re.M):
+            yield f"`{module}`" in head, f"{name}: its root does not name the module {module}"
+        for file in re.findall(r"`(specs/[\w/]+\.antt)`", head):
+            yield (crate / file).exists(), f"{name}: its root names {file}, which does not exist"
+
+
+def main() -> int:
+    passed = failed = 0
+    current = text_of(reference.PAGE) == reference.page()
+    for holds, message in ((current, "docs/REFERENCE.md is not current: make reference"), *comments(), *proved(), *crates(), *links(), *roots()):
+        if holds:
+            passed += 1
+        else:
+            failed += 1
+            print(message)
+    print(f"{passed} passed, {failed} failed")
+    return 1 if failed else 0
+
+
+if __name__ == "__main__":
+    sys.exit(main())

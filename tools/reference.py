@@ -1,0 +1,270 @@
+#!/usr/bin/env python3
+"""Write docs/REFERENCE.md: by crate the definitions that public contracts cite, and the public functions with their clauses.
+
+usage: tools/reference.py [--missing]
+
+All words come from the sources: `//!` of the root of a crate, `--` above definitions, `///` above functions. With --missing it
+writes nothing, and lists what has no such line: definitions, public items, and lemmas that more than one other file uses. A name
+with `-prop` at its end needs none: it says that a definition has one proof at most.
+"""
+
+import re
+import sys
+from collections import Counter
+from collections.abc import Iterator
+from functools import cache
+from itertools import pairwise
+from pathlib import Path
+from typing import NamedTuple
+
+ROOT = Path(__file__).resolve().parent.parent
+PAGE = ROOT / "docs/REFERENCE.md"
+HEAD = """\
+# Reference
+
+`make reference` writes this page from the sources. For each crate it has the files of definitions, with the definitions that
+public contracts cite, and the public functions with their clauses. A line below a function is a clause: its name, and what holds
+after the call; before it after `requires`; after `*` once the result is dropped. Of an argument `x` that is `&mut`, `x.old` is its
+value before the call and `x.new` after it. A function changes nothing else, except what a `RefCell` has. [PROVED.md](PROVED.md)
+has the laws in words, [ARCHITECTURE.md](ARCHITECTURE.md) draws the crates."""
+IMPORT = re.compile(r"^ *(?:pub |ghost )*use ([\w.]+?)(?:\.\{([^}]*)\}| as (\w+))?;?$", re.M)
+# The start of a definition, of a block of methods, of an item of code and of a clause; the rest of the head of a function.
+DEFINED = re.compile(r" *(?:abbrev |unfoldable )?pub (?!mod |use )(?:record |data )?([^\s:]+)")
+BLOCK = re.compile(r"(?:pub (trait)|impl) (?:([\w:]+) for )?&?(\w+)")
+ITEM = re.compile(r" *(pub )?(?:const |unsafe )*(fn|struct|enum|trait|const|type|ghost) (?!use |fn )(\w+)")
+CLAUSE = re.compile(r"(?:\s+//.*)*\s+(requires|ensures)(\*)?(?: (\w+))? \{")
+SIGNATURE = re.compile(r"(?:\[[^\]]*\]|[^{;])*?(?=\s+(?://|(?:requires|ensures)\b)|\s*[{;])")
+
+
+class Definition(NamedTuple):
+    """A definition or a lemma, the comment above it, and the paths of what it cites."""
+
+    crate: str
+    file: Path
+    comment: str
+    cites: set[str]
+
+
+class Item(NamedTuple):
+    """A public item of code, a method of a type or trait (`owner`), or one that a type has by a trait (`by`)."""
+
+    owner: str
+    by: str
+    name: str
+    comment: str
+    head: str
+    clauses: dict[str, str]
+
+
+def crates() -> Iterator[tuple[str, str]]:
+    """Yield the families and their crates, as crates.txt has them, without those that only test."""
+    family = ""
+    for line in (ROOT / "crates.txt").read_text(encoding="utf-8").splitlines()[1:]:
+        name = line.partition(":")[0]
+        if line.startswith("#"):
+            family = line[1:].strip()
+        elif not name.endswith(("_tests", "_rows")):
+            yield family, name
+
+
+def files_of(crate: str, pattern: str) -> list[Path]:
+    return sorted(it for it in (ROOT / "crates" / crate).glob(pattern) if it.name != "Lib.antt")
+
+
+def comment_above(lines: list[str], at: int, mark: str) -> str:
+    """Return the comment that ends above a line, or above the attributes before it, or the `mutual` that it begins."""
+    while at and re.match(r" *#\[.*|.*\)\]$|(abbrev )?mutual$", lines[at - 1]):
+        at -= 1
+    end = at
+    while at and lines[at - 1].lstrip().startswith(mark):
+        at -= 1
+    return "\n".join(it.strip()[len(mark) :].lstrip(" -") for it in lines[at:end])
+
+
+def first_comment(file: Path, mark: str) -> str:
+    """Return the comment that a file begins with."""
+    lines = file.read_text(encoding="utf-8").splitlines()
+    return comment_above(lines, next(at for at, line in enumerate(lines) if not line.startswith(mark)), mark)
+
+
+def sentence(comment: str) -> str:
+    """Return the first sentence of a comment, on one line."""
+    text = " ".join(comment.partition("\n\n")[0].split())
+    return re.split(r"(?<=[.?])\s+(?=[A-Z`(])", text, maxsplit=1)[0].rstrip(".:")
+
+
+def known_in(text: str) -> dict[str, str]:
+    """Return the names that a file takes from others, each with its path."""
+    known = {}
+    for path, names, alias in IMPORT.findall(text):
+        for item in names.split(",") if names else [""]:
+            word, _, new = item.strip().partition(" as ")
+            known[new or alias or word.rpartition(".")[2] or path.rpartition(".")[2]] = f"{path}.{word}".rstrip(".")
+    return known
+
+
+def cites(text: str, known: dict[str, str]) -> set[str]:
+    """Return the paths of what a text names, as `name` or as `file.name`."""
+    words = re.findall(r"(?<![\w.-])([^\s(){},;.]+)(?:\.([\w-]+))?", re.sub(r"(?:--|//).*", "", text))
+    return {path for word, field in words if word in known for path in (known[word], f"{known[word]}.{field}")}
+
+
+@cache
+def definitions(folder: str) -> dict[str, Definition]:
+    """Return all definitions by their paths; of the folder `proofs` the lemmas."""
+    found = {}
+    for crate, file in ((crate, file) for _, crate in crates() for file in files_of(crate, f"{folder}/**/*.antt")):
+        text = file.read_text(encoding="utf-8")
+        lines = text.splitlines()
+        module = ".".join(("Rattle", *file.relative_to(ROOT / "crates").with_suffix("").parts))
+        heads = []
+        inside = {0}
+        for at, line in ((at, it) for at, it in enumerate(lines) if it and not it.lstrip().startswith("--")):
+            depth = len(line) - len(line.lstrip())
+            inside = {it for it in inside if it <= depth}
+            if depth in inside and (head := DEFINED.match(line)):
+                heads.append((at, head[1]))
+            elif depth in inside and re.match(r" *(?:module|(?:abbrev )?mutual)\b", line):
+                inside.add(depth + 2)
+        known = known_in(text) | {name: f"{module}.{name}" for _, name in heads}
+        for (at, name), (end, _) in pairwise([*heads, (len(lines), "")]):
+            path = f"{module}.{name}"
+            cited = cites("\n".join(lines[at:end]), known) - {path}
+            found[path] = Definition(crate, file, comment_above(lines, at, "--"), cited)
+    return found
+
+
+def end_of(text: str, at: int) -> int:
+    """Return the offset of the brace that closes the one before an offset."""
+    depth = 1
+    while depth:
+        found = re.compile(r'"(?:\\.|[^"\\])*"|[{}]').search(text, at)
+        depth += {"{": 1, "}": -1}.get(found[0], 0)
+        at = found.end()
+    return at - 1
+
+
+def contract_at(text: str, at: int) -> tuple[str, dict[str, str]]:
+    """Return the head of a function, from its name on, and its clauses by their names, each after the comment above it."""
+    head = SIGNATURE.match(text, at)
+    at = head.end()
+    clauses = {}
+    while clause := CLAUSE.match(text, at):
+        end = end_of(text, clause.end())
+        name = (clause[3] or "ensures") if clause[1] == "ensures" else f"requires {clause[3] or ''}".rstrip()
+        lines = [*re.findall("//.*", clause[0]), f"{name}{clause[2] or ''}: {text[clause.end() : end].strip()}"]
+        clauses[name] = "\n".join(f"  {it}" for it in lines)
+        at = end + 1
+    return re.sub(r"([(\[]) |,? (?=[)\]])", r"\1", " ".join(head[0].split())), clauses
+
+
+def items(text: str) -> Iterator[Item]:
+    """Yield the public items of a file of code, the methods of its traits, and those of what implements traits."""
+    lines = text.splitlines()
+    start = 0
+    owner = by = ""
+    for at, line in enumerate(lines):
+        bare = line
+        while bare != (bare := re.sub(r"<[^<>]*>", "", bare)):
+            pass
+        if block := BLOCK.match(bare):
+            owner, by = block[3], block[1] or block[2] or ""
+        elif line.startswith("}"):
+            owner = by = ""
+        item = ITEM.match(line)
+        if item and (item[1] or (by and item[2] == "fn") or (by == "trait" and item[2] == "ghost")):
+            begin = start + item.start(3)
+            head, clauses = f"{item[2]} {re.match(r'[^{;=(]*', line[item.start(3) :])[0].strip()}", {}
+            if item[2] == "fn":
+                head, clauses = contract_at(text, begin)
+            elif item[2] == "ghost":
+                head = " ".join(text[begin : end_of(text, text.index("{", begin) + 1) + 1].split())
+            yield Item("" if block else owner, by, item[3], comment_above(lines, at, "///"), head, clauses)
+        start += len(line) + 1
+
+
+@cache
+def code() -> dict[Path, list[Item]]:
+    """Return by file what the roots export, with its methods; of those that a trait gives what they promise beyond it."""
+    found = {}
+    for root in (it for _, crate in crates() for it in files_of(crate, "src/lib.rt")):
+        text = root.read_text(encoding="utf-8")
+        exports = re.findall(r"^pub use (?:\w+::)+(?:(\w+);|\{([^}]*)\})", text, re.M)
+        names = {name.strip() for one, more in exports for name in [one, *more.split(",")]}
+        for file in files_of(root.parent.parent.name, "src/**/*.rt"):
+            is_open = re.search(rf"^pub mod {file.stem};", text, re.M)
+            own = items(file.read_text(encoding="utf-8"))
+            found[file] = [it for it in own if is_open or (it.owner or it.name) in names]
+    given = {(it.owner, it.name): it.clauses for own in found.values() for it in own if it.by == "trait"}
+    for file, own in found.items():
+        beyond = (it._replace(clauses={k: v for k, v in it.clauses.items() if k not in given.get((it.by, it.name), ())}) for it in own)
+        found[file] = [it for it in beyond if it.by in ("", "trait") or it.clauses]
+    return found
+
+
+@cache
+def cited() -> set[str]:
+    """Return the paths that public contracts cite."""
+    found: set[str] = set()
+    for file, own in code().items():
+        known = known_in(file.read_text(encoding="utf-8"))
+        found |= cites(" ".join(text for it in own for text in (it.head, *it.clauses.values())), known)
+    return found
+
+
+def blocks(crate: str) -> Iterator[str]:
+    """Yield the parts of the section of a crate: what it is, a list for each file of definitions, a block for each of code."""
+    yield sentence(first_comment((files_of(crate, "src/lib.rt") or files_of(crate, "src/main.rt"))[0], "//!"))
+    for file in files_of(crate, "specs/**/*.antt"):
+        lines = [f"[{file.name}](../{file.relative_to(ROOT)}): {sentence(first_comment(file, '--'))}"]
+        for path, it in definitions("specs").items():
+            if it.file == file and path in cited():
+                lines.append(f"- `{path.rpartition('.')[2]}`: {sentence(it.comment)}".rstrip())
+        yield "\n".join(lines)
+    for file in files_of(crate, "src/**/*.rt"):
+        lines = [f"[{file.name}](../{file.relative_to(ROOT)})", "```"]
+        for it in code().get(file, ()):
+            lines += [f"// {sentence(it.comment)}".rstrip(), f"{it.owner}::{it.head}" if it.owner else it.head]
+            lines += (re.sub(r"\n {5,}", "\n    ", text) for text in it.clauses.values())
+        if len(lines) > 2:
+            yield "\n".join([*lines, "```"])
+
+
+def page() -> str:
+    """Return the page."""
+    parts = [HEAD]
+    last = ""
+    for family, crate in crates():
+        parts += [*([f"## {family}"] if family != last else []), f"### {crate}", *blocks(crate)]
+        last = family
+    return "\n\n".join(parts) + "\n"
+
+
+def missing() -> Iterator[tuple[str, str]]:
+    """Yield what has no line, with its crate: definitions, public items, and lemmas that more than one other file uses."""
+    for file, own in code().items():
+        yield from ((file.parts[-3], f"{file.relative_to(ROOT)}: {it.owner} {it.name}") for it in own if not it.comment)
+    lemmas = definitions("proofs")
+    uses = {(path, it.file) for folder in ("proofs", "specs") for it in definitions(folder).values() for path in it.cites}
+    for file in (it for _, crate in crates() for it in files_of(crate, "src/**/*.rt")):
+        names = re.findall(r"\bcrate(::proofs(?:::\w+)+)", file.read_text(encoding="utf-8"))
+        uses |= {(f"Rattle.{file.parts[-3]}{it.replace('::', '.')}", file) for it in names}
+    users = Counter(path for path, file in uses if path in lemmas and file != lemmas[path].file)
+    for path, it in [*definitions("specs").items(), *(one for one in lemmas.items() if users[one[0]] > 1)]:
+        if not it.comment and not path.endswith("-prop"):
+            yield it.crate, path
+
+
+def main() -> None:
+    if "--missing" in sys.argv:
+        found = sorted(missing())
+        for crate, what in found:
+            print(f"{crate}: {what}")
+        for crate, count in Counter(crate for crate, _ in found).items():
+            print(f"{count} of {crate}")
+    else:
+        PAGE.write_text(page(), encoding="utf-8")
+
+
+if __name__ == "__main__":
+    main()
