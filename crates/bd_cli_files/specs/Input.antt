@@ -41,9 +41,9 @@ StopsInside front part file =
 abbrev pub StopsWithinOne : List ℕ → Over Reader → Type 0
 StopsWithinOne front file = (part : List ℕ) × StopsInside front part file
 
--- All bytes of the reader are these: it gave documents by their lengths, and of one more no byte past its
--- end; if there is more, that one has a bad length. Or it gave these bytes, and no more were read for this
--- reason; a read that passed the limit gave no more than was missing of its document.
+-- All bytes of the reader are these, and it gave documents by their lengths and of one more no byte past its
+-- end (if there is more, that one has a bad length); or it gave these bytes, and no more were read for this
+-- reason: a read that passed the limit gave no more than was missing of its document.
 abbrev pub StreamsInput : Over Reader → List ℕ → Option ReadFault → Type 0
 StreamsInput file bytes None = IfSome file.before.left (λ xs. bytes ≡ xs)
     × ((frames : List (List ℕ)) × (front : List ℕ) × AreFrames frames front × StopsWithinOne front file)

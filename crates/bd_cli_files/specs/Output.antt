@@ -86,8 +86,8 @@ abbrev pub TellsMessage : Over Writer → List ℕ → Status → Status → Typ
 TellsMessage err message wanted status =
     (TakesText err message × (status ≡ wanted)) ⊎ (BreaksWithin err message × (status ≡ Failed))
 
--- Standard output is as `Whole` says, and standard error has its message.
--- Or a write to standard output failed (`Broke`), or memory ran out (`Starved`), and standard error says so.
+-- Standard output is as `Whole` says, and standard error has its message;
+-- or a write to standard output failed (`Broke`), or memory ran out (`Starved`), and standard error says so.
 abbrev pub TellsEnd : Type 0 → Type 0 → Type 0 → Over Writer → Transcript → Status → Type 0
 TellsEnd Whole Broke Starved err shown status = (Whole × TellsMessage err shown.err shown.status status)
     ⊎ (Broke × TellsMessage err (error_line cannot_write) Failed status)

@@ -25,8 +25,8 @@ use Rattle.bd_query_filter.specs.{Filter.Filter, FilterMatch.matches}
 use Rattle.bd_extjson_pack.specs.Packable.{IsPackable}
 use Rattle.bd_cursor_request.specs.declared.results.Refused.TheVariants as reasons
 
--- The document numbers that are asked for: the whole answer, or what follows a token.
--- The token's digest is looked at first, then its document number.
+-- the document numbers that are asked for: the whole answer, or what follows a token,
+-- of which the digest is looked at first, then the document number
 abbrev pub places_from : Query → Option Token → Result (List ℕ) Reason
 places_from q None = Ok (answer q.selection)
 places_from q (Some t) = if bytes_eq t.digest q.digest

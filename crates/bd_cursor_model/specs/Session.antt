@@ -46,9 +46,9 @@ pub record State : Type 0 where
   pub next_id : ℕ
   pub cursors : List OpenCursor
 
--- A call of a session. To find, to resume and to explain may name the path of the index that is to be used. An index is
--- made with the counts that the dump gives it.
--- What is explained, as the pairs of a document, is a function of the indexes that are there.
+-- A call of a session, with what its reply depends on: to find, to resume and to explain may name the path of
+-- an index; an index is made with the counts that the dump gives it; what is explained is a function of the
+-- indexes that are there.
 pub data Call : Type 0 where
   find_call : Query → Option (List ℕ) → Call
   resume_call : Query → Option (List ℕ) → MarkedToken → Call
@@ -163,8 +163,8 @@ abbrev pub next_reply : Option OpenCursor → ℕ → Reply
 next_reply None n = no_cursor
 next_reply (Some c) n = if nat_lt greatest_count n then out_of_range else gave (batch_of c n)
 
--- The reply to a call. Refusals are tried in this order:
--- the token's digest, its document number, the index, the number of cursors.
+-- the reply to a call; refusals are tried in this order:
+-- the token's digest, its document number, the index, the number of cursors
 abbrev pub reply : State → Call → Reply
 reply s (find_call q hint) = open_reply s hint
 reply s (resume_call q hint t) = if bytes_eq t.digest q.digest

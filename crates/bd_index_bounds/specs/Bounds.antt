@@ -60,8 +60,8 @@ keys_of_each multikey [] = no_key
 keys_of_each true (set ∷ sets) = set
 keys_of_each false (set ∷ sets) = intersection (set ∷ sets)
 
--- Both of two bounds. Where a document may have several keys,
--- one may be within the first bounds and another within the second: then the first count alone.
+-- both of two bounds: their intersection; in a multikey index the first bounds alone,
+-- since another key of the same document may be within the second
 abbrev pub conjunction : Bool → KeyBounds → KeyBounds → KeyBounds
 conjunction multikey None second = second
 conjunction multikey (Some first) None = Some first

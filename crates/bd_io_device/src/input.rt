@@ -49,10 +49,10 @@ pub trait Input {
         false
     }
 
-    /// The count of reads is one of 64 bits.
+    /// The count of reads has 64 bits at most.
     ghost calls_fit: { (s : Self) → (state s).calls ≤ greatest };
 
-    /// The count of reads that failed is one of 64 bits.
+    /// The count of failed reads has 64 bits at most.
     ghost failures_fit: { (s : Self) → (state s).failures ≤ greatest };
 }
 

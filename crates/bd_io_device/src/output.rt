@@ -32,10 +32,10 @@ pub trait Output {
         ensures failed { OnErr result ((state self.new).failures
             ≡ after_more (state self.old).failures 1) };
 
-    /// The count of writes is one of 64 bits.
+    /// The count of writes has 64 bits at most.
     ghost calls_fit: { (s : Self) → (state s).calls ≤ greatest };
 
-    /// The count of writes that failed is one of 64 bits.
+    /// The count of failed writes has 64 bits at most.
     ghost failures_fit: { (s : Self) → (state s).failures ≤ greatest };
 }
 

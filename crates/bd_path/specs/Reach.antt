@@ -37,8 +37,8 @@ pub record Gathering (A : Type 0) : Type 0 where
   pub of_array : List A → List A
 
 abbrev mutual
-  -- What is gathered from a value down a path. A name leads from a document to its first field of that name,
-  -- and from an array into each document in it; a name that is an index leads to that element too.
+  -- what is gathered from a value down a path: a name leads from a document to its first field of that name,
+  -- from an array into each document in it, and if it is an index, to that element too
   pub gathering : {A : Type 0} → Gathering A → Tree → Names → List A
   gathering g t [] = g.at_end t
   gathering g (leaf s) (name ∷ rest) = g.missing

@@ -104,7 +104,7 @@ abbrev mutual
       ⊎ (IsFalse (has_value_form fs) × BreaksInside room (HasBadPair (room - 1) fs) r)
   IsBadElemMatch room t r = BreaksHere faults.BadOperand r
 
--- A pair or a member of the document breaks this rule at this path.
--- A filter has 50 levels at most, the top is level 1.
+-- A pair or a member of the document breaks this rule at this path;
+-- a filter has 50 levels at most, the top is level 1.
 abbrev pub IsBadAt : Doc → Refusal → Type 0
 IsBadAt d r = HasBadPair (most_filter_levels - 1) (fields_of d) r

@@ -38,7 +38,7 @@ pub trait Refuser {
     /// Why one is, by how many levels are left below it, its path, its type and its value.
     ghost refuses: { Self → ℕ → List ℕ → element_type.ElementType → List ℕ → Option refusal.Refusal };
 
-    /// Why this number is refused, or none if it is not. `room` is how many levels are left below it.
+    /// Why a number is refused; none if it is not.
     fn refuse(&self, room: u32, path: &[u8], typed: ElementType, value: &[u8]) -> Option<Refusal>
         requires { least typed ≤ length value.now }
         ensures { result ≡ refuses self.now room path.now typed value.now };

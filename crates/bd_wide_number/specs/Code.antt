@@ -38,8 +38,8 @@ unfoldable pub double_part : Bool → ℕ → Option ℤ
 double_part negative size = if size % least_double == 0
     then option_map (signed negative) (bits_of 2046 (size / least_double)) else None
 
--- the code of a value by the double that equals it: its 63 bits without the sign, negated if it is negative;
--- NaN has -2 ^ 63. None if no double equals it.
+-- the code of a value by the double that equals it, or None:
+-- its 63 bits without the sign, negated if it is negative; NaN has -2 ^ 63
 unfoldable pub double_code : Value → Option ℤ
 double_code nan = Some (neg_ℤ (pos (2 ^ 63)))
 double_code (infinite negative) = Some (signed negative infinite_bits)

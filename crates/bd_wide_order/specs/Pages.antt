@@ -40,8 +40,8 @@ cursor_at q mark = record {
 abbrev pub pages : Query → Option Mark → List ℕ → List Page
 pages q mark sizes = pages_from (cursor_at q mark) sizes
 
--- Two requests, each to its dump, have one answer. They select the same, so their answers, and what is left of these
--- after a position, are the same document numbers in the same order; and they give the same pages.
+-- Two requests, each to its dump, have one answer: they select the same document numbers in the same order,
+-- and from the start and after each position they give the same pages.
 pub record HaveOneAnswer (q r : Query) : Type 0 where
   pub selection : q.selection ≡ r.selection
   pub pages_alike : (mark : Option Mark) (sizes : List ℕ) → pages q mark sizes ≡ pages r mark sizes
