@@ -1,13 +1,13 @@
 -- Documents that a device gives one after the other, by the lengths that they begin with.
 use Rattle.std.specs.Prelude.{◌≡◌, ◌<◌, ◌≤◌, ◌+◌, ◌-◌, ◌⊎◌, ℕ, List, [], ◌∷◌, ◌++◌, length, take, Option, Some, None, suc}
-use Rattle.std.specs.Prelude.{Result, Ok, Err, IfSome, IsTrue, false}
+use Rattle.std.specs.Prelude.{Result, Ok, Err, IfSome, IsTrue, Bool, false}
 use Rattle.std.specs.Io.KnownBytes.{Consumes, IsAtEnd}
 use Rattle.bd_value.specs.Limits.{longest_document}
 use Rattle.bd_io_device.specs.{Devices.after_more, Devices.AreReads, Devices.Over, Devices.Reader, Devices.ReadsUntil, Devices.over}
-use Rattle.bd_io_device.specs.declared.reading.ReadFault.{ReadFault}
+use Rattle.bd_io_device.specs.declared.reading.{Limits.Limits, ReadFault.ReadFault}
 use Rattle.bd_bson_check.specs.{Dump.frame_length, Dump.length_told, declared.fault.FaultKind.FaultKind}
 use Rattle.bd_bson_stream.specs.declared.{doc_buffer.DocBuffer.DocBuffer, doc_buffer.DocFault.DocFault}
-use Rattle.bd_bson_stream.specs.declared.{doc_reader.RawBytes.RawBytes}
+use Rattle.bd_bson_stream.specs.declared.{doc_reader.DocReader.DocReader, doc_reader.RawBytes.RawBytes}
 
 -- The bytes begin with a length, and are exactly that many.
 abbrev pub IsFrame : List ℕ → Type 0
@@ -40,11 +40,48 @@ abbrev pub HasNoFrame : List ℕ → Option (List ℕ) → FaultKind → Type 0
 HasNoFrame head left kind = (bytes : List ℕ) × IfSome left (λ rest. bytes ≡ head ++ rest)
     × (frame_length bytes ≡ Err kind)
 
--- the bytes of the document that is buffered
+-- what the device may still be asked for
+abbrev pub limits_left : DocBuffer → Limits
+limits_left documents = documents.left
+
+-- the offset of the next document's first byte
+abbrev pub next_place : DocBuffer → ℕ
+next_place documents = documents.place
+
+-- the number of the next document
+abbrev pub next_number : DocBuffer → ℕ
+next_number documents = documents.number
+
+-- a call met a fault
+abbrev pub has_failed : DocBuffer → Bool
+has_failed documents = documents.failed
+
+-- all bytes of the buffer: those of the document that it holds come first
+abbrev pub buffer_bytes : DocBuffer → List ℕ
+buffer_bytes documents = documents.buffer.items
+
+-- how many of them are those of the document
+abbrev pub held_size : DocBuffer → ℕ
+held_size documents = documents.size
+
+-- the bytes of the document that the buffer holds
 abbrev pub held_bytes : DocBuffer → List ℕ
 held_bytes documents = take documents.size documents.buffer.items
 
--- The buffer is as long as before, or it has grown to the length that the document needs.
+-- the buffer is the same
+abbrev pub KeepsBuffer : DocBuffer → DocBuffer → Type 0
+KeepsBuffer before after = after.buffer ≡ before.buffer
+
+module _ {R : Type 0} where
+  -- the device of a reader
+  abbrev pub device_of : DocReader R → R
+  device_of reader = reader.reader
+
+  -- the buffer of a reader
+  abbrev pub buffer_of : DocReader R → DocBuffer
+  buffer_of reader = reader.documents
+
+-- the buffer is as long as it was, or as a document needs
 abbrev pub HoldsAsMuch : ℕ → ℕ → ℕ → Type 0
 HoldsAsMuch before after size = (after ≡ before) ⊎ ((before < size) × (after ≡ size))
 

@@ -80,14 +80,15 @@ pub struct DocBuffer {
 }
 
 impl DocBuffer {
-    ghost use Rattle.bd_bson_stream.specs.Stream.{CountsReads, FailsToRead, FindsEnd, HoldsAsMuch, HoldsNone, IsFrame, ReadsDocument, held_bytes};
+    ghost use Rattle.bd_bson_stream.specs.Stream.{CountsReads, FailsToRead, FindsEnd, HoldsAsMuch, HoldsNone, IsFrame, KeepsBuffer, ReadsDocument};
+    ghost use Rattle.bd_bson_stream.specs.Stream.{buffer_bytes, has_failed, held_bytes, held_size, limits_left, next_number, next_place};
 
     /// No document yet. No memory is taken. `limits.bytes` is at most 4,294,967,295.
     pub fn new(alloc: Global, limits: Limits) -> DocBuffer
         requires { limits.bytes ≤ longest_input }
-        ensures starts { (result.left ≡ limits)
-            × (result.place ≡ 0) × (result.number ≡ 0) × (result.failed ≡ false) }
-        ensures empty { (result.size ≡ 0) × (result.buffer.items ≡ []) }
+        ensures starts { (limits_left result ≡ limits)
+            × (next_place result ≡ 0) × (next_number result ≡ 0) × (has_failed result ≡ false) }
+        ensures empty { (held_size result ≡ 0) × (buffer_bytes result ≡ []) }
     {
         DocBuffer {
             left: limits,
@@ -115,14 +116,14 @@ impl DocBuffer {
             ReadsDocument R.state R.read_gives self.old self.new reader.old reader.new }
         ensures end { result ≡ Ok false →
             FindsEnd R.state R.read_gives self.old self.new reader.old reader.new }
-        ensures fails { self.old.failed ≡ false → IfErr result
+        ensures fails { has_failed self.old ≡ false → IfErr result
             (FailsToRead R.state R.read_gives [] self.old self.new reader.old reader.new) }
         // After a fault, and only then, the call is refused, and reads nothing.
-        ensures refused { (result ≡ Err DocFault.Failed) ↔ IsTrue self.old.failed }
-        ensures failed { OnErr result (IsTrue self.new.failed) }
-        ensures works { OnOk result (self.new.failed ≡ false) }
+        ensures refused { (result ≡ Err DocFault.Failed) ↔ IsTrue (has_failed self.old) }
+        ensures failed { OnErr result (IsTrue (has_failed self.new)) }
+        ensures works { OnOk result (has_failed self.new ≡ false) }
         ensures quiet { result ≡ Err DocFault.Failed → (reader.new ≡ reader.old)
-            × HoldsNone self.old self.new × (self.new.buffer ≡ self.old.buffer) }
+            × HoldsNone self.old self.new × KeepsBuffer self.old self.new }
     {
         if self.failed {
             return Err(DocFault::Failed);
@@ -134,28 +135,28 @@ impl DocBuffer {
 
     /// The bytes of the document that was read last; none before the first, at the end and after a fault.
     pub fn bytes(&self) -> &[u8]
-        ensures { result.now ≡ take self.now.size self.now.buffer.items }
+        ensures { result.now ≡ held_bytes self.now }
     {
         &self.buffer[..self.size]
     }
 
     /// The offset of the next document's first byte, counted from the first byte that the device gave.
     pub fn place(&self) -> u64
-        ensures { result ≡ self.now.place }
+        ensures { result ≡ next_place self.now }
     {
         self.place
     }
 
     /// The number of the next document, counted from 0.
     pub fn number(&self) -> u32
-        ensures { result ≡ self.now.number }
+        ensures { result ≡ next_number self.now }
     {
         self.number
     }
 
     /// How many bytes are held, at most 16,793,600.
     pub fn held(&self) -> usize
-        ensures { (result ≡ length self.now.buffer.items) × (result ≤ longest_document) }
+        ensures { (result ≡ length (buffer_bytes self.now)) × (result ≤ longest_document) }
     {
         self.buffer.len()
     }

@@ -5,7 +5,8 @@ ghost use Rattle.std.specs.Io.KnownBytes.{IsAtEnd};
 ghost use Rattle.std.specs.Io.BufRead.{Rests};
 ghost use Rattle.std.specs.Borrow.{sem};
 ghost use Rattle.bd_value.specs.Limits.{longest_document, longest_input};
-ghost use Rattle.bd_bson_stream.specs.Stream.{Leaves, FailsToRead, FindsEnd, HoldsNone, ReadsDocument, held_bytes, IsFrame};
+ghost use Rattle.bd_bson_stream.specs.Stream.{FailsToRead, FindsEnd, HoldsNone, IsFrame, KeepsBuffer, Leaves, ReadsDocument};
+ghost use Rattle.bd_bson_stream.specs.Stream.{buffer_bytes, buffer_of, device_of, has_failed, held_bytes, held_size, limits_left, next_number, next_place};
 ghost use Rattle.bd_bson_stream.specs.declared.doc_buffer.DocBuffer.{DocBuffer};
 
 use crate::doc_buffer::{DocBuffer, DocFault};
@@ -36,10 +37,13 @@ impl<R: Input + Drop> DocReader<R> {
     /// The documents of this device from its next byte on. No memory is taken. `limits.bytes` is at most 4,294,967,295.
     pub fn new(alloc: Global, reader: R, limits: Limits) -> DocReader<R>
         requires { limits.bytes ≤ longest_input }
-        ensures reader { (result.reader ≡ reader)
-            × (result.documents.left ≡ limits) × (result.documents.failed ≡ false) }
-        ensures place { (result.documents.place ≡ 0) × (result.documents.number ≡ 0) }
-        ensures empty { (result.documents.size ≡ 0) × (result.documents.buffer.items ≡ []) }
+        ensures reader { (device_of result ≡ reader)
+            × (limits_left (buffer_of result) ≡ limits)
+            × (has_failed (buffer_of result) ≡ false) }
+        ensures place { (next_place (buffer_of result) ≡ 0)
+            × (next_number (buffer_of result) ≡ 0) }
+        ensures empty { (held_size (buffer_of result) ≡ 0)
+            × (buffer_bytes (buffer_of result) ≡ []) }
     {
         DocReader {
             reader,
@@ -49,7 +53,8 @@ impl<R: Input + Drop> DocReader<R> {
 
     /// How many bytes are held, at most 16,793,600.
     pub fn held(&self) -> usize
-        ensures { (result ≡ length self.now.documents.buffer.items) × (result ≤ longest_document) }
+        ensures { (result ≡ length (buffer_bytes (buffer_of self.now)))
+            × (result ≤ longest_document) }
     {
         self.documents.held()
     }
@@ -60,13 +65,14 @@ impl<R: Input + Drop> DocReader<R> {
     pub fn next(&mut self) -> Result<Option<RawBytes<'_>>, DocFault>
         ensures frame { IfOk result (λ o. IfSome o (λ d. IsFrame d.bytes.now)) }
         ensures front { IfOk result (λ o. IfSome o (λ d.
-            IfSome (R.state self.old.reader).left (λ xs. StartsWith xs d.bytes.now))) }
-        ensures stands { IfOk result (λ o. IfSome o (λ d. (d.start ≡ self.old.documents.place)
-            × (d.number ≡ self.old.documents.number))) }
-        ensures end { result ≡ Ok None → IsAtEnd (R.state self.old.reader).left }
-        ensures refused { (result ≡ Err DocFault.Failed) ↔ IsTrue self.old.documents.failed }
-        ensures* after { sem 𝓛 (Rests (the_row R.row) self.entry (λ new. Leaves R.state
-            R.read_gives self.old.documents self.old.reader result new.documents new.reader)) }
+            IfSome (R.state (device_of self.old)).left (λ xs. StartsWith xs d.bytes.now))) }
+        ensures stands { IfOk result (λ o. IfSome o (λ d. (d.start ≡ next_place (buffer_of self.old))
+            × (d.number ≡ next_number (buffer_of self.old)))) }
+        ensures end { result ≡ Ok None → IsAtEnd (R.state (device_of self.old)).left }
+        ensures refused { (result ≡ Err DocFault.Failed) ↔ IsTrue (has_failed (buffer_of self.old)) }
+        ensures* after { sem 𝓛 (Rests (the_row R.row) self.entry (λ new.
+            Leaves R.state R.read_gives (buffer_of self.old) (device_of self.old) result
+            (buffer_of new) (device_of new))) }
     {
         let start = self.documents.place();
         let number = self.documents.number();
@@ -84,25 +90,29 @@ impl<R: Input + Drop> DocReader<R> {
     ///
     /// It is `next` in two steps: of a reader that still lends a document nothing can be said.
     pub fn advance(&mut self) -> Result<bool, DocFault>
-        ensures reads { result ≡ Ok true → ReadsDocument R.state
-            R.read_gives self.old.documents self.new.documents self.old.reader self.new.reader }
-        ensures end { result ≡ Ok false → FindsEnd R.state
-            R.read_gives self.old.documents self.new.documents self.old.reader self.new.reader }
-        ensures fails { self.old.documents.failed ≡ false → IfErr result (FailsToRead R.state
-            R.read_gives [] self.old.documents self.new.documents self.old.reader self.new.reader) }
-        ensures refused { (result ≡ Err DocFault.Failed) ↔ IsTrue self.old.documents.failed }
-        ensures failed { OnErr result (IsTrue self.new.documents.failed) }
-        ensures works { OnOk result (self.new.documents.failed ≡ false) }
+        ensures reads { result ≡ Ok true →
+            ReadsDocument R.state R.read_gives (buffer_of self.old) (buffer_of self.new)
+            (device_of self.old) (device_of self.new) }
+        ensures end { result ≡ Ok false →
+            FindsEnd R.state R.read_gives (buffer_of self.old) (buffer_of self.new)
+            (device_of self.old) (device_of self.new) }
+        ensures fails { has_failed (buffer_of self.old) ≡ false → IfErr result
+            (FailsToRead R.state R.read_gives [] (buffer_of self.old) (buffer_of self.new)
+            (device_of self.old) (device_of self.new)) }
+        ensures refused { (result ≡ Err DocFault.Failed) ↔ IsTrue (has_failed (buffer_of self.old)) }
+        ensures failed { OnErr result (IsTrue (has_failed (buffer_of self.new))) }
+        ensures works { OnOk result (has_failed (buffer_of self.new) ≡ false) }
         ensures quiet { result ≡ Err DocFault.Failed →
-            (self.new.reader ≡ self.old.reader) × HoldsNone self.old.documents self.new.documents
-            × (self.new.documents.buffer ≡ self.old.documents.buffer) }
+            (device_of self.new ≡ device_of self.old)
+            × HoldsNone (buffer_of self.old) (buffer_of self.new)
+            × KeepsBuffer (buffer_of self.old) (buffer_of self.new) }
     {
         self.documents.read_next(&mut self.reader)
     }
 
     /// The bytes of the document that was read last; none before the first, at the end and after a fault.
     pub fn bytes(&self) -> &[u8]
-        ensures { result.now ≡ held_bytes self.now.documents }
+        ensures { result.now ≡ held_bytes (buffer_of self.now) }
     {
         self.documents.bytes()
     }

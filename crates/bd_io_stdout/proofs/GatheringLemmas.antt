@@ -5,7 +5,7 @@ use Rattle.bd_io_device.proofs.DevicesLemmas.{breaks_first as first_breaks, brea
 use Rattle.bd_io_device.specs.Devices.{AreWrites, BreaksWithin, TakesText, no_write, more_writes, over}
 use Rattle.bd_io_device.specs.declared.output.Output.{Ghosts as Output}
 use Rattle.bd_io_stdout.specs.Gathering.{AreTaken, Breaks, TakesAllBytes, none_taken, more_taken, Gathers, HandsOn}
-use Rattle.bd_io_stdout.specs.{declared.gathering.Fate.Fate, declared.gathering.Gathering.Gathering}
+use Rattle.bd_io_stdout.specs.{declared.gathering.Fate.Fate, Gathering.Gathered}
 use Rattle.bd_io_stdout.specs.declared.gathering.Fate.TheVariants.{Kept, Lost, Told}
 
 pub is_kept : (fate : Fate) → (fate ≢ Kept → ⊥) → fate ≡ Kept
@@ -89,56 +89,67 @@ pub in_err : {X E : Type 0} (r : Result X E) (P : Type 0) → is_err r ≡ true 
 in_err (Ok x) P is p = let bad : ⊥ = cc in absurd bad
 in_err (Err e) P is p = p
 
+-- parts of equal views
+module _ {D : Type 0} {s t : Gathered D} where
+  pub same_waiting : s ≡ t → s.waiting ≡ t.waiting
+  same_waiting is = ap (λ v. v.waiting) is
+
+  pub same_device : s ≡ t → s.device ≡ t.device
+  same_device is = ap (λ v. v.device) is
+
+  pub same_fate : s ≡ t → s.fate ≡ t.fate
+  same_fate is = ap (λ v. v.fate) is
+
 module _ {D : Type 0} (o : Output D) where
   -- the bytes wait
-  pub gathers_held : (old new : Gathering D o) (bytes : List ℕ) → new.device ≡ old.device → new.waiting.items ≡ old.waiting.items ++ bytes → Gathers o old bytes new
+  pub gathers_held : (old new : Gathered D) (bytes : List ℕ) → new.device ≡ old.device → new.waiting ≡ old.waiting ++ bytes → Gathers o old bytes new
   gathers_held old new bytes device waiting =
       let same : TakesAllBytes o old.device [] new.device = subst (λ d. TakesAllBytes o old.device [] d) (sym device) (TakesAllBytes-nil o old.device) in
       ([], sym waiting, same)
 
   -- nothing was written
-  pub gathers_none : (old new : Gathering D o) → new.device ≡ old.device → new.waiting.items ≡ old.waiting.items → Gathers o old [] new
-  gathers_none old new device waiting = gathers_held old new [] device (waiting ∙ sym (append-nil old.waiting.items))
+  pub gathers_none : (old new : Gathered D) → new.device ≡ old.device → new.waiting ≡ old.waiting → Gathers o old [] new
+  gathers_none old new device waiting = gathers_held old new [] device (waiting ∙ sym (append-nil old.waiting))
 
   -- the device took them
-  pub gathers_written : (old new : Gathering D o) (bytes : List ℕ) → old.waiting.items ≡ [] → new.waiting.items ≡ [] → TakesAllBytes o old.device bytes new.device
+  pub gathers_written : (old new : Gathered D) (bytes : List ℕ) → old.waiting ≡ [] → new.waiting ≡ [] → TakesAllBytes o old.device bytes new.device
       → Gathers o old bytes new
   gathers_written old new bytes before after taken =
       (bytes, ap (λ l. l ++ bytes) before ∙ (sym (append-nil bytes) ∙ ap (λ l. bytes ++ l) (sym after)), taken)
 
-  pub gathers_after : (old mid new : Gathering D o) (bytes : List ℕ) → Gathers o old [] mid → Gathers o mid bytes new → Gathers o old bytes new
+  pub gathers_after : (old mid new : Gathered D) (bytes : List ℕ) → Gathers o old [] mid → Gathers o mid bytes new → Gathers o old bytes new
   gathers_after old mid new bytes (first, split, a) (second, rest, b) =
-      let start : old.waiting.items ≡ first ++ mid.waiting.items = sym (append-nil old.waiting.items) ∙ split in
-      let joined = ap (λ l. l ++ bytes) start ∙ (append_assoc first mid.waiting.items bytes ∙ (ap (λ l. first ++ l) rest ∙ sym (append_assoc first second new.waiting.items))) in
+      let start : old.waiting ≡ first ++ mid.waiting = sym (append-nil old.waiting) ∙ split in
+      let joined = ap (λ l. l ++ bytes) start ∙ (append_assoc first mid.waiting bytes ∙ (ap (λ l. first ++ l) rest ∙ sym (append_assoc first second new.waiting))) in
       (first ++ second, joined, TakesAllBytes-trans o old.device mid.device new.device first second a b)
 
   -- what was not held was handed on
-  pub gathers_handed : (old held handed : Gathering D o) → held.device ≡ old.device → held.waiting.items ≡ old.waiting.items → Gathers o held [] handed → Gathers o old [] handed
+  pub gathers_handed : (old held handed : Gathered D) → held.device ≡ old.device → held.waiting ≡ old.waiting → Gathers o held [] handed → Gathers o old [] handed
   gathers_handed old held handed device waiting rest = gathers_after old held handed [] (gathers_none old held device waiting) rest
 
   -- the device took all that waited
-  pub takes_all : (old new : Gathering D o) → Gathers o old [] new → new.waiting.items ≡ [] → TakesAllBytes o old.device old.waiting.items new.device
+  pub takes_all : (old new : Gathered D) → Gathers o old [] new → new.waiting ≡ [] → TakesAllBytes o old.device old.waiting new.device
   takes_all old new (handed, split, taken) none =
-      let is : old.waiting.items ≡ handed = sym (append-nil old.waiting.items) ∙ (split ∙ (ap (λ l. handed ++ l) none ∙ append-nil handed)) in
+      let is : old.waiting ≡ handed = sym (append-nil old.waiting) ∙ (split ∙ (ap (λ l. handed ++ l) none ∙ append-nil handed)) in
       subst (λ l. TakesAllBytes o old.device l new.device) (sym is) taken
 
   -- nothing waited
-  pub hands_none : (old new : Gathering D o) → new.fate ≡ old.fate → new.device ≡ old.device → new.waiting.items ≡ old.waiting.items → HandsOn o old new
+  pub hands_none : (old new : Gathered D) → new.fate ≡ old.fate → new.device ≡ old.device → new.waiting ≡ old.waiting → HandsOn o old new
   hands_none old new fate device waiting = record {
     kept = λ e. (sym fate ∙ e, gathers_none old new device waiting);
     broken = λ e not. absurd (not (fate ∙ e));
     after_loss = λ _. (fate, device);
   }
 
-  pub hands_all : (old new : Gathering D o) → old.fate ≡ Kept → new.fate ≡ Kept → new.waiting.items ≡ [] → TakesAllBytes o old.device old.waiting.items new.device
+  pub hands_all : (old new : Gathered D) → old.fate ≡ Kept → new.fate ≡ Kept → new.waiting ≡ [] → TakesAllBytes o old.device old.waiting new.device
       → HandsOn o old new
   hands_all old new before after none taken = record {
-    kept = λ _. (before, (old.waiting.items, append-nil old.waiting.items ∙ (sym (append-nil old.waiting.items) ∙ ap (λ l. old.waiting.items ++ l) (sym none)), taken));
+    kept = λ _. (before, (old.waiting, append-nil old.waiting ∙ (sym (append-nil old.waiting) ∙ ap (λ l. old.waiting ++ l) (sym none)), taken));
     broken = λ _ not. absurd (not after);
     after_loss = λ not. absurd (not before);
   }
 
-  pub hands_broken : (old new : Gathering D o) → old.fate ≡ Kept → new.fate ≡ Lost → Breaks o old.device old.waiting.items new.device → HandsOn o old new
+  pub hands_broken : (old new : Gathered D) → old.fate ≡ Kept → new.fate ≡ Lost → Breaks o old.device old.waiting new.device → HandsOn o old new
   hands_broken old new before after breaks = record {
     kept = λ e. let bad : Lost ≡ Kept = sym after ∙ e in absurd cc;
     broken = λ _ _. (after, breaks);
@@ -146,15 +157,15 @@ module _ {D : Type 0} (o : Output D) where
   }
 
   -- a write of what waited failed, so the bytes after it were not written either
-  pub breaks_first : (old mid : Gathering D o) (bytes : List ℕ) (end : D) → mid.device ≡ old.device → mid.waiting.items ≡ old.waiting.items
-      → Breaks o mid.device mid.waiting.items end → Breaks o old.device (old.waiting.items ++ bytes) end
+  pub breaks_first : (old mid : Gathered D) (bytes : List ℕ) (end : D) → mid.device ≡ old.device → mid.waiting ≡ old.waiting
+      → Breaks o mid.device mid.waiting end → Breaks o old.device (old.waiting ++ bytes) end
   breaks_first old mid bytes end device waiting breaks =
-      let one = subst (λ d. Breaks o d mid.waiting.items end) device breaks in
+      let one = subst (λ d. Breaks o d mid.waiting end) device breaks in
       let two = subst (λ l. Breaks o old.device l end) waiting one in
-      Breaks-more o old.device end old.waiting.items bytes two
+      Breaks-more o old.device end old.waiting bytes two
 
   -- a write of the bytes themselves failed
-  pub breaks_later : (old mid : Gathering D o) (bytes : List ℕ) (end : D) → Gathers o old [] mid → mid.waiting.items ≡ [] → Breaks o mid.device bytes end
-      → Breaks o old.device (old.waiting.items ++ bytes) end
+  pub breaks_later : (old mid : Gathered D) (bytes : List ℕ) (end : D) → Gathers o old [] mid → mid.waiting ≡ [] → Breaks o mid.device bytes end
+      → Breaks o old.device (old.waiting ++ bytes) end
   breaks_later old mid bytes end gathers none breaks =
-      Breaks-after o old.device mid.device end old.waiting.items bytes (takes_all old mid gathers none) breaks
+      Breaks-after o old.device mid.device end old.waiting bytes (takes_all old mid gathers none) breaks

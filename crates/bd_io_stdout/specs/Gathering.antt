@@ -2,8 +2,14 @@
 use Rattle.std.specs.Prelude.{◌≡◌, ◌≢◌, ◌<◌, ◌⊎◌, ℕ, List, [], ◌++◌, take, Option, None, Some}
 use Rattle.bd_io_device.specs.Devices.{BreaksWithin, TakesText, over}
 use Rattle.bd_io_device.specs.declared.output.Output.{Ghosts as Output}
+use Rattle.bd_io_stdout.specs.declared.gathering.Fate.{Fate}
 use Rattle.bd_io_stdout.specs.declared.gathering.Fate.TheVariants.{Kept, Lost}
-use Rattle.bd_io_stdout.specs.declared.gathering.Gathering.{Gathering}
+
+-- the bytes that wait, the device that they wait for, and what became of the bytes before
+pub record Gathered (D : Type 0) : Type 0 where
+  pub waiting : List ℕ
+  pub device : D
+  pub fate : Fate
 
 -- writes in a row led from one device to the other; each took some bytes, and joined in this order they are these
 pub data AreTaken {S : Type 0} (takes : S → List ℕ → Option ℕ → S → Type 0) : S → List ℕ → S → Type 0 where
@@ -27,12 +33,12 @@ pub record Breaks {D : Type 0} (o : Output D) (old : D) (bytes : List ℕ) (new 
 -- These bytes were written, and no write of the device failed:
 -- what it took meanwhile, joined with what waits, is what waited
 -- before, joined with these bytes.
-abbrev pub Gathers : {D : Type 0} (o : Output D) → Gathering D o → List ℕ → Gathering D o → Type 0
-Gathers o old bytes new = (handed : List ℕ) × (old.waiting.items ++ bytes ≡ handed ++ new.waiting.items)
+abbrev pub Gathers : {D : Type 0} (o : Output D) → Gathered D → List ℕ → Gathered D → Type 0
+Gathers o old bytes new = (handed : List ℕ) × (old.waiting ++ bytes ≡ handed ++ new.waiting)
     × TakesAllBytes o old.device handed new.device
 
--- Bytes that waited were passed on, or a write of them failed; after a failed write nothing more is written.
-pub record HandsOn {D : Type 0} (o : Output D) (old new : Gathering D o) : Type 0 where
+-- bytes that waited were handed on, or a write of them failed; after a loss there is no write
+pub record HandsOn {D : Type 0} (o : Output D) (old new : Gathered D) : Type 0 where
   pub kept : new.fate ≡ Kept → (old.fate ≡ Kept) × Gathers o old [] new
-  pub broken : old.fate ≡ Kept → new.fate ≢ Kept → (new.fate ≡ Lost) × Breaks o old.device old.waiting.items new.device
+  pub broken : old.fate ≡ Kept → new.fate ≢ Kept → (new.fate ≡ Lost) × Breaks o old.device old.waiting new.device
   pub after_loss : old.fate ≢ Kept → (new.fate ≡ old.fate) × (new.device ≡ old.device)

@@ -6,7 +6,7 @@
 //!
 //! The device can so refuse bytes of a write that was answered as done. Then no input is read any more, and nothing is told
 //! on standard error, until a write is answered by that loss. Where none comes, the end has to tell it.
-ghost use Rattle.std.specs.Prelude.{◌≡◌, ◌≢◌, ◌≤◌, [], length, IfOk, None};
+ghost use Rattle.std.specs.Prelude.{◌≡◌, ◌≢◌, [], length, IfOk, None};
 ghost use Rattle.std.specs.Io.{WritesAtMost};
 ghost use Rattle.std.specs.Io.KnownBytes.{WriteAppends};
 ghost use Rattle.bd_io_stdout.specs.declared.gathering.Fate.TheVariants.{Kept};
@@ -16,6 +16,7 @@ use std::alloc::Global;
 use std::cell::RefCell;
 use std::io;
 use std::io::{ErrorKind, Read, Write};
+use std::marker::Model;
 
 /// How many bytes wait at most.
 const GATHERED: usize = 65_536;
@@ -37,8 +38,20 @@ pub struct Gathering<D: Output + Drop> {
     waiting: Vec<u8>,
     device: D,
     fate: Fate,
-    ghost block: { length waiting.items ≤ 65536 },
-    ghost lost: { fate ≢ Kept → waiting.items ≡ [] },
+}
+
+/// A contract sees the bytes that wait, the device, and what became of the bytes before.
+impl<D: Output + Drop> Model for Gathering<D> {
+    ghost use Rattle.std.specs.Prelude.{◌≡◌, ◌≢◌, ◌≤◌, [], length};
+    ghost use Rattle.bd_io_stdout.specs.Gathering.{Gathered};
+    ghost use Rattle.bd_io_stdout.specs.declared.gathering.Fate.TheVariants.{Kept};
+
+    ghost Value = { Gathered D };
+
+    ghost view = { λ s. record { waiting = s.waiting.items; device = s.device; fate = s.fate } };
+
+    ghost invariant = { λ s. (length s.waiting.items ≤ 65536)
+        × (s.fate ≢ Kept → s.waiting.items ≡ []) };
 }
 
 impl<D: Output + Drop> Gathering<D> {
@@ -52,7 +65,7 @@ impl<D: Output + Drop> Gathering<D> {
     /// Nothing yet, for this device.
     pub fn new(alloc: Global, device: D) -> Gathering<D>
         ensures device { result.device ≡ device }
-        ensures empty { result.waiting.items ≡ [] }
+        ensures empty { result.waiting ≡ [] }
         ensures kept { result.fate ≡ Kept }
     {
         Gathering {
@@ -66,7 +79,7 @@ impl<D: Output + Drop> Gathering<D> {
     fn hand_on(&mut self) -> Fate
         ensures fate { result ≡ self.new.fate }
         ensures handed { HandsOn D.Output self.old self.new }
-        ensures empty { self.new.waiting.items ≡ [] }
+        ensures empty { self.new.waiting ≡ [] }
     {
         if self.waiting.is_empty() {
             return self.fate;
@@ -85,8 +98,8 @@ impl<D: Output + Drop> Gathering<D> {
     fn holds(&mut self, bytes: &[u8]) -> bool
         requires { self.old.fate ≡ Kept }
         ensures held { result ≡ true →
-            self.new.waiting.items ≡ self.old.waiting.items ++ bytes.now }
-        ensures not_held { result ≡ false → self.new.waiting.items ≡ self.old.waiting.items }
+            self.new.waiting ≡ self.old.waiting ++ bytes.now }
+        ensures not_held { result ≡ false → self.new.waiting ≡ self.old.waiting }
         ensures device { self.new.device ≡ self.old.device }
         ensures fate { self.new.fate ≡ self.old.fate }
     {
@@ -101,8 +114,8 @@ impl<D: Output + Drop> Gathering<D> {
         ensures gathered { OnOk result ((self.old.fate ≡ Kept)
             × (self.new.fate ≡ Kept) × Gathers D.Output self.old bytes.now self.new) }
         ensures broken { OnErr result (self.old.fate ≡ Kept →
-            Breaks D.Output self.old.device (self.old.waiting.items ++ bytes.now) self.new.device) }
-        ensures empty { OnErr result (self.new.waiting.items ≡ []) }
+            Breaks D.Output self.old.device (self.old.waiting ++ bytes.now) self.new.device) }
+        ensures empty { OnErr result (self.new.waiting ≡ []) }
         ensures after_loss { self.old.fate ≢ Kept → self.new.device ≡ self.old.device }
     {
         if self.fate != Fate::Kept {
@@ -126,7 +139,7 @@ impl<D: Output + Drop> Gathering<D> {
         ensures taken { OnOk result ((self.old.fate ≡ Kept)
             × (self.new.fate ≡ Kept) × Gathers D.Output self.old bytes.now self.new) }
         ensures broken { OnErr result (self.old.fate ≡ Kept →
-            Breaks D.Output self.old.device (self.old.waiting.items ++ bytes.now) self.new.device) }
+            Breaks D.Output self.old.device (self.old.waiting ++ bytes.now) self.new.device) }
         ensures told { OnErr result (self.new.fate ≡ Told) }
         ensures after_loss { self.old.fate ≢ Kept → self.new.device ≡ self.old.device }
     {
@@ -142,7 +155,7 @@ impl<D: Output + Drop> Gathering<D> {
     #[tactic(auto, using(crate::proofs::GatheringLemmas::hands_none))]
     fn read_after<R: Read>(&mut self, reader: &mut R, room: &mut [u8]) -> io::Result<usize>
         ensures handed { HandsOn D.Output self.old self.new }
-        ensures empty { self.new.waiting.items ≡ [] }
+        ensures empty { self.new.waiting ≡ [] }
         ensures lost { self.new.fate ≢ Kept →
             IsErr result × (reader.new ≡ reader.old) × (room.new ≡ room.old) }
         ensures bound { ReadsAtMost result room.new }
@@ -160,7 +173,7 @@ impl<D: Output + Drop> Gathering<D> {
     #[tactic(auto, using(crate::proofs::GatheringLemmas::hands_none))]
     fn write_after<E: Write>(&mut self, writer: &mut E, bytes: &[u8]) -> io::Result<usize>
         ensures handed { HandsOn D.Output self.old self.new }
-        ensures empty { self.new.waiting.items ≡ [] }
+        ensures empty { self.new.waiting ≡ [] }
         ensures untold { self.new.fate ≡ Lost → IsErr result × (writer.new ≡ writer.old) }
         ensures bound { WritesAtMost result bytes.now }
         ensures bytes { WriteAppends

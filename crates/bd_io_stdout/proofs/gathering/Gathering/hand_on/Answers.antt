@@ -10,14 +10,14 @@ pub returns-then-is_err-clause-handed : goal.returns-then-is_err-clause-handed
 returns-then-is_err-clause-handed g c =
     let e = c.write_all-written.ensures in
     let failed = sym c.is_err.ensures.value ∙ c.if-is_err.true in
-    let kept : c.args.self.now.fate ≡ Kept = is_kept _ (λ not. let none = c.args.self.now.lost not in search (rules, none)) in
+    let kept : c.self.inside.fate ≡ Kept = is_kept _ (λ not. let none = c.self.invariant.1 not in search (rules, none)) in
     let breaks = Breaks-writes g.D.Output _ _ _ (in_err _ _ failed e.broken) (in_err _ _ failed e.stopped) in
-    hands_broken g.D.Output _ _ kept (search rules) (rw c.deref.ensures.value at breaks)
+    rw (← c.self.view_is) (hands_broken g.D.Output _ _ kept (search rules) (rw c.deref.ensures.value at breaks))
 
 pub returns-clause-handed : goal.returns-clause-handed
 returns-clause-handed g c =
     let e = c.write_all-written.ensures in
     let well = sym c.is_err.ensures.value ∙ c.if-is_err.false in
-    let kept : c.args.self.now.fate ≡ Kept = is_kept _ (λ not. let none = c.args.self.now.lost not in search (rules, none)) in
+    let kept : c.self.inside.fate ≡ Kept = is_kept _ (λ not. let none = c.self.invariant.1 not in search (rules, none)) in
     let takes = TakesAllBytes-writes g.D.Output _ _ _ (in_ok _ _ well e.written) (in_ok _ _ well e.writes) in
-    hands_all g.D.Output _ _ kept kept c.clear.ensures.items (rw c.deref.ensures.value at takes)
+    rw (← c.self.view_is) (hands_all g.D.Output _ _ kept kept c.clear.ensures.items (rw c.deref.ensures.value at takes))
