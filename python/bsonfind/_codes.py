@@ -13,6 +13,7 @@ import struct
 from dataclasses import dataclass, field
 from decimal import Decimal, InvalidOperation
 from fractions import Fraction
+from functools import lru_cache
 from itertools import takewhile
 from json.decoder import scanstring
 from typing import Callable, Iterable, NamedTuple, Sequence, Union
@@ -358,10 +359,12 @@ def _is_number(name: str) -> bool:
     return name.isascii() and name.isdigit()
 
 
+@lru_cache(maxsize=1 << 14)
 def _numbers_in(path: str) -> int:
     return sum(map(_is_number, path.split(".")))
 
 
+@lru_cache(maxsize=1 << 14)
 def _to_number(path: str, count: int) -> str:
     """The names of a path as far as its last number of so many."""
     names = path.split(".")

@@ -15,6 +15,7 @@ from __future__ import annotations
 import json
 import os
 import re
+import select
 import stat
 import subprocess
 import tempfile
@@ -362,6 +363,8 @@ def connect_copy(
     with _ordering(original, query, codes, program, group) as ordering:
         while True:
             with ordering.run() as run, ExitStack() as ends:
+                if not _is_writing(run) and not ordering.is_whole(run):
+                    continue
                 try:
                     connection = ends.enter_context(connect(Dump(path=f"/dev/fd/{run.stdout.fileno()}")))
                 except DumpError as error:
@@ -373,6 +376,13 @@ def connect_copy(
                     if ordering.is_whole(run):
                         ends.pop_all()
                         return connection
+
+
+def _is_writing(run: Run) -> bool:
+    """Whether a run writes something, once it does or has ended; one that refuses an early number does not."""
+    waiting = select.poll()
+    waiting.register(run.stdout, select.POLLIN)
+    return any(event & select.POLLIN for _, event in waiting.poll())
 
 
 def _hide(original: Original, codes: Codes, group: Group, out: BinaryIO) -> None:
