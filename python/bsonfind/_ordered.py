@@ -27,7 +27,7 @@ from itertools import islice
 from typing import Any, BinaryIO, Callable, ContextManager, Iterable, Iterator, NamedTuple, Sequence, TypeVar
 
 from . import _framing, _steps
-from ._codes import CODE, MOST_LEVEL, Probe, Query, read_json, read_query, refused, word_of
+from ._codes import Probe, Query, Value, level_after, number_in, read_json, read_query, refused, word_of
 from ._connections import Connection
 from ._decoding import Decode, Texts, decoder
 from ._dumps import Dump, File, dump_of, file_of, is_packed, name_of, opened, pieces_of, refuse_archive, unpacked
@@ -51,10 +51,12 @@ _NOT_READ = "bsonwide: cannot write"
 # The number of a document at the end of its line.
 _NUMBERED = re.compile(rb'"~n":\{"\$numberLong":"([0-9]+)"\}\}$')
 _PIECE = 1 << 20
+# How many bytes of a field are read: more than the name of most, and its number.
+_FIELD = 1 << 10
 # The end of the name of a file that describes a copy.
 _ABOUT = ".json"
 _NO_CODES = "no codes hold all numbers of this field: ask by other fields, or search the lines of dump"
-# At how many paths numbers are hidden at most, since each is found by some twenty runs.
+# At how many paths numbers are hidden at most, since each is found by some runs.
 _MOST_HIDDEN = 100
 
 
@@ -122,6 +124,10 @@ class Original:
                     raise DumpError(str(fault), fault) from None
                 raise
         return lines
+
+    def number_at(self, place: int) -> Value | None:
+        """The value of the number whose field begins at a place, None where it is not seen."""
+        return number_in(os.pread(self._file.fileno(), _FIELD, place))
 
     def given(self, lines: Sequence[bytes], is_bson: bool, program: str, group: Group) -> list[bytes]:
         """The documents, or their lines, of those that have these lines in a copy."""
@@ -255,19 +261,19 @@ class Codes:
         if line == "cannot write":
             raise _no_room()
         if not found:
-            raise DumpError(line) if line.startswith("document ") else error_of(1, f"bsonfind: {line}")
+            raise DumpError(line) if line.startswith("document ") else error_of(1, f"bsonfind: {line}" if line else "")
         document, byte, text = found.groups()
         path = json.loads(text)
-        level = self.levels.get(path)
-        if path not in self.hidden and level != MOST_LEVEL:
-            self.levels[path] = CODE if level is None else level + 1
+        level = level_after(self.levels.get(path), original.number_at(int(byte)))
+        if path not in self.hidden and level is not None:
+            self.levels[path] = level
             return False
         place = f"document {int(document) + original.first}, byte {int(byte) + original.offset}, path {text}"
         why = f"{place}: {_NO_CODES}"
         if path in self.hidden or query.reaches(path) or len(self.hidden) == _MOST_HIDDEN:
             raise _NoCodesError(why, path)
         self.hidden[path] = why
-        del self.levels[path]
+        self.levels.pop(path, None)
         return True
 
 
@@ -306,7 +312,10 @@ class Ordering:
 
     def is_whole(self, run: Run) -> bool:
         """Whether a run has written a whole copy, and no other one is needed; raises why there is none."""
-        if run.wait() == 0:
+        status = run.wait()
+        if status < 0:
+            raise run.error()
+        if status == 0:
             return True
         try:
             is_new = self._codes.raise_level(run.messages().strip(), self._query, self._original)
