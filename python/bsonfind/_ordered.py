@@ -345,8 +345,7 @@ def _ordering(original: Original, query: Query, codes: Codes, program: str, grou
             raise
         # It is the numbers of the dump by themselves, or a number of the query.
         known = Codes()
-        with temporary_file() as file:
-            write_copy(original, Query("{}"), known, program, group, file)
+        write_copy(original, Query("{}"), known, program, group)
         known.refuse(query)
         refusal = query.refusal(error.path if isinstance(error, _NoCodesError) else error, known.levels)
         raise refusal or error from None
@@ -354,14 +353,17 @@ def _ordering(original: Original, query: Query, codes: Codes, program: str, grou
         ordering.close()
 
 
-def write_copy(original: Original, query: Query, codes: Codes, program: str, group: Group, copy: BinaryIO) -> None:
-    """Writes a copy of a dump to a file; the codes become those of all paths that need some, which are found by asking for it."""
+def write_copy(
+    original: Original, query: Query, codes: Codes, program: str, group: Group, copy: BinaryIO | None = None
+) -> None:
+    """Writes a copy of a dump to a file, or nowhere; the codes become those of all paths that need some, found by asking for it."""
     with _ordering(original, query, codes, program, group) as ordering:
         is_whole = False
         while not is_whole:
-            copy.seek(0)
-            copy.truncate()
-            with ordering.run(copy.fileno()) as run:
+            if copy:
+                copy.seek(0)
+                copy.truncate()
+            with ordering.run(copy.fileno() if copy else subprocess.DEVNULL) as run:
                 is_whole = ordering.is_whole(run)
 
 
