@@ -382,6 +382,7 @@ def connect_copy(
                     run.stdout.close()
                     if run.wait() == 0 or run.messages().strip() == _NOT_READ:
                         raise (ordering.damage(error) if error.fault else error) from None
+                    # It read a part of a copy, of which a number was refused.
                     ordering.is_whole(run)
                 else:
                     if ordering.is_whole(run):
