@@ -14,9 +14,9 @@ commands.
 """
 
 import pkgutil
+import typing
 
 from ._answers import Answer, count_documents, find, find_one
-from ._asyncio_sessions import AsyncCursor, AsyncSession
 from ._audit import Audit, Report, audit
 from ._errors import (
     ArgumentError,
@@ -42,10 +42,22 @@ from ._unpack import Collection, Unpacked, unpack
 from ._unpacking import UnpackError
 from ._values import ObjectId
 
+if typing.TYPE_CHECKING:
+    from ._asyncio_sessions import AsyncCursor, AsyncSession
+
 
 def _version() -> str:
     """Return the version, which a file beside the modules has, also in a zip."""
     return (pkgutil.get_data(__name__, "VERSION") or b"").decode("ascii").strip()
+
+
+def __getattr__(name: str) -> object:
+    """Return `AsyncCursor` or `AsyncSession`: `asyncio`, which takes long to import, is imported for them alone."""
+    if name not in ("AsyncCursor", "AsyncSession"):
+        raise AttributeError(f"module {__name__!r} has no attribute {name!r}")
+    from . import _asyncio_sessions
+
+    return getattr(_asyncio_sessions, name)
 
 
 __version__ = _version()

@@ -21,6 +21,8 @@ _ENDING = re.compile(r"\.bson(\.gz)?$")
 _METADATA = re.compile(r"\.metadata\.json(\.gz)?$")
 _DUMPED = re.compile(r"done dumping (\S.*) \((\d+) documents?\)")
 _OPLOG_DUMPED = re.compile(r"dumped (\d+) oplog entr(?:y|ies)")
+# The names of files that mongodump writes beside dumps.
+_BESIDE = re.compile(r"(\.metadata|^prelude)\.json(\.gz)?$")
 # The names of dumps that mongodump writes without a file of metadata beside them.
 _BARE = re.compile(r"^(\$admin\..*|system\.(indexes|buckets\..*))\.bson")
 # A file that is not whole, as `unpack` leaves it.
@@ -64,7 +66,7 @@ def dumps_of(names: Iterable[str]) -> list[Dump]:
     dumps: list[Dump] = []
     known: dict[tuple[object, ...], Dump] = {}
     for name in names:
-        for dump in _below_or_none(name) if os.path.isdir(name) else [Dump(name)]:
+        for dump in _below_or_none(name) if os.path.isdir(name) else [_named(name)]:
             first = dump if dump.error else _first_of(dump, known)
             if first is dump:
                 dumps.append(dump)
@@ -73,6 +75,11 @@ def dumps_of(names: Iterable[str]) -> list[Dump]:
                 if os.path.abspath(dump.name) not in map(os.path.abspath, first.names):
                     first.others.append(dump.name)
     return dumps
+
+
+def _named(name: str) -> Dump:
+    """The dump of a name, such as that of any file below a directory whose files a shell has named."""
+    return Dump(name, error="no dump: mongodump writes it beside dumps" if _BESIDE.search(os.path.basename(name)) else None)
 
 
 def _below_or_none(directory: str) -> Iterator[Dump]:

@@ -13,8 +13,10 @@ import struct
 from dataclasses import dataclass, field
 from decimal import Decimal, InvalidOperation
 from fractions import Fraction
+from functools import lru_cache
 from itertools import takewhile
 from json.decoder import scanstring
+from math import isfinite
 from typing import Callable, Iterable, NamedTuple, Sequence, Union
 
 from ._errors import CommandError
@@ -40,6 +42,10 @@ _SPACE = re.compile(r"[ \t\n\r]*")
 _TYPES = {"double": 1, "int": 16, "long": 18, "decimal": 19}
 # A quick look for what may be a number that the program does not take.
 _MAY_BE_WIDE = re.compile(r"\$numberD|[0-9][.eE]")
+# The types of numbers in a dump, with how many bytes each has, and the bits of the digits of a decimal128.
+_DOUBLE, _DECIMAL = 0x01, 0x13
+_SIZES = {_DOUBLE: 8, 0x10: 4, 0x12: 8, _DECIMAL: 16}
+_DIGITS = (1 << 113) - 1
 # A path of `order` that ends so names a factor.
 _LIKE_A_FACTOR = re.compile(r"\*10{0,18}$")
 # Of one path with many numeric names there are more readings than are asked for.
@@ -176,6 +182,30 @@ def _wrapped_value(name: str, text: str) -> Value | None:
     return None
 
 
+def number_in(field: bytes) -> Value | None:
+    """The value of a number of a dump, whose field these bytes begin with; None where there is none."""
+    at = field.find(b"\0", 1) + 1
+    size = _SIZES.get(field[0], 0) if at else 0
+    data = field[at : at + size]
+    if not size or len(data) < size:
+        return None
+    if field[0] == _DOUBLE:
+        (double,) = struct.unpack("<d", data)
+        return Fraction(double) if isfinite(double) else Decimal(double)
+    bits = int.from_bytes(data, "little", signed=True)
+    return _decimal_of(bits) if field[0] == _DECIMAL else Fraction(bits)
+
+
+def _decimal_of(bits: int) -> Value:
+    """The value of a decimal128; one with too many digits is zero."""
+    sign = "-" if bits < 0 else ""
+    if bits >> 123 & 0b1111 == 0b1111:
+        return Decimal("NaN" if bits >> 122 & 1 else f"{sign}Infinity")
+    has_few_digits = bits >> 125 & 0b11 != 0b11 and bits & _DIGITS < 10**34
+    digits, power = (bits & _DIGITS, (bits >> 113 & 0x3FFF) - 6176) if has_few_digits else (0, 0)
+    return Fraction(f"{sign}{digits}") * Fraction(10) ** power
+
+
 def code(value: Value) -> int | None:
     """The code of a number: the bits of the double that equals it, of a negative one the negative of its bits without the sign.
 
@@ -204,6 +234,12 @@ def whole(value: Value, level: int = 0) -> int | None:
 def code_at(value: Value, level: int | None) -> int | None:
     """What stands for a number at a path of this level, None for a path that is none; None where nothing does."""
     return code(value) if level == CODE else whole(value, level or 0)
+
+
+def level_after(level: int | None, value: Value | None) -> int | None:
+    """The next level at which a number has a code, of one that is not known the next level; None where there is none."""
+    levels = range(CODE if level is None else level + 1, MOST_LEVEL + 1)
+    return next((it for it in levels if value is None or code_at(value, it) is not None), None)
 
 
 def word_of(path: str, level: int) -> str:
@@ -358,10 +394,12 @@ def _is_number(name: str) -> bool:
     return name.isascii() and name.isdigit()
 
 
+@lru_cache(maxsize=1 << 14)
 def _numbers_in(path: str) -> int:
     return sum(map(_is_number, path.split(".")))
 
 
+@lru_cache(maxsize=1 << 14)
 def _to_number(path: str, count: int) -> str:
     """The names of a path as far as its last number of so many."""
     names = path.split(".")

@@ -8,6 +8,7 @@ from hashlib import blake2b
 from typing import Callable, Iterator, NamedTuple, Sequence
 
 from ._backups import dumps_below
+from ._dumps import is_whole_archive
 from ._errors import BsonfindError
 from ._fields import field_of, id_of
 from ._printing import Printing
@@ -61,6 +62,8 @@ def pairs_of(first: str, second: str) -> tuple[list[Pair], list[CompareError]]:
     if not os.path.isdir(first) and not os.path.isdir(second):
         return [Pair(second, first, second)], []
     for name, other in ((first, second), (second, first)):
+        if is_whole_archive(name):
+            raise CompareError(f"{name} is an archive, and {other} is a directory: unpack the archive, and compare two directories")
         if not os.path.isdir(name):
             raise CompareError(f"{name} is no directory, and {other} is one")
     found: list[dict[str, str]] = []

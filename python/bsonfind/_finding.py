@@ -13,7 +13,7 @@ from ._errors import BsonfindError, CommandError, DumpError
 from ._ordered import AnyLines, can_be_read_again, paths_of
 from ._processes import Run
 from ._requests import Request
-from ._wide import is_wide
+from ._wide import begins_wide, is_wide
 
 # What the program calls the option whose text a layer refuses.
 _OPTIONS = {"json": "query", "filter": "query", "numbers": "query", "path": "index"}
@@ -43,7 +43,7 @@ class Finding:
         query = read_query(self.request.filter, paths_of(self.request))
         is_own = not (self.is_bson or self.copy) and not (query and query.is_wide) and can_be_read_again(path)
         try:
-            if is_own and self._print_own(path, program):
+            if is_own and not begins_wide(path, program) and self._print_own(path, program):
                 return True
             self._print_by_copy(path, program, console, is_own)
         except DumpError as error:

@@ -70,22 +70,22 @@ class Lines:
 
     def _by_session(self) -> Batches:
         with Connection(self._dump, self._program, group=self._group) as connection:
-            self._begin(connection)
-            if self._index is not None:
-                connection.do(_steps.create_index(self._index, False))
-            left = self._size
-            reading = Reading(self._request, "auto", left or _steps.FIRST_BATCH, self._after, "bytes")
-            connection.do(reading.start())
-            while not reading.is_at_end and left != 0:
-                connection.do(reading.read_on(left))
-                texts = reading.held.documents
-                lines = [texts.give() for _ in range(texts.left)]
-                left = None if left is None else left - len(lines)
-                yield lines
-            self.end, self.token = reading.is_at_end, connection.do(reading.token())
+            yield from self._read(connection)
 
-    def _begin(self, connection: Connection) -> None:
-        """Looks at the dump before the request is asked."""
+    def _read(self, connection: Connection) -> Batches:
+        """The lines, by a session."""
+        if self._index is not None:
+            connection.do(_steps.create_index(self._index, False))
+        left = self._size
+        reading = Reading(self._request, "auto", left or _steps.FIRST_BATCH, self._after, "bytes")
+        connection.do(reading.start())
+        while not reading.is_at_end and left != 0:
+            connection.do(reading.read_on(left))
+            texts = reading.held.documents
+            lines = [texts.give() for _ in range(texts.left)]
+            left = None if left is None else left - len(lines)
+            yield lines
+        self.end, self.token = reading.is_at_end, connection.do(reading.token())
 
 
 def lines_of(pipe: BufferedReader) -> Batches:

@@ -1,12 +1,13 @@
 """Questions about dumps with doubles and decimal128: they are asked of a copy, in which `bsonwide order` writes numbers by codes.
 
 A copy has the documents of the dump in the same order, each with its number as its last field. What is given back are the
-documents of the dump. A copy is a file without a name, as large as the dump, in the directory for temporary files.
+documents of the dump. The program reads a copy through a pipe while it is written, and nothing is believed that it says before
+the whole of it was written; only one that is kept is a file.
 
 Where no codes hold all numbers of a path, these numbers are hidden from a copy, as `_hiding` says, and a question that may reach
 one of them is refused. The values that any other question compares hold none of them, so they are the same in the copy. What a
 path leads through is the same too: numbers have no fields or elements, and neither has what stands in their places. While such a
-copy is written, the dump without these numbers stands beside it, in one more file.
+copy is written, the dump without these numbers stands in a file without a name, in the directory for temporary files.
 """
 
 from __future__ import annotations
@@ -14,16 +15,19 @@ from __future__ import annotations
 import json
 import os
 import re
+import select
 import stat
+import subprocess
 import tempfile
 import threading
 from array import array
-from contextlib import contextmanager
+from contextlib import ExitStack, contextmanager
 from dataclasses import asdict, dataclass, field, replace
+from itertools import islice
 from typing import Any, BinaryIO, Callable, ContextManager, Iterable, Iterator, NamedTuple, Sequence, TypeVar
 
 from . import _framing, _steps
-from ._codes import CODE, MOST_LEVEL, Probe, Query, read_json, read_query, refused, word_of
+from ._codes import Probe, Query, Value, level_after, number_in, read_json, read_query, refused, word_of
 from ._connections import Connection
 from ._decoding import Decode, Texts, decoder
 from ._dumps import Dump, File, dump_of, file_of, is_packed, name_of, opened, pieces_of, refuse_archive, unpacked
@@ -38,17 +42,21 @@ from ._replies import documents_in
 from ._requests import Request
 from ._sources import Input, Source, up_to_error
 from ._steps import Steps
-from ._wide import Filtered, fault_of, faults_in, filter_beside, is_wide
+from ._wide import Filtered, begins_wide, fault_of, faults_in, filter_beside, is_wide
 
 T = TypeVar("T")
 _REFUSED = re.compile(r'document (\d+), byte (\d+), path (".*"): (?:not a whole number of 64 bits|no double equals it)')
+# What a run says that is read no more.
+_NOT_READ = "bsonwide: cannot write"
 # The number of a document at the end of its line.
 _NUMBERED = re.compile(rb'"~n":\{"\$numberLong":"([0-9]+)"\}\}$')
 _PIECE = 1 << 20
+# How many bytes of a field are read: more than the name of most, and its number.
+_FIELD = 1 << 10
 # The end of the name of a file that describes a copy.
 _ABOUT = ".json"
 _NO_CODES = "no codes hold all numbers of this field: ask by other fields, or search the lines of dump"
-# At how many paths numbers are hidden at most, since each is found by some twenty runs.
+# At how many paths numbers are hidden at most, since each is found by some runs.
 _MOST_HIDDEN = 100
 
 
@@ -57,7 +65,8 @@ class Original:
 
     def __init__(self, file: BinaryIO) -> None:
         self._file, self._state = file, FileState.of(file)
-        self._ends: array[int] | None = None
+        # Where documents end, as far as that was asked for.
+        self._ends, self._lock = array("Q"), threading.Lock()
         # How many documents and bytes of a larger dump stand before them.
         self.first = self.offset = 0
 
@@ -89,12 +98,13 @@ class Original:
 
     def documents(self, numbers: Sequence[int]) -> list[bytes]:
         """The documents of these numbers, as they are."""
+        self._walk_past(max(numbers, default=-1))
         found = []
         for number in numbers:
             start, end = self._place(number)
             found.append(_framing.read_at(self._file, start, end - start, end - start))
         if FileState.of(self._file) != self._state:
-            raise DumpError("the file was written to since it was opened")
+            raise _written_to()
         return found
 
     def lines(self, numbers: Sequence[int], program: str, group: Group | None = None) -> list[bytes]:
@@ -115,6 +125,10 @@ class Original:
                 raise
         return lines
 
+    def number_at(self, place: int) -> Value | None:
+        """The value of the number whose field begins at a place, None where it is not seen."""
+        return number_in(os.pread(self._file.fileno(), _FIELD, place))
+
     def given(self, lines: Sequence[bytes], is_bson: bool, program: str, group: Group) -> list[bytes]:
         """The documents, or their lines, of those that have these lines in a copy."""
         numbers = numbers_in(lines)
@@ -126,14 +140,24 @@ class Original:
             return DumpError(str(fault), fault)
         return None
 
+    def _walk_past(self, number: int) -> None:
+        """Finds where documents end, as far as the one of this number does."""
+        with self._lock:
+            ends = self._ends
+            ends.extend(islice(_framing.walk(self._file, ends[-1] if ends else 0), max(0, number + 1 - len(ends))))
+            if number >= len(ends):
+                raise _written_to()
+
     def _place(self, number: int) -> tuple[int, int]:
-        if self._ends is None:
-            self._ends = array("Q", _framing.walk(self._file))
         return self._ends[number - 1] if number else 0, self._ends[number]
 
     def close(self) -> None:
         """Closes the file."""
         self._file.close()
+
+
+def _written_to() -> DumpError:
+    return DumpError("the file was written to since it was opened")
 
 
 class Spool:
@@ -237,19 +261,19 @@ class Codes:
         if line == "cannot write":
             raise _no_room()
         if not found:
-            raise DumpError(line) if line.startswith("document ") else error_of(1, f"bsonfind: {line}")
+            raise DumpError(line) if line.startswith("document ") else error_of(1, f"bsonfind: {line}" if line else "")
         document, byte, text = found.groups()
         path = json.loads(text)
-        level = self.levels.get(path)
-        if path not in self.hidden and level != MOST_LEVEL:
-            self.levels[path] = CODE if level is None else level + 1
+        level = level_after(self.levels.get(path), original.number_at(int(byte)))
+        if path not in self.hidden and level is not None:
+            self.levels[path] = level
             return False
         place = f"document {int(document) + original.first}, byte {int(byte) + original.offset}, path {text}"
         why = f"{place}: {_NO_CODES}"
         if path in self.hidden or query.reaches(path) or len(self.hidden) == _MOST_HIDDEN:
             raise _NoCodesError(why, path)
         self.hidden[path] = why
-        del self.levels[path]
+        self.levels.pop(path, None)
         return True
 
 
@@ -261,47 +285,116 @@ class _NoCodesError(DumpError):
         self.path = path
 
 
-def write_copy(original: Original, query: Query, codes: Codes, program: str, group: Group, copy: BinaryIO) -> None:
-    """Writes a copy of a dump; the codes become those of all paths that need some, which are found by asking for a copy."""
+class Ordering:
+    """Runs of `bsonwide order` over a dump, until one refuses no number; the codes become those of all paths that need some."""
+
+    def __init__(self, original: Original, query: Query, codes: Codes, program: str, group: Group) -> None:
+        self._original, self._query, self._codes = original, query, codes
+        self._program, self._group = program, group
+        # The dump without the numbers that are hidden, and whether it is of those that are hidden now.
+        self._hidden: BinaryIO | None = None
+        self._is_hidden = False
+
+    def run(self, stdout: int = subprocess.PIPE) -> Run:
+        """The next run."""
+        codes = self._codes
+        codes.settle(self._query)
+        if codes.hidden and not self._is_hidden:
+            self._hidden, self._is_hidden = self._hidden or temporary_file(), True
+            _hide(self._original, codes, self._group, self._hidden)
+        words = [word_of(path, level) for path, level in sorted(codes.levels.items())]
+        # An argument that begins with a hyphen would be an option.
+        words = ["order", *(["--"] if any(it.startswith("-") for it in words) else []), "-", *words]
+        if self._hidden:
+            self._hidden.seek(0)
+        stdin = self._hidden or self._original.rewound()
+        return Run([filter_beside(self._program), *words], stdin=stdin, stdout=stdout, group=self._group)
+
+    def is_whole(self, run: Run) -> bool:
+        """Whether a run has written a whole copy, and no other one is needed; raises why there is none."""
+        status = run.wait()
+        if status < 0:
+            raise run.error()
+        if status == 0:
+            return True
+        try:
+            is_new = self._codes.raise_level(run.messages().strip(), self._query, self._original)
+        except DumpError as error:
+            raise self.damage(error) from None
+        self._is_hidden = self._is_hidden and not is_new
+        return False
+
+    def damage(self, error: DumpError) -> DumpError:
+        """What is wrong with the dump, of which a copy has this error: a damaged number may have no name that can be asked for."""
+        return self._original.fault(self._program, self._group) or error
+
+    def close(self) -> None:
+        """Closes what was opened."""
+        if self._hidden:
+            self._hidden.close()
+
+
+@contextmanager
+def _ordering(original: Original, query: Query, codes: Codes, program: str, group: Group) -> Iterator[Ordering]:
+    """The runs for a query; a refusal says whether numbers of the query or of the dump have no codes."""
+    ordering = Ordering(original, query, codes, program, group)
     try:
-        _write_copy(original, query, codes, program, group, copy)
+        yield ordering
     except (CommandError, _NoCodesError) as error:
         if not query.operands:
             raise
         # It is the numbers of the dump by themselves, or a number of the query.
         known = Codes()
-        with temporary_file() as file:
-            _write_copy(original, Query("{}"), known, program, group, file)
+        write_copy(original, Query("{}"), known, program, group)
         known.refuse(query)
         refusal = query.refusal(error.path if isinstance(error, _NoCodesError) else error, known.levels)
         raise refusal or error from None
-
-
-def _write_copy(original: Original, query: Query, codes: Codes, program: str, group: Group, copy: BinaryIO) -> None:
-    hidden, is_hidden = None, False
-    try:
-        while True:
-            codes.settle(query)
-            if codes.hidden and not is_hidden:
-                hidden, is_hidden = hidden or temporary_file(), True
-                _hide(original, codes, group, hidden)
-            words = [word_of(path, level) for path, level in sorted(codes.levels.items())]
-            # An argument that begins with a hyphen would be an option.
-            words = [filter_beside(program), "order", *(["--"] if any(it.startswith("-") for it in words) else []), "-", *words]
-            for file in (copy, *([hidden] if hidden else [])):
-                file.seek(0)
-            copy.truncate()
-            with Run(words, stdin=hidden or original.rewound(), stdout=copy.fileno(), group=group) as run:
-                if run.wait() == 0:
-                    return
-                try:
-                    is_hidden = not codes.raise_level(run.messages().strip(), query, original) and is_hidden
-                except DumpError as error:
-                    # A number in a damaged document has perhaps no name that can be asked for.
-                    raise original.fault(program, group) or error from None
     finally:
-        if hidden:
-            hidden.close()
+        ordering.close()
+
+
+def write_copy(
+    original: Original, query: Query, codes: Codes, program: str, group: Group, copy: BinaryIO | None = None
+) -> None:
+    """Writes a copy of a dump to a file, or nowhere; the codes become those of all paths that need some, found by asking for it."""
+    with _ordering(original, query, codes, program, group) as ordering:
+        is_whole = False
+        while not is_whole:
+            if copy:
+                copy.seek(0)
+                copy.truncate()
+            with ordering.run(copy.fileno() if copy else subprocess.DEVNULL) as run:
+                is_whole = ordering.is_whole(run)
+
+
+def connect_copy(
+    original: Original, query: Query, codes: Codes, program: str, group: Group, connect: Callable[[Dump], Connection]
+) -> Connection:
+    """A connection over a copy of a dump, which is read while it is written; the codes become those of `write_copy`."""
+    with _ordering(original, query, codes, program, group) as ordering:
+        while True:
+            with ordering.run() as run, ExitStack() as ends:
+                if not _is_writing(run) and not ordering.is_whole(run):
+                    continue
+                try:
+                    connection = ends.enter_context(connect(Dump(path=f"/dev/fd/{run.stdout.fileno()}")))
+                except DumpError as error:
+                    run.stdout.close()
+                    if run.wait() == 0 or run.messages().strip() == _NOT_READ:
+                        raise (ordering.damage(error) if error.fault else error) from None
+                    # It read a part of a copy, of which a number was refused.
+                    ordering.is_whole(run)
+                else:
+                    if ordering.is_whole(run):
+                        ends.pop_all()
+                        return connection
+
+
+def _is_writing(run: Run) -> bool:
+    """Whether a run writes something, once it does or has ended; one that refuses an early number does not."""
+    waiting = select.poll()
+    waiting.register(run.stdout, select.POLLIN)
+    return any(event & select.POLLIN for _, event in waiting.poll())
 
 
 def _hide(original: Original, codes: Codes, group: Group, out: BinaryIO) -> None:
@@ -383,7 +476,7 @@ class Questions:
             self._codes = codes_of_copy(self._path, copy)
             self._copies[self._codes.key] = Connection(dump_of(copy), self._program, self._timeout)
             return
-        if not self._is_owner:
+        if not self._is_owner or begins_wide(self._path, self._program, self.group):
             self._connection_by(Query("{}"), self._codes)
             return
         spool = None if can_be_read_again(self._path) else Spool.of(self._path)
@@ -441,20 +534,18 @@ class Questions:
         known = self._copies.get(codes.key)
         if known:
             return known
-        with temporary_file() as file:
-            write_copy(self.original, query, codes, self._program, self.group, file)
-            known = self._copies.get(codes.key)
-            if known:
-                return known
-            dump = Dump(path=f"/dev/fd/{file.fileno()}")
-            try:
-                connection = Connection(dump, self._program, self._timeout, self._shared)
-            except DumpError as error:
-                raise (self.original.fault(self._program, self.group) if error.fault else None) or error from None
+        connection = connect_copy(self.original, query, codes, self._program, self.group, self._connect)
+        known = self._copies.get(codes.key)
+        if known:
+            connection.close()
+            return known
         for path, sparse in self._indexes:
             connection.do(_steps.create_index(path, sparse))
         self._copies[codes.key] = connection
         return connection
+
+    def _connect(self, dump: Dump) -> Connection:
+        return Connection(dump, self._program, self._timeout, self._shared)
 
     def create_index(self, path: str, sparse: bool) -> dict[str, Any]:
         """Makes an index on a path, also for copies that come later. One that would reach hidden numbers is refused."""
@@ -561,7 +652,6 @@ class AnyLines(Lines):
         dump = self._original.dump if self._path is None else dump_of(self._path)
         super().__init__(dump, request, program, size=size, index=index, after=after, group=group)
         self._is_bson, self._is_copied, self._copy = is_bson, is_bson or is_known or copy is not None, copy
-        self._probes: list[Probe] = []
 
     def batches(self) -> Batches:
         """The lines as they come, without their newlines, or documents. Closing this ends the program."""
@@ -572,13 +662,14 @@ class AnyLines(Lines):
             if spool:
                 self._dump = Dump(pieces=spool.pieces)
             if not self._is_copied and not (query and query.is_wide):
-                try:
-                    yield from super().batches()
-                    return
-                except DumpError as error:
-                    if not is_wide(error):
-                        raise
-                    query = read_query(self._request.filter, paths, True)
+                if not (self._path is not None and begins_wide(self._path, self._program, self._group)):
+                    try:
+                        yield from super().batches()
+                        return
+                    except DumpError as error:
+                        if not is_wide(error):
+                            raise
+                query = read_query(self._request.filter, paths, True)
             if query is None:
                 raise _unread(self._request, self._program)
             self._original = self._original or (spool and spool.original())
@@ -596,27 +687,28 @@ class AnyLines(Lines):
         original = self._original
         if self._index is not None:
             query.indexes.append(self._index)
+        connection, levels = self._connected(query, original)
+        self._request = replace(self._request, filter=query.rewritten(levels))
+        try:
+            with connection, places(query, levels):
+                refuse_matches(connection, query.probes_at(levels), self._request)
+                for lines in self._read(connection):
+                    yield original.given(lines, self._is_bson, self._program, self._group)
+        except DumpError as error:
+            raise (original.fault(self._program, self._group) if error.fault else None) or error from None
+
+    def _connected(self, query: Query, original: Original) -> tuple[Connection, dict[str, int]]:
+        """A connection over a copy, with its codes: over the one that was kept, if it has all that the query needs."""
         codes = Codes() if self._copy is None else codes_of_copy(self._path, self._copy)
         known = codes.key
-        with temporary_file() as file:
-            if self._copy is not None:
-                codes.settle(query)
-            if self._copy is not None and codes.key == known:
-                self._dump = dump_of(self._copy)
-            else:
-                write_copy(original, query, codes, self._program, self._group, file)
-                self._dump = Dump(path=f"/dev/fd/{file.fileno()}")
-            levels = codes.levels
-            self._request, self._probes = replace(self._request, filter=query.rewritten(levels)), query.probes_at(levels)
-            try:
-                with places(query, levels):
-                    for lines in self._by_session():
-                        yield original.given(lines, self._is_bson, self._program, self._group)
-            except DumpError as error:
-                raise (original.fault(self._program, self._group) if error.fault else None) or error from None
+        if self._copy is not None:
+            codes.settle(query)
+            if codes.key == known:
+                return self._connect(dump_of(self._copy)), codes.levels
+        return connect_copy(original, query, codes, self._program, self._group, self._connect), codes.levels
 
-    def _begin(self, connection: Connection) -> None:
-        refuse_matches(connection, self._probes, self._request)
+    def _connect(self, dump: Dump) -> Connection:
+        return Connection(dump, self._program, group=self._group)
 
 
 def prepare(path: File, copy: File, *, program: str = "bsonfind") -> list[str]:

@@ -4,7 +4,6 @@ from __future__ import annotations
 
 import errno
 import os
-import secrets
 import stat
 
 from ._dumps import file_of
@@ -39,7 +38,7 @@ class Output:
                 self._path = self._beside = name
                 self._file = open(name, "wb")
                 return
-            self._beside = f"{self._path}.{secrets.token_hex(4)}.new"
+            self._beside = f"{self._path}.{os.urandom(4).hex()}.new"
             self._file = open(self._beside, "xb")
             if there:
                 os.chmod(self._beside, stat.S_IMODE(there.st_mode))

@@ -8,7 +8,7 @@ from itertools import islice
 from typing import Any, BinaryIO, Iterable, Iterator, NamedTuple, Sequence
 
 from . import _framing
-from ._dumps import name_of
+from ._dumps import File, is_packed, name_of, opened
 from ._errors import DumpError
 from ._faults import Fault, faults_of, finish_check, read_fault
 from ._processes import Group, Run
@@ -17,6 +17,8 @@ from ._sources import Input, Source, up_to_error
 # The faults that are none: documents of these kinds are read by way of the filter.
 WIDE = ("double", "decimal128")
 _WIDE_LINES = tuple(f": {kind}\n".encode() for kind in WIDE)
+# How many bytes of a file are looked at first: the program refuses a dump only once it has read all of it.
+_HEAD = 1 << 18
 # How many bytes of a stream, which cannot be read twice, are looked at by one run.
 _AT_ONCE = 1 << 24
 
@@ -24,6 +26,18 @@ _AT_ONCE = 1 << 24
 def is_wide(error: DumpError) -> bool:
     """Whether a dump was refused for a double or a decimal128."""
     return error.fault is not None and error.fault.kind in WIDE
+
+
+def begins_wide(path: File, program: str, group: Group | None = None) -> bool:
+    """Whether the program refuses a large file for a double or a decimal128 near its beginning."""
+    name = name_of(path)
+    if is_packed(name) or not os.path.isfile(name) or os.path.getsize(name) <= _HEAD:
+        return False
+    with opened(name) as file:
+        head = file.read(_HEAD)
+    with Run([program, "check", "-"], [head], group=group) as run:
+        first = next(faults_of(run), None)
+    return first is not None and first.kind in WIDE
 
 
 def filter_beside(program: str) -> str:

@@ -343,6 +343,16 @@ class Audits(Room):
         ):
             self.assertIn(f"{self.backup}/{name}: missing: only {metadata} is there", lines)
 
+    def test_files_beside_dumps(self) -> None:
+        """Newer versions of mongodump note their version in one. By its name it is no damage, but not what was to be checked."""
+        prelude = self.file(b'{"ServerVersion":"8.0.4","ToolVersion":"100.12.0"}', "backup/prelude.json")
+        packed = self.file(gzip.compress(b"{}"), "backup/club/prelude.json.gz")
+        self.assertEqual(self.audit(self.backup, status=0)[2:], self.table(("files", 2), ("documents", 900), ("faulty", 0)))
+        names = [str(it) for it in (self.people, packed, prelude, self.room / "backup/club/people.metadata.json")]
+        lines = self.audit(*names, status=2)
+        self.assertEqual([line for line in lines if "mongodump" in line], [f"{it}: no dump: mongodump writes it beside dumps" for it in names[1:]])
+        self.assertEqual(lines[-4:], self.table(("files", 4), ("documents", 500), ("faulty", 0), ("not read", 3)))
+
     def test_missing_time_series_with_a_long_name(self) -> None:
         """mongodump shortens the name of the file of its buckets by another hash; the metadata has the whole name."""
         name = "n" * 230

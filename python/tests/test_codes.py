@@ -8,7 +8,7 @@ from fractions import Fraction
 from typing import List, Optional, Tuple
 
 from bsonfind import CommandError
-from bsonfind._codes import Query, code, number_of, read_json, read_query, readings, whole
+from bsonfind._codes import Query, code, level_after, number_in, number_of, read_json, read_query, readings, whole
 
 NAN = '{"$numberDouble":"NaN"}'
 
@@ -46,6 +46,34 @@ class Codes(unittest.TestCase):
             (Decimal("Infinity"), 2, None),
         ):
             self.assertEqual(whole(value, level), wanted)
+
+    def test_numbers_of_a_dump(self) -> None:
+        """Their values, and the next level at which each has a code."""
+
+        def decimal(digits: int, power: int) -> bytes:
+            return b"\x13a\0" + (digits | power + 6176 << 113).to_bytes(16, "little")
+
+        special = [bytes(15) + bytes([it]) for it in (0x78, 0xF8, 0x7C, 0x60)]
+        for field, value, levels in (
+            (b"\x01a\0" + struct.pack("<d", 0.1), Fraction(0.1), (0, None, None)),
+            (b"\x01\0" + struct.pack("<d", -0.5) + b"\x10", Fraction("-0.5"), (0, 1, 3)),
+            (b"\x01a\0" + struct.pack("<d", float("-inf")), Decimal("-Infinity"), (0, None, None)),
+            (b"\x10a\0" + b"\xff" * 4, Fraction(-1), (0, 1, 3)),
+            (b"\x12a\0" + (2**53 + 1).to_bytes(8, "little"), Fraction(2**53 + 1), (1, 1, 3)),
+            (decimal(1999, -2), Fraction("19.99"), (2, 2, 3)),
+            (decimal(1, -18), Fraction(1, 10**18), (18, 18, 18)),
+            (decimal(1, -19), Fraction(1, 10**19), (None, None, None)),
+            (decimal(10**34, 0), Fraction(0), (0, 1, 3)),
+            (b"\x13a\0" + special[0], Decimal("Infinity"), (0, None, None)),
+            (b"\x13a\0" + special[1], Decimal("-Infinity"), (0, None, None)),
+            (b"\x13a\0" + special[3], Fraction(0), (0, 1, 3)),
+        ):
+            self.assertEqual(number_in(field), value)
+            self.assertEqual(tuple(level_after(it, value) for it in (None, 0, 2)), levels, value)
+        self.assertEqual(str(number_in(b"\x13a\0" + special[2])), "NaN")
+        for field in (b"", b"\x01a", b"\x01a\0" + bytes(7), b"\x02a\0" + bytes(8)):
+            self.assertIsNone(number_in(field))
+        self.assertEqual([level_after(it, None) for it in (None, 0, 17, 18)], [0, 1, 18, None])
 
     def test_texts_of_numbers(self) -> None:
         """Those of Extended JSON v2; a decimal128 is never rounded."""

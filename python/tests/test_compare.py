@@ -13,6 +13,7 @@ from bsonfind._compare import Pair, compare
 from bsonfind._fields import field_of, id_of
 from bsonfind._sorting import Sorter
 
+from .archives import archive
 from .support import DAMAGED, PEOPLE, PEOPLE_LINES, PROGRAM, SHOP, SHOP_LINES, Room, packed, run_package
 
 Rows = Tuple[Tuple[str, int], ...]
@@ -131,6 +132,12 @@ class Compares(Room):
         self.assertEqual(self.compared(bad, str(PEOPLE), status=2, told=damage), [])  # No zeros: nothing was compared.
         self.compared(missing, bad, status=2, told=f"bsonfind: {missing}: No such file or directory\n")
         self.compared(one, bad, status=2, told=f"bsonfind: {bad} is no directory, and {one} is one\n")
+        whole = str(self.file(archive([("club", "people", PEOPLE.read_bytes())]), "all.archive"))
+        told = f"bsonfind: {whole} is an archive, and {one} is a directory: unpack the archive, and compare two directories\n"
+        for words in ((one, whole), (whole, one)):
+            self.compared(*words, status=2, told=told)
+        told = f"bsonfind: {whole}: an archive: name one of its collections, {whole}::db.collection, or unpack it\n"
+        self.compared(whole, whole, status=2, told=told)
         told = f"bsonfind: {two}/lost: a link to nothing that can be seen\n{damage}"
         found = self.compared(one, two, status=2, told=told)
         self.assertEqual(len(found), 91 + 6)  # The others are compared nevertheless.

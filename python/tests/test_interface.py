@@ -16,10 +16,15 @@ from .support import DAMAGED, PACKAGE, PEOPLE, PROGRAM, Room
 
 class Exports(Room):
     def test_names(self) -> None:
-        """What is exported is `__all__`, and each of it has a docstring; modules are private."""
+        """What is exported is `__all__`, and each of it has a docstring; modules are private. `asyncio` is imported for what needs it."""
         own = {name: value for name, value in vars(bsonfind).items() if not name.startswith("_")}
         public = {name for name, value in own.items() if not isinstance(value, types.ModuleType)}
-        self.assertEqual(public, set(bsonfind.__all__))
+        self.assertEqual(public | {"AsyncCursor", "AsyncSession"}, set(bsonfind.__all__))
+        with self.assertRaises(AttributeError):
+            bsonfind.none
+        code = "import sys, bsonfind\nassert 'asyncio' not in sys.modules\nfrom bsonfind import *\nprint(AsyncSession.__name__)"
+        told = subprocess.run([sys.executable, "-c", code], cwd=PACKAGE, stdout=subprocess.PIPE, text=True, check=True).stdout
+        self.assertEqual(told, "AsyncSession\n")
         for name in bsonfind.__all__:
             self.assertTrue(inspect.getdoc(getattr(bsonfind, name)), name)
         for file in (PACKAGE / "bsonfind").glob("*.py"):

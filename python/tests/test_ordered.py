@@ -16,6 +16,7 @@ from unittest import mock
 from bsonfind import (
     AsyncCursor,
     AsyncSession,
+    BsonfindError,
     CommandError,
     DumpError,
     PartError,
@@ -176,7 +177,24 @@ class Finds(Goods):
         with Session(self.path, self.counting()) as session:
             self.assertEqual(session.count_documents({}), 6)
         orders = [it for it in self.starts() if it.startswith("bsonwide order")]
-        self.assertEqual(orders[-1], "bsonwide order - cost*100 price")
+        self.assertEqual(orders, ["bsonwide order -", "bsonwide order - price", "bsonwide order - cost*100 price"])
+
+    def test_beginning_of_a_large_dump(self) -> None:
+        """It is checked first: no run reads all of a dump that is refused for a double there."""
+        large = document(whole("_id", 6), binary := b"\x05b\0" + (1 << 19).to_bytes(4, "little") + b"\0" + bytes(1 << 19))
+        damaged = document(b"\x08a\0\2", binary)
+        program = self.counting()
+        for data, first in ((GOODS[0] + large, ["check", "serve"]), (large + GOODS[0], ["check", "find"]), (GOODS[0], ["find"])):
+            path = self.file(data, "large.bson")
+            self.assertEqual([it["_id"] for it in find(path, {"_id": 0}, decode="plain", program=program)], [0])
+            self.assertEqual([it.split()[0] for it in self.starts()[: len(first)]], first)
+            (self.room / "starts").unlink()
+            with Session(path, PROGRAM) as session:
+                self.assertEqual(session.find_one({"price": 9.5}, decode="bson"), GOODS[0])
+        path = self.file(damaged + GOODS[0], "damaged.bson")
+        for ask in (lambda: list(find(path, program=PROGRAM)), lambda: Session(path, PROGRAM)):
+            with self.assertRaisesRegex(DumpError, 'document 0, byte 7, path "a": bad boolean'):
+                ask()
 
     def test_damage(self) -> None:
         """A fault has its place in the dump, and not the one in the copy."""
@@ -194,6 +212,17 @@ class Finds(Goods):
                     ask()
                 self.assertEqual(str(raised.exception), f"document 6, byte {byte}, {place}")
                 self.assertTrue(raised.exception.fault)
+
+    def test_filter_that_fails(self) -> None:
+        """Nothing is answered of a part of a copy, whatever kept the filter from writing the rest."""
+        cut = f'"$(dirname "$PROGRAM")/bsonwide" order - "cost*100" price | head -c {len(GOODS[0]) + 4}'
+        program = self.counting()
+        for end, text in (("kill -9 $$", "ended by signal 9"), ("echo bsonwide: no memory >&2\nexit 1", "no memory"), ("exit 1", "ended with status 1")):
+            self.script(f"{cut}\n{end}", "bsonwide")
+            for ask in (lambda: list(find(self.path, {"cost": 5.0}, program=program)), lambda: Session(self.path, program), lambda: count_documents(self.path, program=program)):
+                with self.assertRaises(BsonfindError) as raised:
+                    ask()
+                self.assertIn(text, str(raised.exception))
 
     def test_what_is_refused(self) -> None:
         """By name, with the place in the query or in the dump."""

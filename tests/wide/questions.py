@@ -5,6 +5,7 @@
 
 The program is `bsonfind`, with `bsonwide` beside it. The model compares all numbers exactly, as MongoDB does, and the documents
 that are found must be those of the dump to the byte. What is refused for its numbers is counted, and must be one of what is said to be.
+Of some dumps the beginning is looked at first, as of large ones.
 """
 
 import random
@@ -21,7 +22,7 @@ from model.inputs import Inputs
 from support import PROGRAM as BUILT
 from support import Tests
 
-from bsonfind import CommandError, DumpError, Session, find
+from bsonfind import CommandError, DumpError, Session, _wide, find
 
 PROGRAM = str(Path(sys.argv[1]).resolve()) if len(sys.argv) > 1 else str(BUILT)
 DUMPS = int(sys.argv[2]) if len(sys.argv) > 2 else 200
@@ -121,6 +122,7 @@ class Asking:
         documents = self.inputs.documents()
         model, path = Dump(documents), self.room / "dump.bson"
         path.write_bytes(model.bytes)
+        _wide._HEAD = self.rng.choice([30, 300, 1 << 18])
         try:
             with Session(path, PROGRAM) as session:
                 for _ in range(self.rng.choice([0, 0, 1, 2])):
