@@ -9,8 +9,8 @@ use Rattle.bd_value.specs.Limits.{longest_command}
 use Rattle.bd_io_device.specs.{Devices.after_more, Devices.greatest, declared.reading.Limits.Limits, declared.reading.ReadFault.ReadFault}
 use Rattle.bd_io_device.specs.Devices.{AreReads, no_read, Reader}
 use Rattle.bd_io_device.proofs.DevicesLemmas.{reads_none, reads_more, reads_append}
-use Rattle.bd_io_lines.specs.{Lines.IsLine, Lines.IsPart, declared.line_buffer.LineBuffer.LineBuffer}
-use Rattle.bd_io_lines.specs.LineBuffer.{EndsByOneRead, FailsToReadLine, FindsNoLine, ReadsLine, held_after, GivesBeforeLast, GivesBytes, IsCause, IsLazy, LastRead, ReadsTo, StopsReading}
+use Rattle.bd_io_lines.specs.{Lines.IsLine, Lines.IsPart, LineBuffer.Buffered}
+use Rattle.bd_io_lines.specs.LineBuffer.{EndsByOneRead, FailsToReadLine, FindsNoLine, ReadsLine, GivesBeforeLast, GivesBytes, IsCause, IsLazy, LastRead, ReadsTo, StopsReading}
 use Rattle.bd_io_lines.proofs.LinesLemmas.{line_grows, both_empty}
 use Rattle.bd_io_device.specs.declared.reading.ReadFault.TheVariants as reads
 
@@ -58,11 +58,11 @@ cause_then {R} {gives} limit left n old mid new before bytes rest reads.TooManyT
 cause_then {R} {gives} limit left n old mid new before bytes rest reads.NoMemory are room fits = omega (arith, room, fits, length-append before rest)
 
 -- what the loop keeps: the bytes that were given are the line so far and what is held after it
-pub record SoFar {R : Type 0} (state : R → Reader) (gives : R → Option (List ℕ) → R → Type 0) (before after : LineBuffer) (old new : R) : Type 0 where
+pub record SoFar {R : Type 0} (state : R → Reader) (gives : R → Option (List ℕ) → R → Type 0) (before after : Buffered) (old new : R) : Type 0 where
   pub given : List ℕ
   pub reads : GivesBytes state gives before.left after.left after.ended given old new
-  pub same : held_after before ++ given ≡ after.line.items ++ held_after after
-  pub lazy : IsLazy gives (held_after before) given old new
+  pub same : before.rest ++ given ≡ after.line ++ after.rest
+  pub lazy : IsLazy gives before.rest given old new
 
 -- the same of all that they gave
 pub before_last_then : {R : Type 0} {gives : R → Option (List ℕ) → R → Type 0} (n : ℕ) (old mid new : R) (first front given : List ℕ)
@@ -227,45 +227,45 @@ module _ {R : Type 0} {state : R → Reader} {gives : R → Option (List ℕ) �
     end = end;
   }
 
-  module _ {before lines : LineBuffer} {old mid : R} (so_far : SoFar state gives before lines old mid) (going : lines.ended ≡ false) (whole : IsLine lines.line.items) where
+  module _ {before lines : Buffered} {old mid : R} (so_far : SoFar state gives before lines old mid) (going : lines.ended ≡ false) (whole : IsLine lines.line) where
     gave : GivesBytes state gives before.left lines.left false so_far.given old mid
     gave = subst (λ b. GivesBytes state gives before.left lines.left b so_far.given old mid) going so_far.reads
 
     -- a newline ends the line
-    pub reads_line : (after : LineBuffer) (part : List ℕ) → IsLine part → after.line.items ≡ lines.line.items ++ part → held_after lines ≡ part ++ 10 ∷ held_after after
-        → after.left ≡ lines.left → after.ended ≡ false → ReadsLine state gives before after old mid
-    reads_line after part is grown split left ended = record {
+    pub reads_line : (after : Buffered) (part : List ℕ) → IsLine part → after.line ≡ lines.line ++ part → lines.rest ≡ part ++ 10 ∷ after.rest
+        → after.left ≡ lines.left → after.ended ≡ false → length after.line ≤ longest_command → ReadsLine state gives before after old mid
+    reads_line after part is grown split left ended short = record {
       given = so_far.given;
       reads = subst (λ l. GivesBytes state gives before.left l after.ended so_far.given old mid) (sym left)
           (subst (λ b. GivesBytes state gives before.left lines.left b so_far.given old mid) (sym ended) gave);
       line = (
-        (subst IsLine (sym grown) (line_grows lines.line.items part whole is), after.short),
-        inl (so_far.same ∙ ap (λ x. lines.line.items ++ x) split ∙ sym (append_assoc lines.line.items part (10 ∷ held_after after))
-            ∙ ap (λ x. x ++ 10 ∷ held_after after) (sym grown)),
+        (subst IsLine (sym grown) (line_grows lines.line part whole is), short),
+        inl (so_far.same ∙ ap (λ x. lines.line ++ x) split ∙ sym (append_assoc lines.line part (10 ∷ after.rest))
+            ∙ ap (λ x. x ++ 10 ∷ after.rest) (sym grown)),
       );
       lazy = so_far.lazy;
     }
 
     -- the line is too long
-    line_too_long : (part rest : List ℕ) → IsLine part → held_after lines ≡ part ++ rest → longest_command < length lines.line.items + length part
-        → FailsToReadLine state gives before.left (held_after before) old mid reads.TooLong
+    line_too_long : (part rest : List ℕ) → IsLine part → lines.rest ≡ part ++ rest → longest_command < length lines.line + length part
+        → FailsToReadLine state gives before.left before.rest old mid reads.TooLong
     line_too_long part rest is split long = record {
       given = so_far.given;
       stops = stops_by gave.turns (let x = gave.turned in omega (arith, x)) gave.gave (gave.reads, gave.well) gave.calls;
       cause = inl (
         (
-          lines.line.items ++ part,
+          lines.line ++ part,
           rest,
-          so_far.same ∙ ap (λ x. lines.line.items ++ x) split ∙ sym (append_assoc lines.line.items part rest),
-          line_grows lines.line.items part whole is,
-          omega (arith, long, length-append lines.line.items part),
+          so_far.same ∙ ap (λ x. lines.line ++ x) split ∙ sym (append_assoc lines.line part rest),
+          line_grows lines.line part whole is,
+          omega (arith, long, length-append lines.line part),
         ),
         let x = gave.room in omega (arith, x),
       );
       lazy = so_far.lazy;
     }
 
-    line_no_memory : FailsToReadLine state gives before.left (held_after before) old mid reads.NoMemory
+    line_no_memory : FailsToReadLine state gives before.left before.rest old mid reads.NoMemory
     line_no_memory = record {
       given = so_far.given;
       stops = stops_by gave.turns (let x = gave.turned in omega (arith, x)) gave.gave (gave.reads, gave.well) gave.calls;
@@ -274,54 +274,55 @@ module _ {R : Type 0} {state : R → Reader} {gives : R → Option (List ℕ) �
     }
 
     pub line_stops : (fault : ReadFault) → (fault ≡ reads.TooLong) ⊎ (fault ≡ reads.NoMemory)
-        → (fault ≡ reads.TooLong → (part : List ℕ) × (rest : List ℕ) × IsLine part × (held_after lines ≡ part ++ rest) × (longest_command < length lines.line.items + length part))
-        → FailsToReadLine state gives before.left (held_after before) old mid fault
+        → (fault ≡ reads.TooLong → (part : List ℕ) × (rest : List ℕ) × IsLine part × (lines.rest ≡ part ++ rest) × (longest_command < length lines.line + length part))
+        → FailsToReadLine state gives before.left before.rest old mid fault
     line_stops fault (inl is) long =
-        let l = long is in subst (λ f. FailsToReadLine state gives before.left (held_after before) old mid f) (sym is) (line_too_long l.0 l.1 l.2 l.3 l.4)
-    line_stops fault (inr is) long = subst (λ f. FailsToReadLine state gives before.left (held_after before) old mid f) (sym is) line_no_memory
+        let l = long is in subst (λ f. FailsToReadLine state gives before.left before.rest old mid f) (sym is) (line_too_long l.0 l.1 l.2 l.3 l.4)
+    line_stops fault (inr is) long = subst (λ f. FailsToReadLine state gives before.left before.rest old mid f) (sym is) line_no_memory
 
-    module _ (is : IsLine (held_after lines)) where
-      head_is : IsLine (held_after before ++ so_far.given)
-      head_is = subst IsLine (sym so_far.same) (line_grows lines.line.items (held_after lines) whole is)
+    module _ (is : IsLine lines.rest) where
+      head_is : IsLine (before.rest ++ so_far.given)
+      head_is = subst IsLine (sym so_far.same) (line_grows lines.line lines.rest whole is)
 
       -- so no newline was held at first
-      module _ (all : List ℕ) (grown : all ≡ lines.line.items ++ held_after lines) where
+      module _ (all : List ℕ) (grown : all ≡ lines.line ++ lines.rest) where
         pub line_grown : IsLine all
-        line_grown = subst IsLine (sym grown) (line_grows lines.line.items (held_after lines) whole is)
+        line_grown = subst IsLine (sym grown) (line_grows lines.line lines.rest whole is)
 
         pub line_fails : (new : R) (fault : ReadFault) → FailsToReadLine state gives lines.left all mid new fault
-            → FailsToReadLine state gives before.left (held_after before) old new fault
+            → FailsToReadLine state gives before.left before.rest old new fault
         line_fails new fault fails = fails_then gave (so_far.same ∙ sym grown) so_far.lazy fails
 
-      pub line_goes_on : (after : LineBuffer) → after.line.items ≡ lines.line.items ++ held_after lines → (new : R)
-          → GivesBytes state gives lines.left after.left after.ended (held_after after) mid new → gives mid (Some (held_after after)) new → SoFar state gives before after old new
+      pub line_goes_on : (after : Buffered) → after.line ≡ lines.line ++ lines.rest → (new : R)
+          → GivesBytes state gives lines.left after.left after.ended after.rest mid new → gives mid (Some after.rest) new → SoFar state gives before after old new
       line_goes_on after grown new more one = record {
-        given = so_far.given ++ held_after after;
+        given = so_far.given ++ after.rest;
         reads = gives_then gave more;
-        same = sym (append_assoc (held_after before) so_far.given (held_after after)) ∙ ap (λ x. x ++ held_after after) (so_far.same ∙ sym grown);
-        lazy = inr (so_far.given, head_is, (held_after after, refl, (gave.turns, mid, gave.reads, inl one)));
+        same = sym (append_assoc before.rest so_far.given after.rest) ∙ ap (λ x. x ++ after.rest) (so_far.same ∙ sym grown);
+        lazy = inr (so_far.given, head_is, (after.rest, refl, (gave.turns, mid, gave.reads, inl one)));
       }
 
-  pub starts : (lines : LineBuffer) (old : R) → (state old).calls ≤ greatest → lines.ended ≡ false → lines.line.items ≡ [] → SoFar state gives lines lines old old
+  pub starts : (lines : Buffered) (old : R) → (state old).calls ≤ greatest → lines.ended ≡ false → lines.line ≡ [] → SoFar state gives lines lines old old
   starts lines old fit is empty = record {
     given = [];
     reads = subst (λ b. GivesBytes state gives lines.left lines.left b [] old old) (sym is) (gives_none lines.left old fit);
-    same = append-nil (held_after lines) ∙ ap (λ x. x ++ held_after lines) (sym empty);
+    same = append-nil lines.rest ∙ ap (λ x. x ++ lines.rest) (sym empty);
     lazy = inl (refl, refl);
   }
 
-  finds_nothing : {before after : LineBuffer} {old new : R} → after.ended ≡ true → after.line.items ≡ [] → SoFar state gives before after old new
-      → (held_after before ≡ []) × GivesBytes state gives before.left after.left true [] old new
-  finds_nothing {before} {after} {old} {new} is empty so_far =
-      let none : held_after before ++ so_far.given ≡ [] = so_far.same ∙ ap (λ x. x ++ held_after after) empty ∙ after.drained is in
-      let both = both_empty (held_after before) so_far.given none in
+  finds_nothing : {before after : Buffered} {old new : R} → after.ended ≡ true → after.line ≡ [] → after.rest ≡ [] → SoFar state gives before after old new
+      → (before.rest ≡ []) × GivesBytes state gives before.left after.left true [] old new
+  finds_nothing {before} {after} {old} {new} is empty drained so_far =
+      let none : before.rest ++ so_far.given ≡ [] = so_far.same ∙ ap (λ x. x ++ after.rest) empty ∙ drained in
+      let both = both_empty before.rest so_far.given none in
       let gave = subst (λ b. GivesBytes state gives before.left after.left b so_far.given old new) is so_far.reads in
       (both.0, subst (λ x. GivesBytes state gives before.left after.left true x old new) both.1 gave)
 
-  pub finds_no_line : (before after : LineBuffer) (old new : R) → after.ended ≡ true → after.line.items ≡ []
-      → (before.ended ≡ false → SoFar state gives before after old new) → FindsNoLine state gives before after old new
-  finds_no_line before after old new is empty so_far = record {
-    none = (elim (cases_Bool before.ended) [ inl was ↦ before.drained was | inr was ↦ (finds_nothing is empty (so_far was)).0 ], empty);
+  pub finds_no_line : (before after : Buffered) (old new : R) → after.ended ≡ true → after.line ≡ [] → after.rest ≡ []
+      → (before.ended ≡ true → after.rest ≡ before.rest) → (before.ended ≡ false → SoFar state gives before after old new)
+      → FindsNoLine state gives before after old new
+  finds_no_line before after old new is empty drained same so_far = record {
+    none = (elim (cases_Bool before.ended) [ inl was ↦ sym (same was) ∙ drained | inr was ↦ (finds_nothing is empty drained (so_far was)).0 ], empty);
     ended = is;
-    reads = λ was. (finds_nothing is empty (so_far was)).1;
+    reads = λ was. (finds_nothing is empty drained (so_far was)).1;
   }

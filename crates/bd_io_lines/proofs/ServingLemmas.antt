@@ -4,8 +4,8 @@ use Rattle.std.proofs.Common.{length-append}
 use Rattle.bd_io_device.proofs.DevicesLemmas.{breaks_after, takes_both, takes_none}
 use Rattle.bd_io_device.specs.{Devices.greatest, declared.reading.Limits.Limits, declared.reading.ReadFault.ReadFault}
 use Rattle.bd_io_device.specs.Devices.{AreReads, BreaksWithin, Reader, TakesText, Writer, between}
-use Rattle.bd_io_lines.specs.{declared.serving.ServeFault.ServeFault, declared.line_buffer.LineBuffer.LineBuffer}
-use Rattle.bd_io_lines.specs.LineBuffer.{FailsToReadLine, FindsNoLine, GivesBeforeLast, GivesBytes, IsCause, IsLazy, ReadsLine, StopsReading, held_after}
+use Rattle.bd_io_lines.specs.{declared.serving.ServeFault.ServeFault, LineBuffer.Buffered}
+use Rattle.bd_io_lines.specs.LineBuffer.{FailsToReadLine, FindsNoLine, GivesBeforeLast, GivesBytes, IsCause, IsLazy, ReadsLine, StopsReading}
 use Rattle.bd_io_lines.specs.Serving.{IsReadInTime, RepliesInTurn, ServesAll, ServesBefore, StarvesAt, StopsServing, StopsUnread}
 use Rattle.bd_io_lines.specs.Lines.{AreShort, AreWhole, IsFirstLine, commands_of, is_empty_line, not_empty}
 use Rattle.std.specs.Prelude.{◌⊎◌}
@@ -55,13 +55,13 @@ replied_then {S} replies s t u (command ∷ done) more first second (reply, mid,
 
 -- what the loop keeps: whole lines that have their replies, and what is held after them
 pub record Serving {R S : Type 0} (state : R → Reader) (gives : R → Option (List ℕ) → R → Type 0) (replies : S → List ℕ → List ℕ → S → Type 0)
-    (limits : Limits) (lines : LineBuffer) (old new : R) (before after : Writer) (s t : S) : Type 0 where
+    (limits : Limits) (lines : Buffered) (old new : R) (before after : Writer) (s t : S) : Type 0 where
   pub whole : List ℕ
   pub text : List ℕ
   pub ends : lines.ended ≡ false → AreWhole whole
   pub short : AreShort whole
-  pub reads : GivesBytes state gives limits lines.left lines.ended (whole ++ held_after lines) old new
-  pub in_time : IsReadInTime gives whole (whole ++ held_after lines) old new
+  pub reads : GivesBytes state gives limits lines.left lines.ended (whole ++ lines.rest) old new
+  pub in_time : IsReadInTime gives whole (whole ++ lines.rest) old new
   pub replied : RepliesInTurn replies s (commands_of whole) text t
   pub written : TakesText (between before after) text
 
@@ -92,14 +92,14 @@ in_time_after {R} {gives} whole more given old new (inl none) = inl none
 in_time_after {R} {gives} whole more given old new (inr (front, few, last)) = inr (front, newlines_more front whole more few, last)
 
 module _ {R S : Type 0} (state : R → Reader) (gives : R → Option (List ℕ) → R → Type 0) (replies : S → List ℕ → List ℕ → S → Type 0) where
-  pub begins : (limits : Limits) (lines : LineBuffer) (old : R) (before : Writer) (s : S) → lines.left ≡ limits → (state old).calls ≤ greatest
-      → lines.ended ≡ false → held_after lines ≡ [] → Serving state gives replies limits lines old old before before s s
+  pub begins : (limits : Limits) (lines : Buffered) (old : R) (before : Writer) (s : S) → lines.left ≡ limits → (state old).calls ≤ greatest
+      → lines.ended ≡ false → lines.rest ≡ [] → Serving state gives replies limits lines old old before before s s
   begins limits lines old before s left fit is none = subst (λ l. Serving state gives replies l lines old old before before s s) left record {
     whole = [];
     text = [];
     ends = λ _. inl refl;
     short = no_long_line;
-    reads = subst (λ b. GivesBytes state gives lines.left lines.left b (held_after lines) old old) (sym is)
+    reads = subst (λ b. GivesBytes state gives lines.left lines.left b lines.rest old old) (sym is)
         (subst (λ x. GivesBytes state gives lines.left lines.left false x old old) (sym none) (gives_none lines.left old fit));
     in_time = inl (none, refl);
     replied = nothing_replied replies s;
@@ -107,9 +107,9 @@ module _ {R S : Type 0} (state : R → Reader) (gives : R → Option (List ℕ) 
   }
 
 module _ {R S : Type 0} {state : R → Reader} {gives : R → Option (List ℕ) → R → Type 0} {replies : S → List ℕ → List ℕ → S → Type 0}
-    {limits : Limits} {lines : LineBuffer} {old mid : R} {before now : Writer} {s t : S} (so_far : Serving state gives replies limits lines old mid before now s t) where
-  gave : lines.ended ≡ false → GivesBytes state gives limits lines.left false (so_far.whole ++ held_after lines) old mid
-  gave going = subst (λ b. GivesBytes state gives limits lines.left b (so_far.whole ++ held_after lines) old mid) going so_far.reads
+    {limits : Limits} {lines : Buffered} {old mid : R} {before now : Writer} {s t : S} (so_far : Serving state gives replies limits lines old mid before now s t) where
+  gave : lines.ended ≡ false → GivesBytes state gives limits lines.left false (so_far.whole ++ lines.rest) old mid
+  gave going = subst (λ b. GivesBytes state gives limits lines.left b (so_far.whole ++ lines.rest) old mid) going so_far.reads
 
   serves_by : (left : Limits) (new : R) → GivesBytes state gives limits left true so_far.whole old new → ServesAll state gives replies limits old new (between before now) s t
   serves_by left new reads = record {
@@ -123,51 +123,51 @@ module _ {R S : Type 0} {state : R → Reader} {gives : R → Option (List ℕ) 
   }
 
   -- the end was found before, or now
-  pub serves_end : (next : LineBuffer) (new : R) → (lines.ended ≡ true) ⊎ (lines.ended ≡ false) → (lines.ended ≡ true → new ≡ mid)
+  pub serves_end : (next : Buffered) (new : R) → (lines.ended ≡ true) ⊎ (lines.ended ≡ false) → (lines.ended ≡ true → new ≡ mid)
       → FindsNoLine state gives lines next mid new → ServesAll state gives replies limits old new (between before now) s t
   serves_end next new (inl over) same none = serves_by lines.left new (subst (λ r. GivesBytes state gives limits lines.left true so_far.whole old r) (sym (same over))
       (subst (λ x. GivesBytes state gives limits lines.left true x old mid) (ap (λ x. so_far.whole ++ x) none.none.0 ∙ append-nil so_far.whole)
-      (subst (λ b. GivesBytes state gives limits lines.left b (so_far.whole ++ held_after lines) old mid) over so_far.reads)))
+      (subst (λ b. GivesBytes state gives limits lines.left b (so_far.whole ++ lines.rest) old mid) over so_far.reads)))
   serves_end next new (inr going) same none = serves_by next.left new (subst (λ x. GivesBytes state gives limits next.left true x old new)
-      (append-nil (so_far.whole ++ held_after lines) ∙ ap (λ x. so_far.whole ++ x) none.none.0 ∙ append-nil so_far.whole) (gives_then (gave going) (none.reads going)))
+      (append-nil (so_far.whole ++ lines.rest) ∙ ap (λ x. so_far.whole ++ x) none.none.0 ∙ append-nil so_far.whole) (gives_then (gave going) (none.reads going)))
 
   -- a fault of reading came
-  pub stops_unread : (new : R) (fault : ReadFault) → lines.ended ≡ false → FailsToReadLine state gives lines.left (held_after lines) mid new fault
+  pub stops_unread : (new : R) (fault : ReadFault) → lines.ended ≡ false → FailsToReadLine state gives lines.left lines.rest mid new fault
       → StopsUnread state gives replies limits old new (between before now) s t fault
   stops_unread new fault going fails =
       let first = gave going in
-      let apart : (so_far.whole ++ held_after lines) ++ fails.given ≡ so_far.whole ++ (held_after lines ++ fails.given) =
-      append_assoc so_far.whole (held_after lines) fails.given in
+      let apart : (so_far.whole ++ lines.rest) ++ fails.given ≡ so_far.whole ++ (lines.rest ++ fails.given) =
+      append_assoc so_far.whole lines.rest fails.given in
       record {
         whole = so_far.whole;
-        rest = held_after lines ++ fails.given;
+        rest = lines.rest ++ fails.given;
         text = so_far.text;
         ends = so_far.ends going;
         short = so_far.short;
         stops = subst (λ x. StopsReading state gives limits x old new fault) apart (stops_then first fails.stops);
-        cause = subst (λ x. IsCause gives limits.bytes (held_after lines ++ fails.given) x old new fault) apart
-            (cause_then limits.bytes lines.left.bytes first.turns old mid new (so_far.whole ++ held_after lines) (held_after lines ++ fails.given) fails.given fault
+        cause = subst (λ x. IsCause gives limits.bytes (lines.rest ++ fails.given) x old new fault) apart
+            (cause_then limits.bytes lines.left.bytes first.turns old mid new (so_far.whole ++ lines.rest) (lines.rest ++ fails.given) fails.given fault
             first.reads first.room fails.cause);
-        in_time = in_time_now so_far.whole (held_after lines) fails.given first.turns old mid new first.reads so_far.in_time fails.lazy;
+        in_time = in_time_now so_far.whole lines.rest fails.given first.turns old mid new first.reads so_far.in_time fails.lazy;
         replied = so_far.replied;
         written = so_far.written;
       }
 
-  module _ (going : lines.ended ≡ false) {next : LineBuffer} {new : R} (reads : ReadsLine state gives lines next mid new) where
-    gave_all : GivesBytes state gives limits next.left next.ended (so_far.whole ++ (held_after lines ++ reads.given)) old new
-    gave_all = subst (λ x. GivesBytes state gives limits next.left next.ended x old new) (append_assoc so_far.whole (held_after lines) reads.given)
+  module _ (going : lines.ended ≡ false) {next : Buffered} {new : R} (reads : ReadsLine state gives lines next mid new) where
+    gave_all : GivesBytes state gives limits next.left next.ended (so_far.whole ++ (lines.rest ++ reads.given)) old new
+    gave_all = subst (λ x. GivesBytes state gives limits next.left next.ended x old new) (append_assoc so_far.whole lines.rest reads.given)
         (gives_then (gave going) reads.reads)
 
-    in_time_all : IsReadInTime gives so_far.whole (so_far.whole ++ (held_after lines ++ reads.given)) old new
+    in_time_all : IsReadInTime gives so_far.whole (so_far.whole ++ (lines.rest ++ reads.given)) old new
     in_time_all =
-        let first = gave going in in_time_now so_far.whole (held_after lines) reads.given first.turns old mid new first.reads so_far.in_time reads.lazy
+        let first = gave going in in_time_now so_far.whole lines.rest reads.given first.turns old mid new first.reads so_far.in_time reads.lazy
 
     -- the line is a command
-    serves_before : is_empty_line next.line.items ≡ false → ServesBefore state gives replies limits old new s next.line.items so_far.text t
+    serves_before : is_empty_line next.line ≡ false → ServesBefore state gives replies limits old new s next.line so_far.text t
     serves_before is = record {
       whole = so_far.whole;
-      rest = held_after lines ++ reads.given;
-      after = held_after next;
+      rest = lines.rest ++ reads.given;
+      after = next.rest;
       left = next.left;
       ended = next.ended;
       ends = so_far.ends going;
@@ -179,12 +179,12 @@ module _ {R S : Type 0} {state : R → Reader} {gives : R → Option (List ℕ) 
       replied = so_far.replied;
     }
 
-    module _ (later : Writer) (u : S) (text : List ℕ) (replied : RepliesInTurn replies t (not_empty (next.line.items ∷ [])) text u) (written : TakesText (between now later) text) where
-      grows_by : (more : List ℕ) → held_after lines ++ reads.given ≡ more ++ held_after next → (next.ended ≡ false → AreWhole (so_far.whole ++ more)) → AreShort more
-          → commands_of (so_far.whole ++ more) ≡ commands_of so_far.whole ++ not_empty (next.line.items ∷ []) → Serving state gives replies limits next old new before later s u
+    module _ (later : Writer) (u : S) (text : List ℕ) (replied : RepliesInTurn replies t (not_empty (next.line ∷ [])) text u) (written : TakesText (between now later) text) where
+      grows_by : (more : List ℕ) → lines.rest ++ reads.given ≡ more ++ next.rest → (next.ended ≡ false → AreWhole (so_far.whole ++ more)) → AreShort more
+          → commands_of (so_far.whole ++ more) ≡ commands_of so_far.whole ++ not_empty (next.line ∷ []) → Serving state gives replies limits next old new before later s u
       grows_by more split ends short commands =
-          let all : so_far.whole ++ (held_after lines ++ reads.given) ≡ (so_far.whole ++ more) ++ held_after next =
-          ap (λ x. so_far.whole ++ x) split ∙ sym (append_assoc so_far.whole more (held_after next)) in
+          let all : so_far.whole ++ (lines.rest ++ reads.given) ≡ (so_far.whole ++ more) ++ next.rest =
+          ap (λ x. so_far.whole ++ x) split ∙ sym (append_assoc so_far.whole more next.rest) in
           record {
             whole = so_far.whole ++ more;
             text = so_far.text ++ text;
@@ -192,34 +192,34 @@ module _ {R S : Type 0} {state : R → Reader} {gives : R → Option (List ℕ) 
             short = short_after so_far.whole more (so_far.ends going) so_far.short short;
             reads = subst (λ x. GivesBytes state gives limits next.left next.ended x old new) all gave_all;
             in_time = subst (λ x. IsReadInTime gives (so_far.whole ++ more) x old new) all
-                (in_time_after so_far.whole more (so_far.whole ++ (held_after lines ++ reads.given)) old new in_time_all);
+                (in_time_after so_far.whole more (so_far.whole ++ (lines.rest ++ reads.given)) old new in_time_all);
             replied = subst (λ x. RepliesInTurn replies s x (so_far.text ++ text) u) (sym commands)
-                (replied_then replies s t u (commands_of so_far.whole) (not_empty (next.line.items ∷ [])) so_far.text text so_far.replied replied);
+                (replied_then replies s t u (commands_of so_far.whole) (not_empty (next.line ∷ [])) so_far.text text so_far.replied replied);
             written = takes_both before now later so_far.text text so_far.written written;
           }
 
-      goes_by : IsFirstLine (held_after lines ++ reads.given) next.line.items (held_after next) next.ended → Serving state gives replies limits next old new before later s u
+      goes_by : IsFirstLine (lines.rest ++ reads.given) next.line next.rest next.ended → Serving state gives replies limits next old new before later s u
       goes_by (part, inl split) =
-          grows_by (next.line.items ++ 10 ∷ []) (split ∙ sym (append_assoc next.line.items (10 ∷ []) (held_after next)))
-          (λ _. inr (so_far.whole ++ next.line.items, sym (append_assoc so_far.whole next.line.items (10 ∷ []))))
-          (short_whole_line next.line.items part) (commands_whole_line so_far.whole next.line.items (so_far.ends going) part.0)
+          grows_by (next.line ++ 10 ∷ []) (split ∙ sym (append_assoc next.line (10 ∷ []) next.rest))
+          (λ _. inr (so_far.whole ++ next.line, sym (append_assoc so_far.whole next.line (10 ∷ []))))
+          (short_whole_line next.line part) (commands_whole_line so_far.whole next.line (so_far.ends going) part.0)
       goes_by (part, inr (is, some, none, end)) =
-          grows_by next.line.items (is ∙ sym (append-nil next.line.items) ∙ ap (λ x. next.line.items ++ x) (sym none)) (λ not. absurd (search (rules, not, end)))
-          (short_line next.line.items part) (commands_line so_far.whole next.line.items (so_far.ends going) part.0)
+          grows_by next.line (is ∙ sym (append-nil next.line) ∙ ap (λ x. next.line ++ x) (sym none)) (λ not. absurd (search (rules, not, end)))
+          (short_line next.line part) (commands_line so_far.whole next.line (so_far.ends going) part.0)
 
       pub goes_on : Serving state gives replies limits next old new before later s u
       goes_on = goes_by reads.line
 
     pub stops_answer : (stays : S → S → Type 0) (later : Writer) (u : S) (fault : ServeFault) → (fault ≡ serves.NoMemory) ⊎ (fault ≡ serves.Unwritten)
-        → (fault ≡ serves.NoMemory → (is_empty_line next.line.items ≡ false) × (later ≡ now) × StarvesAt stays replies t next.line.items u)
-        → (fault ≡ serves.Unwritten → (is_empty_line next.line.items ≡ false)
-        × ((reply : List ℕ) × replies t next.line.items reply u × BreaksWithin (between now later) (reply ++ 10 ∷ [])))
+        → (fault ≡ serves.NoMemory → (is_empty_line next.line ≡ false) × (later ≡ now) × StarvesAt stays replies t next.line u)
+        → (fault ≡ serves.Unwritten → (is_empty_line next.line ≡ false)
+        × ((reply : List ℕ) × replies t next.line reply u × BreaksWithin (between now later) (reply ++ 10 ∷ [])))
         → StopsServing state gives replies limits old new (between before later) s u stays fault
     stops_answer stays later u fault (inl is) starved broke =
         let e = starved is in
         subst (λ f. StopsServing state gives replies limits old new (between before later) s u stays f) (sym is)
-        (next.line.items, so_far.text, t, serves_before e.0, subst (λ w. TakesText (between before w) so_far.text) (sym e.1) so_far.written, e.2)
+        (next.line, so_far.text, t, serves_before e.0, subst (λ w. TakesText (between before w) so_far.text) (sym e.1) so_far.written, e.2)
     stops_answer stays later u fault (inr is) starved broke =
         let e = broke is in
         subst (λ f. StopsServing state gives replies limits old new (between before later) s u stays f) (sym is)
-        (next.line.items, so_far.text, e.1.0, t, serves_before e.0, e.1.1, breaks_after before now later so_far.text (e.1.0 ++ 10 ∷ []) so_far.written e.1.2)
+        (next.line, so_far.text, e.1.0, t, serves_before e.0, e.1.1, breaks_after before now later so_far.text (e.1.0 ++ 10 ∷ []) so_far.written e.1.2)

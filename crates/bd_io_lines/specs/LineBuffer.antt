@@ -1,15 +1,25 @@
 -- What reading the next line of a device does to the device and to the buffer of the line.
-use Rattle.std.specs.Prelude.{◌≡◌, ◌<◌, ◌≤◌, ◌+◌, ◌⊎◌, ℕ, suc, List, [], ◌++◌, length, drop, Bool, true, false, Option}
+use Rattle.std.specs.Prelude.{◌≡◌, ◌<◌, ◌≤◌, ◌+◌, ◌⊎◌, ℕ, suc, List, [], ◌++◌, length, Bool, true, false, Option}
 use Rattle.std.specs.{Prelude.Some, Prelude.None, Io.KnownBytes.Consumes, Io.KnownBytes.IsAtEnd}
 use Rattle.bd_io_device.specs.{Devices.after_more, Devices.AreReads, Devices.Reader}
 use Rattle.bd_io_device.specs.declared.reading.{Limits.Limits, ReadFault.ReadFault}
 use Rattle.bd_value.specs.Limits.{longest_command}
 use Rattle.bd_io_lines.specs.{Lines.IsFirstLine, Lines.IsLine, Lines.IsPart}
-use Rattle.bd_io_lines.specs.{declared.line_buffer.LineBuffer.LineBuffer}
 
--- the bytes that the device gave after the current line
-abbrev pub held_after : LineBuffer → List ℕ
-held_after lines = drop lines.start lines.block.items
+-- the next line of a device, and how reading goes on
+pub record Buffered : Type 0 where
+  -- what the device may still be asked for
+  pub left : Limits
+  -- the line that was read last
+  pub line : List ℕ
+  -- the bytes that the device gave after it
+  pub rest : List ℕ
+  -- how many bytes the last read gave
+  pub block : ℕ
+  -- the end of the device was found
+  pub ended : Bool
+  -- the fault that an earlier call met
+  pub failed : Option ReadFault
 
 -- For a reader whose read gives these bytes, or fails (None), and leaves the reader so.
 module _ {R : Type 0} (gives : R → Option (List ℕ) → R → Type 0) where
@@ -59,16 +69,16 @@ module _ {R : Type 0} (state : R → Reader) (gives : R → Option (List ℕ) �
     pub well : (state new).failures ≡ (state old).failures
     pub end : ended ≡ true → IsAtEnd (state new).left
 
-  -- The next line was read, and nothing after the read that brought its newline.
-  pub record ReadsLine (before after : LineBuffer) (old new : R) : Type 0 where
+  -- the next line was read, and no block after the one that ends it
+  pub record ReadsLine (before after : Buffered) (old new : R) : Type 0 where
     pub given : List ℕ
     pub reads : GivesBytes before.left after.left after.ended given old new
-    pub line : IsFirstLine (held_after before ++ given) after.line.items (held_after after) after.ended
-    pub lazy : IsLazy gives (held_after before) given old new
+    pub line : IsFirstLine (before.rest ++ given) after.line after.rest after.ended
+    pub lazy : IsLazy gives before.rest given old new
 
-  -- There is no next line: the device is at its end, and nothing is buffered.
-  pub record FindsNoLine (before after : LineBuffer) (old new : R) : Type 0 where
-    pub none : (held_after before ≡ []) × (after.line.items ≡ [])
+  -- there is no next line
+  pub record FindsNoLine (before after : Buffered) (old new : R) : Type 0 where
+    pub none : (before.rest ≡ []) × (after.line ≡ [])
     pub ended : after.ended ≡ true
     pub reads : before.ended ≡ false → GivesBytes before.left after.left true [] old new
 

@@ -8,6 +8,7 @@ use bd_io_device::{Input, Limits, ReadFault};
 use bd_value::LONGEST_COMMAND;
 use memchr::memchr;
 use std::alloc::Global;
+use std::marker::Model;
 
 /// One line of a device, and the bytes that the device gave after it, which are fewer than those of one read.
 #[derive(Drop)]
@@ -23,20 +24,38 @@ pub struct LineBuffer {
     ended: bool,
     /// The fault that an earlier call met.
     failed: Option<ReadFault>,
-    ghost inside: { start ≤ length block.items },
-    ghost short: { length line.items ≤ longest_command },
-    ghost held: { length block.items ≤ 65536 },
-    ghost drained: { ended ≡ true → drop start block.items ≡ [] },
+}
+
+/// A contract sees the line, the bytes after it, how many bytes the last read gave, and how reading goes on.
+impl Model for LineBuffer {
+    ghost use Rattle.std.specs.Prelude.{◌≡◌, ◌≤◌, [], drop, length, true};
+    ghost use Rattle.bd_value.specs.Limits.{longest_command};
+    ghost use Rattle.bd_io_lines.specs.LineBuffer.{Buffered};
+
+    ghost Value = { Buffered };
+
+    ghost view = { λ s. record {
+      left = s.left;
+      line = s.line.items;
+      rest = drop s.start s.block.items;
+      block = length s.block.items;
+      ended = s.ended;
+      failed = s.failed;
+    } };
+
+    ghost invariant = { λ s. (s.start ≤ length s.block.items)
+        × (length s.line.items ≤ longest_command) × (length s.block.items ≤ 65536)
+        × (s.ended ≡ true → drop s.start s.block.items ≡ []) };
 }
 
 impl LineBuffer {
     ghost use Rattle.std.specs.Prelude.{Ok, Err, false, Some, IfErr, IsErrOf, List, OnErr, OnOk, ℕ, ◌⊎◌};
-    ghost use Rattle.bd_io_lines.specs.LineBuffer.{FailsToReadLine, FindsNoLine, GivesBytes, ReadsLine, held_after};
+    ghost use Rattle.bd_io_lines.specs.LineBuffer.{FailsToReadLine, FindsNoLine, GivesBytes, ReadsLine};
 
     /// No line yet. No memory is taken.
     pub fn new(alloc: Global, limits: Limits) -> LineBuffer
         ensures empty { (result.left ≡ limits)
-            × (result.line.items ≡ []) × (result.block.items ≡ []) }
+            × (result.line ≡ []) × (result.rest ≡ []) × (result.block ≡ 0) }
         ensures starts { (result.ended ≡ false) × (result.failed ≡ None) }
     {
         LineBuffer {
@@ -51,14 +70,14 @@ impl LineBuffer {
 
     /// The line that was read last, without its newline; empty before the first, at the end and after a fault.
     pub fn line(&self) -> &[u8]
-        ensures { (result.now ≡ self.now.line.items) × (length result.now ≤ longest_command) }
+        ensures { (result.now ≡ self.now.line) × (length result.now ≤ longest_command) }
     {
         &self.line
     }
 
     /// How many bytes are held: those of a line and those of a read, at most 16,842,752.
     pub fn held(&self) -> usize
-        ensures { (result ≡ length self.now.line.items + length self.now.block.items)
+        ensures { (result ≡ length self.now.line + self.now.block)
             × (result ≤ 16842752) }
     {
         self.line.len() + self.block.len()
@@ -83,7 +102,7 @@ impl LineBuffer {
             FindsNoLine R.state R.read_gives self.old self.new reader.old reader.new }
         ensures fails { self.old.failed ≡ None →
             IfErr result (FailsToReadLine R.state R.read_gives self.old.left
-            (held_after self.old) reader.old reader.new) }
+            self.old.rest reader.old reader.new) }
         // After the end no read is made.
         ensures quiet { self.old.ended ≡ true →
             (reader.new ≡ reader.old) × (self.new.left ≡ self.old.left) }
@@ -91,7 +110,7 @@ impl LineBuffer {
         // After a fault each call answers it, and reads nothing.
         ensures again { IfSome self.old.failed (λ f. (result ≡ Err f) × (reader.new ≡ reader.old)) }
         ensures failed { IfErr result (λ f. (self.new.failed ≡ Some f)
-            × (self.new.line.items ≡ [])) }
+            × (self.new.line ≡ [])) }
         ensures works { OnOk result (self.new.failed ≡ None) }
     {
         self.line.clear();
@@ -108,13 +127,13 @@ impl LineBuffer {
 
     /// Takes the next line into the buffer, where it holds none; false at the end.
     fn advance<R: Input>(&mut self, reader: &mut R) -> Result<bool, ReadFault>
-        requires empty { self.old.line.items ≡ [] }
+        requires empty { self.old.line ≡ [] }
         ensures reads { result ≡ Ok true →
             ReadsLine R.state R.read_gives self.old self.new reader.old reader.new }
         ensures end { result ≡ Ok false →
             FindsNoLine R.state R.read_gives self.old self.new reader.old reader.new }
         ensures fails { IfErr result (FailsToReadLine R.state R.read_gives self.old.left
-            (held_after self.old) reader.old reader.new) }
+            self.old.rest reader.old reader.new) }
         ensures quiet { self.old.ended ≡ true →
             (reader.new ≡ reader.old) × (self.new.left ≡ self.old.left) }
         ensures ends { self.old.ended ≡ true → result ≡ Ok false }
@@ -132,19 +151,18 @@ impl LineBuffer {
     /// Takes what is held after the line up to a newline into it; false where there is none.
     fn take_part(&mut self) -> Result<bool, ReadFault>
         ensures found { result ≡ Ok true →
-            (part : List ℕ) × IsLine part × (self.new.line.items ≡ self.old.line.items ++ part)
-            × (drop self.old.start self.old.block.items
-            ≡ part ++ 10 ∷ drop self.new.start self.new.block.items) }
+            (part : List ℕ) × IsLine part × (self.new.line ≡ self.old.line ++ part)
+            × (self.old.rest ≡ part ++ 10 ∷ self.new.rest) }
         ensures none { result ≡ Ok false →
-            IsLine (drop self.old.start self.old.block.items) × (self.new.line.items
-            ≡ self.old.line.items ++ drop self.old.start self.old.block.items)
-            × (drop self.new.start self.new.block.items ≡ []) }
+            IsLine self.old.rest × (self.new.line ≡ self.old.line ++ self.old.rest)
+            × (self.new.rest ≡ []) }
         ensures kept { (self.new.left ≡ self.old.left) × (self.new.ended ≡ self.old.ended)
             × (self.new.failed ≡ self.old.failed) }
         ensures long { IsErrOf result ReadFault.TooLong → (part : List ℕ) × (rest : List ℕ)
-            × IsLine part × (drop self.old.start self.old.block.items ≡ part ++ rest)
-            × (longest_command < length self.old.line.items + length part) }
+            × IsLine part × (self.old.rest ≡ part ++ rest)
+            × (longest_command < length self.old.line + length part) }
         ensures fault { IfErr result (λ f. (f ≡ ReadFault.TooLong) ⊎ (f ≡ ReadFault.NoMemory)) }
+        ensures short { length self.new.line ≤ longest_command }
     {
         let rest = &self.block[self.start..];
         match find_newline(rest) {
@@ -174,15 +192,15 @@ impl LineBuffer {
     /// Reads once, where a part of a line is held and nothing after it.
     #[tactic(auto, using(crate::proofs::LineBufferLemmas::fails_turns, crate::proofs::LineBufferLemmas::fails_device))]
     fn fetch<R: Input>(&mut self, reader: &mut R) -> Result<(), ReadFault>
-        requires drained { drop self.old.start self.old.block.items ≡ [] }
-        requires part { IsLine self.old.line.items }
+        requires drained { self.old.rest ≡ [] }
+        requires part { IsLine self.old.line }
         ensures gives { OnOk result (GivesBytes R.state R.read_gives self.old.left self.new.left
-            self.new.ended (drop self.new.start self.new.block.items) reader.old reader.new) }
+            self.new.ended self.new.rest reader.old reader.new) }
         ensures one { OnOk result
-            (R.read_gives reader.old (Some (drop self.new.start self.new.block.items)) reader.new) }
+            (R.read_gives reader.old (Some self.new.rest) reader.new) }
         ensures turned { OnOk result (self.new.left.turns < self.old.left.turns) }
         ensures fails { IfErr result (FailsToReadLine
-            R.state R.read_gives self.old.left self.old.line.items reader.old reader.new) }
+            R.state R.read_gives self.old.left self.old.line reader.old reader.new) }
         ensures kept { (self.new.line ≡ self.old.line) × (self.new.failed ≡ self.old.failed) }
     {
         if self.left.turns == 0 {

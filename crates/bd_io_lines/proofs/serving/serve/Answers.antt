@@ -1,6 +1,5 @@
 use Rattle.std.proofs.Common.{rules, ◌≡◌, Ok, Err, true, false, ap}
 use Rattle.std.proofs.{lemmas.Result.err_from_is_err_and, lemmas.Bool.cases_Bool, lemmas.Bool.false_from_ne_true}
-use Rattle.bd_io_lines.specs.LineBuffer.{held_after}
 use Rattle.bd_io_lines.proofs.ServingLemmas as serving
 use Rattle.bd_io_lines.proofs.serving.serve.Goals as goal
 
@@ -25,7 +24,7 @@ loop-text-smaller g c =
     let was : c.read_next.result ≡ Ok true = search rules in
     let r = c.read_next.ensures.reads was in
     let next = c.read_next.new.self in
-    serving.shrinks l.lines.left.bytes next.left.bytes (held_after l.lines) r.given next.line.items (held_after next) next.ended r.reads.room r.line
+    serving.shrinks l.lines.left.bytes next.left.bytes l.lines.rest r.given next.line next.rest next.ended r.reads.room r.line
 
 pub loop-text-preserved : goal.loop-text-preserved
 loop-text-preserved g c =

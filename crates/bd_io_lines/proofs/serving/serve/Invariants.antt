@@ -1,4 +1,4 @@
-use Rattle.std.proofs.Common.{◌≡◌, None, length, drop, ◌+◌}
+use Rattle.std.proofs.Common.{◌≡◌, None, length, ◌+◌}
 use Rattle.bd_io_lines.proofs.ServingLemmas.{Serving}
 use Rattle.bd_io_lines.proofs.serving.serve.Given as goal
 
@@ -10,4 +10,4 @@ invariant-loop-text g l = record {
 }
 
 abbrev pub decreases-loop-text : goal.decreases-loop-text
-decreases-loop-text g l = l.lines.left.bytes + length (drop l.lines.start l.lines.block.items)
+decreases-loop-text g l = l.lines.left.bytes + length l.lines.rest

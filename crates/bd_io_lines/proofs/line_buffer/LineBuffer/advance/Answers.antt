@@ -1,6 +1,6 @@
 use Rattle.std.proofs.Common.{rules, ◌≡◌, ◌++◌, ap, ℕ, List, Ok, Err, true, false, [], length, sym, subst}
 use Rattle.std.proofs.{lemmas.Result.err_from_is_err_and, lemmas.List.nil_from_length}
-use Rattle.bd_io_lines.specs.{Lines.IsLine, LineBuffer.held_after}
+use Rattle.bd_io_lines.specs.Lines.{IsLine}
 use Rattle.bd_io_lines.proofs.LinesLemmas.{line_grows}
 use Rattle.bd_io_lines.proofs.LineBufferLemmas as next
 use Rattle.bd_io_lines.proofs.line_buffer.LineBuffer.advance.Goals as goal
@@ -30,14 +30,14 @@ returns-then-branch-clause-reads g c _ =
     let so = l.invariant.so_far (l.invariant.still going) in
     let is : c.take_part.result ≡ Ok true = search rules in
     let f = c.take_part.ensures.found is in
-    next.reads_line so going l.invariant.line c.take_part.new.self f.0 f.1 f.2 f.3 c.take_part.ensures.kept.0 (search rules)
+    next.reads_line so going l.invariant.line c.take_part.new.self f.0 f.1 f.2 f.3 c.take_part.ensures.kept.0 (search rules) c.take_part.ensures.short
 
 pub fetch-requires-clause-part : goal.fetch-requires-clause-part
 fetch-requires-clause-part g c =
     let l = c.loop-self in
     let is : c.take_part.result ≡ Ok false = search rules in
     let n = c.take_part.ensures.none is in
-    subst IsLine (sym {A = List ℕ} n.1) (line_grows l.self.line.items (held_after l.self) l.invariant.line n.0)
+    subst IsLine (sym {A = List ℕ} n.1) (line_grows l.self.line l.self.rest l.invariant.line n.0)
 
 pub loop-self-preserved : goal.loop-self-preserved
 loop-self-preserved g c =
@@ -49,11 +49,11 @@ loop-self-preserved g c =
     let n = c.take_part.ensures.none is in
     let gave = c.in_ok-fetch.ensures.gives in
     let new = c.fetch.new.self in
-    let line : new.line.items ≡ l.self.line.items ++ held_after l.self = search rules in
+    let line : new.line ≡ l.self.line ++ l.self.rest = search rules in
     let left : c.take_part.new.self.left ≡ l.self.left = c.take_part.ensures.kept.0 in
     record {
       so_far = λ _. next.line_goes_on so going l.invariant.line n.0 new line c.fetch.new.reader (rw left at gave) c.in_ok-fetch.ensures.one;
-      line = next.line_grown so going l.invariant.line n.0 new.line.items line;
+      line = next.line_grown so going l.invariant.line n.0 new.line line;
       still = λ _. was;
       quiet = λ is_ended. absurd (search (rules, was, is_ended));
       failed = search rules;
@@ -68,12 +68,13 @@ returns-in_err-fetch-clause-fails g c =
     let n = c.take_part.ensures.none is in
     let left : c.take_part.new.self.left ≡ l.self.left = c.take_part.ensures.kept.0 in
     let p = err_from_is_err_and c.from_residual-in_err-fetch.result c.from_residual-in_err-fetch.ensures.1 in
-    rw (p.1, p.2) (next.line_fails so going l.invariant.line n.0 c.take_part.new.self.line.items n.1 c.fetch.new.reader c.in_err-fetch.field-0.0 (rw left at c.in_err-fetch.ensures.fails))
+    rw (p.1, p.2) (next.line_fails so going l.invariant.line n.0 c.take_part.new.self.line n.1 c.fetch.new.reader c.in_err-fetch.field-0.0 (rw left at c.in_err-fetch.ensures.fails))
 
 pub returns-clause-end : goal.returns-clause-end
 returns-clause-end g c is =
     let l = c.loop-self in
-    let none : length l.self.line.items ≡ 0 = search (rules, is) in
-    let empty : l.self.line.items ≡ [] = nil_from_length l.self.line.items none in
+    let none : length l.self.line ≡ 0 = search (rules, is) in
+    let empty : l.self.line ≡ [] = nil_from_length l.self.line none in
     let ended : l.self.ended ≡ true = search rules in
-    next.finds_no_line c.args.self.now l.self c.args.reader.now l.reader ended empty l.invariant.so_far
+    let drained : l.self.rest ≡ [] = let i = c.self.invariant.3 in search (rules, i, ended) in
+    next.finds_no_line c.args.self.now l.self c.args.reader.now l.reader ended empty drained (λ was. (l.invariant.quiet was).3) l.invariant.so_far

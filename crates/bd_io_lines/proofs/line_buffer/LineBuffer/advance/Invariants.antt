@@ -6,9 +6,9 @@ use Rattle.bd_io_lines.proofs.line_buffer.LineBuffer.advance.Given as goal
 abbrev pub invariant-loop-self : goal.invariant-loop-self
 invariant-loop-self g l = record {
   so_far : l.initial.self.ended ≡ false → SoFar g.R.Input.state g.R.Input.read_gives l.initial.self l.self l.initial.reader l.reader;
-  line : IsLine l.self.line.items;
+  line : IsLine l.self.line;
   still : l.self.ended ≡ false → l.initial.self.ended ≡ false;
-  quiet : l.initial.self.ended ≡ true → (l.reader ≡ l.initial.reader) × (l.self.left ≡ l.initial.self.left) × (l.self.line.items ≡ []);
+  quiet : l.initial.self.ended ≡ true → (l.reader ≡ l.initial.reader) × (l.self.left ≡ l.initial.self.left) × (l.self.line ≡ []) × (l.self.rest ≡ l.initial.self.rest);
   failed : l.self.failed ≡ l.initial.self.failed;
 }
 
