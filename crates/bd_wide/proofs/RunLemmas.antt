@@ -31,7 +31,7 @@ pub comes_flushed : (Is : Writes) (others : Others) (nested : Nested) (own : Lis
 comes_flushed Is others nested own bytes rest old out now run comes is = subst (λ x. Comes Is others nested own bytes rest old x) (sym is) comes
 
 -- an element that stays is one more of the run
-stays_as_it_is : (Is : Writes) (nested : Nested) (path : List ℕ) (t : ElementType) (head value : List ℕ) → Stays Is t → IsElement Is nested path t head value (head ++ value)
+pub stays_as_it_is : (Is : Writes) (nested : Nested) (path : List ℕ) (t : ElementType) (head value : List ℕ) → Stays Is t → IsElement Is nested path t head value (head ++ value)
 stays_as_it_is Is nested path t head value (inl none) = part_of_element Is nested path t None head value (head ++ value) (sym none) refl
 stays_as_it_is Is nested path t head value (inr number) = part_of_element Is nested path t (Some parts.Number) head value (head ++ value) (sym number.0) (number.1 path head value)
 
@@ -63,7 +63,7 @@ run_goes_on Is others nested own bytes old out run rest head more value left t k
     (subst (λ (x : List ℕ). Comes Is others nested own bytes after old x) written next, all ∙ ap (λ x. x ++ after) (sym cut))
 
 -- one that gets another type ends the run before its type, and begins one after it
-after_type : (k : ℕ) (rest : List ℕ) → 1 ≤ k → k ≤ length rest → drop 1 rest ≡ drop 1 (take k rest) ++ drop k rest
+pub after_type : (k : ℕ) (rest : List ℕ) → 1 ≤ k → k ≤ length rest → drop 1 rest ≡ drop 1 (take k rest) ++ drop k rest
 after_type k [] some fits = absurd (omega (arith, some, fits))
 after_type zero (b ∷ bytes) some fits = absurd (omega (arith, some))
 after_type (suc k) (b ∷ bytes) some fits = sym (take-append-drop k bytes)

@@ -110,7 +110,7 @@ goes_on Is others nested own (b ∷ bytes) x one two is e r =
     from_turn Is others nested own (length bytes) b bytes (one ++ two) (subst (λ (f : Option (ElementType × ℕ × ℕ)). Turn Is others nested own (length bytes) (b ∷ bytes) f (one ++ two)) is
     (one, two, e, enough Is others nested own (length rest) (length bytes) rest two (omega arith) less r, refl))
 
-ends : (Is : Writes) (others : Others) (nested : Nested) (own : List ℕ → List ℕ) (bytes : List ℕ) → 0 < length bytes → None ≡ front bytes → AreElements Is others nested own (length bytes) bytes (others bytes)
+pub ends : (Is : Writes) (others : Others) (nested : Nested) (own : List ℕ → List ℕ) (bytes : List ℕ) → 0 < length bytes → None ≡ front bytes → AreElements Is others nested own (length bytes) bytes (others bytes)
 ends Is others nested own [] some is = absurd (omega arith)
 ends Is others nested own (b ∷ bytes) some is = from_turn Is others nested own (length bytes) b bytes (others (b ∷ bytes))
     (subst (λ (f : Option (ElementType × ℕ × ℕ)). Turn Is others nested own (length bytes) (b ∷ bytes) f (others (b ∷ bytes))) is refl)

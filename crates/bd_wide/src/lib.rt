@@ -11,6 +11,10 @@
 //! write_rewritten(&Mask, bytes, &mut path, &mut out)?;
 //! // The same eight bytes, as an int64.
 //! assert!(rt; out.as_slice() == b"\x10\0\0\0\x12d\0\0\0\0\0\0\0\xf0\x3f\0".as_slice());
+//! // The same at its place.
+//! let mut copy = Vec::new(alloc);
+//! write_masked(bytes, &mut copy)?;
+//! assert!(rt; copy.as_slice() == out.as_slice());
 //! ```
 //!
 //! - `find`: `find_refused`, the first number that a `Refuser` refuses: `specs/Refused.antt`.
@@ -20,6 +24,7 @@
 //! - `order`: `write_ordered`, a document whose numbers are whole numbers in the same order: `specs/Order.antt`.
 //! - `paths`: the paths whose numbers become codes: `specs/Paths.antt`.
 //! - `mask`: `Mask`, in which each element has a type that bsonfind reads, at the same place.
+//! - `masking`: `write_masked`, which masks a document at its place.
 //! - `laws`: that `mask` keeps the length, and that `wrap` and `order` leave documents without doubles and decimal128 as they
 //!   are.
 #![tactic(auto)]
@@ -28,6 +33,7 @@ mod element;
 mod find;
 mod laws;
 mod mask;
+mod masking;
 mod order;
 mod paths;
 mod walk;
@@ -37,6 +43,7 @@ pub use element::Part;
 pub use find::{Found, Refusal, Refuser, find_refused};
 pub use laws::{mask_keeps_length, order_leaves_others, read_documents_stay, wrap_leaves_others};
 pub use mask::Mask;
+pub use masking::write_masked;
 pub use order::{Order, Outcome, Unfiltered, Unordered, write_ordered};
 pub use paths::{OrderPath, read_order};
 pub use walk::{NumberWriter, write_rewritten};

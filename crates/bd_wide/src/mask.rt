@@ -11,6 +11,7 @@ use bd_bson_view::{ElementType, raw_parts as raw};
 use bd_value::NoMemory;
 
 /// A double becomes an int64 of the same eight bytes, and a decimal128 an ObjectId whose name has four letters more.
+/// `write_masked` writes the same in less time.
 pub struct Mask;
 
 impl NumberWriter for Mask {

@@ -458,7 +458,7 @@ pub(crate) fn put_number(at: usize, n: u64, out: &mut Vec<u8>)
 
 /// The four lowest bytes of a number, the lowest first.
 #[tactic(auto, unfolding(bd_bson_view::specs::Spelling::number))]
-fn low_bytes(n: u64) -> [u8; 4]
+pub(crate) fn low_bytes(n: u64) -> [u8; 4]
     ensures { result ≡ number n }
 {
     let bytes = n.to_le_bytes();

@@ -5,7 +5,7 @@ ghost use Rattle.bd_wide.specs.Rewritten.{Adds};
 ghost use Rattle.bd_wide.specs.Order.{IsUnfiltered};
 ghost use Rattle.bd_wide_cli.specs.Filtered.{IsFiltered, IsRefused};
 
-use bd_wide::{Mask, Order, Unfiltered, write_ordered, write_rewritten, write_wrapped};
+use bd_wide::{Order, Unfiltered, write_masked, write_ordered, write_wrapped};
 
 /// A command, by what it does to the documents of a dump.
 #[derive(Debug, Drop)]
@@ -38,7 +38,7 @@ pub(crate) fn write_filtered(
 {
     match filter {
         Filter::Mask => {
-            if write_rewritten(&Mask, bytes, path, out).is_err() {
+            if write_masked(bytes, out).is_err() {
                 return Err(Unfiltered::NoMemory);
             }
             Ok(true)

@@ -1,6 +1,6 @@
 //! The examples of use in the roots of `bd_wide_number`, `bd_wide_text`, `bd_wide`, `bd_wide_args` and `bd_wide_cli`.
 use bd_io_device::{MemoryInput, MemoryOutput};
-use bd_wide::{Mask, write_rewritten};
+use bd_wide::{Mask, write_masked, write_rewritten};
 use bd_wide_args::{Order, parse_words};
 use bd_wide_cli::{Filter, Status, run};
 use bd_wide_number::{Number, code_of, whole_of};
@@ -33,6 +33,10 @@ fn masked(rt: HostRuntime) -> Result<(), Fail> {
     write_rewritten(&Mask, bytes, &mut path, &mut out)?;
     // The same eight bytes, as an int64.
     assert!(rt; out.as_slice() == b"\x10\0\0\0\x12d\0\0\0\0\0\0\0\xf0\x3f\0".as_slice());
+    // The same at its place.
+    let mut copy = Vec::new(alloc);
+    write_masked(bytes, &mut copy)?;
+    assert!(rt; copy.as_slice() == out.as_slice());
     Ok(())
 }
 

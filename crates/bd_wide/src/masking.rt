@@ -1,0 +1,213 @@
+//! A document masked at its place: `Mask` keeps each length, so no byte moves.
+
+ghost use Rattle.std.specs.Prelude.{◌≡◌, ◌≢◌, ◌≤◌, ◌+◌, ◌++◌, length, take, drop, OnOk, OnErr, IfSome};
+ghost use Rattle.bd_bson_view.specs.Spelling.{number};
+ghost use Rattle.bd_wide.specs.Mask.{IsMasked, masked_element, masked_others};
+ghost use Rattle.bd_wide.specs.Masking.{HasPlain, IsFirst, IsPlain, MasksBody, MasksElement, MasksElements, MasksNested, MasksScoped};
+ghost use Rattle.bd_wide.specs.Rewritten.{Adds, IsRewritten, holder_least, least};
+
+use crate::element::{Part, front, looked_into};
+use crate::walk::{low_bytes, scope_at};
+use bd_bson_view::{ElementType, Holder, raw_parts as raw};
+use bd_value::{MOST_LEVELS, NoMemory};
+
+/// Appends what `Mask` writes of the document that all of the bytes are.
+///
+/// # Errors
+/// `NoMemory` leaves `out` as it was.
+pub fn write_masked(bytes: &[u8], out: &mut Vec<u8>) -> Result<(), NoMemory>
+    ensures ok { OnOk result (Adds (IsRewritten IsMasked masked_others bytes.now)
+        out.old.items out.new.items) }
+    ensures kept { OnErr result (out.new.items ≡ out.old.items) }
+{
+    let before = out.len();
+    out.extend_from_slice(bytes)?;
+    let all: &mut [u8] = out;
+    mask_document(&mut all[before..]);
+    Ok(())
+}
+
+/// Masks the document that all of the bytes are.
+fn mask_document(bytes: &mut [u8])
+    ensures { IsRewritten IsMasked masked_others bytes.old bytes.new }
+{
+    if bytes.len() >= 5 {
+        nested(MOST_LEVELS as u32, Holder::Document, bytes);
+    }
+}
+
+/// Masks a value that holds values, with so many levels left for it.
+#[cycle(masking)]
+#[tactic(auto, unfolding(crate::specs::Rewritten::holder_least))]
+fn nested(room: u32, holder: Holder, value: &mut [u8])
+    requires { holder_least holder ≤ length value.old }
+    ensures { MasksNested room holder value.old value.new }
+{
+    if room == 0 {
+        return;
+    }
+    match holder {
+        Holder::Document => body(room - 1, value),
+        Holder::Array => body(room - 1, value),
+        Holder::CodeScope => scoped(room - 1, value),
+    }
+}
+
+/// Masks a document or an array, with so many levels left below it.
+#[cycle(masking)]
+fn body(room: u32, value: &mut [u8])
+    requires { 5 ≤ length value.old }
+    ensures { MasksBody room value.old value.new }
+{
+    let size = value.len();
+    put_size(value);
+    elements(room, &mut value[4..size - 1]);
+}
+
+/// Puts the count of the bytes into the first four.
+fn put_size(value: &mut [u8])
+    requires { 5 ≤ length value.old }
+    ensures { value.new ≡ number (length value.old) ++ drop 4 value.old }
+{
+    let size = low_bytes(value.len() as u64);
+    value[..4].copy_from_slice(&size);
+}
+
+/// Masks code with scope, with so many levels left for its scope.
+#[cycle(masking)]
+fn scoped(room: u32, value: &mut [u8])
+    requires { 14 ≤ length value.old }
+    ensures { MasksScoped room value.old value.new }
+{
+    let Some(at) = scope_at(value) else {
+        return;
+    };
+    put_size(value);
+    nested(room, Holder::Document, &mut value[at..]);
+}
+
+/// Masks elements, with so many levels left below them.
+#[cycle(masking)]
+fn elements(room: u32, bytes: &mut [u8])
+    ensures { MasksElements room bytes.old bytes.new }
+{
+    let mut at = 0;
+    while let Some(size) = first(room, &mut bytes[at..]) {
+        at += size;
+    }
+    others(&mut bytes[at..]);
+}
+
+/// Masks the first element, with so many levels left below it, and says how many bytes it has; none if it can't be passed on.
+#[cycle(masking)]
+#[inline(always)]
+fn first(room: u32, bytes: &mut [u8]) -> Option<usize>
+    ensures { IsFirst room bytes.old bytes.new result }
+{
+    match plain(bytes) {
+        Some((byte, size)) => {
+            bytes[0] = byte;
+            Some(size)
+        }
+        None => next(room, bytes),
+    }
+}
+
+/// Of most elements their type alone tells how many bytes the value has: the type that the one at the front gets, and how
+/// many bytes it has.
+#[inline(always)]
+fn plain(bytes: &[u8]) -> Option<(u8, usize)>
+    ensures { IfSome result (λ x. IsPlain x.0 x.1 bytes.now) }
+{
+    if bytes.is_empty() {
+        return None;
+    }
+    let byte = bytes[0];
+    let size = plain_size(byte)?;
+    let (_, rest) = bytes.split_at(1);
+    let k = raw::first_zero(rest)?;
+    if rest.len() - k <= size {
+        return None;
+    }
+    Some((masked_type(byte), k + 2 + size))
+}
+
+/// The type that a plain element gets.
+#[inline(always)]
+fn masked_type(byte: u8) -> u8
+    ensures double { byte ≡ 1 → result ≡ 18 }
+    ensures other { byte ≢ 1 → result ≡ byte }
+{
+    if byte == 1 { 0x12 } else { byte }
+}
+
+/// How many bytes a value of this type has, if all have as many and nothing of them changes.
+#[inline(always)]
+fn plain_size(byte: u8) -> Option<usize>
+    ensures { IfSome result (λ n. HasPlain byte n) }
+{
+    match byte {
+        0x01 => Some(8),
+        0x07 => Some(12),
+        0x08 => Some(1),
+        0x09 => Some(8),
+        0x0A => Some(0),
+        0x10 => Some(4),
+        0x11 => Some(8),
+        0x12 => Some(8),
+        _ => None,
+    }
+}
+
+/// Masks the first element, whatever its type.
+#[cycle(masking)]
+fn next(room: u32, bytes: &mut [u8]) -> Option<usize>
+    ensures { IsFirst room bytes.old bytes.new result }
+{
+    let (typed, k, n) = front(bytes)?;
+    element(room, typed, k, &mut bytes[..k + n]);
+    Some(k + n)
+}
+
+/// Masks an element whose head has so many bytes.
+#[cycle(masking)]
+fn element(room: u32, typed: ElementType, k: usize, bytes: &mut [u8])
+    requires head { 2 ≤ k }
+    requires value { k + least typed ≤ length bytes.old }
+    ensures { MasksElement room typed k bytes.old bytes.new }
+{
+    match looked_into(typed) {
+        None => {}
+        Some(Part::Number) => number_element(typed, k, bytes),
+        Some(Part::Values(holder)) => nested(room, holder, &mut bytes[k..]),
+    }
+}
+
+/// Masks an element that holds a number.
+fn number_element(typed: ElementType, k: usize, bytes: &mut [u8])
+    requires head { 2 ≤ k }
+    requires value { k + least typed ≤ length bytes.old }
+    ensures { bytes.new ≡ masked_element typed (take k bytes.old) (drop k bytes.old) }
+{
+    match typed {
+        ElementType::Double => bytes[0] = 0x12,
+        ElementType::Decimal128 => {
+            bytes[0] = 0x07;
+            bytes[k - 1..k + 4].copy_from_slice(b"####\0");
+        }
+        ElementType::Kept(_) => {}
+    }
+}
+
+/// Masks the bytes from the first element on that can't be passed on.
+fn others(bytes: &mut [u8])
+    ensures { bytes.new ≡ masked_others bytes.old }
+{
+    if bytes.is_empty() {
+        return;
+    }
+    let (_, rest) = bytes.split_at(1);
+    if bytes[0] == 1 && raw::first_zero(rest).is_some() {
+        bytes[0] = 0x12;
+    }
+}
