@@ -1,6 +1,6 @@
 //! Why a text is no document of Extended JSON, and where: the second pass, over a text that was refused.
 //!
-//! Of bytes that are not UTF-8 a clause says which kind and which byte it tells; of texts none does: that is tested.
+//! Which fault it tells, and at which byte, is a function of the text: `text_fault` of `specs/TextFault.antt`.
 //!
 //! An example, which `bd_extjson_tests` proves and runs as `examples::diagnosed`:
 //!
@@ -12,11 +12,13 @@
 //! - `json_fault`: the kinds of faults, and a fault.
 //! - `second_pass`: `diagnose`, a walk over the whole text: its first fault as JSON, and of the tree that it is.
 //! - `skip`: the tokens of JSON, passed one by one.
+//! - `tree_fault`: what is wrong with a part of a text that is JSON: a number, a name, a wrapper.
 #![tactic(auto)]
 
 mod json_fault;
 mod second_pass;
 mod skip;
+mod tree_fault;
 
 pub use json_fault::{JsonFault, JsonFaultKind};
 pub use second_pass::diagnose;

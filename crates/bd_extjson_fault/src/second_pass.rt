@@ -1,20 +1,33 @@
 //! Why a text is no document, and where: a pass over the whole text, for texts that are refused.
 //!
-//! What is no JSON stops the walk where it stands. The first fault of the tree is kept until the text has shown itself as JSON.
-ghost use Rattle.std.specs.Prelude.{◌≡◌, ◌-◌, ◌<◌, ◌≤◌, IfErr, IfOk, OnOk, length};
+//! What is no JSON ends the walk where it stands. The first fault of the tree is kept until the text has shown itself as JSON.
+ghost use Rattle.std.specs.Prelude.{◌≡◌, ◌≢◌, ◌-◌, ◌<◌, ◌≤◌, ◌==◌, ℕ, IfErr, IfOk, OnOk, MatchResult, Some, None, Ok, Err, if◌then◌else◌, [], ◌∷◌, map, drop, length, IfSome, option_and_then};
+ghost use Rattle.std.specs.Option.{option_or};
 ghost use Rattle.std.specs.Str.{IsUtf8};
-ghost use Rattle.std.specs.Str.Lossy.{utf8_valid_len};
+ghost use Rattle.bd_value.specs.Limits.{most_brackets, most_levels};
+ghost use Rattle.bd_extjson_wrapper.specs.Wrapper.{is_code_name, is_scope_name};
 ghost use Rattle.bd_extjson_fault.specs.JsonFault.{IsPlaced, TellsBadUtf8};
+ghost use Rattle.bd_extjson_fault.specs.JsonSyntax.{Gives, begins, past_white, past_word, past_number, past_scalar, past_next};
+ghost use Rattle.bd_extjson_fault.specs.JsonSyntax.{past_array, past_object, past_member, past_value, past_text, past_parts};
+ghost use Rattle.bd_extjson_fault.specs.TreeFault.{is_document, is_string, first_wrapper, fault_at, zero_fault, part_of};
+ghost use Rattle.bd_extjson_fault.specs.TreeFault.{Finds, scalar_fault, array_fault, object_fault, document_fault, member_fault};
+ghost use Rattle.bd_extjson_fault.specs.TreeFault.{value_fault, first_in, parts_from, code_fault, members_in, scope_fault};
+ghost use Rattle.bd_extjson_fault.specs.SecondPass.{Walks, IsWithin, found, found_in_scope, deeper, depth_fault};
+ghost use Rattle.bd_extjson_fault.specs.TextFault.{text_fault, stop_in, fault_in, tree_or_none};
 ghost use Rattle.bd_extjson_fault.specs.declared.json_fault.JsonFaultKind.TheVariants as kinds;
+ghost use Rattle.bd_extjson_fault.specs.declared.second_pass.Halt.TheVariants as halts;
+ghost use Rattle.bd_extjson_fault.specs.declared.tree_fault.TreeFaultKind.TheVariants.{BadWrapper};
 
 use crate::json_fault::{JsonFault, JsonFaultKind};
-use crate::skip::{Key, Stop, skip_key, skip_number, skip_string, skip_white, skip_word};
-use bd_extjson_wrapper::{
-    Trouble, Wrapper, is_whole_number, number_of, only, pair, unwrap_single, whole,
+use crate::skip::{
+    Key, Stop, StopKind, begins, skip_byte, skip_key, skip_number, skip_string, skip_white,
+    skip_word,
 };
-use bd_value::{MOST_BRACKETS, MOST_LEVELS, has_zero};
-use json::{Error, Reader, Scratch, Value};
-use std::alloc::Global;
+use crate::tree_fault::{TreeFault, TreeFaultKind, number_fault, read_name, wrapper_fault};
+use bd_extjson_wrapper::Wrapper;
+use bd_value::{MOST_BRACKETS, MOST_LEVELS};
+use json::Scratch;
+use std::alloc::{AllocError, Global};
 
 /// The first fault of a text: of its UTF-8, of its JSON, of its tree from left to right, and last that it is no document.
 ///
@@ -22,107 +35,278 @@ use std::alloc::Global;
 pub fn diagnose(alloc: Global, text: &[u8]) -> JsonFault
     ensures place { IsPlaced (length text.now) result }
     ensures utf8 { TellsBadUtf8 text.now result }
-{
-    match check(alloc, text) {
-        Ok(()) => Stop::syntax(&[]).in_text(text.len()),
-        Err(stop) => stop.in_text(text.len()),
-    }
-}
-
-/// The text as UTF-8, as JSON, as a tree and as a document.
-fn check(alloc: Global, text: &[u8]) -> Result<(), Stop>
-    ensures ok { IfOk result (λ u. IsUtf8 text.now) }
-    ensures err { IfErr result (λ stop. ¬ (IsUtf8 text.now) →
-        stop ≡ record { kind = kinds.Syntax; left = length text.now - utf8_valid_len text.now }) }
+    // What is told is the fault of the text, unless memory runs out.
+    ensures is { result.kind ≢ kinds.NoMemory → result ≡ text_fault text.now }
 {
     if let Err(error) = str::from_utf8(text) {
-        return Err(Stop::syntax(&text[error.valid_up_to()..]));
+        return syntax_at(error.valid_up_to());
     }
-    let (rest, fault) = (text, None);
-    let mut walk = Walk { alloc, rest, fault };
-    let form = walk.value(MOST_BRACKETS, Some(MOST_LEVELS))?;
-    let after = skip_white(walk.rest);
-    if !after.is_empty() {
-        return Err(Stop::at(after, JsonFaultKind::TrailingText));
-    }
-    match walk.fault {
-        Some(fault) => Err(fault),
-        None if form != Form::Document => Err(Stop::at(text, JsonFaultKind::NotADocument)),
-        None => Ok(()),
+    let (scratch, rest, fault) = (Scratch::new(alloc), text, None);
+    let mut walk = Walk {
+        alloc,
+        scratch,
+        rest,
+        fault,
+    };
+    match walk.document() {
+        Ok(None) => syntax_at(text.len()),
+        Ok(Some(fault)) => fault,
+        Err(Halt::NoJson(stop)) => stop_in(stop, text.len()),
+        Err(Halt::NoMemory) => JsonFault {
+            kind: JsonFaultKind::NoMemory,
+            at: 0,
+        },
     }
 }
 
-/// What a value is, so far as its surroundings ask.
-#[derive(Clone, Copy, Drop, PartialEq, Eq)]
-enum Form {
-    Document,
-    Text,
-    Other,
+fn syntax_at(at: usize) -> JsonFault
+    ensures { result ≡ record { kind = kinds.Syntax; at = at } }
+{
+    JsonFault {
+        kind: JsonFaultKind::Syntax,
+        at: at as u64,
+    }
+}
+
+/// The fault in a text of that length.
+fn stop_in(stop: Stop, len: usize) -> JsonFault
+    requires { stop.left ≤ len }
+    ensures placed { IsPlaced len result }
+    ensures is { result ≡ stop_in len stop }
+{
+    let kind = match stop.kind {
+        StopKind::Syntax => JsonFaultKind::Syntax,
+        StopKind::TooDeep => JsonFaultKind::TooDeep,
+        StopKind::TrailingText => JsonFaultKind::TrailingText,
+    };
+    let at = (len - stop.left) as u64;
+    JsonFault { kind, at }
+}
+
+/// The fault in a text of that length.
+fn fault_in(fault: TreeFault, len: usize) -> JsonFault
+    ensures placed { IsPlaced len result }
+    ensures is { result ≡ fault_in len fault }
+{
+    let kind = match fault.kind {
+        TreeFaultKind::TooDeep => JsonFaultKind::TooDeep,
+        TreeFaultKind::BadWrapper => JsonFaultKind::BadWrapper,
+        TreeFaultKind::NotInProfile => JsonFaultKind::NotInProfile,
+        TreeFaultKind::NumberRange => JsonFaultKind::NumberRange,
+        TreeFaultKind::NulInName => JsonFaultKind::NulInName,
+    };
+    let at = len.saturating_sub(fault.left) as u64;
+    JsonFault { kind, at }
+}
+
+/// Why a walk ends before the text does.
+#[derive(Clone, Copy, Drop)]
+enum Halt {
+    NoJson(Stop),
+    NoMemory,
+}
+
+impl From<Stop> for Halt {
+    ghost from_gives = { λ stop halt. halt ≡ halts.NoJson stop };
+
+    fn from(stop: Stop) -> Halt {
+        Halt::NoJson(stop)
+    }
+}
+
+impl From<AllocError> for Halt {
+    ghost from_gives = { λ _ halt. halt ≡ halts.NoMemory };
+
+    fn from(_e: AllocError) -> Halt {
+        Halt::NoMemory
+    }
+}
+
+/// A member of an object.
+#[derive(Clone, Copy, Drop)]
+struct Part<'a> {
+    /// What its name says.
+    wrapper: Option<Wrapper>,
+    /// What stands behind its colon.
+    text: &'a [u8],
+}
+
+impl Part<'_> {
+    fn is_code(&self) -> bool
+        ensures { result ≡ is_code_name self.now.wrapper }
+    {
+        matches!(self.wrapper, Some(Wrapper::Code))
+    }
+
+    fn is_scope(&self) -> bool
+        ensures { result ≡ is_scope_name self.now.wrapper }
+    {
+        matches!(self.wrapper, Some(Wrapper::Scope))
+    }
+
+    /// The fault of an object of this one member.
+    fn fault_alone(&self, object: &[u8]) -> Option<TreeFault>
+        ensures { (fault : ℕ → Finds) → (room : ℕ)
+            → result ≡ code_fault fault room object.now ((self.now.wrapper, self.now.text.now) ∷ []) }
+    {
+        if self.is_code() {
+            if is_string(self.text) {
+                None
+            } else {
+                bad_wrapper(object)
+            }
+        } else {
+            bad_wrapper(object)
+        }
+    }
+}
+
+fn bad_wrapper(object: &[u8]) -> Option<TreeFault>
+    ensures { result ≡ fault_at object.now BadWrapper }
+{
+    Some(TreeFault::at(object, TreeFaultKind::BadWrapper))
+}
+
+/// Whether a string is next.
+fn is_string(text: &[u8]) -> bool
+    ensures { result ≡ is_string text.now }
+{
+    begins(skip_white(text), b'"')
 }
 
 /// A walk over a text, which is JSON so far.
 #[derive(Drop)]
 struct Walk<'a> {
     alloc: Global,
+    scratch: Scratch,
     /// What is not passed yet.
     rest: &'a [u8],
     /// The first fault of the tree.
-    fault: Option<Stop>,
+    fault: Option<TreeFault>,
 }
 
 impl<'a> Walk<'a> {
+    /// The first fault of the tree, which the whole text is, or that it is no document.
+    fn document(&mut self) -> Result<Option<JsonFault>, Halt>
+        ensures past { Walks result [] (past_text self.old.rest.now) }
+        ensures within { IfErr result (IsWithin (length self.old.rest.now)) }
+        ensures place { IfOk result (λ f. IfSome f (IsPlaced (length self.old.rest.now))) }
+        ensures first { IfOk result (λ f. self.old.fault ≡ None
+            → f ≡ tree_or_none self.old.rest.now (value_fault most_brackets most_levels self.old.rest.now)) }
+    {
+        let text = self.rest;
+        self.whole()?;
+        if let Some(fault) = self.fault {
+            return Ok(Some(fault_in(fault, text.len())));
+        }
+        if self.is_document(text)? {
+            return Ok(None);
+        }
+        Ok(Some(JsonFault {
+            kind: JsonFaultKind::NotADocument,
+            at: 0,
+        }))
+    }
+
+    /// Passes the whole text, which is to be one value.
+    #[tactic(auto, unfolding(crate::specs::JsonSyntax::past_text))]
+    fn whole(&mut self) -> Result<(), Halt>
+        ensures past { Walks result [] (past_text self.old.rest.now) }
+        ensures within { IfErr result (IsWithin (length self.old.rest.now)) }
+        ensures fault { OnOk result (self.new.fault
+            ≡ option_or self.old.fault (value_fault most_brackets most_levels self.old.rest.now)) }
+    {
+        self.value(MOST_BRACKETS, Some(MOST_LEVELS))?;
+        let after = skip_white(self.rest);
+        if !after.is_empty() {
+            return Err(Halt::NoJson(Stop::at(after, StopKind::TrailingText)));
+        }
+        Ok(())
+    }
+
+    /// Whether an object that is no wrapper is next.
+    fn is_document(&mut self, text: &'a [u8]) -> Result<bool, AllocError>
+        ensures same { self.new.rest.now ≡ self.old.rest.now }
+        ensures same_fault { self.new.fault ≡ self.old.fault }
+        ensures tells { IfOk result (λ is. is ≡ is_document text.now) }
+    {
+        let here = skip_white(text);
+        if !begins(here, b'{') {
+            return Ok(false);
+        }
+        Ok(self.first_wrapper(skip_byte(here))?.is_none())
+    }
+
     /// Passes the next value, with at most `level` brackets in one another. Faults of the tree are looked for where there is a
     /// `room`: so deep may documents and arrays stand in one another.
     #[cycle(passing)]
-    fn value(&mut self, level: usize, room: Option<usize>) -> Result<Form, Stop>
-        ensures { OnOk result (length self.new.rest.now < length self.old.rest.now) }
+    fn value(&mut self, level: usize, room: Option<usize>) -> Result<(), Halt>
+        ensures past { Walks result self.new.rest.now (past_value level self.old.rest.now) }
+        ensures shorter { MatchResult result (λ u. length self.new.rest.now < length self.old.rest.now)
+            (IsWithin (length self.old.rest.now)) }
+        ensures fault { OnOk result (self.new.fault
+            ≡ found self.old.fault room (λ r. value_fault level r self.old.rest.now)) }
     {
         let here = skip_white(self.rest);
-        let [first, inside @ ..] = here else {
-            return Err(Stop::syntax(here));
-        };
-        self.rest = inside;
-        match *first {
-            b'{' | b'[' if level == 0 => Err(Stop::at(here, JsonFaultKind::TooDeep)),
-            b'{' => self.object(here, level - 1, room),
-            b'[' => self.array(here, level - 1, room),
-            b'"' => {
-                self.rest = skip_string(inside)?;
-                Ok(Form::Text)
-            }
-            b't' => self.word(b"rue"),
-            b'f' => self.word(b"alse"),
-            b'n' => self.word(b"ull"),
-            b'-' | b'0'..=b'9' => self.number(here, room),
-            _ => Err(Stop::syntax(here)),
+        let is_object = begins(here, b'{');
+        if !is_object && !begins(here, b'[') {
+            return Ok(self.scalar(here, room)?);
+        }
+        if level == 0 {
+            return Err(Halt::NoJson(Stop::at(here, StopKind::TooDeep)));
+        }
+        self.rest = skip_byte(here);
+        if is_object {
+            self.object(here, level - 1, room)
+        } else {
+            self.array(here, level - 1, room)
         }
     }
 
-    /// Passes what is left of a word.
-    fn word(&mut self, left: &[u8]) -> Result<Form, Stop>
-        ensures { OnOk result (length self.new.rest.now ≤ length self.old.rest.now) }
+    /// Passes the value without brackets that the text begins with.
+    #[tactic(auto, unfolding(crate::specs::JsonSyntax::past_scalar))]
+    fn scalar(&mut self, text: &'a [u8], room: Option<usize>) -> Result<(), Stop>
+        ensures past { Gives (λ u. self.new.rest.now) result (past_scalar text.now) }
+        ensures shorter { MatchResult result (λ u. length self.new.rest.now < length text.now)
+            (λ stop. stop.left ≤ length text.now) }
+        ensures fault { OnOk result (self.new.fault ≡ found self.old.fault room (λ r. scalar_fault text.now)) }
     {
-        self.rest = skip_word(self.rest, left)?;
-        Ok(Form::Other)
+        let [first, inside @ ..] = text else {
+            return Err(Stop::syntax(text));
+        };
+        match *first {
+            b'"' => self.rest = skip_string(inside)?,
+            b't' => self.rest = skip_word(inside, b"rue")?,
+            b'f' => self.rest = skip_word(inside, b"alse")?,
+            b'n' => self.rest = skip_word(inside, b"ull")?,
+            _ => return self.number(text, room),
+        }
+        Ok(())
     }
 
     /// Passes the number that the text begins with.
-    fn number(&mut self, text: &'a [u8], room: Option<usize>) -> Result<Form, Stop>
-        ensures { OnOk result (length self.new.rest.now < length text.now) }
+    fn number(&mut self, text: &'a [u8], room: Option<usize>) -> Result<(), Stop>
+        ensures past { Gives (λ u. self.new.rest.now) result (past_number text.now) }
+        ensures shorter { MatchResult result (λ u. length self.new.rest.now < length text.now)
+            (λ stop. stop.left ≤ length text.now) }
+        ensures fault { OnOk result (self.new.fault ≡ found self.old.fault room (λ r. scalar_fault text.now)) }
     {
         self.rest = skip_number(text)?;
-        let number = &text[..text.len() - self.rest.len()];
         if room.is_some() {
-            let fault = number_fault(number);
-            self.fault = self.fault.or(fault.map(|kind| Stop::at(text, kind)));
+            let number = &text[..text.len() - self.rest.len()];
+            self.note(text, number_fault(number));
         }
-        Ok(Form::Other)
+        Ok(())
     }
 
     /// Passes the array that the text begins with, whose bracket was passed.
     #[cycle(passing)]
-    fn array(&mut self, text: &'a [u8], level: usize, room: Option<usize>) -> Result<Form, Stop>
-        ensures { OnOk result (length self.new.rest.now ≤ length self.old.rest.now) }
+    fn array(&mut self, text: &'a [u8], level: usize, room: Option<usize>) -> Result<(), Halt>
+        ensures past { Walks result self.new.rest.now (past_array (past_value level) self.old.rest.now) }
+        ensures shorter { MatchResult result (λ u. length self.new.rest.now ≤ length self.old.rest.now)
+            (IsWithin (length self.old.rest.now)) }
+        ensures fault { OnOk result (self.new.fault ≡ found self.old.fault room
+            (λ r. array_fault (past_value level) (value_fault level) r text.now self.old.rest.now)) }
     {
         let room = self.deeper(text, room);
         let mut more = !self.closes(b']');
@@ -130,127 +314,271 @@ impl<'a> Walk<'a> {
             self.value(level, room)?;
             more = self.goes_on(b']')?;
         }
-        Ok(Form::Other)
+        Ok(())
     }
 
     /// Passes the object that the text begins with, whose brace was passed: its first name makes it a wrapper or a document.
     #[cycle(passing)]
-    fn object(&mut self, text: &'a [u8], level: usize, room: Option<usize>) -> Result<Form, Stop>
+    fn object(&mut self, text: &'a [u8], level: usize, room: Option<usize>) -> Result<(), Halt>
         requires { length self.old.rest.now ≤ length text.now }
-        ensures { OnOk result (length self.new.rest.now ≤ length self.old.rest.now) }
+        ensures past { Walks result self.new.rest.now (past_object (past_value level) self.old.rest.now) }
+        ensures shorter { MatchResult result (λ u. length self.new.rest.now ≤ length self.old.rest.now)
+            (IsWithin (length self.old.rest.now)) }
+        ensures fault { OnOk result (self.new.fault ≡ found self.old.fault room
+            (λ r. object_fault (past_value level) (value_fault level) r text.now self.old.rest.now)) }
     {
         let Some(levels) = room else {
             return self.members(text, level, room);
         };
-        match self.first_wrapper()? {
+        match self.first_wrapper(self.rest)? {
             None => self.members(text, level, room),
             Some(Wrapper::Code | Wrapper::Scope) => self.code(text, level, levels),
             Some(wrapper) => {
                 self.members(text, level, None)?;
                 let object = &text[..text.len() - self.rest.len()];
-                let fault = check_wrapper(self.alloc, wrapper, object).err();
-                self.fault = self.fault.or(fault.map(|kind| Stop::at(text, kind)));
-                Ok(Form::Other)
+                let fault = wrapper_fault(self.alloc, wrapper, object, &mut self.scratch)?;
+                self.note(text, fault);
+                Ok(())
             }
         }
     }
 
-    /// The wrapper that the first name of an object says, whose brace was passed.
-    fn first_wrapper(&self) -> Result<Option<Wrapper>, Stop> {
-        if let [b'}', ..] = skip_white(self.rest) {
-            return Ok(None);
+    /// The wrapper that the first name of an object says, in the text behind the brace.
+    #[tactic(auto, unfolding(crate::specs::TreeFault::first_wrapper))]
+    fn first_wrapper(&mut self, inside: &'a [u8]) -> Result<Option<Wrapper>, AllocError>
+        ensures same { self.new.rest.now ≡ self.old.rest.now }
+        ensures same_fault { self.new.fault ≡ self.old.fault }
+        ensures is { IfOk result (λ w. w ≡ first_wrapper inside.now) }
+    {
+        match skip_key(inside) {
+            Ok(key) => Ok(read_name(self.alloc, key.quoted, &mut self.scratch)?.wrapper),
+            Err(_) => Ok(None),
         }
-        let key = skip_key(self.rest)?;
-        Ok(read_name(self.alloc, &key)?.wrapper)
     }
 
     /// Passes an object as a document, or as JSON alone.
     #[cycle(passing)]
-    fn members(&mut self, text: &'a [u8], level: usize, room: Option<usize>) -> Result<Form, Stop>
-        ensures { OnOk result (length self.new.rest.now ≤ length self.old.rest.now) }
+    fn members(&mut self, text: &'a [u8], level: usize, room: Option<usize>) -> Result<(), Halt>
+        ensures past { Walks result self.new.rest.now (past_object (past_value level) self.old.rest.now) }
+        ensures shorter { MatchResult result (λ u. length self.new.rest.now ≤ length self.old.rest.now)
+            (IsWithin (length self.old.rest.now)) }
+        ensures fault { OnOk result (self.new.fault ≡ found self.old.fault room
+            (λ r. document_fault (past_value level) (value_fault level) r text.now self.old.rest.now)) }
     {
         let room = self.deeper(text, room);
-        let mut more = !self.closes(b'}');
-        while more {
-            let key = skip_key(self.rest)?;
-            self.rest = key.rest;
-            if room.is_some() && read_name(self.alloc, &key)?.has_zero {
-                self.note(key.from, JsonFaultKind::NulInName);
-            }
-            self.value(level, room)?;
-            more = self.goes_on(b'}')?;
+        if self.closes(b'}') {
+            return Ok(());
         }
-        Ok(Form::Document)
+        self.more_members(level, room)
     }
 
-    /// Passes an object whose first name is `$code` or `$scope`. First its names and its code are judged, then how deep the scope
-    /// stands, for two levels, and what stands in it, and last whether it is a document.
+    /// Passes the members from here on, of which there is one.
     #[cycle(passing)]
-    fn code(&mut self, text: &'a [u8], level: usize, levels: usize) -> Result<Form, Stop>
-        ensures { OnOk result (length self.new.rest.now ≤ length self.old.rest.now) }
+    fn more_members(&mut self, level: usize, room: Option<usize>) -> Result<(), Halt>
+        ensures past { (n : ℕ) → length self.old.rest.now < n
+            → Walks result self.new.rest.now (past_parts (λ b. b == 125) (past_member (past_value level)) n self.old.rest.now) }
+        ensures shorter { MatchResult result (λ u. length self.new.rest.now ≤ length self.old.rest.now)
+            (IsWithin (length self.old.rest.now)) }
+        ensures fault { (n : ℕ) → length self.old.rest.now < n
+            → OnOk result (self.new.fault ≡ found self.old.fault room (λ r. first_in (member_fault (value_fault level r))
+            (parts_from (λ b. b == 125) (past_member (past_value level)) n self.old.rest.now))) }
     {
-        let before = self.fault;
-        self.fault = None;
-        let (mut code, mut scope, mut has_others) = (None, None, false);
         let mut more = true;
         while more {
             let key = skip_key(self.rest)?;
+            self.check_name(&key, room)?;
             self.rest = key.rest;
-            let name = read_name(self.alloc, &key)?.wrapper;
-            let is_scope = name == Some(Wrapper::Scope);
-            let form = self.value(level, is_scope.then_some(levels.saturating_sub(1)))?;
-            match name {
-                Some(Wrapper::Code) if code.is_none() => code = Some(form),
-                Some(Wrapper::Scope) if scope.is_none() => scope = Some(form),
-                _ => has_others = true,
-            }
+            self.value(level, room)?;
             more = self.goes_on(b'}')?;
         }
-        let bad = Some(Stop::at(text, JsonFaultKind::BadWrapper));
-        let fault = match scope {
-            _ if has_others || code != Some(Form::Text) => bad,
-            None => None,
-            Some(_) if levels < 2 => Some(Stop::at(text, JsonFaultKind::TooDeep)),
-            Some(Form::Document) => self.fault,
-            Some(_) => self.fault.or(bad),
-        };
+        Ok(())
+    }
+
+    /// Passes an object whose first name is `$code` or `$scope`.
+    #[cycle(passing)]
+    fn code(&mut self, text: &'a [u8], level: usize, levels: usize) -> Result<(), Halt>
+        ensures past { Walks result self.new.rest.now (past_object (past_value level) self.old.rest.now) }
+        ensures shorter { MatchResult result (λ u. length self.new.rest.now ≤ length self.old.rest.now)
+            (IsWithin (length self.old.rest.now)) }
+        ensures fault { OnOk result (self.new.fault ≡ option_or self.old.fault
+            (code_fault (value_fault level) levels text.now (map part_of (members_in (past_value level) self.old.rest.now)))) }
+    {
+        let before = self.fault;
+        self.fault = None;
+        let fault = self.code_parts(text, level, levels)?;
         self.fault = before.or(fault);
-        Ok(Form::Other)
+        Ok(())
+    }
+
+    /// Passes its members, and gives its fault.
+    #[cycle(passing)]
+    fn code_parts(
+        &mut self,
+        text: &'a [u8],
+        level: usize,
+        levels: usize,
+    ) -> Result<Option<TreeFault>, Halt>
+        ensures past { Walks result self.new.rest.now (past_object (past_value level) self.old.rest.now) }
+        ensures shorter { MatchResult result (λ u. length self.new.rest.now ≤ length self.old.rest.now)
+            (IsWithin (length self.old.rest.now)) }
+        ensures fault { IfOk result (λ f. self.old.fault ≡ None
+            → f ≡ code_fault (value_fault level) levels text.now (map part_of (members_in (past_value level) self.old.rest.now))) }
+    {
+        if self.closes(b'}') {
+            return Ok(bad_wrapper(text));
+        }
+        let first = self.code_part(level, levels)?;
+        if !self.goes_on(b'}')? {
+            return Ok(first.fault_alone(text));
+        }
+        let second = self.code_part(level, levels)?;
+        if self.goes_on(b'}')? {
+            self.more_members(level, None)?;
+            return Ok(bad_wrapper(text));
+        }
+        Ok(self.pair_fault(text, levels, first, second)?)
+    }
+
+    /// Passes a member. Faults are looked for in a scope, for which there is one level less.
+    #[cycle(passing)]
+    fn code_part(&mut self, level: usize, levels: usize) -> Result<Part<'a>, Halt>
+        ensures past { Walks result self.new.rest.now (past_member (past_value level) self.old.rest.now) }
+        ensures shorter { MatchResult result (λ u. length self.new.rest.now < length self.old.rest.now)
+            (IsWithin (length self.old.rest.now)) }
+        ensures part { IfOk result (λ p. (p.wrapper, p.text.now) ≡ part_of self.old.rest.now) }
+        ensures fault { IfOk result (λ p. self.new.fault ≡ option_or self.old.fault
+            (found_in_scope (value_fault level (levels - 1)) p.wrapper p.text.now)) }
+    {
+        let key = skip_key(self.rest)?;
+        let wrapper = read_name(self.alloc, key.quoted, &mut self.scratch)?.wrapper;
+        let text = key.rest;
+        let part = Part { wrapper, text };
+        self.rest = text;
+        let room = if part.is_scope() {
+            Some(levels.saturating_sub(1))
+        } else {
+            None
+        };
+        self.value(level, room)?;
+        Ok(part)
+    }
+
+    /// The fault of an object of two members, in which faults of a scope were found.
+    fn pair_fault(
+        &mut self,
+        text: &'a [u8],
+        levels: usize,
+        first: Part<'a>,
+        second: Part<'a>,
+    ) -> Result<Option<TreeFault>, AllocError>
+        ensures same { self.new.rest.now ≡ self.old.rest.now }
+        ensures fault { (fault : ℕ → Finds)
+            → self.old.fault ≡ option_or (found_in_scope (fault (levels - 1)) first.entry.wrapper first.entry.text.now)
+            (found_in_scope (fault (levels - 1)) second.entry.wrapper second.entry.text.now)
+            → IfOk result (λ f. f ≡ code_fault fault levels text.now
+            ((first.entry.wrapper, first.entry.text.now) ∷ (second.entry.wrapper, second.entry.text.now) ∷ [])) }
+    {
+        if first.is_code() {
+            if second.is_scope() {
+                self.scope_fault(text, levels, first.text, second.text)
+            } else {
+                Ok(bad_wrapper(text))
+            }
+        } else if first.is_scope() {
+            if second.is_code() {
+                self.scope_fault(text, levels, second.text, first.text)
+            } else {
+                Ok(bad_wrapper(text))
+            }
+        } else {
+            Ok(bad_wrapper(text))
+        }
+    }
+
+    /// The fault of a code and its scope, in which the first fault was found: first how deep the scope stands, for two levels,
+    /// then what stands in it, and last whether it is a document.
+    fn scope_fault(
+        &mut self,
+        text: &'a [u8],
+        levels: usize,
+        code: &'a [u8],
+        scope: &'a [u8],
+    ) -> Result<Option<TreeFault>, AllocError>
+        ensures same { self.new.rest.now ≡ self.old.rest.now }
+        ensures fault { (fault : ℕ → Finds) → self.old.fault ≡ fault (levels - 1) scope.now
+            → IfOk result (λ f. f ≡ scope_fault fault levels text.now code.now scope.now) }
+    {
+        if !is_string(code) {
+            return Ok(bad_wrapper(text));
+        }
+        if levels < 2 {
+            return Ok(Some(TreeFault::at(text, TreeFaultKind::TooDeep)));
+        }
+        let end = if self.is_document(scope)? {
+            None
+        } else {
+            bad_wrapper(text)
+        };
+        Ok(self.fault.or(end))
     }
 
     /// How deep documents and arrays may stand in the one that the text begins with.
     fn deeper(&mut self, text: &[u8], room: Option<usize>) -> Option<usize>
-        ensures { self.new.rest ≡ self.old.rest }
+        ensures same { self.new.rest.now ≡ self.old.rest.now }
+        ensures fault { self.new.fault ≡ option_or self.old.fault (depth_fault room text.now) }
+        ensures less { result ≡ deeper room }
     {
         if room == Some(0) {
-            self.note(text, JsonFaultKind::TooDeep);
+            self.note(text, Some(TreeFaultKind::TooDeep));
         }
         room?.checked_sub(1)
     }
 
-    /// Takes a fault of the tree, unless there is an earlier one.
-    fn note(&mut self, text: &[u8], kind: JsonFaultKind)
-        ensures { self.new.rest ≡ self.old.rest }
+    /// Takes the fault of a name, where a document may stand.
+    fn check_name(&mut self, key: &Key<'_>, room: Option<usize>) -> Result<(), AllocError>
+        ensures same { self.new.rest.now ≡ self.old.rest.now }
+        ensures fault { OnOk result (self.new.fault ≡ found self.old.fault room
+            (λ r. zero_fault key.now.quoted.now key.now.from.now)) }
     {
-        self.fault = self.fault.or(Some(Stop::at(text, kind)));
+        if room.is_some() && read_name(self.alloc, key.quoted, &mut self.scratch)?.has_zero {
+            self.note(key.from, Some(TreeFaultKind::NulInName));
+        }
+        Ok(())
+    }
+
+    /// Takes a fault at the first byte of a text, unless there is an earlier one.
+    fn note(&mut self, text: &[u8], kind: Option<TreeFaultKind>)
+        ensures same { self.new.rest.now ≡ self.old.rest.now }
+        ensures fault { self.new.fault ≡ option_or self.old.fault (option_and_then (fault_at text.now) kind) }
+    {
+        if let Some(kind) = kind {
+            self.fault = self.fault.or(Some(TreeFault::at(text, kind)));
+        }
     }
 
     /// Passes the bracket that closes, and tells whether it is next.
     fn closes(&mut self, bracket: u8) -> bool
-        ensures { length self.new.rest.now ≤ length self.old.rest.now }
+        ensures tells { result ≡ begins (λ b. b == bracket) (past_white self.old.rest.now) }
+        ensures past { self.new.rest.now
+            ≡ (if result then drop 1 (past_white self.old.rest.now) else self.old.rest.now) }
+        ensures shorter { length self.new.rest.now ≤ length self.old.rest.now }
+        ensures same { self.new.fault ≡ self.old.fault }
     {
-        match skip_white(self.rest) {
-            [byte, tail @ ..] if *byte == bracket => {
-                self.rest = tail;
-                true
-            }
-            _ => false,
+        let here = skip_white(self.rest);
+        if !begins(here, bracket) {
+            return false;
         }
+        self.rest = skip_byte(here);
+        true
     }
 
     /// Passes the comma after a part, or the bracket that closes, and tells whether another part comes.
+    #[tactic(auto, unfolding(crate::specs::JsonSyntax::past_next))]
     fn goes_on(&mut self, bracket: u8) -> Result<bool, Stop>
-        ensures { OnOk result (length self.new.rest.now ≤ length self.old.rest.now) }
+        ensures past { Gives (λ more. (more, self.new.rest.now)) result (past_next (λ b. b == bracket) self.old.rest.now) }
+        ensures shorter { MatchResult result (λ more. length self.new.rest.now ≤ length self.old.rest.now)
+            (λ stop. stop.left ≤ length self.old.rest.now) }
+        ensures same { self.new.fault ≡ self.old.fault }
     {
         if self.closes(bracket) {
             return Ok(false);
@@ -258,118 +586,4 @@ impl<'a> Walk<'a> {
         self.rest = skip_word(skip_white(self.rest), b",")?;
         Ok(true)
     }
-}
-
-/// What is wrong with a number outside wrappers.
-fn number_fault(number: &[u8]) -> Option<JsonFaultKind> {
-    let is_part_of_double = |byte: &u8| matches!(byte, b'.' | b'e' | b'E');
-    if number.iter().any(is_part_of_double) {
-        return Some(JsonFaultKind::NotInProfile);
-    }
-    let text = str::from_utf8(number).ok()?;
-    match whole(text) {
-        None => Some(JsonFaultKind::NumberRange),
-        Some(_) => None,
-    }
-}
-
-/// What the name of a member says.
-#[derive(Clone, Copy, Drop)]
-struct Name {
-    wrapper: Option<Wrapper>,
-    has_zero: bool,
-}
-
-impl Name {
-    fn of(name: &str) -> Name {
-        Name {
-            wrapper: Wrapper::from_name(name),
-            has_zero: has_zero(name),
-        }
-    }
-}
-
-/// What a name says, with escapes or without.
-fn read_name(alloc: Global, key: &Key<'_>) -> Result<Name, Stop> {
-    match str::from_utf8(key.quoted) {
-        Ok(name) if !key.quoted.contains(&b'\\') => Ok(Name::of(name.trim_matches('"'))),
-        _ => escaped_name(alloc, key.quoted).map_err(|kind| Stop::at(key.from, kind)),
-    }
-}
-
-/// Its `Scratch` is large, so the walk that calls it has no room for it in its frames.
-#[inline(never)]
-fn escaped_name(alloc: Global, quoted: &[u8]) -> Result<Name, JsonFaultKind> {
-    let mut scratch = Scratch::new(alloc);
-    match Value::from_slice(alloc, quoted, &mut scratch) {
-        Ok(Value::String(name)) => Ok(Name::of(name)),
-        Err(Error::OutOfMemory) => Err(JsonFaultKind::NoMemory),
-        _ => Err(JsonFaultKind::Syntax),
-    }
-}
-
-/// Why the text of an object is not the wrapper that its first name says. Code with scope is judged elsewhere.
-///
-/// Its `Scratch` is large, so the walk that calls it has no room for it in its frames.
-#[inline(never)]
-fn check_wrapper(alloc: Global, wrapper: Wrapper, object: &[u8]) -> Result<(), JsonFaultKind> {
-    let text = str::from_utf8(object).map_err(|_| JsonFaultKind::Syntax)?;
-    let mut scratch = Scratch::new(alloc);
-    let mut reader = Reader::new(text, &mut scratch).map_err(|_| JsonFaultKind::NoMemory)?;
-    match Value::read(alloc, &mut reader, MOST_BRACKETS) {
-        Ok(Value::Object(members)) => check_members(alloc, wrapper, members.as_slice()),
-        Err(Error::OutOfMemory) => Err(JsonFaultKind::NoMemory),
-        _ => Err(JsonFaultKind::Syntax),
-    }
-}
-
-/// First come the forms that are known and not read.
-fn check_members(
-    alloc: Global,
-    wrapper: Wrapper,
-    members: &[(&str, Value<'_>)],
-) -> Result<(), JsonFaultKind> {
-    let Some((_, part)) = members.first() else {
-        return Err(JsonFaultKind::BadWrapper);
-    };
-    let is_outside_profile = match wrapper {
-        Wrapper::NumberDouble | Wrapper::NumberDecimal | Wrapper::Uuid => true,
-        Wrapper::Date | Wrapper::Binary => part.as_str().is_some(),
-        _ => false,
-    };
-    if is_outside_profile {
-        return Err(JsonFaultKind::NotInProfile);
-    }
-    if members.len() != 1 {
-        return Err(JsonFaultKind::BadWrapper);
-    }
-    match unwrap_single(alloc, wrapper, part) {
-        Ok(_) => Ok(()),
-        Err(Trouble::Memory) => Err(JsonFaultKind::NoMemory),
-        Err(Trouble::Refused) => Err(refusal_of(wrapper, part)),
-    }
-}
-
-/// Why a part is no value of its wrapper: where its form is right, its number is out of range or its text has a zero.
-fn refusal_of(wrapper: Wrapper, part: &Value<'_>) -> JsonFaultKind {
-    let is_formed = match wrapper {
-        Wrapper::NumberInt | Wrapper::NumberLong => is_whole(part.as_str()),
-        Wrapper::Date => only(part, "$numberLong").is_some_and(|long| is_whole(long.as_str())),
-        Wrapper::Timestamp => pair(part, "t", "i").is_some_and(|(t, i)| is_whole(number_of(t))
-            && is_whole(number_of(i))),
-        Wrapper::RegularExpression => pair(part, "pattern", "options").is_some_and(|(
-            pattern,
-            options,
-        )| pattern.as_str().is_some() && options.as_str().is_some()),
-        _ => false,
-    };
-    match wrapper {
-        _ if !is_formed => JsonFaultKind::BadWrapper,
-        Wrapper::RegularExpression => JsonFaultKind::NulInName,
-        _ => JsonFaultKind::NumberRange,
-    }
-}
-
-fn is_whole(text: Option<&str>) -> bool {
-    text.is_some_and(|text| is_whole_number(text.as_bytes()))
 }

@@ -1,20 +1,32 @@
 //! The tokens of JSON (RFC 8259), passed one by one, with the first byte that cannot continue.
-ghost use Rattle.std.specs.Prelude.{◌≡◌, ◌<◌, ◌≤◌, ◌-◌, length, IfOk};
-ghost use Rattle.bd_extjson_fault.specs.JsonFault.{IsPlaced, byte_of};
-ghost use Rattle.bd_extjson_fault.specs.declared.json_fault.JsonFaultKind.TheVariants as kinds;
+ghost use Rattle.std.specs.Prelude.{◌≡◌, ◌<◌, ◌≤◌, ◌-◌, ◌==◌, length, drop, IfOk, MatchResult};
+ghost use Rattle.bd_extjson_fault.specs.JsonSyntax.{Gives, begins, is_decimal, past_all, past_white, past_word, past_digits};
+ghost use Rattle.bd_extjson_fault.specs.JsonSyntax.{past_natural, past_fraction, past_number, past_exponent, past_hex};
+ghost use Rattle.bd_extjson_fault.specs.JsonSyntax.{past_unit, past_low, past_units, past_character, past_string, past_name};
+ghost use Rattle.bd_extjson_fault.specs.TreeFault.{quoted_name};
+ghost use Rattle.bd_extjson_fault.specs.declared.skip.StopKind.TheVariants as kinds;
 
-use crate::json_fault::{JsonFault, JsonFaultKind};
+/// How a text is no JSON.
+#[derive(Clone, Copy, Debug, Drop, PartialEq, Eq)]
+pub(crate) enum StopKind {
+    /// It cannot go on with this byte, or it ends too soon.
+    Syntax,
+    /// This bracket stands in too many others.
+    TooDeep,
+    /// A value ended before it.
+    TrailingText,
+}
 
-/// A fault, and the number of bytes from its place to the end of the text. Want of memory has no place.
+/// Where a text shows itself as no JSON: the number of bytes from there to its end.
 #[derive(Clone, Copy, Debug, Drop, PartialEq, Eq)]
 pub(crate) struct Stop {
-    pub kind: JsonFaultKind,
+    pub kind: StopKind,
     pub left: usize,
 }
 
 impl Stop {
-    /// A fault at the first byte of what is left of the text.
-    pub fn at(rest: &[u8], kind: JsonFaultKind) -> Stop
+    /// At the first byte of what is left of the text.
+    pub fn at(rest: &[u8], kind: StopKind) -> Stop
         ensures { result ≡ record { kind = kind; left = length rest.now } }
     {
         let left = rest.len();
@@ -24,27 +36,33 @@ impl Stop {
     pub fn syntax(rest: &[u8]) -> Stop
         ensures { result ≡ record { kind = kinds.Syntax; left = length rest.now } }
     {
-        Stop::at(rest, JsonFaultKind::Syntax)
+        Stop::at(rest, StopKind::Syntax)
     }
+}
 
-    /// The fault in a text of that length.
-    pub fn in_text(self, len: usize) -> JsonFault
-        ensures placed { IsPlaced len result }
-        ensures kind { result.kind ≡ self.kind }
-        ensures at { result.at ≡ byte_of self.kind (len - self.left) }
-    {
-        let kind = self.kind;
-        let at = match kind {
-            JsonFaultKind::NoMemory | JsonFaultKind::NotADocument => 0,
-            _ => len.saturating_sub(self.left) as u64,
-        };
-        JsonFault { kind, at }
+/// Is that byte next?
+pub(crate) fn begins(text: &[u8], byte: u8) -> bool
+    ensures { result ≡ begins (λ b. b == byte) text.now }
+{
+    matches!(text, [first, ..] if *first == byte)
+}
+
+/// What stands after the first byte.
+pub(crate) fn skip_byte(text: &[u8]) -> &[u8]
+    ensures past { result.now ≡ drop 1 text.now }
+    ensures shorter { length result.now ≡ length text.now - 1 }
+{
+    match text {
+        [_, tail @ ..] => tail,
+        [] => text,
     }
 }
 
 /// What stands after white space.
+#[tactic(auto, unfolding(crate::specs::JsonSyntax::past_all))]
 pub(crate) fn skip_white(text: &[u8]) -> &[u8]
-    ensures { length result.now ≤ length text.now }
+    ensures past { result.now ≡ past_white text.now }
+    ensures shorter { length result.now ≤ length text.now }
 {
     let mut rest = text;
     while let [b' ' | b'\t' | b'\n' | b'\r', tail @ ..] = rest {
@@ -54,51 +72,79 @@ pub(crate) fn skip_white(text: &[u8]) -> &[u8]
 }
 
 /// What stands after a word.
+#[tactic(auto, unfolding(crate::specs::JsonSyntax::past_word))]
 pub(crate) fn skip_word<'a>(text: &'a [u8], word: &[u8]) -> Result<&'a [u8], Stop>
-    ensures { IfOk result (λ rest. length rest.now ≤ length text.now) }
+    ensures past { Gives (λ x. x.now) result (past_word word.now text.now) }
+    ensures shorter { MatchResult result (λ rest. length rest.now ≤ length text.now)
+        (λ stop. stop.left ≤ length text.now) }
 {
-    let mut rest = text;
-    for wanted in word {
+    let (mut rest, mut left) = (text, word);
+    while let [wanted, more @ ..] = left {
         match rest {
             [byte, tail @ ..] if byte == wanted => rest = tail,
             _ => return Err(Stop::syntax(rest)),
         }
+        left = more;
     }
     Ok(rest)
 }
 
-/// What stands after one digit or more.
-fn skip_digits(text: &[u8]) -> Result<&[u8], Stop>
-    ensures { IfOk result (λ rest. length rest.now < length text.now) }
+/// What stands after digits.
+#[tactic(auto, unfolding(crate::specs::JsonSyntax::past_all))]
+fn skip_all_digits(text: &[u8]) -> &[u8]
+    ensures past { result.now ≡ past_all is_decimal text.now }
+    ensures shorter { length result.now ≤ length text.now }
 {
     let mut rest = text;
     while let [b'0'..=b'9', tail @ ..] = rest {
         rest = tail;
     }
-    if rest.len() == text.len() {
-        return Err(Stop::syntax(text));
-    }
-    Ok(rest)
+    rest
 }
 
-/// What stands after a number (section 6): no digit follows a zero in front.
-pub(crate) fn skip_number(text: &[u8]) -> Result<&[u8], Stop>
-    ensures { IfOk result (λ rest. length rest.now < length text.now) }
+/// What stands after one digit or more.
+#[tactic(auto, unfolding(crate::specs::JsonSyntax::past_digits, crate::specs::JsonSyntax::past_all))]
+fn skip_digits(text: &[u8]) -> Result<&[u8], Stop>
+    ensures past { Gives (λ x. x.now) result (past_digits text.now) }
+    ensures shorter { MatchResult result (λ rest. length rest.now < length text.now)
+        (λ stop. stop.left ≤ length text.now) }
 {
-    let fraction = match text {
-        [b'-', b'0', tail @ ..] | [b'0', tail @ ..] => tail,
-        [b'-', digits @ ..] => skip_digits(digits)?,
-        _ => skip_digits(text)?,
-    };
-    let exponent = match fraction {
-        [b'.', digits @ ..] => skip_digits(digits)?,
-        _ => fraction,
-    };
-    skip_exponent(exponent)
+    match text {
+        [b'0'..=b'9', tail @ ..] => Ok(skip_all_digits(tail)),
+        _ => Err(Stop::syntax(text)),
+    }
 }
 
+/// What stands after a number without sign, fraction and exponent: no digit follows a zero in front.
+#[tactic(auto, unfolding(crate::specs::JsonSyntax::past_natural))]
+fn skip_natural(text: &[u8]) -> Result<&[u8], Stop>
+    ensures past { Gives (λ x. x.now) result (past_natural text.now) }
+    ensures shorter { MatchResult result (λ rest. length rest.now < length text.now)
+        (λ stop. stop.left ≤ length text.now) }
+{
+    match text {
+        [b'0', tail @ ..] => Ok(tail),
+        _ => skip_digits(text),
+    }
+}
+
+#[tactic(auto, unfolding(crate::specs::JsonSyntax::past_fraction))]
+fn skip_fraction(text: &[u8]) -> Result<&[u8], Stop>
+    ensures past { Gives (λ x. x.now) result (past_fraction text.now) }
+    ensures shorter { MatchResult result (λ rest. length rest.now ≤ length text.now)
+        (λ stop. stop.left ≤ length text.now) }
+{
+    match text {
+        [b'.', digits @ ..] => skip_digits(digits),
+        _ => Ok(text),
+    }
+}
+
+#[tactic(auto, unfolding(crate::specs::JsonSyntax::past_exponent))]
 fn skip_exponent(text: &[u8]) -> Result<&[u8], Stop>
-    ensures { IfOk result (λ rest. length rest.now ≤ length text.now) }
+    ensures past { Gives (λ x. x.now) result (past_exponent text.now) }
+    ensures shorter { MatchResult result (λ rest. length rest.now ≤ length text.now)
+        (λ stop. stop.left ≤ length text.now) }
 {
     match text {
         [b'e' | b'E', b'+' | b'-', digits @ ..] => skip_digits(digits),
@@ -107,61 +153,114 @@ fn skip_exponent(text: &[u8]) -> Result<&[u8], Stop>
     }
 }
 
-/// The number of an escape of four digits, and what stands after it.
-fn skip_unit(text: &[u8]) -> Result<(u32, &[u8]), Stop>
-    ensures { IfOk result (λ p. length p.1.now < length text.now) }
+/// What stands after a number (section 6).
+#[tactic(auto, unfolding(crate::specs::JsonSyntax::past_number))]
+pub(crate) fn skip_number(text: &[u8]) -> Result<&[u8], Stop>
+    ensures past { Gives (λ x. x.now) result (past_number text.now) }
+    ensures shorter { MatchResult result (λ rest. length rest.now < length text.now)
+        (λ stop. stop.left ≤ length text.now) }
 {
-    let [b'\\', tail @ ..] = text else {
-        return Err(Stop::syntax(text));
+    let fraction = match text {
+        [b'-', tail @ ..] => skip_natural(tail)?,
+        _ => skip_natural(text)?,
     };
-    let (mut unit, mut rest) = (0, skip_word(tail, b"u")?);
-    for _ in 0..4 {
-        match rest {
-            [byte, tail @ ..] if byte.is_ascii_hexdigit() => {
-                unit = unit << 4 | char::from(*byte).to_digit(16).unwrap_or(0);
-                rest = tail;
-            }
-            _ => return Err(Stop::syntax(rest)),
-        }
-    }
-    Ok((unit, rest))
+    let exponent = skip_fraction(fraction)?;
+    skip_exponent(exponent)
 }
 
-/// What stands after an escape of four digits, or after two that stand for a pair of surrogates. One alone is told at its
-/// backslash, but where the text ends before the second.
+/// The value of a hexadecimal digit, and what stands after it.
+#[tactic(auto, unfolding(crate::specs::JsonSyntax::past_hex))]
+fn skip_hex(text: &[u8]) -> Result<(u32, &[u8]), Stop>
+    ensures past { Gives (λ x. (x.0, x.1.now)) result (past_hex text.now) }
+    ensures digit { IfOk result (λ x. x.0 < 16) }
+    ensures shorter { MatchResult result (λ x. length x.1.now < length text.now)
+        (λ stop. stop.left ≤ length text.now) }
+{
+    let [byte, tail @ ..] = text else {
+        return Err(Stop::syntax(text));
+    };
+    match char::from(*byte).to_digit(16) {
+        Some(digit) => Ok((digit, tail)),
+        None => Err(Stop::syntax(text)),
+    }
+}
+
+/// The number of an escape of four digits, and what stands after it.
+#[tactic(auto, unfolding(crate::specs::JsonSyntax::past_unit))]
+fn skip_unit(text: &[u8]) -> Result<(u32, &[u8]), Stop>
+    ensures past { Gives (λ x. (x.0, x.1.now)) result (past_unit text.now) }
+    ensures shorter { MatchResult result (λ x. length x.1.now < length text.now)
+        (λ stop. stop.left ≤ length text.now) }
+{
+    let digits = skip_word(text, b"\\u")?;
+    let (a, after_a) = skip_hex(digits)?;
+    let (b, after_b) = skip_hex(after_a)?;
+    let (c, after_c) = skip_hex(after_b)?;
+    let (d, rest) = skip_hex(after_c)?;
+    Ok((a * 4096 + b * 256 + c * 16 + d, rest))
+}
+
+/// What stands after a low surrogate, which is to follow a high one. Without it the high one is alone, unless the text ends first.
+#[tactic(auto, unfolding(crate::specs::JsonSyntax::past_low))]
+fn skip_low<'a>(high: &[u8], text: &'a [u8]) -> Result<&'a [u8], Stop>
+    ensures past { Gives (λ x. x.now) result (past_low high.now (past_unit text.now)) }
+    ensures shorter { MatchResult result (λ rest. length rest.now < length text.now)
+        (λ stop. stop.left ≤ length high.now) }
+{
+    match skip_unit(text) {
+        Ok((0xdc00..=0xdfff, rest)) => Ok(rest),
+        Err(stop) if stop.left == 0 => Err(stop),
+        _ => Err(Stop::syntax(high)),
+    }
+}
+
+/// What stands after an escape of four digits, or after two that stand for a pair of surrogates.
+#[tactic(auto, unfolding(crate::specs::JsonSyntax::past_units))]
 fn skip_units(text: &[u8]) -> Result<&[u8], Stop>
-    ensures { IfOk result (λ rest. length rest.now < length text.now) }
+    ensures past { Gives (λ x. x.now) result (past_units text.now) }
+    ensures shorter { MatchResult result (λ rest. length rest.now < length text.now)
+        (λ stop. stop.left ≤ length text.now) }
 {
     let (unit, rest) = skip_unit(text)?;
-    if !matches!(unit, 0xd800..=0xdfff) {
-        return Ok(rest);
+    match unit {
+        0xd800..=0xdbff => skip_low(text, rest),
+        0xdc00..=0xdfff => Err(Stop::syntax(text)),
+        _ => Ok(rest),
     }
-    match skip_unit(rest) {
-        Ok((0xdc00..=0xdfff, after)) if unit < 0xdc00 => Ok(after),
-        Err(stop) if unit < 0xdc00 && stop.left == 0 => Err(stop),
-        _ => Err(Stop::syntax(text)),
+}
+
+/// What stands after a character of a string.
+#[tactic(auto, unfolding(crate::specs::JsonSyntax::past_character, crate::specs::JsonSyntax::past_escape))]
+fn skip_character(text: &[u8]) -> Result<&[u8], Stop>
+    ensures past { Gives (λ x. x.now) result (past_character text.now) }
+    ensures shorter { MatchResult result (λ rest. length rest.now < length text.now)
+        (λ stop. stop.left ≤ length text.now) }
+{
+    match text {
+        [b'\\', b'u', ..] => skip_units(text),
+        [
+            b'\\',
+            b'"' | b'\\' | b'/' | b'b' | b'f' | b'n' | b'r' | b't',
+            tail @ ..,
+        ] => Ok(tail),
+        [b'\\', tail @ ..] => Err(Stop::syntax(tail)),
+        [] | [0..=31, ..] => Err(Stop::syntax(text)),
+        [_, tail @ ..] => Ok(tail),
     }
 }
 
 /// What stands after a string (section 7), in a text that begins after its first quotation mark.
+#[tactic(auto, unfolding(crate::specs::JsonSyntax::past_string))]
 pub(crate) fn skip_string(text: &[u8]) -> Result<&[u8], Stop>
-    ensures { IfOk result (λ rest. length rest.now ≤ length text.now) }
+    ensures past { Gives (λ x. x.now) result (past_string text.now) }
+    ensures shorter { MatchResult result (λ rest. length rest.now ≤ length text.now)
+        (λ stop. stop.left ≤ length text.now) }
 {
     let mut rest = text;
-    loop {
-        match rest {
-            [b'"', tail @ ..] => return Ok(tail),
-            [
-                b'\\',
-                b'"' | b'\\' | b'/' | b'b' | b'f' | b'n' | b'r' | b't',
-                tail @ ..,
-            ] => rest = tail,
-            [b'\\', b'u', ..] => rest = skip_units(rest)?,
-            [b'\\', tail @ ..] => return Err(Stop::syntax(tail)),
-            [] | [0..=31, ..] => return Err(Stop::syntax(rest)),
-            [_, tail @ ..] => rest = tail,
-        }
+    while !begins(rest, b'"') {
+        rest = skip_character(rest)?;
     }
+    Ok(skip_byte(rest))
 }
 
 /// The name of a member, as the text has it.
@@ -176,8 +275,13 @@ pub(crate) struct Key<'a> {
 }
 
 /// The next name, with its colon.
+#[tactic(auto, unfolding(crate::specs::JsonSyntax::past_name, crate::specs::JsonSyntax::past_word, crate::specs::TreeFault::quoted_name))]
 pub(crate) fn skip_key(text: &[u8]) -> Result<Key<'_>, Stop>
-    ensures { IfOk result (λ key. length key.rest.now < length text.now) }
+    ensures past { Gives (λ key. key.rest.now) result (past_name text.now) }
+    ensures quoted { IfOk result (λ key. key.quoted.now ≡ quoted_name text.now) }
+    ensures from { IfOk result (λ key. key.from.now ≡ past_white text.now) }
+    ensures shorter { MatchResult result (λ key. length key.rest.now < length text.now)
+        (λ stop. stop.left ≤ length text.now) }
 {
     let from = skip_white(text);
     let [b'"', inside @ ..] = from else {

@@ -1,0 +1,80 @@
+-- The fault of a text, by what the text is, and where it is.
+use Rattle.std.proofs.Common.{◌≡◌, ◌≢◌, refl, ℕ, Bool, true, false, List, length, if◌then◌else◌, Ok, Err, Some, None, Option, IsUtf8}
+use Rattle.std.specs.Prelude.{unwrap_or}
+use Rattle.std.specs.{Str.is_utf8, Str.Lossy.utf8_valid_len}
+use Rattle.std.proofs.lemmas.Str.{IsUtf8-from_is_utf8, is_utf8-from_IsUtf8}
+use Rattle.bd_value.specs.Limits.{most_brackets, most_levels}
+use Rattle.bd_extjson_fault.specs.JsonSyntax.{Past, past_text}
+use Rattle.bd_extjson_fault.specs.TreeFault.{is_document, value_fault}
+use Rattle.bd_extjson_fault.specs.TextFault.{first_fault, text_fault, fault_after, tree_or_none, stop_in, kind_of_stop, kind_in_tree}
+use Rattle.bd_extjson_fault.specs.declared.json_fault.JsonFault.{JsonFault}
+use Rattle.bd_extjson_fault.specs.declared.json_fault.JsonFaultKind.TheVariants as kinds
+use Rattle.bd_extjson_fault.specs.declared.skip.Stop.{Stop}
+use Rattle.bd_extjson_fault.specs.declared.skip.StopKind.{StopKind}
+use Rattle.bd_extjson_fault.specs.declared.skip.StopKind.TheVariants as stops
+use Rattle.bd_extjson_fault.specs.declared.tree_fault.TreeFault.{TreeFault}
+use Rattle.bd_extjson_fault.specs.declared.tree_fault.TreeFaultKind.{TreeFaultKind}
+use Rattle.bd_extjson_fault.specs.declared.tree_fault.TreeFaultKind.TheVariants as trees
+
+abbrev pub syntax_told : ℕ → JsonFault
+syntax_told at = record { kind = kinds.Syntax; at = at }
+
+abbrev pub at_end : List ℕ → JsonFault
+at_end text = syntax_told (length text)
+
+not_utf8 : (text : List ℕ) → ¬ (IsUtf8 text) → is_utf8 text ≡ false
+not_utf8 text bad = go (is_utf8 text) refl
+  where
+    go : (b : Bool) → is_utf8 text ≡ b → is_utf8 text ≡ false
+    go true e = absurd (bad (IsUtf8-from_is_utf8 text e))
+    go false e = e
+
+pub of_bad_utf8 : (text : List ℕ) → ¬ (IsUtf8 text) → text_fault text ≡ record { kind = kinds.Syntax; at = utf8_valid_len text }
+unfolding first_fault
+of_bad_utf8 text bad = rw (not_utf8 text bad) refl
+
+pub of_no_json : (text : List ℕ) (stop : Stop) → IsUtf8 text → past_text text ≡ Err stop → text_fault text ≡ stop_in (length text) stop
+unfolding first_fault
+of_no_json text stop utf8 e = rw (is_utf8-from_IsUtf8 text utf8, e) refl
+
+pub of_tree : (text rest : List ℕ) (found : Option JsonFault) → IsUtf8 text → past_text text ≡ Ok rest
+    → found ≡ tree_or_none text (value_fault most_brackets most_levels text) → text_fault text ≡ unwrap_or found (at_end text)
+unfolding first_fault
+of_tree text rest found utf8 e f = rw (is_utf8-from_IsUtf8 text utf8, e, f) refl
+
+-- ---- it is never a want of memory
+
+stop_kind : (kind : StopKind) → kind_of_stop kind ≢ kinds.NoMemory
+stop_kind stops.Syntax = λ e. cc
+stop_kind stops.TooDeep = λ e. cc
+stop_kind stops.TrailingText = λ e. cc
+
+tree_kind : (kind : TreeFaultKind) → kind_in_tree kind ≢ kinds.NoMemory
+tree_kind trees.TooDeep = λ e. cc
+tree_kind trees.BadWrapper = λ e. cc
+tree_kind trees.NotInProfile = λ e. cc
+tree_kind trees.NumberRange = λ e. cc
+tree_kind trees.NulInName = λ e. cc
+
+abbrev IsKnown : List ℕ → Option JsonFault → Type 0
+IsKnown text found = (unwrap_or found (at_end text)).kind ≢ kinds.NoMemory
+
+last_known : (text : List ℕ) (b : Bool) → IsKnown text (if b then None else Some (record { kind = kinds.NotADocument; at = 0 }))
+last_known text true = λ e. cc
+last_known text false = λ e. cc
+
+tree_known : (text : List ℕ) (found : Option TreeFault) → IsKnown text (tree_or_none text found)
+tree_known text (Some fault) = tree_kind fault.kind
+tree_known text None = last_known text (is_document text)
+
+after_known : (text : List ℕ) (told : Past) → IsKnown text (fault_after text told)
+after_known text (Err stop) = stop_kind stop.kind
+after_known text (Ok rest) = tree_known text (value_fault most_brackets most_levels text)
+
+pub told_kind : (text : List ℕ) → (text_fault text).kind ≢ kinds.NoMemory
+unfolding first_fault
+told_kind text = go (is_utf8 text)
+  where
+    go : (b : Bool) → IsKnown text (if b then fault_after text (past_text text) else Some (record { kind = kinds.Syntax; at = utf8_valid_len text }))
+    go true = after_known text (past_text text)
+    go false = λ e. cc

@@ -1,0 +1,220 @@
+-- The faults of a text that is JSON, as Extended JSON v2 and the profile of this project: what is wrong with each part,
+-- and which of them is the first from left to right.
+use Rattle.std.specs.Prelude.{ℕ, zero, suc, ◌-◌, List, [], ◌∷◌, map, length, take, drop, Bool, true, false, not, nat_lt}
+use Rattle.std.specs.Prelude.{◌==◌, ◌&&◌, ◌||◌, if◌then◌else◌, Option, Some, None, option_map, option_and_then, unwrap_or}
+use Rattle.std.specs.Prelude.{Result, Ok, Err, codes}
+use Rattle.std.specs.{Option.option_or, Option.is_some, Option.is_none, Option.option_map_or, Str.is_utf8}
+use Rattle.json.specs.{Find.as_str, Find.as_number, Find.as_object, Json.Json, Json.value, Lex.tokens}
+use Rattle.json.specs.Json as kit
+use Rattle.bd_value.specs.{Fits.has_zero, Limits.most_brackets}
+use Rattle.bd_extjson_wrapper.specs.WholeNumber.{are_digits, unsigned, whole_64}
+use Rattle.bd_extjson_wrapper.specs.Wrapper.{wrapper_of, is_code_name, is_scope_name, only, pair, single}
+use Rattle.bd_extjson_wrapper.specs.declared.wrapper.Wrapper.{Wrapper}
+use Rattle.bd_extjson_wrapper.specs.declared.wrapper.Wrapper.TheVariants as wrappers
+use Rattle.bd_extjson_fault.specs.JsonSyntax.{Past, ◌>>=◌, past_object, past_member, begins, past_white, past_word, past_string, past_name, past_number}
+use Rattle.bd_extjson_fault.specs.JsonSyntax.{past_next, past_value, opens_object, opens_array}
+use Rattle.bd_extjson_fault.specs.declared.skip.Stop.{Stop}
+use Rattle.bd_extjson_fault.specs.declared.tree_fault.TreeFault.{TreeFault}
+use Rattle.bd_extjson_fault.specs.declared.tree_fault.TreeFaultKind.{TreeFaultKind}
+use Rattle.bd_extjson_fault.specs.declared.tree_fault.TreeFaultKind.TheVariants as kinds
+
+-- a fault at the first byte of what is left of the text
+abbrev pub fault_at : List ℕ → TreeFaultKind → Option TreeFault
+fault_at text kind = Some (record { kind = kind; left = length text })
+
+-- the bytes of a text up to the rest that is left of it
+abbrev pub bytes_before : List ℕ → List ℕ → List ℕ
+bytes_before rest text = take (length text - length rest) text
+
+-- the JSON value that bytes begin with, by the grammar of the kit, which undoes escapes
+unfoldable pub json_in : List ℕ → Option Json
+json_in bytes = if is_utf8 bytes then option_map (λ p. p.0) (value most_brackets (tokens bytes)) else None
+
+-- ---- numbers outside wrappers
+
+-- One with a fraction or an exponent is not in the profile; a whole one is to fit 64 bits.
+unfoldable pub number_fault : List ℕ → Option TreeFaultKind
+number_fault digits = if are_digits (unsigned digits)
+    then (if is_some (whole_64 digits) then None else Some kinds.NumberRange) else Some kinds.NotInProfile
+
+-- of the number that the text begins with, if it begins with one
+abbrev pub number_between : List ℕ → Past → Option TreeFault
+number_between text (Ok rest) = option_and_then (fault_at text) (number_fault (bytes_before rest text))
+number_between text (Err stop) = None
+
+abbrev pub scalar_fault : List ℕ → Option TreeFault
+scalar_fault text = number_between text (past_number text)
+
+-- ---- names
+
+abbrev pub name_in : List ℕ → List ℕ
+name_in quoted = unwrap_or (option_and_then as_str (json_in quoted)) []
+
+abbrev pub quoted_between : List ℕ → Past → List ℕ
+quoted_between text (Ok rest) = bytes_before rest text
+quoted_between text (Err stop) = []
+
+-- the name at the front of the text, in its quotation marks
+unfoldable pub quoted_name : List ℕ → List ℕ
+quoted_name text = quoted_between (past_white text) (past_word (codes "\"") (past_white text) >>= past_string)
+
+-- the wrapper that the first name says, after the brace of an object
+abbrev pub if_named : Past → List ℕ → Option Wrapper
+if_named (Ok rest) name = wrapper_of name
+if_named (Err stop) name = None
+
+unfoldable pub first_wrapper : List ℕ → Option Wrapper
+first_wrapper inside = if_named (past_name inside) (name_in (quoted_name inside))
+
+-- ---- objects of one wrapper
+
+-- these are known and not read
+abbrev pub is_outside_profile : Wrapper → Json → Bool
+is_outside_profile wrappers.NumberDouble part = true
+is_outside_profile wrappers.NumberDecimal part = true
+is_outside_profile wrappers.Uuid part = true
+is_outside_profile wrappers.Date part = is_some (as_str part)
+is_outside_profile wrappers.Binary part = is_some (as_str part)
+is_outside_profile w part = false
+
+abbrev pub is_whole : Option (List ℕ) → Bool
+is_whole None = false
+is_whole (Some s) = are_digits (unsigned s)
+
+-- a part has the form that its wrapper asks for, however great its numbers are and whatever its texts hold
+abbrev pub is_formed : Wrapper → Json → Bool
+is_formed wrappers.NumberInt part = is_whole (as_str part)
+is_formed wrappers.NumberLong part = is_whole (as_str part)
+is_formed wrappers.Date part = is_whole (option_and_then as_str (only (codes "$numberLong") part))
+is_formed wrappers.Timestamp part =
+    option_map_or (λ p. is_whole (as_number p.0) && is_whole (as_number p.1)) (pair (codes "t") (codes "i") part) false
+is_formed wrappers.RegularExpression part =
+    option_map_or (λ p. is_some (as_str p.0) && is_some (as_str p.1)) (pair (codes "pattern") (codes "options") part) false
+is_formed w part = false
+
+-- why a part stands for no value of its wrapper
+abbrev pub refusal_of_form : Wrapper → TreeFaultKind
+refusal_of_form wrappers.RegularExpression = kinds.NulInName
+refusal_of_form w = kinds.NumberRange
+
+abbrev pub refusal : Wrapper → Json → TreeFaultKind
+refusal w part = if is_formed w part then refusal_of_form w else kinds.BadWrapper
+
+abbrev pub single_fault : Wrapper → Json → Option TreeFaultKind
+single_fault w part = if is_some (single w part) then None else Some (refusal w part)
+
+abbrev pub has_members : kit.Members → Bool
+has_members kit.no_members = false
+has_members (kit.member name part more) = true
+
+-- the members of a wrapper's object: one, with the value that the wrapper asks for
+abbrev pub members_fault : Wrapper → kit.Members → Option TreeFaultKind
+members_fault w kit.no_members = Some kinds.BadWrapper
+members_fault w (kit.member name part more) = if is_outside_profile w part then Some kinds.NotInProfile
+    else (if has_members more then Some kinds.BadWrapper else single_fault w part)
+
+abbrev pub wrapper_fault : Wrapper → Option Json → Option TreeFaultKind
+wrapper_fault w j = option_map_or (members_fault w) (option_and_then as_object j) (Some kinds.BadWrapper)
+
+-- ---- values, with so many brackets and so many levels left
+
+-- the first fault that stands in a text
+abbrev pub Finds : Type 0
+Finds = List ℕ → Option TreeFault
+
+-- the first fault of the parts, each of which begins one of these texts
+unfoldable pub first_in : Finds → List (List ℕ) → Option TreeFault
+first_in fault [] = None
+first_in fault (text ∷ texts) = option_or (fault text) (first_in fault texts)
+
+abbrev pub parts_after : (List ℕ → List (List ℕ)) → Result (Bool × List ℕ) Stop → List (List ℕ)
+parts_after more (Ok next) = if next.0 then more next.1 else []
+parts_after more (Err stop) = []
+
+-- The texts that begin with a part, of those up to the closing byte. The number bounds the turns.
+unfoldable pub parts_from : (ℕ → Bool) → (List ℕ → Past) → ℕ → List ℕ → List (List ℕ)
+parts_from closes part zero text = []
+parts_from closes part (suc n) text = text ∷ parts_after (parts_from closes part n) (part text >>= past_next closes)
+
+-- the same of what stands in brackets
+unfoldable pub parts_in : (ℕ → Bool) → (List ℕ → Past) → List ℕ → List (List ℕ)
+parts_in closes part text = if begins closes (past_white text) then [] else parts_from closes part (suc (length text)) text
+
+-- an array, after its bracket; the first text begins with that
+unfoldable pub array_fault : (List ℕ → Past) → (ℕ → Finds) → ℕ → List ℕ → List ℕ → Option TreeFault
+array_fault value fault zero here inside = fault_at here kinds.TooDeep
+array_fault value fault (suc room) here inside = first_in (fault room) (parts_in (λ b. b == 93) value inside)
+
+-- what stands behind a name and its colon
+abbrev pub rest_of : Past → List ℕ
+rest_of (Ok rest) = rest
+rest_of (Err stop) = []
+
+abbrev pub zero_fault : List ℕ → List ℕ → Option TreeFault
+zero_fault quoted from = if has_zero (name_in quoted) then fault_at from kinds.NulInName else None
+
+unfoldable pub name_fault : List ℕ → Option TreeFault
+name_fault text = zero_fault (quoted_name text) (past_white text)
+
+-- a member of a document: its name, then its value
+abbrev pub member_fault : Finds → Finds
+member_fault fault text = option_or (name_fault text) (fault (rest_of (past_name text)))
+
+abbrev pub members_in : (List ℕ → Past) → List ℕ → List (List ℕ)
+members_in value inside = parts_in (λ b. b == 125) (past_member value) inside
+
+unfoldable pub document_fault : (List ℕ → Past) → (ℕ → Finds) → ℕ → List ℕ → List ℕ → Option TreeFault
+document_fault value fault zero here inside = fault_at here kinds.TooDeep
+document_fault value fault (suc room) here inside = first_in (member_fault (fault room)) (members_in value inside)
+
+abbrev pub is_string : List ℕ → Bool
+is_string text = begins (λ b. b == 34) (past_white text)
+
+-- an object that is no wrapper
+abbrev pub is_document : List ℕ → Bool
+is_document text = opens_object (past_white text) && is_none (first_wrapper (drop 1 (past_white text)))
+
+-- Code with its scope, of the two values: first how deep the scope is, for two levels, then what stands in it, and last
+-- whether it is a document.
+abbrev pub scope_fault : (ℕ → Finds) → ℕ → List ℕ → List ℕ → List ℕ → Option TreeFault
+scope_fault fault room here code scope = if not (is_string code) then fault_at here kinds.BadWrapper
+    else (if nat_lt room 2 then fault_at here kinds.TooDeep
+    else option_or (fault (room - 1) scope) (if is_document scope then None else fault_at here kinds.BadWrapper))
+
+-- a member of an object: the wrapper that its name says, and the text behind the colon
+abbrev pub Part : Type 0
+Part = Option Wrapper × List ℕ
+
+abbrev pub part_of : List ℕ → Part
+part_of text = (wrapper_of (name_in (quoted_name text)), rest_of (past_name text))
+
+-- the members of an object whose first name is `$code` or `$scope`: the first alone, or both in either order
+abbrev pub code_fault : (ℕ → Finds) → ℕ → List ℕ → List Part → Option TreeFault
+code_fault fault room here (a ∷ []) = if is_code_name a.0 && is_string a.1 then None else fault_at here kinds.BadWrapper
+code_fault fault room here (a ∷ b ∷ []) = if is_code_name a.0 && is_scope_name b.0 then scope_fault fault room here a.1 b.1
+    else (if is_scope_name a.0 && is_code_name b.0 then scope_fault fault room here b.1 a.1 else fault_at here kinds.BadWrapper)
+code_fault fault room here parts = fault_at here kinds.BadWrapper
+
+-- an object of another wrapper, whose bytes go up to the rest
+abbrev pub object_fault_of : Wrapper → List ℕ → Past → Option TreeFault
+object_fault_of w here (Ok rest) = option_and_then (fault_at here) (wrapper_fault w (json_in (bytes_before rest here)))
+object_fault_of w here (Err stop) = None
+
+-- an object, whose first name makes it a wrapper or a document
+abbrev pub object_fault_by : Option Wrapper → (List ℕ → Past) → (ℕ → Finds) → ℕ → List ℕ → List ℕ → Option TreeFault
+object_fault_by None value fault room here inside = document_fault value fault room here inside
+object_fault_by (Some w) value fault room here inside = if is_code_name (Some w) || is_scope_name (Some w)
+    then code_fault fault room here (map part_of (members_in value inside))
+    else object_fault_of w here (past_object value inside)
+
+abbrev pub object_fault : (List ℕ → Past) → (ℕ → Finds) → ℕ → List ℕ → List ℕ → Option TreeFault
+object_fault value fault room here inside = object_fault_by (first_wrapper inside) value fault room here inside
+
+-- what stands behind white space
+abbrev pub nested_fault : (List ℕ → Past) → (ℕ → Finds) → ℕ → List ℕ → Option TreeFault
+nested_fault value fault room here = if opens_object here then object_fault value fault room here (drop 1 here)
+    else (if opens_array here then array_fault value fault room here (drop 1 here) else scalar_fault here)
+
+unfoldable pub value_fault : ℕ → ℕ → List ℕ → Option TreeFault
+value_fault zero room text = scalar_fault (past_white text)
+value_fault (suc level) room text = nested_fault (past_value level) (value_fault level) room (past_white text)
