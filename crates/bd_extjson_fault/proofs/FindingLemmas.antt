@@ -329,19 +329,19 @@ module _ (value : List ℕ → Past) (inside start : List ℕ) (now : Bool) (tel
           two_listed over = members_two value inside mid second after rest (sym tells ∙ opened) first_inside next_inside shorter other
               (end ∙ ap (λ m. Ok (m, rest)) over) ∙ ap (λ t. t ∷ second ∷ []) (sym same_start)
 
-          more_walked : {X : Type 0} (answer : Result X Halt) (left : List ℕ) → last ≡ true
+          more_values : {X : Type 0} (answer : Result X Halt) (left : List ℕ) → last ≡ true
               → ((n : ℕ) → length rest < n → Walks answer left (past_parts (λ b. b == 125) (past_member value) n rest))
               → Walks answer left (past_object value inside)
-          more_walked answer left on walks =
+          more_values answer left on walks =
               more_walks answer left (λ b. b == 125) (past_member value) rest (past_object value inside) last on walks after_two
 
           pub more_halted : (halt : Halt) → last ≡ true
               → ((n : ℕ) → length rest < n → Halts halt (past_parts (λ b. b == 125) (past_member value) n rest)) → Halts halt (past_object value inside)
-          more_halted halt on walks = more_walked {X = ℕ} (Err halt) [] on walks
+          more_halted halt on walks = more_values {X = ℕ} (Err halt) [] on walks
 
           pub more_passed : (left : List ℕ) → last ≡ true
               → ((n : ℕ) → length rest < n → past_parts (λ b. b == 125) (past_member value) n rest ≡ Ok left) → past_object value inside ≡ Ok left
-          more_passed left on walks = more_walked {X = ℕ} (Ok 0) left on walks
+          more_passed left on walks = more_values {X = ℕ} (Ok 0) left on walks
 
           pub more_bad : (fault : ℕ → Finds) (room : ℕ) (here : List ℕ) → last ≡ true
               → code_fault fault room here (map part_of (members_in value inside)) ≡ fault_at here BadWrapper
