@@ -66,10 +66,12 @@ impl<R: Input + Drop> DocReader<R> {
         ensures frame { IfOk result (λ o. IfSome o (λ d. IsFrame d.bytes.now)) }
         ensures front { IfOk result (λ o. IfSome o (λ d.
             IfSome (R.state (device_of self.old)).left (λ xs. StartsWith xs d.bytes.now))) }
-        ensures stands { IfOk result (λ o. IfSome o (λ d. (d.start ≡ next_place (buffer_of self.old))
+        ensures stands { IfOk result (λ o. IfSome o (λ d.
+            (d.start ≡ next_place (buffer_of self.old))
             × (d.number ≡ next_number (buffer_of self.old)))) }
         ensures end { result ≡ Ok None → IsAtEnd (R.state (device_of self.old)).left }
-        ensures refused { (result ≡ Err DocFault.Failed) ↔ IsTrue (has_failed (buffer_of self.old)) }
+        ensures refused { (result ≡ Err DocFault.Failed)
+            ↔ IsTrue (has_failed (buffer_of self.old)) }
         ensures* after { sem 𝓛 (Rests (the_row R.row) self.entry (λ new.
             Leaves R.state R.read_gives (buffer_of self.old) (device_of self.old) result
             (buffer_of new) (device_of new))) }
@@ -99,7 +101,8 @@ impl<R: Input + Drop> DocReader<R> {
         ensures fails { has_failed (buffer_of self.old) ≡ false → IfErr result
             (FailsToRead R.state R.read_gives [] (buffer_of self.old) (buffer_of self.new)
             (device_of self.old) (device_of self.new)) }
-        ensures refused { (result ≡ Err DocFault.Failed) ↔ IsTrue (has_failed (buffer_of self.old)) }
+        ensures refused { (result ≡ Err DocFault.Failed)
+            ↔ IsTrue (has_failed (buffer_of self.old)) }
         ensures failed { OnErr result (IsTrue (has_failed (buffer_of self.new))) }
         ensures works { OnOk result (has_failed (buffer_of self.new) ≡ false) }
         ensures quiet { result ≡ Err DocFault.Failed →

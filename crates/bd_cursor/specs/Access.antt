@@ -1,11 +1,11 @@
 -- The access path of a request: how its documents are reached, by which index or without one;
 -- and that an access path in memory leads to them.
-use Rattle.std.specs.Prelude.{ℕ, Bool, false, ◌&&◌, not, List, [], ◌∷◌, string_bytes, Option, Some, None, if◌then◌else◌}
+use Rattle.std.specs.Prelude.{ℕ, Bool, false, ◌&&◌, not, List, [], ◌∷◌, Option, Some, None, if◌then◌else◌}
 use Rattle.std.specs.Prelude.{◌≡◌}
 use Rattle.std.specs.{Str.bytes_eq, Cmp.Lexicographic.pointwise}
 use Rattle.bd_value.specs.Tree.{Doc, leaf}
 use Rattle.bd_cursor_model.specs.Session.{IndexMark, is_on}
-use Rattle.bd_path.specs.{Sort.SortPath, Reach.Names, Path.components_of, declared.sort.Dir.Dir, PathNames.names_of}
+use Rattle.bd_path.specs.{Sort.SortPath, Reach.Names, Path.components_of, declared.sort.Dir.Dir, PathNames.names_of, PathNames.path_text}
 use Rattle.bd_path.specs.{Sort.sort_paths}
 use Rattle.bd_query_filter.specs.{Filter.Filter, Filter.filter_tree}
 use Rattle.bd_index_bounds.specs.{Bounds.KeyBounds, Bounds.bounds, BoundsView.seen_bounds}
@@ -27,7 +27,7 @@ pub data Way : Type 0 where
 abbrev pub way_of : Choice → Way
 way_of choices.Scan = by_none
 way_of choices.Auto = by_any
-way_of (choices.Index path) = by_one (string_bytes path.text)
+way_of (choices.Index path) = by_one (path_text path)
 
 -- how documents are reached: all in turn, or those with an entry inside the bounds of an index,
 -- or all in the order of an index
@@ -38,7 +38,7 @@ pub data AccessPath : Type 0 where
 
 -- the path of an index in memory, and whether it is sparse
 abbrev pub index_mark : Index → IndexMark
-index_mark i = record { path = string_bytes i.path.text; is_sparse = i.sparse }
+index_mark i = record { path = path_text i.path; is_sparse = i.sparse }
 
 -- the names of the path that an index is on
 abbrev pub mark_names : IndexMark → Names

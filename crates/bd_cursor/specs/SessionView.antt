@@ -1,5 +1,5 @@
 -- A session as the state of the machine.
-use Rattle.std.specs.Prelude.{◌≡◌, ◌-◌, ℕ, Bool, List, drop, length, map, option_map, string_bytes, Option, Some, None}
+use Rattle.std.specs.Prelude.{◌≡◌, ◌-◌, ℕ, Bool, List, drop, length, map, option_map, Option, Some, None}
 use Rattle.std.specs.Prelude.{Result, Ok, Err}
 use Rattle.std.specs.List.{cons_option, filter, range_with_len}
 use Rattle.bd_value.specs.Tree.{Doc}
@@ -15,7 +15,7 @@ use Rattle.bd_cursor.specs.{declared.cursor.ScanPosition.ScanPosition, Access.Wa
 use Rattle.bd_cursor.specs.{Access.index_mark, Explanation.explanation_of, Explanation.index_counts}
 use Rattle.bd_cursor.specs.{declared.access.Choice.Choice, declared.cursor.Cursor.Cursor}
 use Rattle.bd_cursor.specs.{declared.cursor.Remainder.Remainder, declared.session.Session.Session}
-use Rattle.bd_path.specs.declared.path.Path.{Path}
+use Rattle.bd_path.specs.{PathNames.path_text, declared.path.Path.Path}
 use Rattle.bd_cursor_request.specs.{declared.request.Request.Request, declared.results.Batch.Batch}
 use Rattle.bd_cursor_request.specs.{declared.results.Refused.Refused, declared.token.Token.Token}
 use Rattle.bd_cursor.specs.declared.cursor.Remainder.TheVariants as remainders
@@ -74,7 +74,7 @@ hint_of choice = path_named (way_of choice)
 
 -- the index on this path, sparse or not
 abbrev pub path_mark : Bool → Path → IndexMark
-path_mark sparse path = record { path = string_bytes path.text; is_sparse = sparse }
+path_mark sparse path = record { path = path_text path; is_sparse = sparse }
 
 -- the call that makes this index of these documents
 abbrev pub make_of : List Doc → IndexMark → Call

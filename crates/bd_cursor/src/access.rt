@@ -1,6 +1,6 @@
 //! How documents are reached: by which index, or without one.
 
-ghost use Rattle.std.specs.Prelude.{◌≡◌, ◌≤◌, ◌<◌, ◌↔◌, IfOk, IfSome, IsTrue, List, OnErr, Some, drop, is_some, length, map, position, string_bytes, take, ℕ};
+ghost use Rattle.std.specs.Prelude.{◌≡◌, ◌≤◌, ◌<◌, ◌↔◌, IfOk, IfSome, IsTrue, List, OnErr, Some, drop, is_some, length, map, position, take, ℕ};
 ghost use Rattle.std.specs.List.Sorted.{IsStrictlyIncreasing};
 ghost use Rattle.bd_cursor_model.specs.Answer.{at_most, is_empty};
 ghost use Rattle.bd_cursor_model.specs.Session.{has_index, is_on};
@@ -10,7 +10,7 @@ ghost use Rattle.bd_bson_dump.specs.Collection.{documents};
 ghost use Rattle.bd_bson_dump.specs.declared.collection.Dump.{Dump};
 ghost use Rattle.bd_query_filter.specs.Filter.{filter_tree};
 ghost use Rattle.bd_index.specs.IndexView.{AreIndexesOf, IsIndexOf};
-ghost use Rattle.bd_path.specs.Sort.{sort_paths};
+ghost use Rattle.bd_path.specs.{PathNames.path_text, Sort.sort_paths};
 ghost use Rattle.bd_cursor_sort.specs.Selection.{hits_of, selection_of};
 ghost use Rattle.bd_cursor.specs.Access.{IsAccessOf, Reaches, access_of, access_path, first_bounded, first_walked, index_mark};
 ghost use Rattle.bd_cursor.specs.Access.{mark_bounds, named_access, scanned, serving_bounds, walk_dir, way_of};
@@ -186,9 +186,9 @@ fn walk_or_scan<'a>(indexes: &'a [Index], request: &Request) -> Access<'a>
 /// Which index is on a path: the first of them, where there is one. It takes no memory.
 pub(crate) fn index_on(indexes: &[Index], path: &Path) -> Option<usize>
     ensures found { result
-        ≡ position (is_on (string_bytes path.now.text)) (map index_mark indexes.now) }
+        ≡ position (is_on (path_text path.now)) (map index_mark indexes.now) }
     ensures there { is_some result
-        ≡ has_index (map index_mark indexes.now) (Some (string_bytes path.now.text)) }
+        ≡ has_index (map index_mark indexes.now) (Some (path_text path.now)) }
 {
     indexes
         .iter()

@@ -34,7 +34,8 @@ pub struct Session {
 }
 
 impl Session {
-    ghost use Rattle.std.specs.Prelude.{◌≤◌, ◌<◌, IfErr, IfOk, IfSome, IsFalse, IsTrue, List, None, OnOk, Option, Some, ℕ, false, length, option_map, string_bytes, true};
+    ghost use Rattle.std.specs.Prelude.{◌≤◌, ◌<◌, IfErr, IfOk, IfSome, IsFalse, IsTrue, List, None, OnOk, Option, Some, ℕ, false, length, option_map, true};
+    ghost use Rattle.bd_path.specs.PathNames.{path_text};
     ghost use Rattle.bd_cursor_model.specs.Laws.{new_state};
     ghost use Rattle.bd_cursor_model.specs.Session.{Call, drop_call, dropped, explained, find_call, gave, has_index, kill_call, killed, made, next_call};
     ghost use Rattle.bd_cursor_model.specs.Session.{open_reply, opened, reply, resume_call};
@@ -100,7 +101,7 @@ impl Session {
     /// `NoIndex` where the path has none.
     pub fn drop_index(&mut self, path: &Path) -> Result<(), Refused>
         ensures steps { Steps (λ _.
-            dropped) (drop_call (string_bytes path.now.text)) self.old result self.new }
+            dropped) (drop_call (path_text path.now)) self.old result self.new }
     {
         if index_on(&self.indexes, path).is_none() {
             return Err(Refused::NoIndex);

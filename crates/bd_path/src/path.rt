@@ -22,13 +22,13 @@ pub struct Path {
 }
 
 impl Path {
-    ghost use Rattle.bd_path.specs.PathNames.{names_of};
+    ghost use Rattle.bd_path.specs.PathNames.{names_of, path_text};
 
     /// The path that a text is. It fails where there are more than 100 components, else where one is empty, and for want of
     /// memory.
     pub fn parse(alloc: Global, text: &str) -> Result<Path, PathFault>
         ensures path { IfOk result (λ p. path_of text.now ≡ Ok (names_of p)) }
-        ensures text { IfOk result (λ p. string_bytes p.text ≡ text.now) }
+        ensures text { IfOk result (λ p. path_text p ≡ text.now) }
         ensures fault { IfErr result (λ fault. (fault ≡ faults.NoMemory)
             ⊎ (path_of text.now ≡ Err fault)) }
     {
@@ -47,7 +47,7 @@ impl Path {
     /// The same path once more, with no text read again. It fails only if memory runs out.
     pub fn try_copy(&self, alloc: Global) -> Result<Path, NoMemory>
         ensures names { IfOk result (λ p. names_of p ≡ names_of self.now) }
-        ensures text { IfOk result (λ p. string_bytes p.text ≡ string_bytes self.now.text) }
+        ensures text { IfOk result (λ p. path_text p ≡ path_text self.now) }
     {
         let components = copied(alloc, &self.components)?;
         let text = String::from_str(alloc, self.text.as_str())?;
@@ -78,7 +78,7 @@ impl Path {
 
     /// The text that it was cut from. It takes no memory.
     pub fn as_str(&self) -> &str
-        ensures { result.now ≡ string_bytes self.now.text }
+        ensures { result.now ≡ path_text self.now }
     {
         self.text.as_str()
     }
