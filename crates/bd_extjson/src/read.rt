@@ -8,6 +8,7 @@ ghost use Rattle.bd_value.specs.Limits.{most_levels};
 ghost use Rattle.bd_value.specs.Tree.{Doc, Tree, pairs_of, fields_of, items_of};
 ghost use Rattle.bd_value.specs.View.{tree_of, pairs};
 ghost use Rattle.bd_extjson_fault.specs.JsonFault.{IsPlaced, TellsBadUtf8};
+ghost use Rattle.bd_extjson_fault.specs.TextFault.{text_fault};
 ghost use Rattle.bd_extjson_fault.specs.declared.json_fault.JsonFaultKind.TheVariants as faults;
 ghost use Rattle.bd_extjson_wrapper.specs.WholeNumber.{whole_64};
 ghost use Rattle.bd_extjson_wrapper.specs.Wrapper.{wrapper_of, through, after_key, Fails, Gives};
@@ -38,6 +39,8 @@ pub fn read_doc(alloc: Global, text: &[u8]) -> Result<Document, JsonFault>
         (d : Doc) → ReadsAs text.now d → ⊥) }
     ensures place { IfErr result (IsPlaced (length text.now)) }
     ensures utf8 { IfErr result (TellsBadUtf8 text.now) }
+    // Which fault is told, and at which byte, is a function of the text.
+    ensures fault { IfErr result (λ f. f.kind ≢ faults.NoMemory → f ≡ text_fault text.now) }
 {
     let mut scratch = Scratch::new(alloc);
     read_doc_with(alloc, text, &mut scratch)
@@ -54,6 +57,7 @@ pub fn read_doc_with(
         (d : Doc) → ReadsAs text.now d → ⊥) }
     ensures place { IfErr result (IsPlaced (length text.now)) }
     ensures utf8 { IfErr result (TellsBadUtf8 text.now) }
+    ensures fault { IfErr result (λ f. f.kind ≢ faults.NoMemory → f ≡ text_fault text.now) }
 {
     match read_bytes(alloc, text, scratch) {
         Ok(document) => Ok(document),

@@ -48,6 +48,7 @@ pub begun_at : (closes : ℕ → Bool) (part : List ℕ → Past) (start text re
     → PartsGoOn closes part (not now) rest (past_group closes part start)
 begun_at closes part start text rest now same b e = rw (← same) (begun closes part text rest now b e)
 
+-- after a part with a comma another part follows, else the group has ended
 pub part_on : (closes : ℕ → Bool) (part : List ℕ → Past) (whole : Past) (text mid rest : List ℕ) (more next : Bool) → more ≡ true
     → part text ≡ Ok mid → length mid < length text → past_next closes mid ≡ Ok (next, rest) → length rest ≤ length mid
     → PartsGoOn closes part more text whole → PartsGoOn closes part next rest whole
@@ -64,6 +65,7 @@ part_stopped closes part whole text false stop is fails on = absurd cc
 part_stopped closes part whole text true stop is fails (zero, lt, e) = absurd (omega (arith, lt))
 part_stopped closes part whole text true stop is fails (suc n, lt, e) = sym e ∙ rw fails refl
 
+-- a fault after a part is the fault of its group
 pub next_stopped : (closes : ℕ → Bool) (part : List ℕ → Past) (whole : Past) (text mid : List ℕ) (more : Bool) (stop : Stop) → more ≡ true
     → part text ≡ Ok mid → past_next closes mid ≡ Err stop → PartsGoOn closes part more text whole → whole ≡ Err stop
 unfolding past_parts
@@ -138,6 +140,7 @@ pub member_walked : (value : List ℕ → Past) (text rest after : List ℕ) →
     → past_member value text ≡ Ok after
 member_walked value text rest after e h = rw e h
 
+-- a walk over one part more walks over the group
 pub more_walks : {X : Type 0} (answer : Result X Halt) (rest : List ℕ) (closes : ℕ → Bool) (part : List ℕ → Past) (text : List ℕ) (whole : Past) (more : Bool)
     → more ≡ true → ((n : ℕ) → length text < n → Walks answer rest (past_parts closes part n text)) → PartsGoOn closes part more text whole
     → Walks answer rest whole

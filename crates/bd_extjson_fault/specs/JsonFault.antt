@@ -34,12 +34,6 @@ pub record IsPlaced (size : ℕ) (fault : JsonFault) : Type 0 where
   pub whole : fault.kind ≡ kinds.NotADocument → fault.at ≡ 0
   pub memory : fault.kind ≡ kinds.NoMemory → fault.at ≡ 0
 
--- the byte that is told of a fault at a byte
-abbrev pub byte_of : JsonFaultKind → ℕ → ℕ
-byte_of kinds.NotADocument at = 0
-byte_of kinds.NoMemory at = 0
-byte_of _ at = at
-
 -- a text that is not UTF-8 is told as no JSON, at its first byte that is none
 pub record TellsBadUtf8 (text : List ℕ) (fault : JsonFault) : Type 0 where
   pub kind : ¬ (IsUtf8 text) → fault.kind ≡ kinds.Syntax

@@ -13,6 +13,7 @@ abbrev pub Past : Type 0
 Past = Result (List ℕ) Stop
 
 infixl 10 ◌>>=◌
+-- one step and then another: the first fault of the two, or what the second gives
 abbrev pub ◌>>=◌ : {A B : Type 0} → Result A Stop → (A → Result B Stop) → Result B Stop
 (Ok x) >>= f = f x
 (Err e) >>= f = Err e
@@ -46,14 +47,17 @@ past_word (w ∷ word) text = if begins (λ b. b == w) text then past_word word 
 
 -- ---- white space (section 2)
 
+-- the four bytes of white space: space, tab, line feed, carriage return
 abbrev pub is_white : ℕ → Bool
 is_white b = b == 32 || b == 9 || b == 10 || b == 13
 
+-- the text after its white space
 abbrev pub past_white : List ℕ → List ℕ
 past_white text = past_all is_white text
 
 -- ---- numbers (section 6)
 
+-- a decimal digit in ASCII
 abbrev pub is_decimal : ℕ → Bool
 is_decimal b = nat_le 48 b && nat_le b 57
 
@@ -65,13 +69,16 @@ past_digits text = if begins is_decimal text then Ok (past_all is_decimal text) 
 unfoldable pub past_natural : List ℕ → Past
 past_natural text = if begins (λ b. b == 48) text then Ok (drop 1 text) else past_digits text
 
+-- a full stop with its digits, if one comes next
 unfoldable pub past_fraction : List ℕ → Past
 past_fraction text = if begins (λ b. b == 46) text then past_digits (drop 1 text) else Ok text
 
+-- an exponent with its sign and digits, if one comes next
 unfoldable pub past_exponent : List ℕ → Past
 past_exponent text = if begins (λ b. b == 101 || b == 69) text
     then past_digits (past_if (λ b. b == 43 || b == 45) (drop 1 text)) else Ok text
 
+-- a number: a sign, a whole part, a fraction, an exponent
 unfoldable pub past_number : List ℕ → Past
 past_number text = past_natural (past_if (λ b. b == 45) text) >>= past_fraction >>= past_exponent
 
@@ -104,6 +111,7 @@ past_units text = do
   u ← past_unit text
   if is_high_surrogate u.0 then past_low text (past_unit u.1) else (if is_low_surrogate u.0 then syntax_at text else Ok u.1)
 
+-- the byte of an escape of two characters: one of "\/bfnrt
 abbrev pub is_short_escape : ℕ → Bool
 is_short_escape b = b == 34 || b == 92 || b == 47 || b == 98 || b == 102 || b == 110 || b == 114 || b == 116
 
@@ -112,6 +120,7 @@ unfoldable pub past_escape : List ℕ → List ℕ → Past
 past_escape from [] = syntax_at []
 past_escape from (b ∷ text) = if b == 117 then past_units from else (if is_short_escape b then Ok text else syntax_at (b ∷ text))
 
+-- one character of a string, or an escape; a byte below 32 is none
 unfoldable pub past_character : List ℕ → Past
 past_character [] = syntax_at []
 past_character (b ∷ text) = if b == 92 then past_escape (b ∷ text) text else (if nat_lt b 32 then syntax_at (b ∷ text) else Ok text)
@@ -145,6 +154,7 @@ past_parts closes part (suc n) text = part text >>= past_next closes >>= λ next
 unfoldable pub past_group : (ℕ → Bool) → (List ℕ → Past) → List ℕ → Past
 past_group closes part text = if begins closes (past_white text) then Ok (drop 1 (past_white text)) else past_parts closes part (suc (length text)) text
 
+-- an array whose bracket was passed, up to its closing bracket
 abbrev pub past_array : (List ℕ → Past) → List ℕ → Past
 past_array value text = past_group (λ b. b == 93) value text
 
@@ -152,6 +162,7 @@ past_array value text = past_group (λ b. b == 93) value text
 abbrev pub past_member : (List ℕ → Past) → List ℕ → Past
 past_member value text = past_name text >>= value
 
+-- an object whose brace was passed, up to its closing brace
 abbrev pub past_object : (List ℕ → Past) → List ℕ → Past
 past_object value text = past_group (λ b. b == 125) (past_member value) text
 
@@ -164,9 +175,11 @@ past_scalar (b ∷ text) = if b == 34 then past_string text
     else (if b == 110 then past_word (codes "ull") text
     else past_number (b ∷ text))))
 
+-- an object begins here
 abbrev pub opens_object : List ℕ → Bool
 opens_object text = begins (λ b. b == 123) text
 
+-- an array begins here
 abbrev pub opens_array : List ℕ → Bool
 opens_array text = begins (λ b. b == 91) text
 
@@ -175,6 +188,7 @@ abbrev pub past_unnested : List ℕ → Past
 past_unnested text = if opens_object text || opens_array text
     then Err (record { kind = TooDeep; left = length text }) else past_scalar text
 
+-- an object or an array of such values, or a value without brackets
 abbrev pub past_nested : (List ℕ → Past) → List ℕ → Past
 past_nested value text = if opens_object text then past_object value (drop 1 text)
     else (if opens_array text then past_array value (drop 1 text) else past_scalar text)

@@ -39,6 +39,7 @@ deeper None = None
 deeper (Some zero) = None
 deeper (Some (suc room)) = Some room
 
+-- a document or array for which no level is left is a fault at its bracket
 abbrev pub depth_fault : Option ℕ → List ℕ → Option TreeFault
 depth_fault None text = None
 depth_fault (Some zero) text = fault_at text TooDeep

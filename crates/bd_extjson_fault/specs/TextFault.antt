@@ -14,11 +14,13 @@ use Rattle.bd_extjson_fault.specs.declared.tree_fault.TreeFault.{TreeFault}
 use Rattle.bd_extjson_fault.specs.declared.tree_fault.TreeFaultKind.{TreeFaultKind}
 use Rattle.bd_extjson_fault.specs.declared.tree_fault.TreeFaultKind.TheVariants as trees
 
+-- the kind of a fault of the syntax, as it is reported
 abbrev pub kind_of_stop : StopKind → JsonFaultKind
 kind_of_stop stops.Syntax = kinds.Syntax
 kind_of_stop stops.TooDeep = kinds.TooDeep
 kind_of_stop stops.TrailingText = kinds.TrailingText
 
+-- the kind of a fault of the tree, as it is reported
 abbrev pub kind_in_tree : TreeFaultKind → JsonFaultKind
 kind_in_tree trees.TooDeep = kinds.TooDeep
 kind_in_tree trees.BadWrapper = kinds.BadWrapper
@@ -30,6 +32,7 @@ kind_in_tree trees.NulInName = kinds.NulInName
 abbrev pub stop_in : ℕ → Stop → JsonFault
 stop_in size stop = record { kind = kind_of_stop stop.kind; at = size - stop.left }
 
+-- a fault of the tree with its byte, counted from the start of a text of this length
 abbrev pub fault_in : ℕ → TreeFault → JsonFault
 fault_in size fault = record { kind = kind_in_tree fault.kind; at = size - fault.left }
 
@@ -38,6 +41,7 @@ abbrev pub tree_or_none : List ℕ → Option TreeFault → Option JsonFault
 tree_or_none text (Some fault) = Some (fault_in (length text) fault)
 tree_or_none text None = if is_document text then None else Some (record { kind = kinds.NotADocument; at = 0 })
 
+-- the fault of a text by what its syntax gave: that of the syntax, else the first of its tree
 abbrev pub fault_after : List ℕ → Past → Option JsonFault
 fault_after text (Err stop) = Some (stop_in (length text) stop)
 fault_after text (Ok rest) = tree_or_none text (value_fault most_brackets most_levels text)

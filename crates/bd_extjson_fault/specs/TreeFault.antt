@@ -42,14 +42,17 @@ abbrev pub number_between : List ℕ → Past → Option TreeFault
 number_between text (Ok rest) = option_and_then (fault_at text) (number_fault (bytes_before rest text))
 number_between text (Err stop) = None
 
+-- the fault of a number that the text begins with; no other value without brackets has one
 abbrev pub scalar_fault : List ℕ → Option TreeFault
 scalar_fault text = number_between text (past_number text)
 
 -- ---- names
 
+-- the name in quotation marks, without its escapes; empty if these bytes are no string
 abbrev pub name_in : List ℕ → List ℕ
 name_in quoted = unwrap_or (option_and_then as_str (json_in quoted)) []
 
+-- the bytes that were passed, or none if there was a fault
 abbrev pub quoted_between : List ℕ → Past → List ℕ
 quoted_between text (Ok rest) = bytes_before rest text
 quoted_between text (Err stop) = []
@@ -63,6 +66,7 @@ abbrev pub if_named : Past → List ℕ → Option Wrapper
 if_named (Ok rest) name = wrapper_of name
 if_named (Err stop) name = None
 
+-- the wrapper that the first name of an object is, if it is one; the text begins after the brace
 unfoldable pub first_wrapper : List ℕ → Option Wrapper
 first_wrapper inside = if_named (past_name inside) (name_in (quoted_name inside))
 
@@ -77,6 +81,7 @@ is_outside_profile wrappers.Date part = is_some (as_str part)
 is_outside_profile wrappers.Binary part = is_some (as_str part)
 is_outside_profile w part = false
 
+-- a text of digits, with or without a minus sign, is there
 abbrev pub is_whole : Option (List ℕ) → Bool
 is_whole None = false
 is_whole (Some s) = are_digits (unsigned s)
@@ -97,12 +102,15 @@ abbrev pub refusal_of_form : Wrapper → TreeFaultKind
 refusal_of_form wrappers.RegularExpression = kinds.NulInName
 refusal_of_form w = kinds.NumberRange
 
+-- the fault of a part that is no value of its wrapper
 abbrev pub refusal : Wrapper → Json → TreeFaultKind
 refusal w part = if is_formed w part then refusal_of_form w else kinds.BadWrapper
 
+-- the fault of the only part of a wrapper, if the part is no value of it
 abbrev pub single_fault : Wrapper → Json → Option TreeFaultKind
 single_fault w part = if is_some (single w part) then None else Some (refusal w part)
 
+-- there is at least one member
 abbrev pub has_members : kit.Members → Bool
 has_members kit.no_members = false
 has_members (kit.member name part more) = true
@@ -113,6 +121,7 @@ members_fault w kit.no_members = Some kinds.BadWrapper
 members_fault w (kit.member name part more) = if is_outside_profile w part then Some kinds.NotInProfile
     else (if has_members more then Some kinds.BadWrapper else single_fault w part)
 
+-- the fault of an object of this wrapper, read as JSON
 abbrev pub wrapper_fault : Wrapper → Option Json → Option TreeFaultKind
 wrapper_fault w j = option_map_or (members_fault w) (option_and_then as_object j) (Some kinds.BadWrapper)
 
@@ -127,6 +136,7 @@ unfoldable pub first_in : Finds → List (List ℕ) → Option TreeFault
 first_in fault [] = None
 first_in fault (text ∷ texts) = option_or (fault text) (first_in fault texts)
 
+-- the parts that follow a part, after a comma
 abbrev pub parts_after : (List ℕ → List (List ℕ)) → Result (Bool × List ℕ) Stop → List (List ℕ)
 parts_after more (Ok next) = if next.0 then more next.1 else []
 parts_after more (Err stop) = []
@@ -150,9 +160,11 @@ abbrev pub rest_of : Past → List ℕ
 rest_of (Ok rest) = rest
 rest_of (Err stop) = []
 
+-- a zero in a name is a fault at the quotation mark of the name
 abbrev pub zero_fault : List ℕ → List ℕ → Option TreeFault
 zero_fault quoted from = if has_zero (name_in quoted) then fault_at from kinds.NulInName else None
 
+-- the fault of the name of a member
 unfoldable pub name_fault : List ℕ → Option TreeFault
 name_fault text = zero_fault (quoted_name text) (past_white text)
 
@@ -160,13 +172,16 @@ name_fault text = zero_fault (quoted_name text) (past_white text)
 abbrev pub member_fault : Finds → Finds
 member_fault fault text = option_or (name_fault text) (fault (rest_of (past_name text)))
 
+-- the texts that begin with a member of an object; the text begins after the brace
 abbrev pub members_in : (List ℕ → Past) → List ℕ → List (List ℕ)
 members_in value inside = parts_in (λ b. b == 125) (past_member value) inside
 
+-- the first fault of a document, whose brace the first of the two texts begins with
 unfoldable pub document_fault : (List ℕ → Past) → (ℕ → Finds) → ℕ → List ℕ → List ℕ → Option TreeFault
 document_fault value fault zero here inside = fault_at here kinds.TooDeep
 document_fault value fault (suc room) here inside = first_in (member_fault (fault room)) (members_in value inside)
 
+-- a string comes next
 abbrev pub is_string : List ℕ → Bool
 is_string text = begins (λ b. b == 34) (past_white text)
 
@@ -185,6 +200,7 @@ scope_fault fault room here code scope = if not (is_string code) then fault_at h
 abbrev pub Part : Type 0
 Part = Option Wrapper × List ℕ
 
+-- the member that a text begins with
 abbrev pub part_of : List ℕ → Part
 part_of text = (wrapper_of (name_in (quoted_name text)), rest_of (past_name text))
 
@@ -207,6 +223,7 @@ object_fault_by (Some w) value fault room here inside = if is_code_name (Some w)
     then code_fault fault room here (map part_of (members_in value inside))
     else object_fault_of w here (past_object value inside)
 
+-- the first fault of an object, whose brace the first of the two texts begins with
 abbrev pub object_fault : (List ℕ → Past) → (ℕ → Finds) → ℕ → List ℕ → List ℕ → Option TreeFault
 object_fault value fault room here inside = object_fault_by (first_wrapper inside) value fault room here inside
 
@@ -215,6 +232,7 @@ abbrev pub nested_fault : (List ℕ → Past) → (ℕ → Finds) → ℕ → Li
 nested_fault value fault room here = if opens_object here then object_fault value fault room here (drop 1 here)
     else (if opens_array here then array_fault value fault room here (drop 1 here) else scalar_fault here)
 
+-- The first fault of a value, with so many brackets and so many levels left (Extended JSON v2, and 200 levels)
 unfoldable pub value_fault : ℕ → ℕ → List ℕ → Option TreeFault
 value_fault zero room text = scalar_fault (past_white text)
 value_fault (suc level) room text = nested_fault (past_value level) (value_fault level) room (past_white text)

@@ -147,7 +147,8 @@ impl Part<'_> {
     /// The fault of an object of this one member.
     fn fault_alone(&self, object: &[u8]) -> Option<TreeFault>
         ensures { (fault : ℕ → Finds) → (room : ℕ)
-            → result ≡ code_fault fault room object.now ((self.now.wrapper, self.now.text.now) ∷ []) }
+            → result ≡ code_fault fault room object.now
+            ((self.now.wrapper, self.now.text.now) ∷ []) }
     {
         if self.is_code() {
             if is_string(self.text) {
@@ -192,7 +193,8 @@ impl<'a> Walk<'a> {
         ensures within { IfErr result (IsWithin (length self.old.rest.now)) }
         ensures place { IfOk result (λ f. IfSome f (IsPlaced (length self.old.rest.now))) }
         ensures first { IfOk result (λ f. self.old.fault ≡ None
-            → f ≡ tree_or_none self.old.rest.now (value_fault most_brackets most_levels self.old.rest.now)) }
+            → f ≡ tree_or_none self.old.rest.now
+            (value_fault most_brackets most_levels self.old.rest.now)) }
     {
         let text = self.rest;
         self.whole()?;
@@ -242,7 +244,8 @@ impl<'a> Walk<'a> {
     #[cycle(passing)]
     fn value(&mut self, level: usize, room: Option<usize>) -> Result<(), Halt>
         ensures past { Walks result self.new.rest.now (past_value level self.old.rest.now) }
-        ensures shorter { MatchResult result (λ u. length self.new.rest.now < length self.old.rest.now)
+        ensures shorter { MatchResult result
+            (λ u. length self.new.rest.now < length self.old.rest.now)
             (IsWithin (length self.old.rest.now)) }
         ensures fault { OnOk result (self.new.fault
             ≡ found self.old.fault room (λ r. value_fault level r self.old.rest.now)) }
@@ -267,9 +270,11 @@ impl<'a> Walk<'a> {
     #[tactic(auto, unfolding(crate::specs::JsonSyntax::past_scalar))]
     fn scalar(&mut self, text: &'a [u8], room: Option<usize>) -> Result<(), Stop>
         ensures past { Gives (λ u. self.new.rest.now) result (past_scalar text.now) }
-        ensures shorter { MatchResult result (λ u. length self.new.rest.now < length text.now)
+        ensures shorter { MatchResult result
+            (λ u. length self.new.rest.now < length text.now)
             (λ stop. stop.left ≤ length text.now) }
-        ensures fault { OnOk result (self.new.fault ≡ found self.old.fault room (λ r. scalar_fault text.now)) }
+        ensures fault { OnOk result
+            (self.new.fault ≡ found self.old.fault room (λ r. scalar_fault text.now)) }
     {
         let [first, inside @ ..] = text else {
             return Err(Stop::syntax(text));
@@ -287,9 +292,11 @@ impl<'a> Walk<'a> {
     /// Passes the number that the text begins with.
     fn number(&mut self, text: &'a [u8], room: Option<usize>) -> Result<(), Stop>
         ensures past { Gives (λ u. self.new.rest.now) result (past_number text.now) }
-        ensures shorter { MatchResult result (λ u. length self.new.rest.now < length text.now)
+        ensures shorter { MatchResult result
+            (λ u. length self.new.rest.now < length text.now)
             (λ stop. stop.left ≤ length text.now) }
-        ensures fault { OnOk result (self.new.fault ≡ found self.old.fault room (λ r. scalar_fault text.now)) }
+        ensures fault { OnOk result
+            (self.new.fault ≡ found self.old.fault room (λ r. scalar_fault text.now)) }
     {
         self.rest = skip_number(text)?;
         if room.is_some() {
@@ -302,11 +309,14 @@ impl<'a> Walk<'a> {
     /// Passes the array that the text begins with, whose bracket was passed.
     #[cycle(passing)]
     fn array(&mut self, text: &'a [u8], level: usize, room: Option<usize>) -> Result<(), Halt>
-        ensures past { Walks result self.new.rest.now (past_array (past_value level) self.old.rest.now) }
-        ensures shorter { MatchResult result (λ u. length self.new.rest.now ≤ length self.old.rest.now)
+        ensures past { Walks result self.new.rest.now
+            (past_array (past_value level) self.old.rest.now) }
+        ensures shorter { MatchResult result
+            (λ u. length self.new.rest.now ≤ length self.old.rest.now)
             (IsWithin (length self.old.rest.now)) }
         ensures fault { OnOk result (self.new.fault ≡ found self.old.fault room
-            (λ r. array_fault (past_value level) (value_fault level) r text.now self.old.rest.now)) }
+            (λ r. array_fault (past_value level) (value_fault level) r text.now
+            self.old.rest.now)) }
     {
         let room = self.deeper(text, room);
         let mut more = !self.closes(b']');
@@ -321,11 +331,14 @@ impl<'a> Walk<'a> {
     #[cycle(passing)]
     fn object(&mut self, text: &'a [u8], level: usize, room: Option<usize>) -> Result<(), Halt>
         requires { length self.old.rest.now ≤ length text.now }
-        ensures past { Walks result self.new.rest.now (past_object (past_value level) self.old.rest.now) }
-        ensures shorter { MatchResult result (λ u. length self.new.rest.now ≤ length self.old.rest.now)
+        ensures past { Walks result self.new.rest.now
+            (past_object (past_value level) self.old.rest.now) }
+        ensures shorter { MatchResult result
+            (λ u. length self.new.rest.now ≤ length self.old.rest.now)
             (IsWithin (length self.old.rest.now)) }
         ensures fault { OnOk result (self.new.fault ≡ found self.old.fault room
-            (λ r. object_fault (past_value level) (value_fault level) r text.now self.old.rest.now)) }
+            (λ r. object_fault (past_value level) (value_fault level) r text.now
+            self.old.rest.now)) }
     {
         let Some(levels) = room else {
             return self.members(text, level, room);
@@ -359,11 +372,14 @@ impl<'a> Walk<'a> {
     /// Passes an object as a document, or as JSON alone.
     #[cycle(passing)]
     fn members(&mut self, text: &'a [u8], level: usize, room: Option<usize>) -> Result<(), Halt>
-        ensures past { Walks result self.new.rest.now (past_object (past_value level) self.old.rest.now) }
-        ensures shorter { MatchResult result (λ u. length self.new.rest.now ≤ length self.old.rest.now)
+        ensures past { Walks result self.new.rest.now
+            (past_object (past_value level) self.old.rest.now) }
+        ensures shorter { MatchResult result
+            (λ u. length self.new.rest.now ≤ length self.old.rest.now)
             (IsWithin (length self.old.rest.now)) }
         ensures fault { OnOk result (self.new.fault ≡ found self.old.fault room
-            (λ r. document_fault (past_value level) (value_fault level) r text.now self.old.rest.now)) }
+            (λ r. document_fault (past_value level) (value_fault level) r text.now
+            self.old.rest.now)) }
     {
         let room = self.deeper(text, room);
         if self.closes(b'}') {
@@ -376,8 +392,10 @@ impl<'a> Walk<'a> {
     #[cycle(passing)]
     fn more_members(&mut self, level: usize, room: Option<usize>) -> Result<(), Halt>
         ensures past { (n : ℕ) → length self.old.rest.now < n
-            → Walks result self.new.rest.now (past_parts (λ b. b == 125) (past_member (past_value level)) n self.old.rest.now) }
-        ensures shorter { MatchResult result (λ u. length self.new.rest.now ≤ length self.old.rest.now)
+            → Walks result self.new.rest.now
+            (past_parts (λ b. b == 125) (past_member (past_value level)) n self.old.rest.now) }
+        ensures shorter { MatchResult result
+            (λ u. length self.new.rest.now ≤ length self.old.rest.now)
             (IsWithin (length self.old.rest.now)) }
         ensures fault { (n : ℕ) → length self.old.rest.now < n
             → OnOk result (self.new.fault ≡ found self.old.fault room (λ r. first_in (member_fault (value_fault level r))
@@ -397,11 +415,14 @@ impl<'a> Walk<'a> {
     /// Passes an object whose first name is `$code` or `$scope`.
     #[cycle(passing)]
     fn code(&mut self, text: &'a [u8], level: usize, levels: usize) -> Result<(), Halt>
-        ensures past { Walks result self.new.rest.now (past_object (past_value level) self.old.rest.now) }
-        ensures shorter { MatchResult result (λ u. length self.new.rest.now ≤ length self.old.rest.now)
+        ensures past { Walks result self.new.rest.now
+            (past_object (past_value level) self.old.rest.now) }
+        ensures shorter { MatchResult result
+            (λ u. length self.new.rest.now ≤ length self.old.rest.now)
             (IsWithin (length self.old.rest.now)) }
         ensures fault { OnOk result (self.new.fault ≡ option_or self.old.fault
-            (code_fault (value_fault level) levels text.now (map part_of (members_in (past_value level) self.old.rest.now)))) }
+            (code_fault (value_fault level) levels text.now
+            (map part_of (members_in (past_value level) self.old.rest.now)))) }
     {
         let before = self.fault;
         self.fault = None;
@@ -418,11 +439,14 @@ impl<'a> Walk<'a> {
         level: usize,
         levels: usize,
     ) -> Result<Option<TreeFault>, Halt>
-        ensures past { Walks result self.new.rest.now (past_object (past_value level) self.old.rest.now) }
-        ensures shorter { MatchResult result (λ u. length self.new.rest.now ≤ length self.old.rest.now)
+        ensures past { Walks result self.new.rest.now
+            (past_object (past_value level) self.old.rest.now) }
+        ensures shorter { MatchResult result
+            (λ u. length self.new.rest.now ≤ length self.old.rest.now)
             (IsWithin (length self.old.rest.now)) }
         ensures fault { IfOk result (λ f. self.old.fault ≡ None
-            → f ≡ code_fault (value_fault level) levels text.now (map part_of (members_in (past_value level) self.old.rest.now))) }
+            → f ≡ code_fault (value_fault level) levels text.now
+            (map part_of (members_in (past_value level) self.old.rest.now))) }
     {
         if self.closes(b'}') {
             return Ok(bad_wrapper(text));
@@ -442,8 +466,10 @@ impl<'a> Walk<'a> {
     /// Passes a member. Faults are looked for in a scope, for which there is one level less.
     #[cycle(passing)]
     fn code_part(&mut self, level: usize, levels: usize) -> Result<Part<'a>, Halt>
-        ensures past { Walks result self.new.rest.now (past_member (past_value level) self.old.rest.now) }
-        ensures shorter { MatchResult result (λ u. length self.new.rest.now < length self.old.rest.now)
+        ensures past { Walks result self.new.rest.now
+            (past_member (past_value level) self.old.rest.now) }
+        ensures shorter { MatchResult result
+            (λ u. length self.new.rest.now < length self.old.rest.now)
             (IsWithin (length self.old.rest.now)) }
         ensures part { IfOk result (λ p. (p.wrapper, p.text.now) ≡ part_of self.old.rest.now) }
         ensures fault { IfOk result (λ p. self.new.fault ≡ option_or self.old.fault
@@ -476,7 +502,8 @@ impl<'a> Walk<'a> {
             → self.old.fault ≡ option_or (found_in_scope (fault (levels - 1)) first.entry.wrapper first.entry.text.now)
             (found_in_scope (fault (levels - 1)) second.entry.wrapper second.entry.text.now)
             → IfOk result (λ f. f ≡ code_fault fault levels text.now
-            ((first.entry.wrapper, first.entry.text.now) ∷ (second.entry.wrapper, second.entry.text.now) ∷ [])) }
+            ((first.entry.wrapper, first.entry.text.now)
+            ∷ (second.entry.wrapper, second.entry.text.now) ∷ [])) }
     {
         if first.is_code() {
             if second.is_scope() {
@@ -549,7 +576,8 @@ impl<'a> Walk<'a> {
     /// Takes a fault at the first byte of a text, unless there is an earlier one.
     fn note(&mut self, text: &[u8], kind: Option<TreeFaultKind>)
         ensures same { self.new.rest.now ≡ self.old.rest.now }
-        ensures fault { self.new.fault ≡ option_or self.old.fault (option_and_then (fault_at text.now) kind) }
+        ensures fault { self.new.fault
+            ≡ option_or self.old.fault (option_and_then (fault_at text.now) kind) }
     {
         if let Some(kind) = kind {
             self.fault = self.fault.or(Some(TreeFault::at(text, kind)));
@@ -575,8 +603,10 @@ impl<'a> Walk<'a> {
     /// Passes the comma after a part, or the bracket that closes, and tells whether another part comes.
     #[tactic(auto, unfolding(crate::specs::JsonSyntax::past_next))]
     fn goes_on(&mut self, bracket: u8) -> Result<bool, Stop>
-        ensures past { Gives (λ more. (more, self.new.rest.now)) result (past_next (λ b. b == bracket) self.old.rest.now) }
-        ensures shorter { MatchResult result (λ more. length self.new.rest.now ≤ length self.old.rest.now)
+        ensures past { Gives (λ more. (more, self.new.rest.now)) result
+            (past_next (λ b. b == bracket) self.old.rest.now) }
+        ensures shorter { MatchResult result
+            (λ more. length self.new.rest.now ≤ length self.old.rest.now)
             (λ stop. stop.left ≤ length self.old.rest.now) }
         ensures same { self.new.fault ≡ self.old.fault }
     {

@@ -265,6 +265,7 @@ scoped_ok document value old two three out scope start at gives eight fits cut_s
 
 -- ---- so many levels deep
 
+-- a body with one level fewer left is a nested document, array or code with scope
 pub below : (Is : Writes) (others : Others) (room : ℕ) (path value new : List ℕ) → 0 < room
     → (IsBody Is others (IsNested Is others (room - 1)) (path_of false path) value new → IsNested Is others room holders.Document path value new)
     × (IsBody Is others (IsNested Is others (room - 1)) (path_of true path) value new → IsNested Is others room holders.Array path value new)
@@ -286,6 +287,7 @@ nested_ok (Ok y) Is others room holder h path value a c P is f ok =
 
 -- ---- what is looked into
 
+-- what is written of a part of this type is what is written of an element
 pub part_of_element : (Is : Writes) (nested : Nested) (path : List ℕ) (type : ElementType) (part : Option Part) (head value new : List ℕ) → part ≡ part_of type → IsPart Is nested part path type head value new → IsElement Is nested path type head value new
 unfolding IsElement
 part_of_element Is nested path type part head value new is h = subst (λ (p : Option Part). IsPart Is nested p path type head value new) is h

@@ -12,15 +12,19 @@ use Rattle.bd_wide.specs.Rewritten.{front, AreElements, IsBody, IsElement, IsNes
 
 -- paths are ignored, so each holds for all of them
 
+-- a document or array is written masked, whatever its path
 abbrev pub MasksNested : ℕ → Holder → List ℕ → List ℕ → Type 0
 MasksNested room holder old new = (path : List ℕ) → IsNested IsMasked masked_others room holder path old new
 
+-- the elements and the end of a document or array are written masked, whatever its path
 abbrev pub MasksBody : ℕ → List ℕ → List ℕ → Type 0
 MasksBody room old new = (own : List ℕ → List ℕ) → IsBody IsMasked masked_others (IsNested IsMasked masked_others room) own old new
 
+-- code with scope is written masked, whatever its path
 abbrev pub MasksScoped : ℕ → List ℕ → List ℕ → Type 0
 MasksScoped room old new = (path : List ℕ) → IsScoped (IsNested IsMasked masked_others room holders.Document path) old new
 
+-- the elements of a body are written masked, whatever its path
 abbrev pub MasksElements : ℕ → List ℕ → List ℕ → Type 0
 MasksElements room old new = (own : List ℕ → List ℕ)
     → AreElements IsMasked masked_others (IsNested IsMasked masked_others room) own (length old) old new
