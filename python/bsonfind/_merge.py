@@ -14,7 +14,6 @@ with the byte.
 
 from __future__ import annotations
 
-import os
 from concurrent.futures import ThreadPoolExecutor
 from functools import partial
 from typing import Any, Callable, Iterable, Iterator, Literal, NamedTuple, Sequence, TypeVar, overload

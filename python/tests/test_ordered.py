@@ -199,12 +199,13 @@ class Finds(Goods):
     def test_damage(self) -> None:
         """A fault has its place in the dump, and not the one in the copy."""
         nameless = document(b"\x01\xff\0" + struct.pack("<d", 1.5))
+        data = b"".join(GOODS)
         for bad, byte, place in (
             (DAMAGED, 7, 'path "d": bad boolean'),
+            (DAMAGED + data * 3000, 7, 'path "d": bad boolean'),  # The filter writes on, and is not read.
             (GOODS[0][:20], 0, 'path "": bad length'),
             (nameless, 5, 'path "": not UTF-8'),
         ):
-            data = b"".join(GOODS)
             path = self.file(data + bad, "bad.bson")
             byte += len(data)
             for ask in (lambda: list(find(path, {"price": 9.5}, program=PROGRAM)), lambda: Session(path, PROGRAM), lambda: count_documents(path, program=PROGRAM)):
