@@ -1,9 +1,10 @@
 -- The fault of a text, by what the text is, and where it is.
-use Rattle.std.proofs.Common.{◌≡◌, ◌≢◌, refl, ℕ, Bool, true, false, List, length, if◌then◌else◌, Ok, Err, Some, None, Option, IsUtf8}
+use Rattle.std.proofs.Common.{◌≡◌, ◌≢◌, refl, ℕ, Bool, true, false, List, length, if◌then◌else◌, Ok, Err, Some, None, Option, IsUtf8, ap, arith}
 use Rattle.std.specs.Prelude.{unwrap_or}
 use Rattle.std.specs.{Str.is_utf8, Str.Lossy.utf8_valid_len}
-use Rattle.std.proofs.lemmas.Str.{IsUtf8-from_is_utf8, is_utf8-from_IsUtf8}
+use Rattle.std.proofs.lemmas.Str.{IsUtf8-from_is_utf8, is_utf8-from_IsUtf8, utf8_valid_len_le}
 use Rattle.bd_value.specs.Limits.{most_brackets, most_levels}
+use Rattle.bd_extjson_fault.specs.JsonFault.{IsPlaced, TellsBadUtf8}
 use Rattle.bd_extjson_fault.specs.JsonSyntax.{Past, past_text}
 use Rattle.bd_extjson_fault.specs.TreeFault.{is_document, value_fault}
 use Rattle.bd_extjson_fault.specs.TextFault.{first_fault, text_fault, fault_after, tree_or_none, stop_in, kind_of_stop, kind_in_tree}
@@ -78,3 +79,54 @@ told_kind text = go (is_utf8 text)
     go : (b : Bool) → IsKnown text (if b then fault_after text (past_text text) else Some (record { kind = kinds.Syntax; at = utf8_valid_len text }))
     go true = after_known text (past_text text)
     go false = λ e. cc
+
+-- ---- it has a place
+
+stop_whole : (kind : StopKind) → kind_of_stop kind ≢ kinds.NotADocument
+stop_whole stops.Syntax = λ e. cc
+stop_whole stops.TooDeep = λ e. cc
+stop_whole stops.TrailingText = λ e. cc
+
+tree_whole : (kind : TreeFaultKind) → kind_in_tree kind ≢ kinds.NotADocument
+tree_whole trees.TooDeep = λ e. cc
+tree_whole trees.BadWrapper = λ e. cc
+tree_whole trees.NotInProfile = λ e. cc
+tree_whole trees.NumberRange = λ e. cc
+tree_whole trees.NulInName = λ e. cc
+
+abbrev HasPlace : List ℕ → Option JsonFault → Type 0
+HasPlace text found = IsPlaced (length text) (unwrap_or found (at_end text))
+
+last_placed : (text : List ℕ) (b : Bool) → HasPlace text (if b then None else Some (record { kind = kinds.NotADocument; at = 0 }))
+last_placed text true = record { inside = omega arith; whole = λ e. absurd cc; memory = λ e. absurd cc }
+last_placed text false = record { inside = omega arith; whole = λ e. refl; memory = λ e. refl }
+
+tree_placed : (text : List ℕ) (found : Option TreeFault) → HasPlace text (tree_or_none text found)
+tree_placed text (Some fault) = record {
+  inside = omega arith;
+  whole = λ e. absurd (tree_whole fault.kind e);
+  memory = λ e. absurd (tree_kind fault.kind e);
+}
+tree_placed text None = last_placed text (is_document text)
+
+after_placed : (text : List ℕ) (told : Past) → HasPlace text (fault_after text told)
+after_placed text (Err stop) = record {
+  inside = omega arith;
+  whole = λ e. absurd (stop_whole stop.kind e);
+  memory = λ e. absurd (stop_kind stop.kind e);
+}
+after_placed text (Ok rest) = tree_placed text (value_fault most_brackets most_levels text)
+
+pub told_placed : (text : List ℕ) → IsPlaced (length text) (text_fault text)
+unfolding first_fault
+told_placed text = go (is_utf8 text)
+  where
+    go : (b : Bool) → HasPlace text (if b then fault_after text (past_text text) else Some (syntax_told (utf8_valid_len text)))
+    go true = after_placed text (past_text text)
+    go false = record { inside = utf8_valid_len_le text; whole = λ e. absurd cc; memory = λ e. absurd cc }
+
+pub told_utf8 : (text : List ℕ) → TellsBadUtf8 text (text_fault text)
+told_utf8 text = record {
+  kind = λ bad. ap (λ fault. fault.kind) (of_bad_utf8 text bad);
+  at = λ bad. ap (λ fault. fault.at) (of_bad_utf8 text bad);
+}

@@ -1,19 +1,22 @@
 -- Parts of a text that is JSON.
 use Rattle.std.proofs.Common.{◌≡◌, ◌≢◌, ◌<◌, ◌≤◌, ◌==◌, refl, sym, ap, ◌∙◌, ℕ, zero, suc, Bool, true, false, cond, List, [], ◌∷◌, length, get_or, arith}
-use Rattle.std.proofs.Common.{IsUtf8, IsAscii, Option, Some, None, Result, Ok, Err, is_some, option_map, ◌⊎◌, inl, inr}
+use Rattle.std.proofs.Common.{IsUtf8, IsAscii, Option, Some, None, Result, Ok, Err, is_some, option_map, ◌⊎◌, ◌↔◌, if◌then◌else◌, inl, inr}
 use Rattle.std.specs.{Char.is_ascii_digit, Str.all_ascii_digits, Str.is_utf8, Result.result_err, Borrow.Bor}
 use Rattle.std.proofs.lemmas.Bool.{and_parts}
 use Rattle.std.proofs.lemmas.Bool.Decides.{nat_tests}
 use Rattle.std.proofs.lemmas.Str.{IsUtf8-from_ascii, IsUtf8-from_is_utf8, is_utf8-from_IsUtf8}
 use Rattle.json.specs.{Json.Json, Json.value, Lex.tokens, Token.Token, Value.members_view, Value.value_view, declared.value.Value.Value}
+use Rattle.json.specs.Json as kit
 use Rattle.bd_value.specs.{Limits.most_brackets, Tree.Scalar, Tree.Tree, Tree.leaf}
 use Rattle.bd_extjson_wrapper.specs.WholeNumber.{are_digits, begins_digits, unsigned}
-use Rattle.bd_extjson_wrapper.specs.{Wrapper.Gives, declared.wrapper.Trouble.Trouble, declared.wrapper.Wrapper.Wrapper}
+use Rattle.bd_extjson_wrapper.specs.{Wrapper.Gives, Wrapper.only, Wrapper.pair, Wrapper.single, declared.wrapper.Trouble.Trouble, declared.wrapper.Wrapper.Wrapper}
 use Rattle.bd_extjson_wrapper.specs.declared.wrapper.Trouble.TheVariants as troubles
+use Rattle.bd_extjson_wrapper.specs.declared.wrapper.Wrapper.TheVariants as wrappers
 use Rattle.bd_extjson_fault.specs.JsonSyntax.{past_number, past_natural, past_digits}
 use Rattle.bd_extjson_fault.specs.SecondPass.{found}
-use Rattle.bd_extjson_fault.specs.TreeFault.{is_outside_profile, json_in, members_fault, scalar_fault, single_fault}
+use Rattle.bd_extjson_fault.specs.TreeFault.{is_outside_profile, json_in, members_fault, refusal, scalar_fault, single_fault}
 use Rattle.bd_extjson_fault.specs.declared.tree_fault.TreeFault.{TreeFault}
+use Rattle.bd_extjson_fault.specs.declared.tree_fault.TreeFaultKind.{TreeFaultKind}
 use Rattle.bd_extjson_fault.specs.declared.tree_fault.TreeFaultKind.TheVariants as kinds
 use Rattle.bd_extjson_fault.proofs.FindingLemmas.{found_none, found_same}
 
@@ -99,3 +102,35 @@ refused view (Ok x) there g e = absurd cc
 refused view (Err troubles.Memory) there g e = absurd cc
 refused view (Err troubles.Refused) None g e = refl
 refused view (Err troubles.Refused) (Some s) g e = absurd cc
+
+-- ---- a wrapper stands for a value, or has a fault
+
+outside_stands : (w : Wrapper) (part : Json) → is_outside_profile w part ≡ true → is_some (single w part) ≡ false
+unfolding only pair
+outside_stands wrappers.NumberDouble part e = refl
+outside_stands wrappers.NumberDecimal part e = refl
+outside_stands wrappers.Uuid part e = refl
+outside_stands wrappers.Date (kit.string s) e = refl
+outside_stands wrappers.Date kit.null e = absurd cc
+outside_stands wrappers.Date (kit.boolean b) e = absurd cc
+outside_stands wrappers.Date (kit.number s) e = absurd cc
+outside_stands wrappers.Date (kit.array js) e = absurd cc
+outside_stands wrappers.Date (kit.object ms) e = absurd cc
+outside_stands wrappers.Binary (kit.string s) e = refl
+outside_stands wrappers.Binary kit.null e = absurd cc
+outside_stands wrappers.Binary (kit.boolean b) e = absurd cc
+outside_stands wrappers.Binary (kit.number s) e = absurd cc
+outside_stands wrappers.Binary (kit.array js) e = absurd cc
+outside_stands wrappers.Binary (kit.object ms) e = absurd cc
+outside_stands w part e = absurd cc
+
+by_tests : (outside stands : Bool) (kind : TreeFaultKind) → (outside ≡ true → stands ≡ false)
+    → ((if outside then Some kinds.NotInProfile else (if stands then None else Some kind)) ≡ None) ↔ (stands ≡ true)
+by_tests true true kind h = let f = h refl in absurd cc
+by_tests true false kind h = (λ e. absurd cc, λ e. absurd cc)
+by_tests false true kind h = (λ e. refl, λ e. refl)
+by_tests false false kind h = (λ e. absurd cc, λ e. absurd cc)
+
+pub value_or_fault : (w : Wrapper) (name : List ℕ) (part : Json)
+    → (members_fault w (kit.member name part kit.no_members) ≡ None) ↔ (is_some (single w part) ≡ true)
+value_or_fault w name part = by_tests (is_outside_profile w part) (is_some (single w part)) (refusal w part) (outside_stands w part)

@@ -5,7 +5,7 @@ use Rattle.bd_value.specs.{Tree.doc, Tree.fields_of, Fits.has_zero, Fits.zero_in
 use Rattle.bd_bson_write.specs.TreeBytes.{bytes_of}
 use Rattle.bd_extjson_wrapper.specs.Wrapper.{wrapper_of}
 use Rattle.bd_extjson.specs.{Read.ReadsAs, Laws.IsPlain}
-use Rattle.bd_extjson_fault.specs.JsonFault.{IsPlaced, TellsBadUtf8}
+use Rattle.bd_extjson_fault.specs.{JsonFault.IsPlaced, JsonFault.TellsBadUtf8, TextFault.text_fault}
 use Rattle.bd_extjson_fault.specs.declared.json_fault.JsonFaultKind.TheVariants as kinds
 use Rattle.bd_extjson_pack.specs.declared.line.LineFault.{LineFault}
 use Rattle.bd_extjson_pack.specs.declared.line.LineFault.TheVariants as faults
@@ -18,11 +18,16 @@ plain d = bytes_of (doc (fields_of d))
 abbrev pub IsPackable : List ℕ → Doc → Type 0
 IsPackable line d = ReadsAs line d × (length (plain d) ≤ longest_document)
 
--- The line is no document, or too long. Which fault is reported of a line that is UTF-8, no definition says.
+-- The line is no document, or too long.
 abbrev pub IsBad : List ℕ → LineFault → Type 0
 IsBad line (faults.Unread f) = (f.kind ≢ kinds.NoMemory) × ((d : Doc) → ReadsAs line d → ⊥)
     × IsPlaced (length line) f × TellsBadUtf8 line f
 IsBad line faults.TooLong = (d : Doc) × ReadsAs line d × (longest_document < length (plain d))
+
+-- the fault that is reported of a line that is no document is the fault of its text
+abbrev pub TellsFault : List ℕ → LineFault → Type 0
+TellsFault line (faults.Unread f) = f ≡ text_fault line
+TellsFault line faults.TooLong = Unit {0}
 
 -- A value of at most `room` levels that is read back from its canonical text:
 -- it fits, its text is of no other value, and no `cstring` has a zero.
