@@ -47,7 +47,7 @@ if [ -x crates/bd_growth_tests/out/bd_growth_tests_tests ]; then
 else
 	echo 'the gate left no tests of crates/bd_growth_tests: tests/faults/growing_calls.py was not run'
 fi
-for script in docs/examples.py docs/reference.py docs/imports.py docs/clauses.py; do
+for script in docs/examples.py docs/reference.py docs/imports.py docs/clauses.py docs/words.py; do
 	"tests/$script" | tee "$log"
 	add
 done

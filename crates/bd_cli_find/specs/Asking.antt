@@ -57,7 +57,7 @@ refused_text (bad_filter r) = refusal_text r
 refused_text (plain refused) = refused_option refused ++ refused_words refused
 
 -- The text of a query or a sort is this document, or it is none, and this is the message of a fault;
--- without a text it is `{}`. Which fault of a UTF-8 text is reported, no definition says.
+-- without a text it is `{}`. That the fault is that of the text, no definition says.
 abbrev pub ReadsText : List ℕ → Option (List ℕ) → Result Doc (List ℕ) → Type 0
 ReadsText name None (Ok d) = d ≡ []
 ReadsText name None (Err message) = ⊥
