@@ -105,24 +105,24 @@ refused view (Err troubles.Refused) (Some s) g e = absurd cc
 
 -- ---- a wrapper stands for a value, or has a fault
 
-outside_stands : (w : Wrapper) (part : Json) → is_outside_profile w part ≡ true → is_some (single w part) ≡ false
+outside_is_no_value : (w : Wrapper) (part : Json) → is_outside_profile w part ≡ true → is_some (single w part) ≡ false
 unfolding only pair
-outside_stands wrappers.NumberDouble part e = refl
-outside_stands wrappers.NumberDecimal part e = refl
-outside_stands wrappers.Uuid part e = refl
-outside_stands wrappers.Date (kit.string s) e = refl
-outside_stands wrappers.Date kit.null e = absurd cc
-outside_stands wrappers.Date (kit.boolean b) e = absurd cc
-outside_stands wrappers.Date (kit.number s) e = absurd cc
-outside_stands wrappers.Date (kit.array js) e = absurd cc
-outside_stands wrappers.Date (kit.object ms) e = absurd cc
-outside_stands wrappers.Binary (kit.string s) e = refl
-outside_stands wrappers.Binary kit.null e = absurd cc
-outside_stands wrappers.Binary (kit.boolean b) e = absurd cc
-outside_stands wrappers.Binary (kit.number s) e = absurd cc
-outside_stands wrappers.Binary (kit.array js) e = absurd cc
-outside_stands wrappers.Binary (kit.object ms) e = absurd cc
-outside_stands w part e = absurd cc
+outside_is_no_value wrappers.NumberDouble part e = refl
+outside_is_no_value wrappers.NumberDecimal part e = refl
+outside_is_no_value wrappers.Uuid part e = refl
+outside_is_no_value wrappers.Date (kit.string s) e = refl
+outside_is_no_value wrappers.Date kit.null e = absurd cc
+outside_is_no_value wrappers.Date (kit.boolean b) e = absurd cc
+outside_is_no_value wrappers.Date (kit.number s) e = absurd cc
+outside_is_no_value wrappers.Date (kit.array js) e = absurd cc
+outside_is_no_value wrappers.Date (kit.object ms) e = absurd cc
+outside_is_no_value wrappers.Binary (kit.string s) e = refl
+outside_is_no_value wrappers.Binary kit.null e = absurd cc
+outside_is_no_value wrappers.Binary (kit.boolean b) e = absurd cc
+outside_is_no_value wrappers.Binary (kit.number s) e = absurd cc
+outside_is_no_value wrappers.Binary (kit.array js) e = absurd cc
+outside_is_no_value wrappers.Binary (kit.object ms) e = absurd cc
+outside_is_no_value w part e = absurd cc
 
 by_tests : (outside stands : Bool) (kind : TreeFaultKind) → (outside ≡ true → stands ≡ false)
     → ((if outside then Some kinds.NotInProfile else (if stands then None else Some kind)) ≡ None) ↔ (stands ≡ true)
@@ -133,4 +133,4 @@ by_tests false false kind h = (λ e. absurd cc, λ e. absurd cc)
 
 pub value_or_fault : (w : Wrapper) (name : List ℕ) (part : Json)
     → (members_fault w (kit.member name part kit.no_members) ≡ None) ↔ (is_some (single w part) ≡ true)
-value_or_fault w name part = by_tests (is_outside_profile w part) (is_some (single w part)) (refusal w part) (outside_stands w part)
+value_or_fault w name part = by_tests (is_outside_profile w part) (is_some (single w part)) (refusal w part) (outside_is_no_value w part)
