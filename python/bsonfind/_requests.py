@@ -3,6 +3,7 @@
 from __future__ import annotations
 
 import json
+import math
 import operator
 import threading
 from dataclasses import dataclass, replace
@@ -42,10 +43,29 @@ def seconds(timeout: float | None) -> float | None:
     return timeout
 
 
+def _named(value: Any) -> Any:
+    """A value in which each float that JSON has not, such as infinity, is the double of that name."""
+    if isinstance(value, float) and not math.isfinite(value):
+        return {"$numberDouble": "NaN" if math.isnan(value) else "Infinity" if value > 0 else "-Infinity"}
+    if isinstance(value, dict):
+        return {name: _named(it) for name, it in value.items()}
+    return [_named(it) for it in value] if isinstance(value, (list, tuple)) else value
+
+
+def _json(value: Any) -> str:
+    return json.dumps(value, separators=(",", ":"), default=extended, allow_nan=False)
+
+
 def text_of(value: Any) -> str:
-    """The JSON of a value. An `ObjectId`, a date, bytes, and by pymongo its own types, are written in canonical form."""
+    """The JSON of a value. An `ObjectId`, a date, bytes, and by pymongo its own types, are written in canonical form, and so is
+    a float that is no number of JSON."""
     try:
-        return json.dumps(value, separators=(",", ":"), default=extended)
+        try:
+            return _json(value)
+        except ValueError as error:
+            if "JSON compliant" not in str(error):
+                raise
+            return _json(_named(value))
     except (TypeError, ValueError, OverflowError, RecursionError) as error:
         raise ArgumentError(str(error)) from None
 
