@@ -10,11 +10,11 @@
 
 pub use bd_bson_check::{
     Fault, FaultKind, Frame, check_document, dump_or_fault, next_document, next_frame,
-    no_fault_where_spelled, read_document, walks_in_one_way, walks_on,
+    no_fault_where_spelled, read_document, scans_in_one_way, scans_on,
 };
-pub use bd_bson_dump::{Dump, judges_as_the_walk, judges_in_turn, read_dump};
+pub use bd_bson_dump::{Dump, checks_as_the_scan, checks_in_turn, read_dump};
 pub use bd_bson_stream::{DocBuffer, DocFault, DocReader, FrameFault, RawBytes};
-pub use bd_bson_view::{At, Elements, RawDoc, RawValue, one_value_stands, spells_one_document};
+pub use bd_bson_view::{At, Elements, RawDoc, RawValue, one_value_is_at, spells_one_document};
 pub use bd_bson_write::{
     WriteFault, append_label, append_value, begin_body, end_body, write_document,
 };

@@ -2,9 +2,9 @@
 use Rattle.std.proofs.Common.{◌≡◌, ℕ, List, Result, Ok, Err, refl, ap, ◌∙◌, [], arith, zero, suc, ◌+◌, ◌-◌, ◌<◌, ◌≤◌, ◌∷◌, length, get_or, drop, Option, Some, None, sym}
 use Rattle.std.proofs.Common.{Bool, true, false, Bor, take, inl, inr, codes, option_map, IfSome, ◌||◌, ◌==◌, nat_lt, IsAscii}
 use Rattle.bd_bson_check.specs.declared.fault.FaultKind.TheVariants.{TooDeep, NameUnended}
-use Rattle.bd_bson_check.specs.FirstFault.{◌>>=◌, within, past_name, past_string, past_code_frame, label, fault, Nested, past_typed, past_element, past_elements, past_body}
-use Rattle.bd_bson_check.specs.FirstFault.{past_code_scope, past_nested, past_value}
-use Rattle.bd_bson_check.specs.{Fault.Fault, Fault.found_fault, Fault.longer, Fault.TellsStop, Fault.FailsAtItem, declared.fault.Stop.Stop}
+use Rattle.bd_bson_check.specs.FirstFault.{◌>>=◌, within, skip_name, skip_string, skip_code_frame, label, fault, Nested, skip_typed, skip_element, skip_elements, skip_body}
+use Rattle.bd_bson_check.specs.FirstFault.{skip_code_scope, skip_nested, skip_value}
+use Rattle.bd_bson_check.specs.{Fault.Fault, Fault.found_fault, Fault.longer, Fault.ReportsStop, Fault.FailsAtItem, declared.fault.Stop.Stop}
 use Rattle.bd_bson_view.specs.{declared.raw_parts.ElementType.ElementType, declared.raw_parts.Holder.Holder, Spelling.type_at, declared.raw_parts.ElementType.TheVariants.Kept}
 use Rattle.bd_bson_check.proofs.FirstFaultLemmas.{IsBytes, NestedTakes, element_takes, element_shrinks, nested_takes, elements_nil}
 use Rattle.std.specs.{List.position, Str.is_utf8}
@@ -18,19 +18,19 @@ abbrev err : {A : Type 0} → Fault → Result A Fault
 err f = Err f
 
 -- a reader that stopped at a fault stopped at that of the item, if the item has it
-pub told_fails : {A : Type 0} (r : Stop) (f : Fault) (read : Result A Fault) → TellsStop r f → read ≡ err f → FailsAtItem r read
-told_fails stops.NoMemory f read told is = tt
-told_fails (stops.Found g) f read told is = is ∙ ap err told
+pub reported_fails : {A : Type 0} (r : Stop) (f : Fault) (read : Result A Fault) → ReportsStop r f → read ≡ err f → FailsAtItem r read
+reported_fails stops.NoMemory f read stated is = tt
+reported_fails (stops.Found g) f read stated is = is ∙ ap err stated
 
 pub fails_within : {A : Type 0} (error r : Stop) (name : List ℕ) (read : Result A Fault)
-    → ((f : Fault) → TellsStop error f → TellsStop r (longer name f)) → FailsAtItem error read → FailsAtItem r (within name read)
-fails_within stops.NoMemory stops.NoMemory name read told fails = tt
-fails_within stops.NoMemory (stops.Found g) name (Ok x) told fails =
-    let zero_at : 0 ≡ g.offset = ap (λ (f : Fault). f.offset) (told (record { kind = TooDeep; offset = 0; path = [] }) tt) in
-    let one_at : 1 ≡ g.offset = ap (λ (f : Fault). f.offset) (told (record { kind = TooDeep; offset = 1; path = [] }) tt) in
+    → ((f : Fault) → ReportsStop error f → ReportsStop r (longer name f)) → FailsAtItem error read → FailsAtItem r (within name read)
+fails_within stops.NoMemory stops.NoMemory name read stated fails = tt
+fails_within stops.NoMemory (stops.Found g) name (Ok x) stated fails =
+    let zero_at : 0 ≡ g.offset = ap (λ (f : Fault). f.offset) (stated (record { kind = TooDeep; offset = 0; path = [] }) tt) in
+    let one_at : 1 ≡ g.offset = ap (λ (f : Fault). f.offset) (stated (record { kind = TooDeep; offset = 1; path = [] }) tt) in
     absurd (omega arith)
-fails_within stops.NoMemory (stops.Found g) name (Err f) told fails = ap err (told f tt)
-fails_within (stops.Found g) r name read told fails = told_fails r (longer name (found_fault g)) (within name read) (told (found_fault g) refl) (ap (within name) fails)
+fails_within stops.NoMemory (stops.Found g) name (Err f) stated fails = ap err (stated f tt)
+fails_within (stops.Found g) r name read stated fails = reported_fails r (longer name (found_fault g)) (within name read) (stated (found_fault g) refl) (ap (within name) fails)
 
 pub fails_then : {A B : Type 0} (r : Stop) (x : Result A Fault) (f : A → Result B Fault) → FailsAtItem r x → FailsAtItem r (x >>= f)
 fails_then stops.NoMemory x f h = tt
@@ -38,39 +38,39 @@ fails_then (stops.Found g) x f h = rw h refl
 
 -- ---- what holds values
 
-pub too_deep : (holder : Holder) (room q e : ℕ) (bytes : List ℕ) → room ≡ 0 → past_nested room holder q e bytes ≡ fault TooDeep q
-unfolding past_nested
-too_deep holder room q e bytes is = rw is refl
+pub too_deep : (holder : Holder) (depth_left q e : ℕ) (bytes : List ℕ) → depth_left ≡ 0 → skip_nested depth_left holder q e bytes ≡ fault TooDeep q
+unfolding skip_nested
+too_deep holder depth_left q e bytes is = rw is refl
 
-pub code_too_deep : (holder : Holder) (room q e : ℕ) (bytes : List ℕ) → holder ≡ holders.CodeScope → room ≡ 1 → past_nested room holder q e bytes ≡ fault TooDeep q
-unfolding past_nested
-code_too_deep holder room q e bytes h is = rw (h, is) refl
+pub code_too_deep : (holder : Holder) (depth_left q e : ℕ) (bytes : List ℕ) → holder ≡ holders.CodeScope → depth_left ≡ 1 → skip_nested depth_left holder q e bytes ≡ fault TooDeep q
+unfolding skip_nested
+code_too_deep holder depth_left q e bytes h is = rw (h, is) refl
 
-pub below : (room q e : ℕ) (bytes : List ℕ) → 0 < room → (past_nested room holders.Document q e bytes ≡ past_body (past_nested (room - 1)) false e bytes)
-    × (past_nested room holders.Array q e bytes ≡ past_body (past_nested (room - 1)) true e bytes)
-unfolding past_nested
+pub below : (depth_left q e : ℕ) (bytes : List ℕ) → 0 < depth_left → (skip_nested depth_left holders.Document q e bytes ≡ skip_body (skip_nested (depth_left - 1)) false e bytes)
+    × (skip_nested depth_left holders.Array q e bytes ≡ skip_body (skip_nested (depth_left - 1)) true e bytes)
+unfolding skip_nested
 below zero q e bytes lt = absurd (omega arith)
 below (suc r) q e bytes lt = let s : suc r - 1 ≡ r = omega arith in rw s (refl, refl)
 
-pub code_below : (room q e : ℕ) (bytes : List ℕ) → 1 < room → past_nested room holders.CodeScope q e bytes ≡ past_code_scope (past_nested (room - 1)) q e bytes
-unfolding past_nested
+pub code_below : (depth_left q e : ℕ) (bytes : List ℕ) → 1 < depth_left → skip_nested depth_left holders.CodeScope q e bytes ≡ skip_code_scope (skip_nested (depth_left - 1)) q e bytes
+unfolding skip_nested
 code_below zero q e bytes lt = absurd (omega arith)
 code_below (suc zero) q e bytes lt = absurd (omega arith)
 code_below (suc (suc r)) q e bytes lt = let s : suc (suc r) - 1 ≡ suc r = omega arith in rw s refl
 
 -- a scope that has a fault
-pub scope_fails : (r : Stop) (nested : Nested) (q e : ℕ) (bytes parts : List ℕ) (end : ℕ) (rest scope : List ℕ) → past_code_frame e bytes ≡ Ok (parts, end, rest) → past_string end parts ≡ Ok scope
-    → FailsAtItem r (within (codes "$scope") (nested holders.Document q end scope)) → FailsAtItem r (past_code_scope nested q e bytes)
+pub scope_fails : (r : Stop) (nested : Nested) (q e : ℕ) (bytes parts : List ℕ) (end : ℕ) (rest scope : List ℕ) → skip_code_frame e bytes ≡ Ok (parts, end, rest) → skip_string end parts ≡ Ok scope
+    → FailsAtItem r (within (codes "$scope") (nested holders.Document q end scope)) → FailsAtItem r (skip_code_scope nested q e bytes)
 scope_fails r nested q e bytes parts end rest scope one two h = rw (one, two) (fails_then r (within (codes "$scope") (nested holders.Document q end scope)) _ h)
 
 pub element_fails : (r : Stop) (nested : Nested) (place : Option ℕ) (e : ℕ) (bytes : List ℕ) (type : ElementType) (more name rest : List ℕ)
     → 0 < length bytes → type_at (get_or bytes 0 0) ≡ Some type
-    → drop 1 bytes ≡ more → past_name NameUnended e more ≡ Ok (name, rest)
-    → FailsAtItem r (within (label place name) (past_typed nested type (e - length bytes) e rest)) → FailsAtItem r (past_element nested place e bytes)
-unfolding past_element
-element_fails r nested place e [] type more name rest lt one cut two fails = absurd (omega arith)
-element_fails r nested place e (first ∷ bytes) type more name rest lt one cut two fails =
-    let here : past_name NameUnended e bytes ≡ Ok (name, rest) = ap (past_name NameUnended e) cut ∙ two in
+    → drop 1 bytes ≡ more → skip_name NameUnended e more ≡ Ok (name, rest)
+    → FailsAtItem r (within (label place name) (skip_typed nested type (e - length bytes) e rest)) → FailsAtItem r (skip_element nested place e bytes)
+unfolding skip_element
+element_fails r nested place e [] type more name rest lt one splits two fails = absurd (omega arith)
+element_fails r nested place e (first ∷ bytes) type more name rest lt one splits two fails =
+    let here : skip_name NameUnended e bytes ≡ Ok (name, rest) = ap (skip_name NameUnended e) splits ∙ two in
     rw (one, here) fails
 
 -- ---- elements
@@ -80,34 +80,34 @@ same_others (Ok x) f g h = h x refl
 same_others (Err d) f g h = refl
 
 -- any number of turns from the count of the bytes on is as good
-enough : (room : ℕ) (nested : Nested) (below : NestedTakes room nested) (place : Option ℕ) (n m e : ℕ) (bytes : List ℕ) → IsBytes bytes → length bytes ≤ n
-    → length bytes ≤ m → past_elements nested place n e bytes ≡ past_elements nested place m e bytes
-unfolding past_elements
-enough room nested below place n m e [] fits p q = elements_nil nested place n e ∙ sym (elements_nil nested place m e)
-enough room nested below place zero m e (b ∷ bytes) fits p q = absurd (omega arith)
-enough room nested below place (suc n) zero e (b ∷ bytes) fits p q = absurd (omega arith)
-enough room nested below place (suc n) (suc m) e (b ∷ bytes) fits p q =
-    same_others (past_element nested place e (b ∷ bytes)) _ _ (λ x is.
-    let r = element_takes room nested below place e (b ∷ bytes) x fits is in
-    let less = element_shrinks room (b ∷ bytes) x r in
-    enough room nested below (option_map suc place) n m e x r.takes.rest_fits (omega (arith, less)) (omega (arith, less)))
+enough : (depth_left : ℕ) (nested : Nested) (below : NestedTakes depth_left nested) (place : Option ℕ) (n m e : ℕ) (bytes : List ℕ) → IsBytes bytes → length bytes ≤ n
+    → length bytes ≤ m → skip_elements nested place n e bytes ≡ skip_elements nested place m e bytes
+unfolding skip_elements
+enough depth_left nested below place n m e [] fits p q = elements_nil nested place n e ∙ sym (elements_nil nested place m e)
+enough depth_left nested below place zero m e (b ∷ bytes) fits p q = absurd (omega arith)
+enough depth_left nested below place (suc n) zero e (b ∷ bytes) fits p q = absurd (omega arith)
+enough depth_left nested below place (suc n) (suc m) e (b ∷ bytes) fits p q =
+    same_others (skip_element nested place e (b ∷ bytes)) _ _ (λ x is.
+    let r = element_takes depth_left nested below place e (b ∷ bytes) x fits is in
+    let less = element_shrinks depth_left (b ∷ bytes) x r in
+    enough depth_left nested below (option_map suc place) n m e x r.takes.rest_fits (omega (arith, less)) (omega (arith, less)))
 
 -- the first element, what it leaves, and the others
-pub goes_on : (place : Option ℕ) (room e : ℕ) (bytes after : List ℕ) → IsBytes bytes → past_element (past_nested room) place e bytes ≡ Ok after → (length after < length bytes) × IsBytes after
-    × (past_elements (past_nested room) place (length bytes) e bytes ≡ past_elements (past_nested room) (option_map suc place) (length after) e after)
-unfolding past_element past_elements
-goes_on place room e [] after fits is = absurd cc
-goes_on place room e (b ∷ bytes) after fits is =
-    let r = element_takes room (past_nested room) (nested_takes room) place e (b ∷ bytes) after fits is in
-    let less = element_shrinks room (b ∷ bytes) after r in
-    let k = enough room (past_nested room) (nested_takes room) (option_map suc place) (length bytes) (length after) e after r.takes.rest_fits (omega (arith, less)) (omega arith) in
+pub goes_on : (place : Option ℕ) (depth_left e : ℕ) (bytes after : List ℕ) → IsBytes bytes → skip_element (skip_nested depth_left) place e bytes ≡ Ok after → (length after < length bytes) × IsBytes after
+    × (skip_elements (skip_nested depth_left) place (length bytes) e bytes ≡ skip_elements (skip_nested depth_left) (option_map suc place) (length after) e after)
+unfolding skip_element skip_elements
+goes_on place depth_left e [] after fits is = absurd cc
+goes_on place depth_left e (b ∷ bytes) after fits is =
+    let r = element_takes depth_left (skip_nested depth_left) (nested_takes depth_left) place e (b ∷ bytes) after fits is in
+    let less = element_shrinks depth_left (b ∷ bytes) after r in
+    let k = enough depth_left (skip_nested depth_left) (nested_takes depth_left) (option_map suc place) (length bytes) (length after) e after r.takes.rest_fits (omega (arith, less)) (omega arith) in
     (less, r.takes.rest_fits, rw (is, k) refl)
 
-pub no_first : (r : Stop) (place : Option ℕ) (room e : ℕ) (bytes : List ℕ) → 0 < length bytes
-    → FailsAtItem r (past_element (past_nested room) place e bytes) → FailsAtItem r (past_elements (past_nested room) place (length bytes) e bytes)
-unfolding past_elements
-no_first r place room e [] lt h = absurd (omega arith)
-no_first r place room e (b ∷ bytes) lt h = fails_then r (past_element (past_nested room) place e (b ∷ bytes)) _ h
+pub no_first : (r : Stop) (place : Option ℕ) (depth_left e : ℕ) (bytes : List ℕ) → 0 < length bytes
+    → FailsAtItem r (skip_element (skip_nested depth_left) place e bytes) → FailsAtItem r (skip_elements (skip_nested depth_left) place (length bytes) e bytes)
+unfolding skip_elements
+no_first r place depth_left e [] lt h = absurd (omega arith)
+no_first r place depth_left e (b ∷ bytes) lt h = fails_then r (skip_element (skip_nested depth_left) place e (b ∷ bytes)) _ h
 
 -- a place in an array stays below the count of the bytes
 pub counted_on : (place : Option ℕ) (more less all : ℕ) → IfSome place (λ i. i + more ≤ all) → less < more → IfSome (option_map suc place) (λ i. i + less ≤ all)
@@ -135,9 +135,9 @@ named bytes k is zero_here =
 
 pub element_gives : (bytes named value : List ℕ) (kind : Kind) (r : Option (Bor (List ℕ))) → 0 < length bytes → drop 1 bytes ≡ named → type_at (get_or bytes 0 0) ≡ Some (Kept kind)
     → (k : ℕ) × (position is_zero named ≡ Some k) × (is_utf8 (take k named) ≡ true) × (k < length named) × (value ≡ drop (k + 1) named)
-    → IfSome r (λ x. (nested : Nested) (q e : ℕ) → past_value nested kind q e value ≡ Ok x.now)
-    → IfSome r (λ x. (nested : Nested) (place : Option ℕ) (e : ℕ) → past_element nested place e bytes ≡ Ok x.now)
-unfolding past_element past_name
-element_gives bytes named value kind None lt cut type name past = tt
-element_gives [] named value kind (Some x) lt cut type name past = absurd (omega arith)
-element_gives (b ∷ bytes) named value kind (Some x) lt cut type name past = λ nested place e. rw (cut, type, name.1, name.2, ← name.4, past nested (e - suc (length named)) e) refl
+    → IfSome r (λ x. (nested : Nested) (q e : ℕ) → skip_value nested kind q e value ≡ Ok x.now)
+    → IfSome r (λ x. (nested : Nested) (place : Option ℕ) (e : ℕ) → skip_element nested place e bytes ≡ Ok x.now)
+unfolding skip_element skip_name
+element_gives bytes named value kind None lt splits type name above = tt
+element_gives [] named value kind (Some x) lt splits type name above = absurd (omega arith)
+element_gives (b ∷ bytes) named value kind (Some x) lt splits type name above = λ nested place e. rw (splits, type, name.1, name.2, ← name.4, above nested (e - suc (length named)) e) refl

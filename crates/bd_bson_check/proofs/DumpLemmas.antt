@@ -5,21 +5,21 @@ use Rattle.std.specs.Result.{result_err}
 use Rattle.std.proofs.lemmas.Bool.{ltb-false, le-ltb, or_from, or_parts}
 use Rattle.std.proofs.lemmas.List.{take_at, length-append, length-drop, take-append-drop, append-nil, nil_from_length}
 use Rattle.bd_value.specs.{Limits.longest_document, Tree.Doc}
-use Rattle.bd_bson_check.specs.Dump.{length_told, frame_length, framed_fault, frame_fault, AreJoined, IsWalk}
-use Rattle.bd_bson_check.specs.{declared.fault.FaultKind.FaultKind, Fault.Fault, FirstFault.first_fault, FirstFault.past_document}
-use Rattle.bd_bson_view.specs.{Spelling.IsDocument, Spelling.framed, Unique.number_front, Sizes.number_of, Unique.framed_after, Unique.cancel}
+use Rattle.bd_bson_check.specs.Dump.{stated_length, frame_length, framed_fault, frame_fault, AreJoined, IsDumpScan}
+use Rattle.bd_bson_check.specs.{declared.fault.FaultKind.FaultKind, Fault.Fault, FirstFault.first_fault, FirstFault.skip_document}
+use Rattle.bd_bson_view.specs.{Spelling.IsDocument, Spelling.framed, Unique.number_prefix, Sizes.number_of, Unique.framed_after, Unique.cancel}
 use Rattle.bd_bson_view.proofs.{ValueAtLemmas.framed_length, SoundLemmas.document_unique}
 use Rattle.bd_bson_check.proofs.FirstFaultLemmas.{guard_ok, IsBytes, IsBytes-take, IsBytes-drop, document_found, document_again}
 
 -- ---- a document at the front tells its length
 
-told : (body rest : List ℕ) → length (framed body) ≤ longest_document → length_told (framed body ++ rest) ≡ length (framed body)
-told body rest short =
+stated : (body rest : List ℕ) → length (framed body) ≤ longest_document → stated_length (framed body ++ rest) ≡ length (framed body)
+stated body rest short =
     let size = framed_length body in
-    ap number_of (framed_after body rest) ∙ number_front (length body + 5) (body ++ 0 ∷ rest) (omega arith) ∙ sym size
+    ap number_of (framed_after body rest) ∙ number_prefix (length body + 5) (body ++ 0 ∷ rest) (omega arith) ∙ sym size
 
 -- a length from 5 to 16,793,600 that is not past the end is the length of a document
-pub frame_good : (bytes : List ℕ) (n : ℕ) → length_told bytes ≡ n → 5 ≤ n → n ≤ longest_document → n ≤ length bytes → frame_length bytes ≡ Ok (Some n)
+pub frame_good : (bytes : List ℕ) (n : ℕ) → stated_length bytes ≡ n → 5 ≤ n → n ≤ longest_document → n ≤ length bytes → frame_length bytes ≡ Ok (Some n)
 frame_good [] n is low high le = absurd (omega arith)
 frame_good (b ∷ bytes) n is low high le =
     let long : ltb (length (b ∷ bytes)) 4 ≡ false = le-ltb _ _ (omega arith) in
@@ -27,12 +27,12 @@ frame_good (b ∷ bytes) n is low high le =
     rw (long, is, tests) refl
 
 -- the length at the start of a document's bytes counts exactly these, whatever follows
-pub document_frame : (d : Doc) (front rest : List ℕ) → IsDocument d front → frame_length (front ++ rest) ≡ Ok (Some (length front))
-document_frame d front rest h =
+pub document_frame : (d : Doc) (prefix rest : List ℕ) → IsDocument d prefix → frame_length (prefix ++ rest) ≡ Ok (Some (length prefix))
+document_frame d prefix rest h =
     let s = h.spells in
     let short : length (framed s.0) ≤ longest_document = let m = h.short in omega (arith, ap length s.2) in
-    let t : length_told (front ++ rest) ≡ length front = ap (λ (x : List ℕ). length_told (x ++ rest)) s.2 ∙ told s.0 rest short ∙ sym (ap length s.2) in
-    frame_good (front ++ rest) (length front) t (omega (arith, ap length s.2, framed_length s.0)) h.short (omega (arith, length-append front rest))
+    let t : stated_length (prefix ++ rest) ≡ length prefix = ap (λ (x : List ℕ). stated_length (x ++ rest)) s.2 ∙ stated s.0 rest short ∙ sym (ap length s.2) in
+    frame_good (prefix ++ rest) (length prefix) t (omega (arith, ap length s.2, framed_length s.0)) h.short (omega (arith, length-append prefix rest))
 
 -- ---- the walk over a dump ends in one way
 
@@ -40,27 +40,27 @@ document_frame d front rest h =
 pub document_faultless : (base : ℕ) (bytes : List ℕ) (d : Doc) → IsDocument d bytes → first_fault base bytes ≡ None
 document_faultless base bytes d h = ap result_err (document_again (base + length bytes) bytes d h)
 
-frame_faultless : (base : ℕ) (d : Doc) (front rest : List ℕ) → IsDocument d front → frame_fault base (front ++ rest) ≡ None
-frame_faultless base d front rest h =
-    ap (framed_fault base (front ++ rest)) (document_frame d front rest h) ∙ ap (first_fault base) (take_at front rest (length front) refl) ∙ document_faultless base front d h
+frame_faultless : (base : ℕ) (d : Doc) (prefix rest : List ℕ) → IsDocument d prefix → frame_fault base (prefix ++ rest) ≡ None
+frame_faultless base d prefix rest h =
+    ap (framed_fault base (prefix ++ rest)) (document_frame d prefix rest h) ∙ ap (first_fault base) (take_at prefix rest (length prefix) refl) ∙ document_faultless base prefix d h
 
-fronts : (c d : Doc) (a b x y : List ℕ) → IsDocument c a → IsDocument d b → a ++ x ≡ b ++ y → (c ≡ d) × (a ≡ b) × (x ≡ y)
-fronts c d a b x y p q h =
+prefixes : (c d : Doc) (a b x y : List ℕ) → IsDocument c a → IsDocument d b → a ++ x ≡ b ++ y → (c ≡ d) × (a ≡ b) × (x ≡ y)
+prefixes c d a b x y p q h =
     let m : length a ≡ length b = let e = sym (document_frame c a x p) ∙ ap frame_length h ∙ document_frame d b y q in cc in
     let same : a ≡ b = sym (take_at a x (length a) refl) ∙ ap (take (length a)) h ∙ take_at b y (length a) (sym m) in
     (document_unique b c d (rw same at p) q, same, cancel a b x y same h)
 
 -- no document stands at the front
 unfoldable pub Stuck : List ℕ → Type 0
-Stuck x = (d : Doc) (front rest : List ℕ) → IsDocument d front → x ≡ front ++ rest → ⊥
+Stuck x = (d : Doc) (prefix rest : List ℕ) → IsDocument d prefix → x ≡ prefix ++ rest → ⊥
 
 nothing_stuck : Stuck []
 unfolding Stuck
-nothing_stuck d front rest h e = let f = ap frame_length e ∙ document_frame d front rest h in absurd cc
+nothing_stuck d prefix rest h e = let f = ap frame_length e ∙ document_frame d prefix rest h in absurd cc
 
 fault_stuck : (base : ℕ) (x : List ℕ) (f : Fault) → frame_fault base x ≡ Some f → Stuck x
 unfolding Stuck
-fault_stuck base x f is d front rest h e = let g = sym is ∙ ap (frame_fault base) e ∙ frame_faultless base d front rest h in absurd cc
+fault_stuck base x f is d prefix rest h e = let g = sym is ∙ ap (frame_fault base) e ∙ frame_faultless base d prefix rest h in absurd cc
 
 not_joined : (e : Doc) (es : List Doc) (b x y : List ℕ) → AreJoined (e ∷ es) b → Stuck x → x ≡ b ++ y → ⊥
 unfolding Stuck
@@ -74,21 +74,21 @@ joined_once [] (e ∷ es) a b x y p q s t h = absurd (not_joined e es b x y q s 
 joined_once (d ∷ ds) [] a b x y p q s t h = absurd (not_joined d ds a y x p t (sym (ap (λ (v : List ℕ). v ++ y) q) ∙ sym h))
 joined_once (d ∷ ds) (e ∷ es) a b x y p q s t h =
     let whole : p.0 ++ (p.1 ++ x) ≡ q.0 ++ (q.1 ++ y) = sym (append_assoc p.0 p.1 x) ∙ sym (ap (λ (v : List ℕ). v ++ x) p.4) ∙ h ∙ ap (λ (v : List ℕ). v ++ y) q.4 ∙ append_assoc q.0 q.1 y in
-    let first = fronts d e p.0 q.0 (p.1 ++ x) (q.1 ++ y) p.2 q.2 whole in
+    let first = prefixes d e p.0 q.0 (p.1 ++ x) (q.1 ++ y) p.2 q.2 whole in
     let others = joined_once ds es p.1 q.1 x y p.3 q.3 s t first.2 in
     (ap₂ (λ (u : Doc) (us : List Doc). u ∷ us) first.0 others.0, p.4 ∙ ap₂ (λ (u v : List ℕ). u ++ v) first.1 others.1 ∙ sym q.4, others.2)
 
 -- what a walk ends in: no document stands there, and its fault, or none
-walk_ends : (ds : List Doc) (o : Option Fault) (bytes : List ℕ) → IsWalk ds o bytes
-    → (front : List ℕ) × (rest : List ℕ) × AreJoined ds front × (bytes ≡ front ++ rest) × Stuck rest × (frame_fault (length front) rest ≡ o)
-walk_ends ds None bytes v = (bytes, [], v, sym (append-nil bytes), nothing_stuck, refl)
-walk_ends ds (Some f) bytes v = (v.0, v.1, v.2, v.3, fault_stuck (length v.0) v.1 f v.4, v.4)
+scan_ends : (ds : List Doc) (o : Option Fault) (bytes : List ℕ) → IsDumpScan ds o bytes
+    → (prefix : List ℕ) × (rest : List ℕ) × AreJoined ds prefix × (bytes ≡ prefix ++ rest) × Stuck rest × (frame_fault (length prefix) rest ≡ o)
+scan_ends ds None bytes v = (bytes, [], v, sym (append-nil bytes), nothing_stuck, refl)
+scan_ends ds (Some f) bytes v = (v.0, v.1, v.2, v.3, fault_stuck (length v.0) v.1 f v.4, v.4)
 
 -- bytes have one walk: one list of documents, and one fault after them or none
-pub walk_once : (ds es : List Doc) (o p : Option Fault) (bytes : List ℕ) → IsWalk ds o bytes → IsWalk es p bytes → (ds ≡ es) × (o ≡ p)
-walk_once ds es o p bytes v w =
-    let a = walk_ends ds o bytes v in
-    let b = walk_ends es p bytes w in
+pub scan_once : (ds es : List Doc) (o p : Option Fault) (bytes : List ℕ) → IsDumpScan ds o bytes → IsDumpScan es p bytes → (ds ≡ es) × (o ≡ p)
+scan_once ds es o p bytes v w =
+    let a = scan_ends ds o bytes v in
+    let b = scan_ends es p bytes w in
     let e = joined_once ds es a.0 b.0 a.1 b.1 a.2 b.2 a.4 b.4 (sym a.3 ∙ b.3) in
     (e.0, sym a.5 ∙ ap₂ (λ (x y : List ℕ). frame_fault (length x) y) e.1 e.2 ∙ b.5)
 
@@ -104,42 +104,42 @@ pub joined_one : (d : Doc) (bytes : List ℕ) → IsDocument d bytes → AreJoin
 joined_one d bytes h = (bytes, [], h, refl, sym (append-nil bytes))
 
 -- what a walk finds after some documents
-pub record Walked (done : List Doc) (front rest : List ℕ) : Type 0 where
+pub record Scanned (done : List Doc) (prefix rest : List ℕ) : Type 0 where
   pub more : List Doc
   pub end : Option Fault
-  pub walk : IsWalk (done ++ more) end (front ++ rest)
+  pub scan : IsDumpScan (done ++ more) end (prefix ++ rest)
 
-stops_at : (done : List Doc) (front rest : List ℕ) (f : Fault) → AreJoined done front → frame_fault (length front) rest ≡ Some f → Walked done front rest
-stops_at done front rest f j is = record { more = []; end = Some f; walk = (front, rest, subst (λ (ds : List Doc). AreJoined ds front) (sym (append-nil done)) j, refl, is) }
+stops_at : (done : List Doc) (prefix rest : List ℕ) (f : Fault) → AreJoined done prefix → frame_fault (length prefix) rest ≡ Some f → Scanned done prefix rest
+stops_at done prefix rest f j is = record { more = []; end = Some f; scan = (prefix, rest, subst (λ (ds : List Doc). AreJoined ds prefix) (sym (append-nil done)) j, refl, is) }
 
-ends_at : (done : List Doc) (front rest : List ℕ) → AreJoined done front → rest ≡ [] → Walked done front rest
-ends_at done front rest j is = record { more = []; end = None; walk = subst (λ (v : List ℕ). AreJoined (done ++ []) (front ++ v)) (sym is) (joined_append done [] front [] j refl) }
+ends_at : (done : List Doc) (prefix rest : List ℕ) → AreJoined done prefix → rest ≡ [] → Scanned done prefix rest
+ends_at done prefix rest j is = record { more = []; end = None; scan = subst (λ (v : List ℕ). AreJoined (done ++ []) (prefix ++ v)) (sym is) (joined_append done [] prefix [] j refl) }
 
-goes_on : (done : List Doc) (d : Doc) (front first rest bytes : List ℕ) → first ++ rest ≡ bytes → Walked (done ++ d ∷ []) (front ++ first) rest → Walked done front bytes
-goes_on done d front first rest bytes cut w =
-    let walk : IsWalk (done ++ d ∷ w.more) w.end (front ++ bytes) = rw (← cut, ← append_assoc front first rest, ← append_assoc done (d ∷ []) w.more) w.walk in
-    record { more = d ∷ w.more; end = w.end; walk = walk }
+goes_on : (done : List Doc) (d : Doc) (prefix first rest bytes : List ℕ) → first ++ rest ≡ bytes → Scanned (done ++ d ∷ []) (prefix ++ first) rest → Scanned done prefix bytes
+goes_on done d prefix first rest bytes splits w =
+    let scan : IsDumpScan (done ++ d ∷ w.more) w.end (prefix ++ bytes) = rw (← splits, ← append_assoc prefix first rest, ← append_assoc done (d ∷ []) w.more) w.scan in
+    record { more = d ∷ w.more; end = w.end; scan = scan }
 
 -- a frame takes bytes, and not more than there are
 pub frame_inside : (bytes : List ℕ) (n : ℕ) → frame_length bytes ≡ Ok (Some n) → (5 ≤ n) × (n ≤ length bytes) × (n ≤ longest_document)
 frame_inside [] n is = absurd cc
 frame_inside (b ∷ bytes) n is =
     let size = length (b ∷ bytes) in
-    let told = length_told (b ∷ bytes) in
+    let stated = stated_length (b ∷ bytes) in
     let g = guard_ok (ltb size 4) _ _ (Some n) is in
-    let h = guard_ok (ltb told 5 || ltb longest_document told || ltb size told) _ _ (Some n) g.1 in
-    let i = or_parts (ltb told 5 || ltb longest_document told) (ltb size told) h.0 in
-    let j = or_parts (ltb told 5) (ltb longest_document told) i.0 in
-    let same : told ≡ n = cc (h.1) in
+    let h = guard_ok (ltb stated 5 || ltb longest_document stated || ltb size stated) _ _ (Some n) g.1 in
+    let i = or_parts (ltb stated 5 || ltb longest_document stated) (ltb size stated) h.0 in
+    let j = or_parts (ltb stated 5) (ltb longest_document stated) i.0 in
+    let same : stated ≡ n = cc (h.1) in
     rw (← same) (ltb-false _ _ j.0, ltb-false _ _ i.1, ltb-false _ _ j.1)
 
 no_frame : (bytes : List ℕ) → frame_length bytes ≡ Ok None → bytes ≡ []
 no_frame [] is = refl
 no_frame (b ∷ bytes) is =
     let size = length (b ∷ bytes) in
-    let told = length_told (b ∷ bytes) in
+    let stated = stated_length (b ∷ bytes) in
     let g = guard_ok (ltb size 4) _ _ None is in
-    absurd (cc ((guard_ok (ltb told 5 || ltb longest_document told || ltb size told) _ _ None g.1).1))
+    absurd (cc ((guard_ok (ltb stated 5 || ltb longest_document stated || ltb size stated) _ _ None g.1).1))
 
 no_fault : (r : Result (Unit {0}) Fault) → result_err r ≡ None → r ≡ Ok tt
 no_fault (Ok u) is = refl
@@ -147,30 +147,30 @@ no_fault (Err f) is = absurd cc
 
 -- bytes without a fault are a document
 pub found_document : (base : ℕ) (bytes : List ℕ) → IsBytes bytes → first_fault base bytes ≡ None → (d : Doc) × IsDocument d bytes
-found_document base bytes fits is = document_found (base + length bytes) bytes fits (no_fault (past_document (base + length bytes) bytes) is)
+found_document base bytes fits is = document_found (base + length bytes) bytes fits (no_fault (skip_document (base + length bytes) bytes) is)
 
-abbrev Walker : ℕ → Type 0
-Walker turns = (done : List Doc) (front rest : List ℕ) → length rest ≤ turns → IsBytes rest → AreJoined done front → Walked done front rest
+abbrev Scanner : ℕ → Type 0
+Scanner turns = (done : List Doc) (prefix rest : List ℕ) → length rest ≤ turns → IsBytes rest → AreJoined done prefix → Scanned done prefix rest
 
-module _ (turns : ℕ) (walk : Walker turns) (done : List Doc) (front rest : List ℕ) (le : length rest ≤ suc turns) (fits : IsBytes rest) (j : AreJoined done front) where
-  walk_document : (n : ℕ) (first : Option Fault) → frame_length rest ≡ Ok (Some n) → first_fault (length front) (take n rest) ≡ first → Walked done front rest
-  walk_document n (Some f) is first_is = stops_at done front rest f j (ap (framed_fault (length front) rest) is ∙ first_is)
-  walk_document n None is first_is =
-      let d = found_document (length front) (take n rest) (IsBytes-take n rest fits) first_is in
+module _ (turns : ℕ) (scan : Scanner turns) (done : List Doc) (prefix rest : List ℕ) (le : length rest ≤ suc turns) (fits : IsBytes rest) (j : AreJoined done prefix) where
+  scan_document : (n : ℕ) (first : Option Fault) → frame_length rest ≡ Ok (Some n) → first_fault (length prefix) (take n rest) ≡ first → Scanned done prefix rest
+  scan_document n (Some f) is first_is = stops_at done prefix rest f j (ap (framed_fault (length prefix) rest) is ∙ first_is)
+  scan_document n None is first_is =
+      let d = found_document (length prefix) (take n rest) (IsBytes-take n rest fits) first_is in
       let size = frame_inside rest n is in
-      goes_on done d.0 front (take n rest) (drop n rest) rest (take-append-drop n rest)
-      (walk (done ++ d.0 ∷ []) (front ++ take n rest) (drop n rest) (omega (arith, length-drop n rest, size.0, size.1)) (IsBytes-drop n rest fits)
-      (joined_append done (d.0 ∷ []) front (take n rest) j (joined_one d.0 (take n rest) d.1)))
+      goes_on done d.0 prefix (take n rest) (drop n rest) rest (take-append-drop n rest)
+      (scan (done ++ d.0 ∷ []) (prefix ++ take n rest) (drop n rest) (omega (arith, length-drop n rest, size.0, size.1)) (IsBytes-drop n rest fits)
+      (joined_append done (d.0 ∷ []) prefix (take n rest) j (joined_one d.0 (take n rest) d.1)))
 
-  walk_frame : (frame : Result (Option ℕ) FaultKind) → frame_length rest ≡ frame → Walked done front rest
-  walk_frame (Err kind) is = stops_at done front rest (record { kind = kind; offset = length front; path = [] }) j (ap (framed_fault (length front) rest) is)
-  walk_frame (Ok None) is = ends_at done front rest j (no_frame rest is)
-  walk_frame (Ok (Some n)) is = walk_document n (first_fault (length front) (take n rest)) is refl
+  scan_frame : (frame : Result (Option ℕ) FaultKind) → frame_length rest ≡ frame → Scanned done prefix rest
+  scan_frame (Err kind) is = stops_at done prefix rest (record { kind = kind; offset = length prefix; path = [] }) j (ap (framed_fault (length prefix) rest) is)
+  scan_frame (Ok None) is = ends_at done prefix rest j (no_frame rest is)
+  scan_frame (Ok (Some n)) is = scan_document n (first_fault (length prefix) (take n rest)) is refl
 
-walk : (turns : ℕ) → Walker turns
-walk zero done front rest le fits j = ends_at done front rest j (nil_from_length rest (omega arith))
-walk (suc turns) done front rest le fits j = walk_frame turns (walk turns) done front rest le fits j (frame_length rest) refl
+scan : (turns : ℕ) → Scanner turns
+scan zero done prefix rest le fits j = ends_at done prefix rest j (nil_from_length rest (omega arith))
+scan (suc turns) done prefix rest le fits j = scan_frame turns (scan turns) done prefix rest le fits j (frame_length rest) refl
 
 -- the walk goes on after any documents
-pub walk_on : (done : List Doc) (front rest : List ℕ) → IsBytes rest → AreJoined done front → Walked done front rest
-walk_on done front rest fits j = walk (length rest) done front rest (omega arith) fits j
+pub scan_on : (done : List Doc) (prefix rest : List ℕ) → IsBytes rest → AreJoined done prefix → Scanned done prefix rest
+scan_on done prefix rest fits j = scan (length rest) done prefix rest (omega arith) fits j

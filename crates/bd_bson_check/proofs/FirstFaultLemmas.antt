@@ -13,13 +13,13 @@ use Rattle.std.proofs.Math.Seq.{drop-cons}
 use Rattle.bd_value.specs.Tree.{Scalar, Tree, leaf, doc, array, code_scope, Fields, no_fields, field, Items, no_items, item, Doc, fields_of, pairs_of, fields_of-pairs_of}
 use Rattle.bd_value.specs.{Limits.longest_document, Limits.most_levels, View.scalar_kind, View.kind_of, declared.node.Kind.Kind}
 use Rattle.bd_bson_check.specs.declared.fault.FaultKind.TheVariants.{UnknownType, BadUtf8, ShortLength, NoTerminator, NameUnended, StringUnended, BadBinaryLength, ValueShort}
-use Rattle.bd_bson_check.specs.FirstFault.{within, label, ◌>>=◌, fault, past_number, past_zero, text_at, past_name, past_string, past_frame, past_fixed}
-use Rattle.bd_bson_check.specs.FirstFault.{past_boolean, past_data, past_binary, past_code_frame, past_value, past_typed, past_element, past_elements, past_body}
-use Rattle.bd_bson_check.specs.FirstFault.{past_code_scope, past_nested, past_document, Nested, past_regex}
+use Rattle.bd_bson_check.specs.FirstFault.{within, label, ◌>>=◌, fault, skip_number, skip_zero, text_at, skip_name, skip_string, skip_frame, skip_fixed}
+use Rattle.bd_bson_check.specs.FirstFault.{skip_boolean, skip_data, skip_binary, skip_code_frame, skip_value, skip_typed, skip_element, skip_elements, skip_body}
+use Rattle.bd_bson_check.specs.FirstFault.{skip_code_scope, skip_nested, skip_document, Nested, skip_regex}
 use Rattle.bd_bson_check.specs.{Fault.Fault, declared.fault.FaultKind.FaultKind}
 use Rattle.bd_bson_view.proofs.ValueAtLemmas.{framed_length, scoped_length}
 use Rattle.bd_bson_view.specs.declared.raw_parts.ElementType.{ElementType}
-use Rattle.bd_bson_view.specs.Unique.{number_length, number_value, number_front, zero_place, string_after, string_length, binary_whole, binary_count}
+use Rattle.bd_bson_view.specs.Unique.{number_length, number_value, number_prefix, zero_place, string_after, string_length, binary_whole, binary_count}
 use Rattle.bd_bson_view.specs.Unique.{binary_subtype, after_five, regex_whole, scalar_size}
 use Rattle.bd_bson_view.specs.Spelling.{number, long, string, data_of, scoped, IsName, IsText, IsScalar, framed, element, IsValue, AreItems, AreFields, depth, items_depth}
 use Rattle.bd_bson_view.specs.Spelling.{fields_depth, IsDocument}
@@ -72,20 +72,20 @@ Takes-then {a} {x} {b} {y} {c} p q = record { parts = p.parts ∙ ap (λ (t : Li
 
 -- so many bytes that were gone past
 record TakesFixed (n : ℕ) (bytes rest : List ℕ) : Type 0 where
-  pub front : List ℕ
-  pub takes : Takes bytes front rest
-  pub size : length front ≡ n
-  pub fits : IsBytes front
+  pub prefix : List ℕ
+  pub takes : Takes bytes prefix rest
+  pub size : length prefix ≡ n
+  pub fits : IsBytes prefix
 
-abbrev cut_at : (n : ℕ) (bytes : List ℕ) → IsBytes bytes → n ≤ length bytes → TakesFixed n bytes (drop n bytes)
-cut_at n bytes fits le =
+abbrev split_at_byte : (n : ℕ) (bytes : List ℕ) → IsBytes bytes → n ≤ length bytes → TakesFixed n bytes (drop n bytes)
+split_at_byte n bytes fits le =
     let takes : Takes bytes (take n bytes) (drop n bytes) = record { parts = sym (take-append-drop n bytes); rest_fits = IsBytes-drop n bytes fits } in
-    record { front = take n bytes; takes = takes; size = omega (arith, length-take n bytes); fits = IsBytes-take n bytes fits }
+    record { prefix = take n bytes; takes = takes; size = omega (arith, length-take n bytes); fits = IsBytes-take n bytes fits }
 
-fixed_takes : (n e : ℕ) (bytes rest : List ℕ) → IsBytes bytes → past_fixed n e bytes ≡ Ok rest → TakesFixed n bytes rest
+fixed_takes : (n e : ℕ) (bytes rest : List ℕ) → IsBytes bytes → skip_fixed n e bytes ≡ Ok rest → TakesFixed n bytes rest
 fixed_takes n e bytes rest fits is =
     let g = guard_ok (ltb (length bytes) n) _ (done (drop n bytes)) rest is in
-    rw (← ok_is (drop n bytes) rest g.1) (cut_at n bytes fits (ltb-false _ _ g.0))
+    rw (← ok_is (drop n bytes) rest g.1) (split_at_byte n bytes fits (ltb-false _ _ g.0))
 
 -- ---- numbers
 
@@ -96,20 +96,20 @@ number_back bytes len fits = le_bytes_4 bytes _ len fits refl
 number_below : (bytes : List ℕ) → IsBytes bytes → from_le_bytes w32 bytes < 2 ^ 32
 number_below bytes fits = omega (arith, fits 0, fits 1, fits 2, fits 3)
 
-number_takes : (short : FaultKind) (e : ℕ) (bytes : List ℕ) (x : ℕ × List ℕ) → IsBytes bytes → past_number short e bytes ≡ Ok x → Takes bytes (number x.0) x.1 × (x.0 < 2 ^ 32)
+number_takes : (short : FaultKind) (e : ℕ) (bytes : List ℕ) (x : ℕ × List ℕ) → IsBytes bytes → skip_number short e bytes ≡ Ok x → Takes bytes (number x.0) x.1 × (x.0 < 2 ^ 32)
 number_takes short e bytes x fits is =
     let g = guard_ok (ltb (length bytes) 4) _ (done (from_le_bytes w32 (take 4 bytes), drop 4 bytes)) x is in
-    let f = cut_at 4 bytes fits (ltb-false _ _ g.0) in
+    let f = split_at_byte 4 bytes fits (ltb-false _ _ g.0) in
     rw (← ok_is (from_le_bytes w32 (take 4 bytes), drop 4 bytes) x g.1) (rw (number_back (take 4 bytes) f.size f.fits) f.takes, number_below (take 4 bytes) f.fits)
 
-past_zero_takes : (kind : FaultKind) (e : ℕ) (bytes rest : List ℕ) → past_zero kind e bytes ≡ Ok rest → bytes ≡ 0 ∷ rest
-past_zero_takes kind e [] rest is = absurd cc
-past_zero_takes kind e (zero ∷ bs) rest is = ap (λ (x : List ℕ). 0 ∷ x) (ok_is bs rest is)
-past_zero_takes kind e (suc b ∷ bs) rest is = absurd cc
+skip_zero_takes : (kind : FaultKind) (e : ℕ) (bytes rest : List ℕ) → skip_zero kind e bytes ≡ Ok rest → bytes ≡ 0 ∷ rest
+skip_zero_takes kind e [] rest is = absurd cc
+skip_zero_takes kind e (zero ∷ bs) rest is = ap (λ (x : List ℕ). 0 ∷ x) (ok_is bs rest is)
+skip_zero_takes kind e (suc b ∷ bs) rest is = absurd cc
 
 -- bytes of which a front and a zero were cut off
-past_zero_cut : (more : List ℕ) (k : ℕ) (rest : List ℕ) → IsBytes more → k ≤ length more → drop k more ≡ 0 ∷ rest → Takes more (take k more ++ 0 ∷ []) rest × (length (take k more) ≡ k)
-past_zero_cut more k rest fits le is =
+skip_zero_splits : (more : List ℕ) (k : ℕ) (rest : List ℕ) → IsBytes more → k ≤ length more → drop k more ≡ 0 ∷ rest → Takes more (take k more ++ 0 ∷ []) rest × (length (take k more) ≡ k)
+skip_zero_splits more k rest fits le is =
     let whole : more ≡ (take k more ++ 0 ∷ []) ++ rest = sym (take-append-drop k more) ∙ ap (λ (x : List ℕ). take k more ++ x) is ∙ sym (append_assoc (take k more) (0 ∷ []) rest) in
     let f : IsBytes (0 ∷ rest) = subst IsBytes is (IsBytes-drop k more fits) in
     (record { parts = whole; rest_fits = IsBytes-drop 1 (0 ∷ rest) f }, omega (arith, length-take k more))
@@ -128,18 +128,18 @@ none_zero bytes zero le h = tt
 none_zero [] (suc k) le h = absurd (omega arith)
 none_zero (b ∷ bytes) (suc k) le h = (eqb-false b 0 (h 0 (omega arith)), none_zero bytes k (omega arith) (λ i lt. h (suc i) (omega arith)))
 
-name_takes : (kind : FaultKind) (e : ℕ) (bytes : List ℕ) (x : List ℕ × List ℕ) → IsBytes bytes → past_name kind e bytes ≡ Ok x → Takes bytes (x.0 ++ 0 ∷ []) x.1 × IsName x.0
-unfolding past_name
+name_takes : (kind : FaultKind) (e : ℕ) (bytes : List ℕ) (x : List ℕ × List ℕ) → IsBytes bytes → skip_name kind e bytes ≡ Ok x → Takes bytes (x.0 ++ 0 ∷ []) x.1 × IsName x.0
+unfolding skip_name
 name_takes kind e bytes x fits is = up_to (position (λ b. b == 0) bytes) refl is
   where
-    up_to : (o : Option ℕ) → position (λ b. b == 0) bytes ≡ o → past_name kind e bytes ≡ Ok x → Takes bytes (x.0 ++ 0 ∷ []) x.1 × IsName x.0
+    up_to : (o : Option ℕ) → position (λ b. b == 0) bytes ≡ o → skip_name kind e bytes ≡ Ok x → Takes bytes (x.0 ++ 0 ∷ []) x.1 × IsName x.0
     up_to None place is = absurd (let e = rw place at is in cc)
     up_to (Some k) place is =
         let p = position-Some (λ b. b == 0) bytes k 0 place in
         let a = bind_ok (text_at (e - length bytes) (take k bytes)) _ x (rw place at is) in
         let t = text_takes (e - length bytes) (take k bytes) a.0 a.1 in
         let z : get_or bytes k 0 ≡ 0 = eqb-true _ _ p.1 in
-        let c = past_zero_cut bytes k (drop (k + 1) bytes) fits (omega (arith, p.0)) (rw (add-one, drop-cons bytes k 0 p.0, z) refl) in
+        let c = skip_zero_splits bytes k (drop (k + 1) bytes) fits (omega (arith, p.0)) (rw (add-one, drop-cons bytes k 0 p.0, z) refl) in
         rw (← ok_is (a.0, drop (k + 1) bytes) x a.2, ← t.0) (c.0, (t.1, none_zero bytes k (omega (arith, p.0)) p.2))
 
 -- a string that was gone past
@@ -148,20 +148,20 @@ record TakesString (bytes rest : List ℕ) : Type 0 where
   pub takes : Takes bytes (string text_bytes) rest
   pub fits : IsText text_bytes
 
-string_takes : (e : ℕ) (bytes rest : List ℕ) → IsBytes bytes → past_string e bytes ≡ Ok rest → TakesString bytes rest
-unfolding past_string
+string_takes : (e : ℕ) (bytes rest : List ℕ) → IsBytes bytes → skip_string e bytes ≡ Ok rest → TakesString bytes rest
+unfolding skip_string
 string_takes e bytes rest fits is =
-    let head = bind_ok (past_number ValueShort e bytes) _ rest is in
+    let head = bind_ok (skip_number ValueShort e bytes) _ rest is in
     let n = head.0.0 in
     let more = head.0.1 in
     let t = number_takes ValueShort e bytes head.0 fits head.1 in
     let g = guard_ok (eqb n 0 || ltb (length more) n) _ _ rest head.2 in
     let h = or_parts (eqb n 0) (ltb (length more) n) g.0 in
     let le : n ≤ length more = ltb-false _ _ h.1 in
-    let a = bind_ok (past_zero StringUnended e (drop (n - 1) more)) _ rest g.1 in
+    let a = bind_ok (skip_zero StringUnended e (drop (n - 1) more)) _ rest g.1 in
     let b = bind_ok (text_at (e - length more) (take (n - 1) more)) _ rest a.2 in
     let u = text_takes (e - length more) (take (n - 1) more) b.0 b.1 in
-    let c = past_zero_cut more (n - 1) a.0 t.0.rest_fits (omega (arith, le)) (past_zero_takes StringUnended e (drop (n - 1) more) a.0 a.1) in
+    let c = skip_zero_splits more (n - 1) a.0 t.0.rest_fits (omega (arith, le)) (skip_zero_takes StringUnended e (drop (n - 1) more) a.0 a.1) in
     let n_is : n ≡ length (take (n - 1) more) + 1 = omega (arith, c.1, eqb-false n 0 h.0) in
     let small = t.1 in
     let takes = subst (λ (k : ℕ). Takes bytes (number k ++ (take (n - 1) more ++ 0 ∷ [])) a.0) n_is (Takes-then t.0 c.0) in
@@ -180,10 +180,10 @@ not_other : (top : Bool) (n m : ℕ) → (top && not (eqb n m)) ≡ false → to
 not_other true n m h is = grind (arith, nat_tests, h)
 not_other false n m h is = absurd cc
 
-frame_takes : (top : Bool) (e : ℕ) (bytes : List ℕ) (f : List ℕ × ℕ × List ℕ) → IsBytes bytes → past_frame top e bytes ≡ Ok f → Frames top bytes f.0 f.2
-unfolding past_frame
+frame_takes : (top : Bool) (e : ℕ) (bytes : List ℕ) (f : List ℕ × ℕ × List ℕ) → IsBytes bytes → skip_frame top e bytes ≡ Ok f → Frames top bytes f.0 f.2
+unfolding skip_frame
 frame_takes top e bytes f fits is =
-    let head = bind_ok (past_number (cond top ShortLength ValueShort) e bytes) _ f is in
+    let head = bind_ok (skip_number (cond top ShortLength ValueShort) e bytes) _ f is in
     let n = head.0.0 in
     let more = head.0.1 in
     let t = number_takes (cond top ShortLength ValueShort) e bytes head.0 fits head.1 in
@@ -195,8 +195,8 @@ frame_takes top e bytes f fits is =
     let high : n ≤ longest_document = ltb-false _ _ j.1 in
     let le : n ≤ length bytes = ltb-false _ _ i.1 in
     let len : length bytes ≡ 4 + length more = ap length t.0.parts ∙ omega (arith, length-append (number n) more, number_length n) in
-    let a = bind_ok (past_zero NoTerminator e (drop (n - 5) more)) _ f g.1 in
-    let c = past_zero_cut more (n - 5) a.0 t.0.rest_fits (omega (arith, le, len)) (past_zero_takes NoTerminator e (drop (n - 5) more) a.0 a.1) in
+    let a = bind_ok (skip_zero NoTerminator e (drop (n - 5) more)) _ f g.1 in
+    let c = skip_zero_splits more (n - 5) a.0 t.0.rest_fits (omega (arith, le, len)) (skip_zero_takes NoTerminator e (drop (n - 5) more) a.0 a.1) in
     let n_is : n ≡ length (take (n - 5) more) + 5 = omega (arith, low, c.1) in
     let takes : Takes bytes (framed (take (n - 5) more)) a.0 = subst (λ (k : ℕ). Takes bytes (number k ++ (take (n - 5) more ++ 0 ∷ [])) a.0) n_is (Takes-then t.0 c.0) in
     let size = framed_length (take (n - 5) more) in
@@ -216,12 +216,12 @@ record TakesData (subtype count : ℕ) (bytes rest : List ℕ) : Type 0 where
   pub takes : Takes bytes (data_of subtype payload) rest
   pub size : length (data_of subtype payload) ≡ count
 
-data_takes : (at subtype count : ℕ) (bytes rest : List ℕ) → IsBytes bytes → count ≤ length bytes → past_data at subtype count bytes ≡ Ok rest → TakesData subtype count bytes rest
+data_takes : (at subtype count : ℕ) (bytes rest : List ℕ) → IsBytes bytes → count ≤ length bytes → skip_data at subtype count bytes ≡ Ok rest → TakesData subtype count bytes rest
 data_takes at subtype count bytes rest fits le is = of (subtype == 2) refl is
   where
     made : (payload : List ℕ) → data_of subtype payload ≡ take count bytes → drop count bytes ≡ rest → TakesData subtype count bytes rest
     made payload is same =
-        let f = cut_at count bytes fits le in
+        let f = split_at_byte count bytes fits le in
         rw (← same) (record { payload = payload; takes = rw is f.takes; size = ap length is ∙ f.size })
 
     of : (two : Bool) → (subtype == 2) ≡ two → cond (two && ltb count 4) (fault BadBinaryLength at) (cond (two && not (eqb (number_of bytes) (count - 4)))
@@ -230,8 +230,8 @@ data_takes at subtype count bytes rest fits le is = of (subtype == 2) refl is
         let g = guard_ok (ltb count 4) _ _ rest is in
         let h = guard_ok (not (eqb (number_of bytes) (count - 4))) _ (done (drop count bytes)) rest g.1 in
         let least : 4 ≤ count = ltb-false _ _ g.0 in
-        let front = take count bytes in
-        let head = cut_at 4 bytes fits (omega (arith, least)) in
+        let prefix = take count bytes in
+        let head = split_at_byte 4 bytes fits (omega (arith, least)) in
         let same : take 4 bytes ≡ take 4 (take count bytes) = sym (take-take 4 count bytes least) in
         let inner : length (drop 4 (take count bytes)) ≡ number_of bytes = grind (arith, nat_tests, h.0, length-drop 4 (take count bytes), length-take count bytes) in
         made (drop 4 (take count bytes)) (rw two (ap (λ (x : List ℕ). x ++ drop 4 (take count bytes)) (ap number inner ∙ number_back (take 4 bytes) head.size head.fits ∙ same)
@@ -241,22 +241,22 @@ data_takes at subtype count bytes rest fits le is = of (subtype == 2) refl is
 -- ---- values
 
 -- a document or an array that was gone past, with so many levels: elements whose names an array does not keep
-pub record TakesBody (room : ℕ) (bytes rest : List ℕ) : Type 0 where
+pub record TakesBody (depth_left : ℕ) (bytes rest : List ℕ) : Type 0 where
   pub fields : Fields
   pub body : List ℕ
   pub spell : AreFields fields body
   pub takes : Takes bytes (framed body) rest
-  pub shallow : fields_depth fields < room
+  pub shallow : fields_depth fields < depth_left
 
 -- code with scope that was gone past
-pub record TakesCode (room : ℕ) (bytes rest : List ℕ) : Type 0 where
+pub record TakesCode (depth_left : ℕ) (bytes rest : List ℕ) : Type 0 where
   pub text_bytes : List ℕ
   pub fields : Fields
   pub body : List ℕ
   pub text_fits : IsText text_bytes
   pub spell : AreFields fields body
   pub takes : Takes bytes (scoped text_bytes (framed body)) rest
-  pub shallow : suc (fields_depth fields) < room
+  pub shallow : suc (fields_depth fields) < depth_left
 
 abbrev pub TakesHolder : Holder → ℕ → List ℕ → List ℕ → Type 0
 TakesHolder holders.Document = TakesBody
@@ -264,7 +264,7 @@ TakesHolder holders.Array = TakesBody
 TakesHolder holders.CodeScope = TakesCode
 
 abbrev pub NestedTakes : ℕ → Nested → Type 0
-NestedTakes room nested = (holder : Holder) (q e : ℕ) (bytes rest : List ℕ) → IsBytes bytes → nested holder q e bytes ≡ Ok rest → TakesHolder holder room bytes rest
+NestedTakes depth_left nested = (holder : Holder) (q e : ℕ) (bytes rest : List ℕ) → IsBytes bytes → nested holder q e bytes ≡ Ok rest → TakesHolder holder depth_left bytes rest
 
 -- an array's items are a document's values
 abbrev items_in : Fields → Items
@@ -279,41 +279,41 @@ items_depth_is : (fs : Fields) → items_depth (items_in fs) ≡ fields_depth fs
 items_depth_is no_fields = refl
 items_depth_is (field n t fs) = ap (max (depth t)) (items_depth_is fs)
 
-record TakesValue (room : ℕ) (kind : Kind) (bytes rest : List ℕ) : Type 0 where
+record TakesValue (depth_left : ℕ) (kind : Kind) (bytes rest : List ℕ) : Type 0 where
   pub tree : Tree
   pub value : List ℕ
   pub spells : IsValue tree value
   pub takes : Takes bytes value rest
   pub kinded : kind_of tree ≡ kind
-  pub shallow : depth tree ≤ room
+  pub shallow : depth tree ≤ depth_left
 
-leaf_takes : (room : ℕ) (s : Scalar) {bytes value rest : List ℕ} → Takes bytes value rest → IsScalar s value → TakesValue room (scalar_kind s) bytes rest
-leaf_takes room s {bytes} {value} {rest} takes spells = record { tree = leaf s; value = value; spells = spells; takes = takes; kinded = refl; shallow = omega arith }
+leaf_takes : (depth_left : ℕ) (s : Scalar) {bytes value rest : List ℕ} → Takes bytes value rest → IsScalar s value → TakesValue depth_left (scalar_kind s) bytes rest
+leaf_takes depth_left s {bytes} {value} {rest} takes spells = record { tree = leaf s; value = value; spells = spells; takes = takes; kinded = refl; shallow = omega arith }
 
 -- eight bytes are a signed number
-long_takes : (e : ℕ) (bytes rest : List ℕ) → IsBytes bytes → past_fixed 8 e bytes ≡ Ok rest → (z : ℤ) × FitsSigned w64 z × Takes bytes (long (cast_unsigned w64 z)) rest
+long_takes : (e : ℕ) (bytes rest : List ℕ) → IsBytes bytes → skip_fixed 8 e bytes ≡ Ok rest → (z : ℤ) × FitsSigned w64 z × Takes bytes (long (cast_unsigned w64 z)) rest
 unfolding long
 long_takes e bytes rest fits is =
     let f = fixed_takes 8 e bytes rest fits is in
-    let n = from_le_bytes w64 f.front in
+    let n = from_le_bytes w64 f.prefix in
     let b = f.fits in
-    let below : from_le_bytes w64 f.front < 2 ^ 64 = omega (arith, b 0, b 1, b 2, b 3, b 4, b 5, b 6, b 7) in
-    let back : long (cast_unsigned w64 (cast_signed w64 n)) ≡ f.front = ap long (of_z-to_z w64 n below) ∙ le_bytes_8 f.front _ f.size f.fits refl in
+    let below : from_le_bytes w64 f.prefix < 2 ^ 64 = omega (arith, b 0, b 1, b 2, b 3, b 4, b 5, b 6, b 7) in
+    let back : long (cast_unsigned w64 (cast_signed w64 n)) ≡ f.prefix = ap long (of_z-to_z w64 n below) ∙ le_bytes_8 f.prefix _ f.size f.fits refl in
     (cast_signed w64 n, search (arith, ints), rw back f.takes)
 
-module _ (room : ℕ) where
+module _ (depth_left : ℕ) where
   -- a scalar of no bytes
-  none_takes : (s : Scalar) (bytes rest : List ℕ) → IsBytes bytes → IsScalar s [] → done bytes ≡ done rest → TakesValue room (scalar_kind s) bytes rest
-  none_takes s bytes rest fits spells is = rw (← ok_is bytes rest is) (leaf_takes room s (cut_at 0 bytes fits (omega arith)).takes spells)
+  none_takes : (s : Scalar) (bytes rest : List ℕ) → IsBytes bytes → IsScalar s [] → done bytes ≡ done rest → TakesValue depth_left (scalar_kind s) bytes rest
+  none_takes s bytes rest fits spells is = rw (← ok_is bytes rest is) (leaf_takes depth_left s (split_at_byte 0 bytes fits (omega arith)).takes spells)
 
-  boolean_takes : (e : ℕ) (bytes rest : List ℕ) → IsBytes bytes → past_boolean e bytes ≡ Ok rest → TakesValue room kinds.Bool bytes rest
+  boolean_takes : (e : ℕ) (bytes rest : List ℕ) → IsBytes bytes → skip_boolean e bytes ≡ Ok rest → TakesValue depth_left kinds.Bool bytes rest
   boolean_takes e [] rest fits is = absurd cc
-  boolean_takes e (zero ∷ bs) rest fits is = rw (← ok_is bs rest is) (leaf_takes room (trees.boolean false) (cut_at 1 (0 ∷ bs) fits (omega arith)).takes refl)
-  boolean_takes e (suc zero ∷ bs) rest fits is = rw (← ok_is bs rest is) (leaf_takes room (trees.boolean true) (cut_at 1 (1 ∷ bs) fits (omega arith)).takes refl)
+  boolean_takes e (zero ∷ bs) rest fits is = rw (← ok_is bs rest is) (leaf_takes depth_left (trees.boolean false) (split_at_byte 1 (0 ∷ bs) fits (omega arith)).takes refl)
+  boolean_takes e (suc zero ∷ bs) rest fits is = rw (← ok_is bs rest is) (leaf_takes depth_left (trees.boolean true) (split_at_byte 1 (1 ∷ bs) fits (omega arith)).takes refl)
   boolean_takes e (suc (suc b) ∷ bs) rest fits is = absurd (let le = ltb-false 1 (suc (suc b)) (guard_ok (ltb 1 (suc (suc b))) _ (done bs) rest is).0 in omega arith)
 
-  binary_takes : (e : ℕ) (bytes rest : List ℕ) → IsBytes bytes → past_binary e bytes ≡ Ok rest → TakesValue room kinds.Binary bytes rest
-  unfolding past_binary
+  binary_takes : (e : ℕ) (bytes rest : List ℕ) → IsBytes bytes → skip_binary e bytes ≡ Ok rest → TakesValue depth_left kinds.Binary bytes rest
+  unfolding skip_binary
   binary_takes e bytes rest fits is =
       let g = guard_ok (ltb (length bytes) 5) _ _ rest is in
       let h = guard_ok (ltb 2147483647 (number_of bytes) || ltb (length bytes) (5 + number_of bytes)) _ _ rest g.1 in
@@ -323,35 +323,35 @@ module _ (room : ℕ) where
       let le : 5 + number_of bytes ≤ length bytes = ltb-false _ _ n.1 in
       let k = get_or bytes 4 0 in
       let d = data_takes (e - length bytes) k (number_of bytes) (drop 5 bytes) rest (IsBytes-drop 5 bytes fits) (omega (arith, le, length-drop 5 bytes)) h.1 in
-      let c = cut_at 4 bytes fits (omega (arith, least)) in
-      let front : number (length (data_of k d.payload)) ≡ take 4 bytes = ap number d.size ∙ number_back (take 4 bytes) c.size c.fits in
+      let c = split_at_byte 4 bytes fits (omega (arith, least)) in
+      let prefix : number (length (data_of k d.payload)) ≡ take 4 bytes = ap number d.size ∙ number_back (take 4 bytes) c.size c.fits in
       let head : Takes bytes (number (length (data_of k d.payload)) ++ k ∷ []) (drop 5 bytes) = record {
-        parts = sym (take-append-drop 4 bytes) ∙ ap₂ (λ (x y : List ℕ). x ++ y) (sym front) (drop-cons bytes 4 0 (omega (arith, least)))
+        parts = sym (take-append-drop 4 bytes) ∙ ap₂ (λ (x y : List ℕ). x ++ y) (sym prefix) (drop-cons bytes 4 0 (omega (arith, least)))
             ∙ sym (append_assoc (number (length (data_of k d.payload))) (k ∷ []) (drop 5 bytes));
         rest_fits = IsBytes-drop 5 bytes fits;
       } in
-      leaf_takes room (trees.binary k d.payload) (Takes-then head d.takes)
+      leaf_takes depth_left (trees.binary k d.payload) (Takes-then head d.takes)
       (fits 4, omega (arith, d.size, few), append_assoc (number (length (data_of k d.payload))) (k ∷ []) (data_of k d.payload))
 
 -- ---- types
 
-abbrev byte_told : ElementType → ℕ
-byte_told types.Double = 1
-byte_told types.Decimal128 = 19
-byte_told (types.Kept k) = type_byte k
+abbrev byte_stated : ElementType → ℕ
+byte_stated types.Double = 1
+byte_stated types.Decimal128 = 19
+byte_stated (types.Kept k) = type_byte k
 
-in_table : (ts : List (ℕ × ElementType)) (b : ℕ) (type : ElementType) → list_all (λ t. t.0 == byte_told t.1) ts ≡ true → lookup (nat_eq b) ts ≡ Some type → b ≡ byte_told type
+in_table : (ts : List (ℕ × ElementType)) (b : ℕ) (type : ElementType) → list_all (λ t. t.0 == byte_stated t.1) ts ≡ true → lookup (nat_eq b) ts ≡ Some type → b ≡ byte_stated type
 in_table [] b type h is = absurd cc
 in_table (t ∷ ts) b type h is =
-    let p = and_parts (t.0 == byte_told t.1) (list_all (λ t. t.0 == byte_told t.1) ts) h in
-    found_in (eqb-true t.0 (byte_told t.1) p.0) (in_table ts b type p.1) (eqb b t.0) refl is
+    let p = and_parts (t.0 == byte_stated t.1) (list_all (λ t. t.0 == byte_stated t.1) ts) h in
+    found_in (eqb-true t.0 (byte_stated t.1) p.0) (in_table ts b type p.1) (eqb b t.0) refl is
   where
-    found_in : t.0 ≡ byte_told t.1 → (lookup (nat_eq b) ts ≡ Some type → b ≡ byte_told type) → (same : Bool)
-        → eqb b t.0 ≡ same → cond same (Some t.1) (lookup (nat_eq b) ts) ≡ Some type → b ≡ byte_told type
-    found_in told others true e i = eqb-true b t.0 e ∙ told ∙ ap byte_told (same_Some t.1 type i)
-    found_in told others false e i = others i
+    found_in : t.0 ≡ byte_stated t.1 → (lookup (nat_eq b) ts ≡ Some type → b ≡ byte_stated type) → (same : Bool)
+        → eqb b t.0 ≡ same → cond same (Some t.1) (lookup (nat_eq b) ts) ≡ Some type → b ≡ byte_stated type
+    found_in stated others true e i = eqb-true b t.0 e ∙ stated ∙ ap byte_stated (same_Some t.1 type i)
+    found_in stated others false e i = others i
 
-type_takes : (f : Fault) (b : ℕ) (type : ElementType) → ok_or (type_at b) f ≡ Ok type → b ≡ byte_told type
+type_takes : (f : Fault) (b : ℕ) (type : ElementType) → ok_or (type_at b) f ≡ Ok type → b ≡ byte_stated type
 type_takes f b type is = in_table table.types b type refl (of (type_at b) is)
   where
     of : (o : Option ElementType) → ok_or o f ≡ Ok type → o ≡ Some type
@@ -364,27 +364,27 @@ within_ok name (Err f) x is = absurd cc
 
 -- ---- elements
 
-pub record TakesElement (room : ℕ) (bytes rest : List ℕ) : Type 0 where
+pub record TakesElement (depth_left : ℕ) (bytes rest : List ℕ) : Type 0 where
   pub name : List ℕ
   pub tree : Tree
   pub value : List ℕ
   pub named : IsName name
   pub spells : IsValue tree value
   pub takes : Takes bytes (element tree name value) rest
-  pub shallow : depth tree ≤ room
+  pub shallow : depth tree ≤ depth_left
 
 -- an element takes some bytes
-pub element_shrinks : (room : ℕ) (bytes rest : List ℕ) → TakesElement room bytes rest → length rest < length bytes
-element_shrinks room bytes rest r =
+pub element_shrinks : (depth_left : ℕ) (bytes rest : List ℕ) → TakesElement depth_left bytes rest → length rest < length bytes
+element_shrinks depth_left bytes rest r =
     let e = ap length r.takes.parts in
     let f = length-append (element r.tree r.name r.value) rest in
     omega (arith, e, f)
 
 -- the bytes of the code and the scope, and what follows
-code_frame_takes : (e : ℕ) (bytes : List ℕ) (f : List ℕ × ℕ × List ℕ) → IsBytes bytes → past_code_frame e bytes ≡ Ok f → Takes bytes (number (length f.0 + 4) ++ f.0) f.2 × IsBytes f.0
-unfolding past_code_frame
+code_frame_takes : (e : ℕ) (bytes : List ℕ) (f : List ℕ × ℕ × List ℕ) → IsBytes bytes → skip_code_frame e bytes ≡ Ok f → Takes bytes (number (length f.0 + 4) ++ f.0) f.2 × IsBytes f.0
+unfolding skip_code_frame
 code_frame_takes e bytes f fits is =
-    let head = bind_ok (past_number ValueShort e bytes) _ f is in
+    let head = bind_ok (skip_number ValueShort e bytes) _ f is in
     let n = head.0.0 in
     let more = head.0.1 in
     let t = number_takes ValueShort e bytes head.0 fits head.1 in
@@ -393,52 +393,52 @@ code_frame_takes e bytes f fits is =
     let least : 14 ≤ n = ltb-false _ _ h.0 in
     let le : n ≤ length bytes = ltb-false _ _ h.1 in
     let len : length bytes ≡ 4 + length more = ap length t.0.parts ∙ omega (arith, length-append (number n) more, number_length n) in
-    let c = cut_at (n - 4) more t.0.rest_fits (omega (arith, le, len)) in
+    let c = split_at_byte (n - 4) more t.0.rest_fits (omega (arith, le, len)) in
     let n_is : n ≡ length (take (n - 4) more) + 4 = omega (arith, least, c.size) in
     rw (← ok_is (take (n - 4) more, e - length (drop (n - 4) more), drop (n - 4) more) f g.1)
     (subst (λ (k : ℕ). Takes bytes (number k ++ take (n - 4) more) (drop (n - 4) more)) n_is (Takes-then t.0 c.takes), c.fits)
 
 -- ---- what holds values, where those below are known
 
-module _ (room : ℕ) (nested : Nested) (below : NestedTakes room nested) where
-  value_takes : (kind : Kind) (q e : ℕ) (bytes rest : List ℕ) → IsBytes bytes → past_value nested kind q e bytes ≡ Ok rest → TakesValue room kind bytes rest
-  value_takes kinds.MinKey q e bytes rest fits is = none_takes room trees.min_key bytes rest fits refl is
-  value_takes kinds.Undefined q e bytes rest fits is = none_takes room trees.undefined bytes rest fits refl is
-  value_takes kinds.Null q e bytes rest fits is = none_takes room trees.null bytes rest fits refl is
-  value_takes kinds.MaxKey q e bytes rest fits is = none_takes room trees.max_key bytes rest fits refl is
+module _ (depth_left : ℕ) (nested : Nested) (below : NestedTakes depth_left nested) where
+  value_takes : (kind : Kind) (q e : ℕ) (bytes rest : List ℕ) → IsBytes bytes → skip_value nested kind q e bytes ≡ Ok rest → TakesValue depth_left kind bytes rest
+  value_takes kinds.MinKey q e bytes rest fits is = none_takes depth_left trees.min_key bytes rest fits refl is
+  value_takes kinds.Undefined q e bytes rest fits is = none_takes depth_left trees.undefined bytes rest fits refl is
+  value_takes kinds.Null q e bytes rest fits is = none_takes depth_left trees.null bytes rest fits refl is
+  value_takes kinds.MaxKey q e bytes rest fits is = none_takes depth_left trees.max_key bytes rest fits refl is
   value_takes kinds.Int32 q e bytes rest fits is =
       let f = fixed_takes 4 e bytes rest fits is in
-      let n = from_le_bytes w32 f.front in
-      let back : number (cast_unsigned w32 (cast_signed w32 n)) ≡ f.front = ap number (of_z-to_z w32 n (number_below f.front f.fits)) ∙ number_back f.front f.size f.fits in
-      leaf_takes room (trees.int32 (cast_signed w32 n)) f.takes (search (arith, ints), sym back)
-  value_takes kinds.Int64 q e bytes rest fits is = let l = long_takes e bytes rest fits is in leaf_takes room (trees.int64 l.0) l.2 (l.1, refl)
-  value_takes kinds.Date q e bytes rest fits is = let l = long_takes e bytes rest fits is in leaf_takes room (trees.date l.0) l.2 (l.1, refl)
+      let n = from_le_bytes w32 f.prefix in
+      let back : number (cast_unsigned w32 (cast_signed w32 n)) ≡ f.prefix = ap number (of_z-to_z w32 n (number_below f.prefix f.fits)) ∙ number_back f.prefix f.size f.fits in
+      leaf_takes depth_left (trees.int32 (cast_signed w32 n)) f.takes (search (arith, ints), sym back)
+  value_takes kinds.Int64 q e bytes rest fits is = let l = long_takes e bytes rest fits is in leaf_takes depth_left (trees.int64 l.0) l.2 (l.1, refl)
+  value_takes kinds.Date q e bytes rest fits is = let l = long_takes e bytes rest fits is in leaf_takes depth_left (trees.date l.0) l.2 (l.1, refl)
   value_takes kinds.Timestamp q e bytes rest fits is =
       let f = fixed_takes 8 e bytes rest fits is in
-      let low = cut_at 4 f.front f.fits (omega (arith, f.size)) in
+      let low = split_at_byte 4 f.prefix f.fits (omega (arith, f.size)) in
       let high_fits = low.takes.rest_fits in
-      let high_size : length (drop 4 f.front) ≡ 4 = omega (arith, length-drop 4 f.front, f.size) in
-      let whole : number (from_le_bytes w32 (take 4 f.front)) ++ number (from_le_bytes w32 (drop 4 f.front)) ≡ f.front =
-      ap₂ (λ (x y : List ℕ). x ++ y) (number_back (take 4 f.front) low.size low.fits) (number_back (drop 4 f.front) high_size high_fits) ∙ take-append-drop 4 f.front in
-      leaf_takes room (trees.timestamp (from_le_bytes w32 (drop 4 f.front)) (from_le_bytes w32 (take 4 f.front))) f.takes
-      (number_below (drop 4 f.front) high_fits, number_below (take 4 f.front) low.fits, sym whole)
-  value_takes kinds.ObjectId q e bytes rest fits is = let f = fixed_takes 12 e bytes rest fits is in leaf_takes room (trees.object_id f.front) f.takes (f.size, refl)
-  value_takes kinds.Bool q e bytes rest fits is = boolean_takes room e bytes rest fits is
-  value_takes kinds.Text q e bytes rest fits is = let s = string_takes e bytes rest fits is in leaf_takes room (trees.text s.text_bytes) s.takes (s.fits, refl)
-  value_takes kinds.Symbol q e bytes rest fits is = let s = string_takes e bytes rest fits is in leaf_takes room (trees.symbol s.text_bytes) s.takes (s.fits, refl)
-  value_takes kinds.Code q e bytes rest fits is = let s = string_takes e bytes rest fits is in leaf_takes room (trees.code s.text_bytes) s.takes (s.fits, refl)
+      let high_size : length (drop 4 f.prefix) ≡ 4 = omega (arith, length-drop 4 f.prefix, f.size) in
+      let whole : number (from_le_bytes w32 (take 4 f.prefix)) ++ number (from_le_bytes w32 (drop 4 f.prefix)) ≡ f.prefix =
+      ap₂ (λ (x y : List ℕ). x ++ y) (number_back (take 4 f.prefix) low.size low.fits) (number_back (drop 4 f.prefix) high_size high_fits) ∙ take-append-drop 4 f.prefix in
+      leaf_takes depth_left (trees.timestamp (from_le_bytes w32 (drop 4 f.prefix)) (from_le_bytes w32 (take 4 f.prefix))) f.takes
+      (number_below (drop 4 f.prefix) high_fits, number_below (take 4 f.prefix) low.fits, sym whole)
+  value_takes kinds.ObjectId q e bytes rest fits is = let f = fixed_takes 12 e bytes rest fits is in leaf_takes depth_left (trees.object_id f.prefix) f.takes (f.size, refl)
+  value_takes kinds.Bool q e bytes rest fits is = boolean_takes depth_left e bytes rest fits is
+  value_takes kinds.Text q e bytes rest fits is = let s = string_takes e bytes rest fits is in leaf_takes depth_left (trees.text s.text_bytes) s.takes (s.fits, refl)
+  value_takes kinds.Symbol q e bytes rest fits is = let s = string_takes e bytes rest fits is in leaf_takes depth_left (trees.symbol s.text_bytes) s.takes (s.fits, refl)
+  value_takes kinds.Code q e bytes rest fits is = let s = string_takes e bytes rest fits is in leaf_takes depth_left (trees.code s.text_bytes) s.takes (s.fits, refl)
   value_takes kinds.DbPointer q e bytes rest fits is =
-      let a = bind_ok (past_string e bytes) _ rest is in
+      let a = bind_ok (skip_string e bytes) _ rest is in
       let s = string_takes e bytes a.0 fits a.1 in
       let f = fixed_takes 12 e a.0 rest s.takes.rest_fits a.2 in
-      leaf_takes room (trees.db_pointer s.text_bytes f.front) (Takes-then s.takes f.takes) (s.fits, f.size, refl)
-  value_takes kinds.Binary q e bytes rest fits is = binary_takes room e bytes rest fits is
+      leaf_takes depth_left (trees.db_pointer s.text_bytes f.prefix) (Takes-then s.takes f.takes) (s.fits, f.size, refl)
+  value_takes kinds.Binary q e bytes rest fits is = binary_takes depth_left e bytes rest fits is
   value_takes kinds.Regex q e bytes rest fits is =
-      let a = bind_ok (past_name StringUnended e bytes) _ rest is in
-      let b = bind_ok (past_name StringUnended e a.0.1) _ rest a.2 in
+      let a = bind_ok (skip_name StringUnended e bytes) _ rest is in
+      let b = bind_ok (skip_name StringUnended e a.0.1) _ rest a.2 in
       let p = name_takes StringUnended e bytes a.0 fits a.1 in
       let o = name_takes StringUnended e a.0.1 b.0 p.0.rest_fits b.1 in
-      rw (← ok_is b.0.1 rest b.2) (leaf_takes room (trees.regex a.0.0 b.0.0) (Takes-then p.0 o.0) (p.1, o.1, append_assoc a.0.0 (0 ∷ []) (b.0.0 ++ 0 ∷ [])))
+      rw (← ok_is b.0.1 rest b.2) (leaf_takes depth_left (trees.regex a.0.0 b.0.0) (Takes-then p.0 o.0) (p.1, o.1, append_assoc a.0.0 (0 ∷ []) (b.0.0 ++ 0 ∷ [])))
   value_takes kinds.Doc q e bytes rest fits is =
       let d = below holders.Document q e bytes rest fits is in
       let low = d.shallow in
@@ -454,53 +454,53 @@ module _ (room : ℕ) (nested : Nested) (below : NestedTakes room nested) where
       let value = scoped d.text_bytes (framed d.body) in
       record { tree = code_scope d.text_bytes d.fields; value = value; spells = (d.body, d.spell, refl, d.text_fits); takes = d.takes; kinded = refl; shallow = omega arith }
 
-  typed_takes : (type : ElementType) (q e : ℕ) (bytes rest : List ℕ) → IsBytes bytes → past_typed nested type q e bytes ≡ Ok rest
-      → (kind : Kind) × (type ≡ types.Kept kind) × TakesValue room kind bytes rest
+  typed_takes : (type : ElementType) (q e : ℕ) (bytes rest : List ℕ) → IsBytes bytes → skip_typed nested type q e bytes ≡ Ok rest
+      → (kind : Kind) × (type ≡ types.Kept kind) × TakesValue depth_left kind bytes rest
   typed_takes types.Double q e bytes rest fits is = absurd cc
   typed_takes types.Decimal128 q e bytes rest fits is = absurd cc
   typed_takes (types.Kept kind) q e bytes rest fits is = (kind, refl, value_takes kind q e bytes rest fits is)
 
-  pub element_takes : (place : Option ℕ) (e : ℕ) (bytes rest : List ℕ) → IsBytes bytes → past_element nested place e bytes ≡ Ok rest → TakesElement room bytes rest
-  unfolding past_element
+  pub element_takes : (place : Option ℕ) (e : ℕ) (bytes rest : List ℕ) → IsBytes bytes → skip_element nested place e bytes ≡ Ok rest → TakesElement depth_left bytes rest
+  unfolding skip_element
   element_takes place e [] rest fits is = absurd cc
   element_takes place e (b ∷ bytes) rest fits is =
       let q = e - suc (length bytes) in
       let unknown : Fault = record { kind = UnknownType; offset = q; path = [] } in
       let f = bind_ok (ok_or (type_at b) unknown) _ rest is in
-      let x = bind_ok (past_name NameUnended e bytes) _ rest f.2 in
+      let x = bind_ok (skip_name NameUnended e bytes) _ rest f.2 in
       let name = x.0.0 in
       let n = name_takes NameUnended e bytes x.0 (IsBytes-drop 1 (b ∷ bytes) fits) x.1 in
-      let typed = typed_takes f.0 q e x.0.1 rest n.0.rest_fits (within_ok (label place name) (past_typed nested f.0 q e x.0.1) rest x.2) in
+      let typed = typed_takes f.0 q e x.0.1 rest n.0.rest_fits (within_ok (label place name) (skip_typed nested f.0 q e x.0.1) rest x.2) in
       let v = typed.2 in
-      let same : type_byte (kind_of v.tree) ≡ b = ap type_byte v.kinded ∙ ap byte_told (sym typed.1) ∙ sym (type_takes unknown b f.0 f.1) in
+      let same : type_byte (kind_of v.tree) ≡ b = ap type_byte v.kinded ∙ ap byte_stated (sym typed.1) ∙ sym (type_takes unknown b f.0 f.1) in
       let joined = Takes-then n.0 v.takes in
       let parts : b ∷ bytes ≡ element v.tree name v.value ++ rest = rw same (ap (λ (x : List ℕ). b ∷ x) (joined.parts ∙ ap (λ (x : List ℕ). x ++ rest) (append_assoc name (0 ∷ []) v.value))) in
       record { name = name; tree = v.tree; value = v.value; named = n.1; spells = v.spells; takes = record { parts = parts; rest_fits = v.takes.rest_fits }; shallow = v.shallow }
 
-  elements_take : (place : Option ℕ) (n e : ℕ) (bytes : List ℕ) → IsBytes bytes → length bytes ≤ n → past_elements nested place n e bytes ≡ Ok tt
-      → (fields : Fields) × AreFields fields bytes × (fields_depth fields ≤ room)
-  unfolding past_elements
+  elements_take : (place : Option ℕ) (n e : ℕ) (bytes : List ℕ) → IsBytes bytes → length bytes ≤ n → skip_elements nested place n e bytes ≡ Ok tt
+      → (fields : Fields) × AreFields fields bytes × (fields_depth fields ≤ depth_left)
+  unfolding skip_elements
   elements_take place n e [] fits le is = (no_fields, refl, omega arith)
   elements_take place zero e (b ∷ bytes) fits le is = absurd (omega arith)
   elements_take place (suc n) e (b ∷ bytes) fits le is =
-      let a = bind_ok (past_element nested place e (b ∷ bytes)) _ tt is in
+      let a = bind_ok (skip_element nested place e (b ∷ bytes)) _ tt is in
       let r = element_takes place e (b ∷ bytes) a.0 fits a.1 in
-      let less = element_shrinks room (b ∷ bytes) a.0 r in
+      let less = element_shrinks depth_left (b ∷ bytes) a.0 r in
       let rec = elements_take (option_map suc place) n e a.0 r.takes.rest_fits (omega (arith, less)) a.2 in
       (field r.name r.tree rec.0, (r.value, a.0, r.named, r.spells, rec.1, r.takes.parts), omega (arith, r.shallow, rec.2))
 
-  body_takes : (in_array : Bool) (e : ℕ) (bytes rest : List ℕ) → IsBytes bytes → past_body nested in_array e bytes ≡ Ok rest → TakesBody (suc room) bytes rest
+  body_takes : (in_array : Bool) (e : ℕ) (bytes rest : List ℕ) → IsBytes bytes → skip_body nested in_array e bytes ≡ Ok rest → TakesBody (suc depth_left) bytes rest
   body_takes in_array e bytes rest fits is =
-      let f = bind_ok (past_frame false e bytes) _ rest is in
-      let o = bind_ok (past_elements nested (cond in_array (Some 0) None) (length f.0.0) f.0.1 f.0.0) _ rest f.2 in
+      let f = bind_ok (skip_frame false e bytes) _ rest is in
+      let o = bind_ok (skip_elements nested (cond in_array (Some 0) None) (length f.0.0) f.0.1 f.0.0) _ rest f.2 in
       let r = frame_takes false e bytes f.0 fits f.1 in
       let all = elements_take (cond in_array (Some 0) None) (length f.0.0) f.0.1 f.0.0 r.body_fits (omega arith) o.1 in
       rw (← ok_is f.0.2 rest o.2) (record { fields = all.0; body = f.0.0; spell = all.1; takes = r.takes; shallow = omega (arith, all.2) })
 
-  code_takes : (q e : ℕ) (bytes rest : List ℕ) → IsBytes bytes → past_code_scope nested q e bytes ≡ Ok rest → TakesCode (suc room) bytes rest
+  code_takes : (q e : ℕ) (bytes rest : List ℕ) → IsBytes bytes → skip_code_scope nested q e bytes ≡ Ok rest → TakesCode (suc depth_left) bytes rest
   code_takes q e bytes rest fits is =
-      let f = bind_ok (past_code_frame e bytes) _ rest is in
-      let s = bind_ok (past_string f.0.1 f.0.0) _ rest f.2 in
+      let f = bind_ok (skip_code_frame e bytes) _ rest is in
+      let s = bind_ok (skip_string f.0.1 f.0.0) _ rest f.2 in
       let d = bind_ok (within (codes "$scope") (nested holders.Document q f.0.1 s.0)) _ rest s.2 in
       let z = guard_ok (ltb 0 (length d.0)) _ (done f.0.2) rest d.2 in
       let frame = code_frame_takes e bytes f.0 fits f.1 in
@@ -520,28 +520,28 @@ module _ (room : ℕ) (nested : Nested) (below : NestedTakes room nested) where
         shallow = omega arith;
       })
 
-pub nested_takes : (room : ℕ) → NestedTakes room (past_nested room)
-unfolding past_nested
+pub nested_takes : (depth_left : ℕ) → NestedTakes depth_left (skip_nested depth_left)
+unfolding skip_nested
 nested_takes zero holder q e bytes rest fits is = absurd cc
-nested_takes (suc room) holders.Document q e bytes rest fits is = body_takes room (past_nested room) (nested_takes room) false e bytes rest fits is
-nested_takes (suc room) holders.Array q e bytes rest fits is = body_takes room (past_nested room) (nested_takes room) true e bytes rest fits is
+nested_takes (suc depth_left) holders.Document q e bytes rest fits is = body_takes depth_left (skip_nested depth_left) (nested_takes depth_left) false e bytes rest fits is
+nested_takes (suc depth_left) holders.Array q e bytes rest fits is = body_takes depth_left (skip_nested depth_left) (nested_takes depth_left) true e bytes rest fits is
 nested_takes (suc zero) holders.CodeScope q e bytes rest fits is = absurd cc
-nested_takes (suc (suc room)) holders.CodeScope q e bytes rest fits is = code_takes (suc room) (past_nested (suc room)) (nested_takes (suc room)) q e bytes rest fits is
+nested_takes (suc (suc depth_left)) holders.CodeScope q e bytes rest fits is = code_takes (suc depth_left) (skip_nested (suc depth_left)) (nested_takes (suc depth_left)) q e bytes rest fits is
 
 -- the document that the bytes spell
-pub document_found : (e : ℕ) (bytes : List ℕ) → IsBytes bytes → past_document e bytes ≡ Ok tt → (d : Doc) × IsDocument d bytes
-unfolding past_document
+pub document_found : (e : ℕ) (bytes : List ℕ) → IsBytes bytes → skip_document e bytes ≡ Ok tt → (d : Doc) × IsDocument d bytes
+unfolding skip_document
 document_found e bytes fits is =
-    let f = bind_ok (past_frame true e bytes) _ tt is in
+    let f = bind_ok (skip_frame true e bytes) _ tt is in
     let r = frame_takes true e bytes f.0 fits f.1 in
     let levels = most_levels - 1 in
-    let all = elements_take levels (past_nested levels) (nested_takes levels) None (length f.0.0) f.0.1 f.0.0 r.body_fits (omega arith) f.2 in
+    let all = elements_take levels (skip_nested levels) (nested_takes levels) None (length f.0.0) f.0.1 f.0.0 r.body_fits (omega arith) f.2 in
     let whole : bytes ≡ framed f.0.0 = r.takes.parts ∙ ap (λ (x : List ℕ). framed f.0.0 ++ x) (r.whole refl) ∙ append-nil (framed f.0.0) in
     let same = fields_of-pairs_of all.0 in
     let spells : IsValue (doc (fields_of (pairs_of all.0))) bytes = (f.0.0, rw same all.1, whole) in
     (pairs_of all.0, record { spells = spells; short = omega (arith, ap length whole, r.short); shallow = omega (arith, all.2, ap fields_depth same) })
 
-number_again : (short : FaultKind) (e n : ℕ) (rest : List ℕ) → n < 2 ^ 32 → past_number short e (number n ++ rest) ≡ Ok (n, rest)
+number_again : (short : FaultKind) (e n : ℕ) (rest : List ℕ) → n < 2 ^ 32 → skip_number short e (number n ++ rest) ≡ Ok (n, rest)
 number_again short e n rest lt =
     let len = number_length n in
     let long : ltb (length (number n ++ rest)) 4 ≡ false = le-ltb _ _ (omega (arith, length-append (number n) rest)) in
@@ -552,19 +552,19 @@ name_place name rest h =
     let long : ltb (length name) (length (name ++ 0 ∷ rest)) ≡ true = grind (arith, nat_tests, length-append name (0 ∷ rest)) in
     rw (zero_place name rest h, long) refl
 
-name_again : (kind : FaultKind) (e : ℕ) (name rest : List ℕ) → IsName name → past_name kind e (name ++ 0 ∷ rest) ≡ Ok (name, rest)
-unfolding past_name
+name_again : (kind : FaultKind) (e : ℕ) (name rest : List ℕ) → IsName name → skip_name kind e (name ++ 0 ∷ rest) ≡ Ok (name, rest)
+unfolding skip_name
 name_again kind e name rest h =
     let after : drop (length name + 1) (name ++ 0 ∷ rest) ≡ rest = sym (drop-drop 1 (length name) (name ++ 0 ∷ rest)) ∙ ap (drop 1) (drop_at name (0 ∷ rest) (length name) refl) in
     rw (name_place name rest h.1, take_at name (0 ∷ rest) (length name) refl, after, is_utf8-from_IsUtf8 name h.0) refl
 
-string_again : (e : ℕ) (s rest : List ℕ) → IsText s → past_string e (string s ++ rest) ≡ Ok rest
-unfolding past_string
+string_again : (e : ℕ) (s rest : List ℕ) → IsText s → skip_string e (string s ++ rest) ≡ Ok rest
+unfolding skip_string
 string_again e s rest h =
     let k : (length s + 1) - 1 ≡ length s = omega arith in
     let more = s ++ 0 ∷ rest in
     let tests = or_from (eqb (length s + 1) 0) (ltb (length more) (length s + 1)) (ne_eqb _ _ (λ z. omega arith)) (le-ltb _ _ (omega (arith, length-append s (0 ∷ rest)))) in
-    ap (past_string e) (string_after s rest)
+    ap (skip_string e) (string_after s rest)
     ∙ rw (number_again ValueShort e (length s + 1) more h.1, tests, k, drop_at s (0 ∷ rest) (length s) refl, take_at s (0 ∷ rest) (length s) refl, is_utf8-from_IsUtf8 s h.0) refl
 
 frame_tests : (top : Bool) (n m : ℕ) → 5 ≤ n → n ≤ longest_document → n ≤ m → (top ≡ true → n ≡ m) → (ltb n 5 || ltb longest_document n || ltb m n || (top && not (eqb n m))) ≡ false
@@ -572,8 +572,8 @@ frame_tests true n m low high le all = let same = all refl in grind (arith, nat_
 frame_tests false n m low high le all = grind (arith, nat_tests)
 
 frame_again : (top : Bool) (e : ℕ) (body rest : List ℕ) → length (framed body) ≤ longest_document → (top ≡ true → rest ≡ [])
-    → past_frame top e (framed body ++ rest) ≡ Ok (body, e - length (0 ∷ rest), rest)
-unfolding past_frame
+    → skip_frame top e (framed body ++ rest) ≡ Ok (body, e - length (0 ∷ rest), rest)
+unfolding skip_frame
 frame_again top e body rest short all =
     let n = length body + 5 in
     let more = body ++ 0 ∷ rest in
@@ -581,68 +581,68 @@ frame_again top e body rest short all =
     let total = framed_length body in
     let size : length (number n ++ more) ≡ length body + 5 + length rest = omega (arith, ap length (framed_after body rest), length-append (framed body) rest, total) in
     let tests = frame_tests top n (length (number n ++ more)) (omega arith) (omega (arith, total, short)) (omega (arith, size)) (λ is. omega (arith, size, ap length (all is))) in
-    ap (past_frame top e) (framed_after body rest)
+    ap (skip_frame top e) (framed_after body rest)
     ∙ rw (number_again (cond top ShortLength ValueShort) e n more (omega (arith, total, short)), tests, k, drop_at body (0 ∷ rest) (length body) refl, take_at body (0 ∷ rest) (length body) refl) refl
 
-element_again : (nested : Nested) (place : Option ℕ) (e : ℕ) (t : Tree) (name value rest : List ℕ) → IsName name → ((q : ℕ) → past_value nested (kind_of t) q e (value ++ rest) ≡ Ok rest)
-    → past_element nested place e (element t name value ++ rest) ≡ Ok rest
-unfolding past_element
+element_again : (nested : Nested) (place : Option ℕ) (e : ℕ) (t : Tree) (name value rest : List ℕ) → IsName name → ((q : ℕ) → skip_value nested (kind_of t) q e (value ++ rest) ≡ Ok rest)
+    → skip_element nested place e (element t name value ++ rest) ≡ Ok rest
+unfolding skip_element
 element_again nested place e t name value rest named h =
     let whole : (name ++ 0 ∷ value) ++ rest ≡ name ++ 0 ∷ (value ++ rest) = append_assoc name (0 ∷ value) rest in
     let q = e - suc (length (name ++ 0 ∷ (value ++ rest))) in
-    ap (λ (x : List ℕ). past_element nested place e (type_byte (kind_of t) ∷ x)) whole ∙ rw (type_is (kind_of t), name_again NameUnended e name (value ++ rest) named, h q) refl
+    ap (λ (x : List ℕ). skip_element nested place e (type_byte (kind_of t) ∷ x)) whole ∙ rw (type_is (kind_of t), name_again NameUnended e name (value ++ rest) named, h q) refl
 
 -- one element more
 next_again : (nested : Nested) (place : Option ℕ) (n e : ℕ) (t : Tree) (name value rest bytes : List ℕ) → IsName name → bytes ≡ element t name value ++ rest → length bytes ≤ n
-    → ((q : ℕ) → past_value nested (kind_of t) q e (value ++ rest) ≡ Ok rest) → ((m : ℕ) → length rest ≤ m → past_elements nested (option_map suc place) m e rest ≡ Ok tt)
-    → past_elements nested place n e bytes ≡ Ok tt
-unfolding past_elements
+    → ((q : ℕ) → skip_value nested (kind_of t) q e (value ++ rest) ≡ Ok rest) → ((m : ℕ) → length rest ≤ m → skip_elements nested (option_map suc place) m e rest ≡ Ok tt)
+    → skip_elements nested place n e bytes ≡ Ok tt
+unfolding skip_elements
 next_again nested place zero e t name value rest bytes named is turns first others = absurd (omega (arith, ap length is))
 next_again nested place (suc n) e t name value rest bytes named is turns first others =
     rw (is, element_again nested place e t name value rest named first) (others n (omega (arith, ap length is, length-append (element t name value) rest)))
 
 -- no elements have no fault
-pub elements_nil : (nested : Nested) (place : Option ℕ) (n e : ℕ) → past_elements nested place n e [] ≡ Ok tt
-unfolding past_elements
+pub elements_nil : (nested : Nested) (place : Option ℕ) (n e : ℕ) → skip_elements nested place n e [] ≡ Ok tt
+unfolding skip_elements
 elements_nil nested place zero e = refl
 elements_nil nested place (suc n) e = refl
 
 body_again : (nested : Nested) (in_array : Bool) (e : ℕ) (body rest : List ℕ) → length (framed body) ≤ longest_document
-    → ((e : ℕ) → past_elements nested (cond in_array (Some 0) None) (length body) e body ≡ Ok tt)
-    → past_body nested in_array e (framed body ++ rest) ≡ Ok rest
+    → ((e : ℕ) → skip_elements nested (cond in_array (Some 0) None) (length body) e body ≡ Ok tt)
+    → skip_body nested in_array e (framed body ++ rest) ≡ Ok rest
 body_again nested in_array e body rest short h = rw (frame_again false e body rest short (λ is. absurd cc), h (e - length (0 ∷ rest))) refl
 
 -- ---- scalars
 
-fixed_again : (n e : ℕ) (front rest : List ℕ) → length front ≡ n → past_fixed n e (front ++ rest) ≡ Ok rest
-fixed_again n e front rest len =
-    let long : ltb (length (front ++ rest)) n ≡ false = le-ltb _ _ (omega (arith, length-append front rest)) in
-    rw (long, drop_at front rest n len) refl
+fixed_again : (n e : ℕ) (prefix rest : List ℕ) → length prefix ≡ n → skip_fixed n e (prefix ++ rest) ≡ Ok rest
+fixed_again n e prefix rest len =
+    let long : ltb (length (prefix ++ rest)) n ≡ false = le-ltb _ _ (omega (arith, length-append prefix rest)) in
+    rw (long, drop_at prefix rest n len) refl
 
-pointer_again : (e : ℕ) (s id rest : List ℕ) → IsText s → length id ≡ 12 → (past_string e ((string s ++ id) ++ rest) >>= λ more. past_fixed 12 e more) ≡ Ok rest
+pointer_again : (e : ℕ) (s id rest : List ℕ) → IsText s → length id ≡ 12 → (skip_string e ((string s ++ id) ++ rest) >>= λ more. skip_fixed 12 e more) ≡ Ok rest
 pointer_again e s id rest h len =
-    ap (λ (x : List ℕ). past_string e x >>= λ more. past_fixed 12 e more) (append_assoc (string s) id rest) ∙ rw (string_again e s (id ++ rest) h) (fixed_again 12 e id rest len)
+    ap (λ (x : List ℕ). skip_string e x >>= λ more. skip_fixed 12 e more) (append_assoc (string s) id rest) ∙ rw (string_again e s (id ++ rest) h) (fixed_again 12 e id rest len)
 
-regex_again : (e : ℕ) (p o rest : List ℕ) → IsName p → IsName o → past_regex e ((p ++ 0 ∷ (o ++ 0 ∷ [])) ++ rest) ≡ Ok rest
+regex_again : (e : ℕ) (p o rest : List ℕ) → IsName p → IsName o → skip_regex e ((p ++ 0 ∷ (o ++ 0 ∷ [])) ++ rest) ≡ Ok rest
 regex_again e p o rest hp ho =
-    ap (past_regex e) (regex_whole p o rest) ∙ rw (name_again StringUnended e p (o ++ 0 ∷ rest) hp, name_again StringUnended e o rest ho) refl
+    ap (skip_regex e) (regex_whole p o rest) ∙ rw (name_again StringUnended e p (o ++ 0 ∷ rest) hp, name_again StringUnended e o rest ho) refl
 
-data_again : (at k : ℕ) (s rest : List ℕ) → length (data_of k s) < 2 ^ 31 → past_data at k (length (data_of k s)) (data_of k s ++ rest) ≡ Ok rest
+data_again : (at k : ℕ) (s rest : List ℕ) → length (data_of k s) < 2 ^ 31 → skip_data at k (length (data_of k s)) (data_of k s ++ rest) ≡ Ok rest
 data_again at k s rest lt = of (k == 2) refl
   where
-    of : (two : Bool) → (k == 2) ≡ two → past_data at k (length (data_of k s)) (data_of k s ++ rest) ≡ Ok rest
+    of : (two : Bool) → (k == 2) ≡ two → skip_data at k (length (data_of k s)) (data_of k s ++ rest) ≡ Ok rest
     of true is =
-        let held = number (length s) ++ s in
+        let code_bytes = number (length s) ++ s in
         let size : length (number (length s) ++ s) ≡ 4 + length s = omega (arith, length-append (number (length s)) s, number_length (length s)) in
         let few : length (number (length s) ++ s) < 2 ^ 31 = rw is at lt in
         let long : ltb (length (number (length s) ++ s)) 4 ≡ false = le-ltb _ _ (omega (arith, size)) in
-        let inner : number_of (held ++ rest) ≡ length held - 4 =
-        ap number_of (append_assoc (number (length s)) s rest) ∙ number_front (length s) (s ++ rest) (omega (arith, size, few)) ∙ omega (arith, size) in
-        rw (is, long, eq-eqb (number_of (held ++ rest)) (length held - 4) inner, drop_at held rest (length held) refl) refl
+        let inner : number_of (code_bytes ++ rest) ≡ length code_bytes - 4 =
+        ap number_of (append_assoc (number (length s)) s rest) ∙ number_prefix (length s) (s ++ rest) (omega (arith, size, few)) ∙ omega (arith, size) in
+        rw (is, long, eq-eqb (number_of (code_bytes ++ rest)) (length code_bytes - 4) inner, drop_at code_bytes rest (length code_bytes) refl) refl
     of false is = rw (is, drop_at s rest (length s) refl) refl
 
-binary_again : (e k : ℕ) (s rest : List ℕ) → length (data_of k s) < 2 ^ 31 → past_binary e ((number (length (data_of k s)) ++ k ∷ data_of k s) ++ rest) ≡ Ok rest
-unfolding past_binary
+binary_again : (e k : ℕ) (s rest : List ℕ) → length (data_of k s) < 2 ^ 31 → skip_binary e ((number (length (data_of k s)) ++ k ∷ data_of k s) ++ rest) ≡ Ok rest
+unfolding skip_binary
 binary_again e k s rest lt =
     let v = (number (length (data_of k s)) ++ k ∷ data_of k s) ++ rest in
     let n = binary_count k (data_of k s) rest lt in
@@ -654,7 +654,7 @@ binary_again e k s rest lt =
     let after : drop 5 v ≡ data_of k s ++ rest = ap (drop 5) (binary_whole k (data_of k s) rest) ∙ after_five (length (data_of k s)) k (data_of k s ++ rest) in
     rw (long, tests, binary_subtype k (data_of k s) rest, n, after) (data_again (e - length v) k s rest lt)
 
-scalar_again : (nested : Nested) (s : Scalar) (q e : ℕ) (value rest : List ℕ) → IsScalar s value → past_value nested (scalar_kind s) q e (value ++ rest) ≡ Ok rest
+scalar_again : (nested : Nested) (s : Scalar) (q e : ℕ) (value rest : List ℕ) → IsScalar s value → skip_value nested (scalar_kind s) q e (value ++ rest) ≡ Ok rest
 scalar_again nested (trees.int32 z) q e value rest h = fixed_again 4 e value rest (sym (scalar_size (trees.int32 z) value rest h))
 scalar_again nested (trees.int64 z) q e value rest h = fixed_again 8 e value rest (sym (scalar_size (trees.int64 z) value rest h))
 scalar_again nested (trees.date z) q e value rest h = fixed_again 8 e value rest (sym (scalar_size (trees.date z) value rest h))
@@ -673,45 +673,45 @@ scalar_again nested _ q e value rest h = rw h refl
 -- ---- code with scope
 
 code_frame_again : (e : ℕ) (parts rest : List ℕ) → 10 ≤ length parts → length parts ≤ longest_document
-    → past_code_frame e ((number (length parts + 4) ++ parts) ++ rest) ≡ Ok (parts, e - length rest, rest)
-unfolding past_code_frame
+    → skip_code_frame e ((number (length parts + 4) ++ parts) ++ rest) ≡ Ok (parts, e - length rest, rest)
+unfolding skip_code_frame
 code_frame_again e parts rest least short =
     let n = length parts + 4 in
     let whole = append_assoc (number n) parts rest in
     let k : (length parts + 4) - 4 ≡ length parts = omega arith in
     let size : length (number n ++ (parts ++ rest)) ≡ length parts + 4 + length rest = omega (arith, length-append (number n) (parts ++ rest), number_length n, length-append parts rest) in
     let tests = or_from (ltb n 14) (ltb (length (number n ++ (parts ++ rest))) n) (le-ltb _ _ (omega arith)) (le-ltb _ _ (omega (arith, size))) in
-    ap (past_code_frame e) whole ∙ rw (number_again ValueShort e n (parts ++ rest) (omega arith), tests, k, drop_at parts rest (length parts) refl, take_at parts rest (length parts) refl) refl
+    ap (skip_code_frame e) whole ∙ rw (number_again ValueShort e n (parts ++ rest) (omega arith), tests, k, drop_at parts rest (length parts) refl, take_at parts rest (length parts) refl) refl
 
-code_nested : (r q e : ℕ) (s body rest : List ℕ) → IsText s → length (string s ++ framed body) ≤ longest_document → ((e : ℕ) → past_elements (past_nested r) None (length body) e body ≡ Ok tt)
-    → past_nested (suc (suc r)) holders.CodeScope q e (scoped s (framed body) ++ rest) ≡ Ok rest
-unfolding past_nested
+code_nested : (r q e : ℕ) (s body rest : List ℕ) → IsText s → length (string s ++ framed body) ≤ longest_document → ((e : ℕ) → skip_elements (skip_nested r) None (length body) e body ≡ Ok tt)
+    → skip_nested (suc (suc r)) holders.CodeScope q e (scoped s (framed body) ++ rest) ≡ Ok rest
+unfolding skip_nested
 code_nested r q e s body rest h short inside =
     let size = length-append (string s) (framed body) in
     let f = code_frame_again e (string s ++ framed body) rest (omega (arith, size, framed_length body, string_length s)) short in
-    let scope : past_nested (suc r) holders.Document q (e - length rest) (framed body) ≡ Ok [] =
-    ap (past_body (past_nested r) false (e - length rest)) (sym (append-nil (framed body))) ∙ body_again (past_nested r) false (e - length rest) body [] (omega (arith, size, short)) inside in
+    let scope : skip_nested (suc r) holders.Document q (e - length rest) (framed body) ≡ Ok [] =
+    ap (skip_body (skip_nested r) false (e - length rest)) (sym (append-nil (framed body))) ∙ body_again (skip_nested r) false (e - length rest) body [] (omega (arith, size, short)) inside in
     rw (f, string_again (e - length rest) s (framed body) h, scope) refl
 
 parts_length : (t : Tree) (name value rest bytes : List ℕ) → bytes ≡ element t name value ++ rest → length bytes ≡ 2 + length name + length value + length rest
 parts_length t name value rest bytes is = ap length is ∙ omega (arith, length-append (element t name value) rest, length-append name (0 ∷ value))
 
 mutual
-  unfolding past_nested
+  unfolding skip_nested
 
-  value_again : (t : Tree) (room q e : ℕ) (value rest : List ℕ) → IsValue t value → depth t ≤ room → length value ≤ longest_document
-      → past_value (past_nested room) (kind_of t) q e (value ++ rest) ≡ Ok rest
-  value_again (leaf s) room q e value rest h deep short = scalar_again (past_nested room) s q e value rest h
+  value_again : (t : Tree) (depth_left q e : ℕ) (value rest : List ℕ) → IsValue t value → depth t ≤ depth_left → length value ≤ longest_document
+      → skip_value (skip_nested depth_left) (kind_of t) q e (value ++ rest) ≡ Ok rest
+  value_again (leaf s) depth_left q e value rest h deep short = scalar_again (skip_nested depth_left) s q e value rest h
   value_again (doc fs) zero q e value rest h deep short = absurd (omega arith)
   value_again (doc fs) (suc r) q e value rest h deep short =
       let size : length (framed h.0) ≤ longest_document = omega (arith, short, ap length h.2) in
       let less : length h.0 ≤ longest_document = omega (arith, size, framed_length h.0) in
-      rw h.2 (body_again (past_nested r) false e h.0 rest size (λ end. fields_again fs None r (length h.0) end h.0 h.1 (omega arith) less (omega arith)))
+      rw h.2 (body_again (skip_nested r) false e h.0 rest size (λ end. fields_again fs None r (length h.0) end h.0 h.1 (omega arith) less (omega arith)))
   value_again (array ts) zero q e value rest h deep short = absurd (omega arith)
   value_again (array ts) (suc r) q e value rest h deep short =
       let size : length (framed h.0) ≤ longest_document = omega (arith, short, ap length h.2) in
       let less : length h.0 ≤ longest_document = omega (arith, size, framed_length h.0) in
-      rw h.2 (body_again (past_nested r) true e h.0 rest size (λ end. items_again ts (Some 0) r (length h.0) end h.0 h.1 (omega arith) less (omega arith)))
+      rw h.2 (body_again (skip_nested r) true e h.0 rest size (λ end. items_again ts (Some 0) r (length h.0) end h.0 h.1 (omega arith) less (omega arith)))
   value_again (code_scope s fs) zero q e value rest h deep short = absurd (omega arith)
   value_again (code_scope s fs) (suc zero) q e value rest h deep short = absurd (omega arith)
   value_again (code_scope s fs) (suc (suc r)) q e value rest h deep short =
@@ -719,25 +719,25 @@ mutual
       let less : length h.0 ≤ longest_document = omega (arith, parts, framed_length h.0, length-append (string s) (framed h.0)) in
       rw h.2 (code_nested r q e s h.0 rest h.3 parts (λ end. fields_again fs None r (length h.0) end h.0 h.1 (omega arith) less (omega arith)))
 
-  fields_again : (fs : Fields) (place : Option ℕ) (room n e : ℕ) (bytes : List ℕ) → AreFields fs bytes → fields_depth fs ≤ room
-      → length bytes ≤ longest_document → length bytes ≤ n → past_elements (past_nested room) place n e bytes ≡ Ok tt
-  fields_again no_fields place room n e bytes h deep short turns = rw h (elements_nil (past_nested room) place n e)
-  fields_again (field name t fs) place room n e bytes h deep short turns =
+  fields_again : (fs : Fields) (place : Option ℕ) (depth_left n e : ℕ) (bytes : List ℕ) → AreFields fs bytes → fields_depth fs ≤ depth_left
+      → length bytes ≤ longest_document → length bytes ≤ n → skip_elements (skip_nested depth_left) place n e bytes ≡ Ok tt
+  fields_again no_fields place depth_left n e bytes h deep short turns = rw h (elements_nil (skip_nested depth_left) place n e)
+  fields_again (field name t fs) place depth_left n e bytes h deep short turns =
       let size = parts_length t name h.0 h.1 bytes h.5 in
-      next_again (past_nested room) place n e t name h.0 h.1 bytes h.2 h.5 turns (λ q. value_again t room q e h.0 h.1 h.3 (omega arith) (omega (arith, size)))
-      (λ m le. fields_again fs (option_map suc place) room m e h.1 h.4 (omega arith) (omega (arith, size)) le)
+      next_again (skip_nested depth_left) place n e t name h.0 h.1 bytes h.2 h.5 turns (λ q. value_again t depth_left q e h.0 h.1 h.3 (omega arith) (omega (arith, size)))
+      (λ m le. fields_again fs (option_map suc place) depth_left m e h.1 h.4 (omega arith) (omega (arith, size)) le)
 
-  items_again : (ts : Items) (place : Option ℕ) (room n e : ℕ) (bytes : List ℕ) → AreItems ts bytes → items_depth ts ≤ room
-      → length bytes ≤ longest_document → length bytes ≤ n → past_elements (past_nested room) place n e bytes ≡ Ok tt
-  items_again no_items place room n e bytes h deep short turns = rw h (elements_nil (past_nested room) place n e)
-  items_again (item t ts) place room n e bytes h deep short turns =
+  items_again : (ts : Items) (place : Option ℕ) (depth_left n e : ℕ) (bytes : List ℕ) → AreItems ts bytes → items_depth ts ≤ depth_left
+      → length bytes ≤ longest_document → length bytes ≤ n → skip_elements (skip_nested depth_left) place n e bytes ≡ Ok tt
+  items_again no_items place depth_left n e bytes h deep short turns = rw h (elements_nil (skip_nested depth_left) place n e)
+  items_again (item t ts) place depth_left n e bytes h deep short turns =
       let size = parts_length t h.0 h.1 h.2 bytes h.6 in
-      next_again (past_nested room) place n e t h.0 h.1 h.2 bytes h.3 h.6 turns (λ q. value_again t room q e h.1 h.2 h.4 (omega arith) (omega (arith, size)))
-      (λ m le. items_again ts (option_map suc place) room m e h.2 h.5 (omega arith) (omega (arith, size)) le)
+      next_again (skip_nested depth_left) place n e t h.0 h.1 h.2 bytes h.3 h.6 turns (λ q. value_again t depth_left q e h.1 h.2 h.4 (omega arith) (omega (arith, size)))
+      (λ m le. items_again ts (option_map suc place) depth_left m e h.2 h.5 (omega arith) (omega (arith, size)) le)
 
 -- a document's bytes have no fault
-pub document_again : (e : ℕ) (bytes : List ℕ) (d : Doc) → IsDocument d bytes → past_document e bytes ≡ Ok tt
-unfolding past_document
+pub document_again : (e : ℕ) (bytes : List ℕ) (d : Doc) → IsDocument d bytes → skip_document e bytes ≡ Ok tt
+unfolding skip_document
 document_again e bytes d h =
     let s = h.spells in
     let size : length (framed s.0) ≤ longest_document = let m = h.short in omega (arith, ap length s.2) in

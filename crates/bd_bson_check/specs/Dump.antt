@@ -3,21 +3,21 @@ use Rattle.std.specs.Prelude.{◌≡◌, ◌≤◌, ◌+◌, ◌||◌, ℕ, List
 use Rattle.std.specs.Prelude.{Option, Some, None, Result, Ok, Err}
 use Rattle.std.specs.Int.{w32, from_le_bytes}
 use Rattle.bd_value.specs.{Limits.longest_document, Limits.longest_input, Tree.Doc, Tree.pairs_in}
-use Rattle.bd_bson_view.specs.{Spelling.IsDocument, Sound.stands, declared.raw.RawDoc.RawDoc}
+use Rattle.bd_bson_view.specs.{Spelling.IsDocument, Sound.meaning, declared.raw.RawDoc.RawDoc}
 use Rattle.bd_bson_check.specs.{Fault.Fault, FirstFault.first_fault, declared.fault.FaultKind.FaultKind}
 
 -- the length that a document says it has: its first four bytes as a number, least first; below 2^32
-abbrev pub length_told : List ℕ → ℕ
-length_told bytes = from_le_bytes w32 (take 4 bytes)
+abbrev pub stated_length : List ℕ → ℕ
+stated_length bytes = from_le_bytes w32 (take 4 bytes)
 
 -- the length of the document at the start, None at the end of the bytes; or the fault:
 -- fewer than four bytes, or a length that is below 5, above 16,793,600 or past the end
 abbrev pub frame_length : List ℕ → Result (Option ℕ) FaultKind
 frame_length [] = Ok None
 frame_length (b ∷ bytes) = if nat_lt (length (b ∷ bytes)) 4 then Err FaultKind.ShortLength
-    else (if nat_lt (length_told (b ∷ bytes)) 5 || nat_lt longest_document (length_told (b ∷ bytes))
-    || nat_lt (length (b ∷ bytes)) (length_told (b ∷ bytes)) then Err FaultKind.BadLength
-    else Ok (Some (length_told (b ∷ bytes))))
+    else (if nat_lt (stated_length (b ∷ bytes)) 5 || nat_lt longest_document (stated_length (b ∷ bytes))
+    || nat_lt (length (b ∷ bytes)) (stated_length (b ∷ bytes)) then Err FaultKind.BadLength
+    else Ok (Some (stated_length (b ∷ bytes))))
 
 -- the fault of the document at the start, whose length was read or is at fault
 abbrev pub framed_fault : ℕ → List ℕ → Result (Option ℕ) FaultKind → Option Fault
@@ -33,14 +33,14 @@ frame_fault base bytes = framed_fault base bytes (frame_length bytes)
 -- The document at this offset, as a view, and the offset after it; None at the end of the bytes.
 abbrev pub IsNext : List ℕ → ℕ → Option (RawDoc × ℕ) → Type 0
 IsNext bytes at None = drop at bytes ≡ []
-IsNext bytes at (Some p) = (front : List ℕ) × IsDocument (pairs_in (stands p.0.sound)) front
-    × (drop at bytes ≡ front ++ drop p.1 bytes) × (at + length front ≡ p.1) × (p.1 ≤ length bytes)
+IsNext bytes at (Some p) = (prefix : List ℕ) × IsDocument (pairs_in (meaning p.0.sound)) prefix
+    × (drop at bytes ≡ prefix ++ drop p.1 bytes) × (at + length prefix ≡ p.1) × (p.1 ≤ length bytes)
 
 -- The bytes are these documents, one after the other with nothing between.
 abbrev pub AreJoined : List Doc → List ℕ → Type 0
 AreJoined [] bytes = bytes ≡ []
 AreJoined (d ∷ ds) bytes =
-    (front : List ℕ) × (rest : List ℕ) × IsDocument d front × AreJoined ds rest × (bytes ≡ front ++ rest)
+    (prefix : List ℕ) × (rest : List ℕ) × IsDocument d prefix × AreJoined ds rest × (bytes ≡ prefix ++ rest)
 
 -- The bytes are a dump of these documents: at most 4,294,967,295 bytes, with nothing between them.
 abbrev pub IsDump : List Doc → List ℕ → Type 0
@@ -48,11 +48,11 @@ IsDump ds bytes = AreJoined ds bytes × (length bytes ≤ longest_input)
 
 -- The bytes begin with these documents, and the document after them has this fault.
 abbrev pub FailsAfter : List Doc → Fault → List ℕ → Type 0
-FailsAfter ds f bytes = (front : List ℕ) × (rest : List ℕ) × AreJoined ds front × (bytes ≡ front ++ rest)
-    × (frame_fault (length front) rest ≡ Some f)
+FailsAfter ds f bytes = (prefix : List ℕ) × (rest : List ℕ) × AreJoined ds prefix × (bytes ≡ prefix ++ rest)
+    × (frame_fault (length prefix) rest ≡ Some f)
 
 -- The bytes are these documents, or, if there is a fault, they begin with these,
 -- and the document after them has it.
-abbrev pub IsWalk : List Doc → Option Fault → List ℕ → Type 0
-IsWalk ds None bytes = AreJoined ds bytes
-IsWalk ds (Some f) bytes = FailsAfter ds f bytes
+abbrev pub IsDumpScan : List Doc → Option Fault → List ℕ → Type 0
+IsDumpScan ds None bytes = AreJoined ds bytes
+IsDumpScan ds (Some f) bytes = FailsAfter ds f bytes

@@ -1,7 +1,7 @@
 -- A fault: which check failed first, at which byte, and the names from the top to the item.
 use Rattle.std.specs.Prelude.{◌≡◌, ◌⊎◌, ℕ, List, [], ◌∷◌, map, reverse, Option, Some, None, Result, Ok, Err}
 use Rattle.std.specs.Prelude.{string_bytes, codes, MatchResult}
-use Rattle.bd_bson_check.specs.declared.fault.{Fault.Fault as HeldFault, Finding.Finding, FaultKind.FaultKind, Stop.Stop}
+use Rattle.bd_bson_check.specs.declared.fault.{Fault.Fault as FaultInMemory, Finding.Finding, FaultKind.FaultKind, Stop.Stop}
 
 -- The first check of BSON that fails: its kind, its byte offset from the start of the dump, and the path of
 -- names, array indexes and `$scope` from the top to the item; empty for a fault of the document itself.
@@ -19,9 +19,9 @@ abbrev pub found_fault : Finding → Fault
 found_fault f = record { kind = f.kind; offset = f.offset; path = reverse (map string_bytes f.path.items) }
 
 -- A reader stopped at this fault, or memory ran out.
-abbrev pub TellsStop : Stop → Fault → Type 0
-TellsStop Stop.NoMemory f = Unit {0}
-TellsStop (Stop.Found g) f = f ≡ found_fault g
+abbrev pub ReportsStop : Stop → Fault → Type 0
+ReportsStop Stop.NoMemory f = Unit {0}
+ReportsStop (Stop.Found g) f = f ≡ found_fault g
 
 -- A reader stopped at the fault that the item has, or memory ran out.
 abbrev pub FailsAtItem : {Y : Type 0} → Stop → Result Y Fault → Type 0
@@ -34,35 +34,35 @@ abbrev pub GivesItem : {X Y : Type 0} → (X → Y) → Result X Stop → Result
 GivesItem view answer given = MatchResult answer (λ x. given ≡ Ok (view x)) (λ e. FailsAtItem e given)
 
 -- the fault that one in memory reports, without the number of its document
-abbrev pub fault_view : HeldFault → Fault
+abbrev pub fault_view : FaultInMemory → Fault
 fault_view e = record { kind = e.kind; offset = e.offset; path = map string_bytes e.path.items }
 
 -- The fault in memory is this one, of the document with that number.
-pub record IsFault (number : ℕ) (f : Fault) (e : HeldFault) : Type 0 where
+pub record IsFault (number : ℕ) (f : Fault) (e : FaultInMemory) : Type 0 where
   pub same : f ≡ fault_view e
   pub document : e.document ≡ number
 
 -- The fault in memory has this kind, and document 0, offset 0 and the empty path.
-pub record HasNoPlace (fault : FaultKind) (e : HeldFault) : Type 0 where
+pub record HasNoPlace (fault : FaultKind) (e : FaultInMemory) : Type 0 where
   pub kind : e.kind ≡ fault
   pub document : e.document ≡ 0
   pub offset : e.offset ≡ 0
   pub path : e.path.items ≡ []
 
 -- The fault in memory says that memory ran out.
-abbrev pub IsWantOfMemory : HeldFault → Type 0
+abbrev pub IsWantOfMemory : FaultInMemory → Type 0
 IsWantOfMemory e = HasNoPlace FaultKind.NoMemory e
 
 -- The fault in memory is the one at which a reader stopped, of the document with that number;
 -- or it says that memory ran out.
-abbrev pub IsOf : Stop → ℕ → HeldFault → Type 0
+abbrev pub IsOf : Stop → ℕ → FaultInMemory → Type 0
 IsOf Stop.NoMemory number e = IsWantOfMemory e
 IsOf (Stop.Found g) number e = IsFault number (found_fault g) e
 
 -- The fault in memory is the one that there is, or says that memory ran out.
-abbrev pub TellsFault : ℕ → Option Fault → HeldFault → Type 0
-TellsFault number None e = IsWantOfMemory e
-TellsFault number (Some f) e = IsWantOfMemory e ⊎ IsFault number f e
+abbrev pub ReportsFault : ℕ → Option Fault → FaultInMemory → Type 0
+ReportsFault number None e = IsWantOfMemory e
+ReportsFault number (Some f) e = IsWantOfMemory e ⊎ IsFault number f e
 
 -- the number of a kind of fault, 1 to 17
 abbrev pub fault_number : FaultKind → ℕ

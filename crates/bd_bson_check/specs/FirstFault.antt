@@ -27,80 +27,80 @@ abbrev pub fault : {A : Type 0} → FaultKind → ℕ → Result A Fault
 fault kind at = Err (record { kind = kind; offset = at; path = [] })
 
 -- an `int32`, and the bytes after it; fewer than four bytes are the fault `short`
-abbrev pub past_number : FaultKind → ℕ → List ℕ → Result (ℕ × List ℕ) Fault
-past_number short e bytes = if nat_lt (length bytes) 4 then fault short (e - length bytes)
+abbrev pub skip_number : FaultKind → ℕ → List ℕ → Result (ℕ × List ℕ) Fault
+skip_number short e bytes = if nat_lt (length bytes) 4 then fault short (e - length bytes)
     else Ok (from_le_bytes w32 (take 4 bytes), drop 4 bytes)
 
 -- the bytes after a zero byte; at another byte, or at the end, is the fault of that kind
-abbrev pub past_zero : FaultKind → ℕ → List ℕ → Result (List ℕ) Fault
-past_zero kind e [] = fault kind (e - 0)
-past_zero kind e (zero ∷ rest) = Ok rest
-past_zero kind e (suc b ∷ rest) = fault kind (e - suc (length rest))
+abbrev pub skip_zero : FaultKind → ℕ → List ℕ → Result (List ℕ) Fault
+skip_zero kind e [] = fault kind (e - 0)
+skip_zero kind e (zero ∷ rest) = Ok rest
+skip_zero kind e (suc b ∷ rest) = fault kind (e - suc (length rest))
 
 -- a text at that offset; if it is not UTF-8, the fault is at the first bad byte
 abbrev pub text_at : ℕ → List ℕ → Result (List ℕ) Fault
 text_at at bytes = if is_utf8 bytes then Ok bytes else fault BadUtf8 (at + utf8_valid_len bytes)
 
 -- a `cstring`: its text, and the bytes after its zero. If there is no zero, the fault has that kind.
-unfoldable pub past_name : FaultKind → ℕ → List ℕ → Result (List ℕ × List ℕ) Fault
-past_name kind e bytes = do
+unfoldable pub skip_name : FaultKind → ℕ → List ℕ → Result (List ℕ × List ℕ) Fault
+skip_name kind e bytes = do
   k ← ok_or (position (λ b. b == 0) bytes) (record { kind = kind; offset = e - length bytes; path = [] })
   name ← text_at (e - length bytes) (take k bytes)
   Ok (name, drop (k + 1) bytes)
 
--- the bytes after a value of n bytes; the fault is `value cut short`
-abbrev pub past_fixed : ℕ → ℕ → List ℕ → Result (List ℕ) Fault
-past_fixed n e bytes = if nat_lt (length bytes) n then fault ValueShort (e - length bytes) else Ok (drop n bytes)
+-- the bytes after a value of n bytes; the fault is `value splits short`
+abbrev pub skip_fixed : ℕ → ℕ → List ℕ → Result (List ℕ) Fault
+skip_fixed n e bytes = if nat_lt (length bytes) n then fault ValueShort (e - length bytes) else Ok (drop n bytes)
 
 -- the bytes after a boolean (element 0x08), which is 00 or 01
-abbrev pub past_boolean : ℕ → List ℕ → Result (List ℕ) Fault
-past_boolean e [] = fault ValueShort (e - 0)
-past_boolean e (b ∷ rest) = if nat_lt 1 b then fault BadBoolean (e - suc (length rest)) else Ok rest
+abbrev pub skip_boolean : ℕ → List ℕ → Result (List ℕ) Fault
+skip_boolean e [] = fault ValueShort (e - 0)
+skip_boolean e (b ∷ rest) = if nat_lt 1 b then fault BadBoolean (e - suc (length rest)) else Ok rest
 
 -- the bytes after a `string`: its length, its text in UTF-8, a zero
-unfoldable pub past_string : ℕ → List ℕ → Result (List ℕ) Fault
-past_string e bytes = do
-  n ← past_number ValueShort e bytes
+unfoldable pub skip_string : ℕ → List ℕ → Result (List ℕ) Fault
+skip_string e bytes = do
+  n ← skip_number ValueShort e bytes
   if n.0 == 0 || nat_lt (length n.1) n.0 then fault BadStringLength (e - length bytes)
-      else (past_zero StringUnended e (drop (n.0 - 1) n.1)
+      else (skip_zero StringUnended e (drop (n.0 - 1) n.1)
       >>= λ rest. text_at (e - length n.1) (take (n.0 - 1) n.1) >>= λ text. Ok rest)
 
 -- the bytes after a regular expression (element 0x0B): two `cstring`s
-abbrev pub past_regex : ℕ → List ℕ → Result (List ℕ) Fault
-past_regex e bytes = do
-  pattern ← past_name StringUnended e bytes
-  options ← past_name StringUnended e pattern.1
+abbrev pub skip_regex : ℕ → List ℕ → Result (List ℕ) Fault
+skip_regex e bytes = do
+  pattern ← skip_name StringUnended e bytes
+  options ← skip_name StringUnended e pattern.1
   Ok options.1
 
 -- the bytes after the data of binary, of this subtype and count; in subtype 02 (binary,
 -- old) the data begins with an int32 that counts the rest. `at` is the offset of the value.
-abbrev pub past_data : ℕ → ℕ → ℕ → List ℕ → Result (List ℕ) Fault
-past_data at subtype count bytes = if subtype == 2 && nat_lt count 4 then fault BadBinaryLength at
+abbrev pub skip_data : ℕ → ℕ → ℕ → List ℕ → Result (List ℕ) Fault
+skip_data at subtype count bytes = if subtype == 2 && nat_lt count 4 then fault BadBinaryLength at
     else (if subtype == 2 && not (number_of bytes == count - 4) then fault BadBinaryLength (at + 5)
     else Ok (drop count bytes))
 
 -- the bytes after binary (element 0x05): a count that is not negative and not past e, the subtype, the data
-unfoldable pub past_binary : ℕ → List ℕ → Result (List ℕ) Fault
-past_binary e bytes = if nat_lt (length bytes) 5 then fault ValueShort (e - length bytes)
+unfoldable pub skip_binary : ℕ → List ℕ → Result (List ℕ) Fault
+skip_binary e bytes = if nat_lt (length bytes) 5 then fault ValueShort (e - length bytes)
     else (if nat_lt 2147483647 (number_of bytes) || nat_lt (length bytes) (5 + number_of bytes)
     then fault BadBinaryLength (e - length bytes)
-    else past_data (e - length bytes) (slice_index_or bytes 4 0) (number_of bytes) (drop 5 bytes))
+    else skip_data (e - length bytes) (slice_index_or bytes 4 0) (number_of bytes) (drop 5 bytes))
 
 -- The frame of a document: its length, its elements, a zero; at the top it must be all of the bytes.
 -- The result: the bytes of the elements, the offset of their end, and the bytes after the document.
-unfoldable pub past_frame : Bool → ℕ → List ℕ → Result (List ℕ × ℕ × List ℕ) Fault
-past_frame top e bytes = do
-  n ← past_number (if top then ShortLength else ValueShort) e bytes
+unfoldable pub skip_frame : Bool → ℕ → List ℕ → Result (List ℕ × ℕ × List ℕ) Fault
+skip_frame top e bytes = do
+  n ← skip_number (if top then ShortLength else ValueShort) e bytes
   if nat_lt n.0 5 || nat_lt longest_document n.0 || nat_lt (length bytes) n.0 || (top && not (n.0 == length bytes))
       then fault BadLength (e - length bytes)
-      else (past_zero NoTerminator e (drop (n.0 - 5) n.1)
+      else (skip_zero NoTerminator e (drop (n.0 - 5) n.1)
       >>= λ rest. Ok (take (n.0 - 5) n.1, e - length (drop (n.0 - 5) n.1), rest))
 
 -- the length of code with scope (element 0x0F):
 -- the bytes of its code and scope, the offset of their end, and the bytes after it
-unfoldable pub past_code_frame : ℕ → List ℕ → Result (List ℕ × ℕ × List ℕ) Fault
-past_code_frame e bytes = do
-  n ← past_number ValueShort e bytes
+unfoldable pub skip_code_frame : ℕ → List ℕ → Result (List ℕ × ℕ × List ℕ) Fault
+skip_code_frame e bytes = do
+  n ← skip_number ValueShort e bytes
   if nat_lt n.0 14 || nat_lt (length bytes) n.0 then fault BadScopeLength (e - length bytes)
       else Ok (take (n.0 - 4) n.1, e - length (drop (n.0 - 4) n.1), drop (n.0 - 4) n.1)
 
@@ -111,33 +111,33 @@ Nested = Holder → ℕ → ℕ → List ℕ → Result (List ℕ) Fault
 
 -- the bytes after a value of that kind; q is the offset of its element's type byte,
 -- where a value too deep is reported
-abbrev pub past_value : Nested → Kind → ℕ → ℕ → List ℕ → Result (List ℕ) Fault
-past_value nested Kind.MinKey q e bytes = Ok bytes
-past_value nested Kind.Undefined q e bytes = Ok bytes
-past_value nested Kind.Null q e bytes = Ok bytes
-past_value nested Kind.MaxKey q e bytes = Ok bytes
-past_value nested Kind.Int32 q e bytes = past_fixed 4 e bytes
-past_value nested Kind.Int64 q e bytes = past_fixed 8 e bytes
-past_value nested Kind.Date q e bytes = past_fixed 8 e bytes
-past_value nested Kind.Timestamp q e bytes = past_fixed 8 e bytes
-past_value nested Kind.ObjectId q e bytes = past_fixed 12 e bytes
-past_value nested Kind.Bool q e bytes = past_boolean e bytes
-past_value nested Kind.Text q e bytes = past_string e bytes
-past_value nested Kind.Symbol q e bytes = past_string e bytes
-past_value nested Kind.Code q e bytes = past_string e bytes
-past_value nested Kind.DbPointer q e bytes = past_string e bytes >>= λ rest. past_fixed 12 e rest
-past_value nested Kind.Binary q e bytes = past_binary e bytes
-past_value nested Kind.Regex q e bytes = past_regex e bytes
-past_value nested Kind.Doc q e bytes = nested Holder.Document q e bytes
-past_value nested Kind.Array q e bytes = nested Holder.Array q e bytes
-past_value nested Kind.CodeScope q e bytes = nested Holder.CodeScope q e bytes
+abbrev pub skip_value : Nested → Kind → ℕ → ℕ → List ℕ → Result (List ℕ) Fault
+skip_value nested Kind.MinKey q e bytes = Ok bytes
+skip_value nested Kind.Undefined q e bytes = Ok bytes
+skip_value nested Kind.Null q e bytes = Ok bytes
+skip_value nested Kind.MaxKey q e bytes = Ok bytes
+skip_value nested Kind.Int32 q e bytes = skip_fixed 4 e bytes
+skip_value nested Kind.Int64 q e bytes = skip_fixed 8 e bytes
+skip_value nested Kind.Date q e bytes = skip_fixed 8 e bytes
+skip_value nested Kind.Timestamp q e bytes = skip_fixed 8 e bytes
+skip_value nested Kind.ObjectId q e bytes = skip_fixed 12 e bytes
+skip_value nested Kind.Bool q e bytes = skip_boolean e bytes
+skip_value nested Kind.Text q e bytes = skip_string e bytes
+skip_value nested Kind.Symbol q e bytes = skip_string e bytes
+skip_value nested Kind.Code q e bytes = skip_string e bytes
+skip_value nested Kind.DbPointer q e bytes = skip_string e bytes >>= λ rest. skip_fixed 12 e rest
+skip_value nested Kind.Binary q e bytes = skip_binary e bytes
+skip_value nested Kind.Regex q e bytes = skip_regex e bytes
+skip_value nested Kind.Doc q e bytes = nested Holder.Document q e bytes
+skip_value nested Kind.Array q e bytes = nested Holder.Array q e bytes
+skip_value nested Kind.CodeScope q e bytes = nested Holder.CodeScope q e bytes
 
 -- the bytes after a value of that type; a double (0x01) and a decimal128 (0x13) are faults,
 -- and their bytes are not looked at
-abbrev pub past_typed : Nested → ElementType → ℕ → ℕ → List ℕ → Result (List ℕ) Fault
-past_typed nested ElementType.Double q e bytes = fault Double q
-past_typed nested ElementType.Decimal128 q e bytes = fault Decimal128 q
-past_typed nested (ElementType.Kept kind) q e bytes = past_value nested kind q e bytes
+abbrev pub skip_typed : Nested → ElementType → ℕ → ℕ → List ℕ → Result (List ℕ) Fault
+skip_typed nested ElementType.Double q e bytes = fault Double q
+skip_typed nested ElementType.Decimal128 q e bytes = fault Decimal128 q
+skip_typed nested (ElementType.Kept kind) q e bytes = skip_value nested kind q e bytes
 
 -- how the path of a fault names an element: in an array by its index, in a document by its name
 abbrev pub label : Option ℕ → List ℕ → List ℕ
@@ -149,52 +149,52 @@ within name (Ok x) = Ok x
 within name (Err f) = Err (longer name f)
 
 -- the bytes after an element: its type byte, its name, its value
-unfoldable pub past_element : Nested → Option ℕ → ℕ → List ℕ → Result (List ℕ) Fault
-past_element nested place e [] = fault UnknownType e
-past_element nested place e (b ∷ bytes) = do
+unfoldable pub skip_element : Nested → Option ℕ → ℕ → List ℕ → Result (List ℕ) Fault
+skip_element nested place e [] = fault UnknownType e
+skip_element nested place e (b ∷ bytes) = do
   type ← ok_or (type_at b) (record { kind = UnknownType; offset = e - suc (length bytes); path = [] })
-  name ← past_name NameUnended e bytes
-  within (label place name.0) (past_typed nested type (e - suc (length bytes)) e name.1)
+  name ← skip_name NameUnended e bytes
+  within (label place name.0) (skip_typed nested type (e - suc (length bytes)) e name.1)
 
 -- All elements of a document or an array. The first number bounds the turns:
 -- the count of the bytes is always enough.
-unfoldable pub past_elements : Nested → Option ℕ → ℕ → ℕ → List ℕ → Result (Unit {0}) Fault
-past_elements nested place zero e bytes = Ok tt
-past_elements nested place (suc n) e [] = Ok tt
-past_elements nested place (suc n) e (b ∷ bytes) = do
-  rest ← past_element nested place e (b ∷ bytes)
-  past_elements nested (option_map suc place) n e rest
+unfoldable pub skip_elements : Nested → Option ℕ → ℕ → ℕ → List ℕ → Result (Unit {0}) Fault
+skip_elements nested place zero e bytes = Ok tt
+skip_elements nested place (suc n) e [] = Ok tt
+skip_elements nested place (suc n) e (b ∷ bytes) = do
+  rest ← skip_element nested place e (b ∷ bytes)
+  skip_elements nested (option_map suc place) n e rest
 
 -- the bytes after a document, or after an array, whose elements are counted from 0
-abbrev pub past_body : Nested → Bool → ℕ → List ℕ → Result (List ℕ) Fault
-past_body nested in_array e bytes = do
-  f ← past_frame false e bytes
-  past_elements nested (if in_array then Some 0 else None) (length f.0) f.1 f.0 >>= λ u. Ok f.2
+abbrev pub skip_body : Nested → Bool → ℕ → List ℕ → Result (List ℕ) Fault
+skip_body nested in_array e bytes = do
+  f ← skip_frame false e bytes
+  skip_elements nested (if in_array then Some 0 else None) (length f.0) f.1 f.0 >>= λ u. Ok f.2
 
 -- the bytes after code with scope, whose scope must end where it ends
-abbrev pub past_code_scope : Nested → ℕ → ℕ → List ℕ → Result (List ℕ) Fault
-past_code_scope nested q e bytes = do
-  f ← past_code_frame e bytes
-  scope ← past_string f.1 f.0
+abbrev pub skip_code_scope : Nested → ℕ → ℕ → List ℕ → Result (List ℕ) Fault
+skip_code_scope nested q e bytes = do
+  f ← skip_code_frame e bytes
+  scope ← skip_string f.1 f.0
   after ← within (codes "$scope") (nested Holder.Document q f.1 scope)
   if nat_lt 0 (length after) then fault BadScopeLength (e - length bytes) else Ok f.2
 
--- The bytes after a value that holds values, with `room` levels left for it;
+-- The bytes after a value that holds values, with `depth_left` levels left for it;
 -- code with scope takes one and its scope another.
-unfoldable pub past_nested : ℕ → Nested
-past_nested zero holder q e bytes = fault TooDeep q
-past_nested (suc room) Holder.Document q e bytes = past_body (past_nested room) false e bytes
-past_nested (suc room) Holder.Array q e bytes = past_body (past_nested room) true e bytes
-past_nested (suc zero) Holder.CodeScope q e bytes = fault TooDeep q
-past_nested (suc (suc room)) Holder.CodeScope q e bytes = past_code_scope (past_nested (suc room)) q e bytes
+unfoldable pub skip_nested : ℕ → Nested
+skip_nested zero holder q e bytes = fault TooDeep q
+skip_nested (suc depth_left) Holder.Document q e bytes = skip_body (skip_nested depth_left) false e bytes
+skip_nested (suc depth_left) Holder.Array q e bytes = skip_body (skip_nested depth_left) true e bytes
+skip_nested (suc zero) Holder.CodeScope q e bytes = fault TooDeep q
+skip_nested (suc (suc depth_left)) Holder.CodeScope q e bytes = skip_code_scope (skip_nested (suc depth_left)) q e bytes
 
 -- the document that all of the bytes must be, at level 1 of 200
-unfoldable pub past_document : ℕ → List ℕ → Result (Unit {0}) Fault
-past_document e bytes = do
-  f ← past_frame true e bytes
-  past_elements (past_nested (most_levels - 1)) None (length f.0) f.1 f.0
+unfoldable pub skip_document : ℕ → List ℕ → Result (Unit {0}) Fault
+skip_document e bytes = do
+  f ← skip_frame true e bytes
+  skip_elements (skip_nested (most_levels - 1)) None (length f.0) f.1 f.0
 
 -- the first fault of bytes that must be one document, the first of which is at offset `base` of the dump;
 -- None if they are a document
 abbrev pub first_fault : ℕ → List ℕ → Option Fault
-first_fault base bytes = result_err (past_document (base + length bytes) bytes)
+first_fault base bytes = result_err (skip_document (base + length bytes) bytes)

@@ -5,15 +5,15 @@ ghost use Rattle.bd_value.specs.Limits.{longest_input};
 ghost use Rattle.bd_value.specs.Tree.{Doc, pairs_in};
 ghost use Rattle.bd_value.specs.View.{pairs};
 ghost use Rattle.bd_bson_view.specs.Spelling.{IsDocument};
-ghost use Rattle.bd_bson_view.specs.Sound.{stands};
-ghost use Rattle.bd_bson_check.specs.Fault.{GivesItem, TellsFault, IsWantOfMemory};
-ghost use Rattle.bd_bson_check.specs.FirstFault.{past_typed, past_element, past_elements, past_body, past_code_scope, past_nested, past_document, first_fault};
+ghost use Rattle.bd_bson_view.specs.Sound.{meaning};
+ghost use Rattle.bd_bson_check.specs.Fault.{GivesItem, ReportsFault, IsWantOfMemory};
+ghost use Rattle.bd_bson_check.specs.FirstFault.{skip_typed, skip_element, skip_elements, skip_body, skip_code_scope, skip_nested, skip_document, first_fault};
 ghost use Rattle.bd_bson_check.specs.Dump.{frame_length, frame_fault, IsNext};
 
 use crate::fault::{
-    Fault, FaultKind, Past, Stop, fault_at, fault_of, frame_fault, want_of_memory, within,
+    Fault, FaultKind, Skipped, Stop, fault_at, fault_of, frame_fault, want_of_memory, within,
 };
-use crate::parts::{binary, boolean, code_frame, fixed, frame, name, past_scalar, regex, string};
+use crate::parts::{binary, boolean, code_frame, fixed, frame, name, regex, skip_scalar, string};
 use bd_bson_view::{ElementType, Holder, RawDoc, element_type, raw_parts};
 use bd_value::{Document, Kind, LONGEST_DOCUMENT, MOST_LEVELS};
 use std::alloc::Global;
@@ -31,10 +31,10 @@ pub fn check_document<'a>(
     number: u32,
 ) -> Result<RawDoc<'a>, Fault>
     requires { base + length bytes.now ≤ longest_input }
-    ensures spelled { IfOk result (λ d. IsDocument (pairs_in (stands d.sound)) bytes.now) }
-    ensures kept { IfOk result (λ d. d.bytes.now ≡ bytes.now) }
+    ensures spelled { IfOk result (λ d. IsDocument (pairs_in (meaning d.sound)) bytes.now) }
+    ensures same_source { IfOk result (λ d. d.bytes.now ≡ bytes.now) }
     ensures first { MatchResult result (λ _.
-        first_fault base bytes.now ≡ None) (TellsFault number (first_fault base bytes.now)) }
+        first_fault base bytes.now ≡ None) (ReportsFault number (first_fault base bytes.now)) }
 {
     match document(alloc, base + bytes.len() as u64, bytes) {
         Ok(()) => Ok(RawDoc::whole(bytes)),
@@ -53,7 +53,7 @@ pub fn read_document(alloc: Global, bytes: &[u8], base: u64, number: u32) -> Res
     // What the bytes spell is read, unless memory runs out.
     ensures only { (d : Doc) →
         IsDocument d bytes.now → MatchResult result (λ r. pairs r ≡ d) IsWantOfMemory }
-    ensures fault { IfErr result (TellsFault number (first_fault base bytes.now)) }
+    ensures fault { IfErr result (ReportsFault number (first_fault base bytes.now)) }
 {
     let raw = check_document(alloc, bytes, base, number)?;
     match raw.to_document(alloc) {
@@ -84,7 +84,7 @@ pub fn next_frame(
     requires { at ≤ length bytes.now }
     ensures found { IfOk result (λ f.
         frame_length (drop at bytes.now) ≡ Ok (option_map (λ x. x.length) f)) }
-    ensures stands { IfOk result (λ f.
+    ensures meaning { IfOk result (λ f.
         IfSome f (λ x. (x.start ≡ at) × (at + x.length ≤ length bytes.now))) }
     ensures fault { IfErr result (λ e. frame_length (drop at bytes.now) ≡ Err e.kind) }
     ensures place { IfErr result (λ e. (e.document ≡ number)
@@ -117,8 +117,9 @@ pub fn next_document<'a>(
     requires inside { at ≤ length bytes.now }
     requires short { length bytes.now ≤ longest_input }
     ensures next { IfOk result (IsNext bytes.now at) }
-    ensures kept { IfOk result (λ o. IfSome o (λ p. p.0.bytes.now ≡ slice_range bytes.now at p.1)) }
-    ensures fault { IfErr result (TellsFault number (frame_fault at (drop at bytes.now))) }
+    ensures same_source { IfOk result (λ o.
+        IfSome o (λ p. p.0.bytes.now ≡ slice_range bytes.now at p.1)) }
+    ensures fault { IfErr result (ReportsFault number (frame_fault at (drop at bytes.now))) }
 {
     let Some(frame) = next_frame(alloc, bytes, at, number)? else {
         return Ok(None);
@@ -129,10 +130,10 @@ pub fn next_document<'a>(
 }
 
 /// Goes past the document that all of the bytes are to be.
-#[tactic(auto, unfolding(crate::specs::FirstFault::past_document))]
+#[tactic(auto, unfolding(crate::specs::FirstFault::skip_document))]
 fn document(alloc: Global, e: u64, bytes: &[u8]) -> Result<(), Stop>
     requires { length bytes.now ≤ e }
-    ensures { GivesItem (λ x. tt) result (past_document e bytes.now) }
+    ensures { GivesItem (λ x. tt) result (skip_document e bytes.now) }
 {
     let (body, end, _) = frame(alloc, true, e, bytes)?;
     elements(alloc, MOST_LEVELS as u32 - 1, false, end, body)
@@ -140,17 +141,23 @@ fn document(alloc: Global, e: u64, bytes: &[u8]) -> Result<(), Stop>
 
 /// Goes past all elements.
 #[cycle(checking)]
-fn elements(alloc: Global, room: u32, in_array: bool, e: u64, bytes: &[u8]) -> Result<(), Stop>
+fn elements(
+    alloc: Global,
+    depth_left: u32,
+    in_array: bool,
+    e: u64,
+    bytes: &[u8],
+) -> Result<(), Stop>
     requires { length bytes.now ≤ e }
-    ensures { GivesItem (λ x. tt) result (past_elements
-        (past_nested room) (if in_array then Some 0 else None) (length bytes.now) e bytes.now) }
+    ensures { GivesItem (λ x. tt) result (skip_elements (skip_nested depth_left)
+        (if in_array then Some 0 else None) (length bytes.now) e bytes.now) }
 {
     let mut place = if in_array { Some(0) } else { None };
     let mut rest = bytes;
     while !rest.is_empty() {
-        rest = match past_scalar(rest) {
+        rest = match skip_scalar(rest) {
             Some(after) => after,
-            None => element(alloc, room, place, e, rest)?,
+            None => element(alloc, depth_left, place, e, rest)?,
         };
         place = next(place);
     }
@@ -170,12 +177,18 @@ fn next(place: Option<usize>) -> Option<usize>
 
 /// Goes past one element.
 #[cycle(checking)]
-#[tactic(auto, unfolding(crate::specs::FirstFault::past_element))]
-fn element(alloc: Global, room: u32, place: Option<usize>, e: u64, bytes: &[u8]) -> Past<'_>
+#[tactic(auto, unfolding(crate::specs::FirstFault::skip_element))]
+fn element(
+    alloc: Global,
+    depth_left: u32,
+    place: Option<usize>,
+    e: u64,
+    bytes: &[u8],
+) -> Skipped<'_>
     requires some { 0 < length bytes.now }
     requires inside { length bytes.now ≤ e }
     ensures gives { GivesItem (λ x.
-        x.now) result (past_element (past_nested room) place e bytes.now) }
+        x.now) result (skip_element (skip_nested depth_left) place e bytes.now) }
     ensures after { IfOk result (λ x. length x.now < length bytes.now) }
 {
     let q = e - bytes.len() as u64;
@@ -184,7 +197,7 @@ fn element(alloc: Global, room: u32, place: Option<usize>, e: u64, bytes: &[u8])
     };
     let (_, rest) = bytes.split_at(1);
     let (name, rest) = name(alloc, FaultKind::NameUnended, e, rest)?;
-    match value(alloc, room, element_type, q, e, rest) {
+    match value(alloc, depth_left, element_type, q, e, rest) {
         Ok(rest) => Ok(rest),
         Err(stop) => Err(within(alloc, place, name, stop)),
     }
@@ -192,10 +205,17 @@ fn element(alloc: Global, room: u32, place: Option<usize>, e: u64, bytes: &[u8])
 
 /// Goes past the value of an element whose type byte stands at `q`. Doubles and decimal128 are refused unseen.
 #[cycle(checking)]
-fn value(alloc: Global, room: u32, typed: ElementType, q: u64, e: u64, bytes: &[u8]) -> Past<'_>
+fn value(
+    alloc: Global,
+    depth_left: u32,
+    typed: ElementType,
+    q: u64,
+    e: u64,
+    bytes: &[u8],
+) -> Skipped<'_>
     requires { length bytes.now ≤ e }
     ensures gives { GivesItem (λ x.
-        x.now) result (past_typed (past_nested room) typed q e bytes.now) }
+        x.now) result (skip_typed (skip_nested depth_left) typed q e bytes.now) }
     ensures after { IfOk result (λ x. length x.now ≤ length bytes.now) }
 {
     let kind = match typed {
@@ -216,58 +236,65 @@ fn value(alloc: Global, room: u32, typed: ElementType, q: u64, e: u64, bytes: &[
         }
         Kind::Binary => binary(alloc, e, bytes),
         Kind::Regex => regex(alloc, e, bytes),
-        Kind::Doc => nested(alloc, room, Holder::Document, q, e, bytes),
-        Kind::Array => nested(alloc, room, Holder::Array, q, e, bytes),
-        Kind::CodeScope => nested(alloc, room, Holder::CodeScope, q, e, bytes),
+        Kind::Doc => nested(alloc, depth_left, Holder::Document, q, e, bytes),
+        Kind::Array => nested(alloc, depth_left, Holder::Array, q, e, bytes),
+        Kind::CodeScope => nested(alloc, depth_left, Holder::CodeScope, q, e, bytes),
     }
 }
 
 /// Goes past what holds values, with so many levels left for it.
 #[cycle(checking)]
-fn nested(alloc: Global, room: u32, holder: Holder, q: u64, e: u64, bytes: &[u8]) -> Past<'_>
+fn nested(
+    alloc: Global,
+    depth_left: u32,
+    holder: Holder,
+    q: u64,
+    e: u64,
+    bytes: &[u8],
+) -> Skipped<'_>
     requires { length bytes.now ≤ e }
-    ensures gives { GivesItem (λ x. x.now) result (past_nested room holder q e bytes.now) }
+    ensures gives { GivesItem (λ x. x.now) result (skip_nested depth_left holder q e bytes.now) }
     ensures after { IfOk result (λ x. length x.now ≤ length bytes.now) }
 {
-    if room == 0 {
+    if depth_left == 0 {
         return Err(fault_at(alloc, FaultKind::TooDeep, q));
     }
     match holder {
-        Holder::Document => body(alloc, room - 1, false, e, bytes),
-        Holder::Array => body(alloc, room - 1, true, e, bytes),
+        Holder::Document => body(alloc, depth_left - 1, false, e, bytes),
+        Holder::Array => body(alloc, depth_left - 1, true, e, bytes),
         Holder::CodeScope => {
-            if room == 1 {
+            if depth_left == 1 {
                 return Err(fault_at(alloc, FaultKind::TooDeep, q));
             }
-            code_scope(alloc, room - 1, q, e, bytes)
+            code_scope(alloc, depth_left - 1, q, e, bytes)
         }
     }
 }
 
 /// Goes past a document or an array, with so many levels left below it.
 #[cycle(checking)]
-fn body(alloc: Global, room: u32, in_array: bool, e: u64, bytes: &[u8]) -> Past<'_>
+fn body(alloc: Global, depth_left: u32, in_array: bool, e: u64, bytes: &[u8]) -> Skipped<'_>
     requires { length bytes.now ≤ e }
     ensures gives { GivesItem (λ x.
-        x.now) result (past_body (past_nested room) in_array e bytes.now) }
+        x.now) result (skip_body (skip_nested depth_left) in_array e bytes.now) }
     ensures after { IfOk result (λ x. length x.now ≤ length bytes.now) }
 {
     let (body, end, rest) = frame(alloc, false, e, bytes)?;
-    elements(alloc, room, in_array, end, body)?;
+    elements(alloc, depth_left, in_array, end, body)?;
     Ok(rest)
 }
 
 /// Goes past code with scope, with so many levels left for its scope.
 #[cycle(checking)]
-fn code_scope(alloc: Global, room: u32, q: u64, e: u64, bytes: &[u8]) -> Past<'_>
+fn code_scope(alloc: Global, depth_left: u32, q: u64, e: u64, bytes: &[u8]) -> Skipped<'_>
     requires { length bytes.now ≤ e }
     ensures gives { GivesItem (λ x.
-        x.now) result (past_code_scope (past_nested room) q e bytes.now) }
+        x.now) result (skip_code_scope (skip_nested depth_left) q e bytes.now) }
     ensures after { IfOk result (λ x. length x.now ≤ length bytes.now) }
 {
     let (parts, end, rest) = code_frame(alloc, e, bytes)?;
     let scope = string(alloc, end, parts)?;
-    match nested(alloc, room, Holder::Document, q, end, scope) {
+    match nested(alloc, depth_left, Holder::Document, q, end, scope) {
         Ok([]) => Ok(rest),
         Ok(_) => Err(fault_at(alloc, FaultKind::BadScopeLength, e - bytes.len() as u64)),
         Err(stop) => Err(within(alloc, None, "$scope", stop)),

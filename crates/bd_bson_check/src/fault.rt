@@ -1,7 +1,7 @@
 //! Why bytes are no document, and where.
 
 ghost use Rattle.std.specs.Prelude.{◌≡◌, [], IfOk, string_bytes};
-ghost use Rattle.bd_bson_check.specs.Fault.{Fault as Where, longer, fault_words, TellsStop, IsOf, IsWantOfMemory};
+ghost use Rattle.bd_bson_check.specs.Fault.{Fault as Where, longer, fault_words, ReportsStop, IsOf, IsWantOfMemory};
 ghost use Rattle.bd_bson_check.specs.FirstFault.{label};
 
 use std::alloc::{AllocError, Global};
@@ -111,11 +111,11 @@ pub enum Stop {
 }
 
 /// The bytes after an item, or why reading it stopped.
-pub type Past<'a> = Result<&'a [u8], Stop>;
+pub type Skipped<'a> = Result<&'a [u8], Stop>;
 
 /// A fault at a place, with no path yet.
 pub fn fault_at(alloc: Global, kind: FaultKind, offset: u64) -> Stop
-    ensures { TellsStop result (record { kind = kind; offset = offset; path = [] }) }
+    ensures { ReportsStop result (record { kind = kind; offset = offset; path = [] }) }
 {
     let path = Vec::new(alloc);
     Stop::Found(Finding { kind, offset, path })
@@ -133,7 +133,8 @@ fn label_of(alloc: Global, place: Option<usize>, name: &str) -> Result<String, A
 
 /// The stop as it is seen from one level up.
 pub fn within(alloc: Global, place: Option<usize>, name: &str, stop: Stop) -> Stop
-    ensures { (f : Where) → TellsStop stop f → TellsStop result (longer (label place name.now) f) }
+    ensures { (f : Where) →
+        ReportsStop stop f → ReportsStop result (longer (label place name.now) f) }
 {
     let Stop::Found(mut found) = stop else {
         return Stop::NoMemory;

@@ -6,10 +6,10 @@ ghost use Rattle.bd_value.specs.Tree.{Doc};
 ghost use Rattle.bd_bson_view.specs.Spelling.{IsDocument};
 ghost use Rattle.bd_bson_check.specs.Fault.{Fault as FaultView};
 ghost use Rattle.bd_bson_check.specs.FirstFault.{first_fault};
-ghost use Rattle.bd_bson_check.specs.Dump.{IsDump, AreJoined, IsWalk, FailsAfter};
+ghost use Rattle.bd_bson_check.specs.Dump.{IsDump, AreJoined, IsDumpScan, FailsAfter};
 
 /// Bytes that are not too many are a dump of documents or have one first fault, never both; and each in one way alone, by
-/// `walks_in_one_way`.
+/// `scans_in_one_way`.
 pub fn dump_or_fault()
     ensures either { (bytes : List ℕ) → ((i : ℕ) → slice_index bytes i < 256) →
         length bytes ≤ longest_input → ((ds : List Doc) × IsDump ds bytes)
@@ -19,18 +19,18 @@ pub fn dump_or_fault()
 {}
 
 /// Any bytes are documents in turn and then end, or fail after these, and in one way alone.
-pub fn walks_in_one_way()
+pub fn scans_in_one_way()
     ensures some { (bytes : List ℕ) → ((i : ℕ) → slice_index bytes i < 256) →
-        (ds : List Doc) × (end : Option FaultView) × IsWalk ds end bytes }
+        (ds : List Doc) × (end : Option FaultView) × IsDumpScan ds end bytes }
     ensures one { (bytes : List ℕ) (ds es : List Doc) (end other : Option FaultView) →
-        IsWalk ds end bytes → IsWalk es other bytes → (ds ≡ es) × (end ≡ other) }
+        IsDumpScan ds end bytes → IsDumpScan es other bytes → (ds ≡ es) × (end ≡ other) }
 {}
 
 /// Documents that stand in front are the first of all.
-pub fn walks_on()
-    ensures { (ds : List Doc) (front rest : List ℕ) →
-        ((i : ℕ) → slice_index rest i < 256) → AreJoined ds front →
-        (more : List Doc) × (end : Option FaultView) × IsWalk (ds ++ more) end (front ++ rest) }
+pub fn scans_on()
+    ensures { (ds : List Doc) (prefix rest : List ℕ) →
+        ((i : ℕ) → slice_index rest i < 256) → AreJoined ds prefix → (more : List Doc)
+        × (end : Option FaultView) × IsDumpScan (ds ++ more) end (prefix ++ rest) }
 {}
 
 /// There is no fault exactly where the bytes spell some document.

@@ -27,4 +27,4 @@ mod parts;
 
 pub use check::{Frame, check_document, next_document, next_frame, read_document};
 pub use fault::{Fault, FaultKind, frame_fault, want_of_memory};
-pub use laws::{dump_or_fault, no_fault_where_spelled, walks_in_one_way, walks_on};
+pub use laws::{dump_or_fault, no_fault_where_spelled, scans_in_one_way, scans_on};

@@ -1,16 +1,16 @@
 //! What stands in a document's bytes, but for values in values.
 //!
 //! `e` is the offset that an item may not pass, and `bytes` are those up to it: the item stands at `e` less their
-//! number. Most elements have no fault, and `past_scalar` sees it at one look; what it leaves is gone past part by part.
+//! number. Most elements have no fault, and `skip_scalar` sees it at one look; what it leaves is gone past part by part.
 
 ghost use Rattle.std.specs.Prelude.{◌≡◌, ◌≤◌, ◌<◌, ◌+◌, ◌^◌, ◌==◌, ◌||◌, ℕ, length, drop, take, map, position, nat_lt, IfOk, IfSome, IsAscii, IsTrue, Option, Some, Ok, true};
 ghost use Rattle.std.specs.List.{list_any};
 ghost use Rattle.std.specs.Simd.Lanes.{mask_l};
 ghost use Rattle.std.specs.Str.{is_utf8};
 ghost use Rattle.bd_bson_check.specs.Fault.{GivesItem};
-ghost use Rattle.bd_bson_check.specs.FirstFault.{past_number, past_zero, text_at, past_name, past_string, past_frame, past_fixed, past_boolean, past_binary, past_regex, past_code_frame, Nested, past_element, past_value};
+ghost use Rattle.bd_bson_check.specs.FirstFault.{skip_number, skip_zero, text_at, skip_name, skip_string, skip_frame, skip_fixed, skip_boolean, skip_binary, skip_regex, skip_code_frame, Nested, skip_element, skip_value};
 
-use crate::fault::{FaultKind, Past, Stop, fault_at};
+use crate::fault::{FaultKind, Skipped, Stop, fault_at};
 use bd_bson_view::{ElementType, element_type, raw_parts as raw};
 use bd_value::{Kind, LONGEST_DOCUMENT};
 use std::alloc::Global;
@@ -18,10 +18,10 @@ use std::simd::prelude::*;
 
 /// The bytes of a document's elements, the offset where these end, and the bytes after the document. `top` tells
 /// that the document is to be all of the bytes.
-#[tactic(auto, unfolding(crate::specs::FirstFault::past_frame))]
+#[tactic(auto, unfolding(crate::specs::FirstFault::skip_frame))]
 pub fn frame(alloc: Global, top: bool, e: u64, bytes: &[u8]) -> Result<(&[u8], u64, &[u8]), Stop>
     requires { length bytes.now ≤ e }
-    ensures gives { GivesItem (λ x. (x.0.now, x.1, x.2.now)) result (past_frame top e bytes.now) }
+    ensures gives { GivesItem (λ x. (x.0.now, x.1, x.2.now)) result (skip_frame top e bytes.now) }
     ensures inside { IfOk result (λ x. length x.0.now ≤ x.1) }
     ensures after { IfOk result (λ x. length x.2.now ≤ length bytes.now) }
 {
@@ -42,10 +42,10 @@ pub fn frame(alloc: Global, top: bool, e: u64, bytes: &[u8]) -> Result<(&[u8], u
 }
 
 /// The bytes of the code and the scope of code with scope, the offset where these end, and the bytes after it.
-#[tactic(auto, unfolding(crate::specs::FirstFault::past_code_frame))]
+#[tactic(auto, unfolding(crate::specs::FirstFault::skip_code_frame))]
 pub fn code_frame(alloc: Global, e: u64, bytes: &[u8]) -> Result<(&[u8], u64, &[u8]), Stop>
     requires { length bytes.now ≤ e }
-    ensures gives { GivesItem (λ x. (x.0.now, x.1, x.2.now)) result (past_code_frame e bytes.now) }
+    ensures gives { GivesItem (λ x. (x.0.now, x.1, x.2.now)) result (skip_code_frame e bytes.now) }
     ensures inside { IfOk result (λ x. length x.0.now ≤ x.1) }
     ensures after { IfOk result (λ x. length x.2.now ≤ length bytes.now) }
 {
@@ -59,10 +59,10 @@ pub fn code_frame(alloc: Global, e: u64, bytes: &[u8]) -> Result<(&[u8], u64, &[
 }
 
 /// The bytes after a string.
-#[tactic(auto, unfolding(crate::specs::FirstFault::past_string))]
-pub fn string(alloc: Global, e: u64, bytes: &[u8]) -> Past<'_>
+#[tactic(auto, unfolding(crate::specs::FirstFault::skip_string))]
+pub fn string(alloc: Global, e: u64, bytes: &[u8]) -> Skipped<'_>
     requires { length bytes.now ≤ e }
-    ensures gives { GivesItem (λ x. x.now) result (past_string e bytes.now) }
+    ensures gives { GivesItem (λ x. x.now) result (skip_string e bytes.now) }
     ensures after { IfOk result (λ x. length x.now ≤ length bytes.now) }
 {
     let (n, rest) = number(alloc, FaultKind::ValueShort, e, bytes)?;
@@ -70,17 +70,17 @@ pub fn string(alloc: Global, e: u64, bytes: &[u8]) -> Past<'_>
     if n == 0 || n > rest.len() {
         return Err(fault_at(alloc, FaultKind::BadStringLength, e - bytes.len() as u64));
     }
-    let (front, after) = rest.split_at(n - 1);
+    let (prefix, after) = rest.split_at(n - 1);
     let after = zero(alloc, FaultKind::StringUnended, e, after)?;
-    let _text = text(alloc, e - rest.len() as u64, front)?;
+    let _text = text(alloc, e - rest.len() as u64, prefix)?;
     Ok(after)
 }
 
 /// The bytes after binary. Subtype 02 counts all of its data but the first four once more.
-#[tactic(auto, unfolding(crate::specs::FirstFault::past_binary))]
-pub fn binary(alloc: Global, e: u64, bytes: &[u8]) -> Past<'_>
+#[tactic(auto, unfolding(crate::specs::FirstFault::skip_binary))]
+pub fn binary(alloc: Global, e: u64, bytes: &[u8]) -> Skipped<'_>
     requires { length bytes.now ≤ e }
-    ensures gives { GivesItem (λ x. x.now) result (past_binary e bytes.now) }
+    ensures gives { GivesItem (λ x. x.now) result (skip_binary e bytes.now) }
     ensures after { IfOk result (λ x. length x.now ≤ length bytes.now) }
 {
     let at = e - bytes.len() as u64;
@@ -103,9 +103,9 @@ pub fn binary(alloc: Global, e: u64, bytes: &[u8]) -> Past<'_>
 }
 
 /// The bytes after a regular expression.
-pub fn regex(alloc: Global, e: u64, bytes: &[u8]) -> Past<'_>
+pub fn regex(alloc: Global, e: u64, bytes: &[u8]) -> Skipped<'_>
     requires { length bytes.now ≤ e }
-    ensures gives { GivesItem (λ x. x.now) result (past_regex e bytes.now) }
+    ensures gives { GivesItem (λ x. x.now) result (skip_regex e bytes.now) }
     ensures after { IfOk result (λ x. length x.now ≤ length bytes.now) }
 {
     let (_pattern, rest) = name(alloc, FaultKind::StringUnended, e, bytes)?;
@@ -115,25 +115,25 @@ pub fn regex(alloc: Global, e: u64, bytes: &[u8]) -> Past<'_>
 
 /// The text up to the first zero, and the bytes after that zero. `unended` is the fault where there is no zero.
 #[inline(always)]
-#[tactic(auto, unfolding(crate::specs::FirstFault::past_name))]
+#[tactic(auto, unfolding(crate::specs::FirstFault::skip_name))]
 pub fn name(alloc: Global, unended: FaultKind, e: u64, bytes: &[u8]) -> Result<(&str, &[u8]), Stop>
     requires { length bytes.now ≤ e }
-    ensures gives { GivesItem (λ x. (x.0.now, x.1.now)) result (past_name unended e bytes.now) }
+    ensures gives { GivesItem (λ x. (x.0.now, x.1.now)) result (skip_name unended e bytes.now) }
     ensures after { IfOk result (λ x. length x.1.now < length bytes.now) }
 {
     let at = e - bytes.len() as u64;
     let Some(k) = raw::first_zero(bytes) else {
         return Err(fault_at(alloc, unended, at));
     };
-    let (front, _) = bytes.split_at(k);
+    let (prefix, _) = bytes.split_at(k);
     let (_, rest) = bytes.split_at(k + 1);
-    Ok((text(alloc, at, front)?, rest))
+    Ok((text(alloc, at, prefix)?, rest))
 }
 
 /// The bytes after a boolean.
-pub fn boolean(alloc: Global, e: u64, bytes: &[u8]) -> Past<'_>
+pub fn boolean(alloc: Global, e: u64, bytes: &[u8]) -> Skipped<'_>
     requires { length bytes.now ≤ e }
-    ensures gives { GivesItem (λ x. x.now) result (past_boolean e bytes.now) }
+    ensures gives { GivesItem (λ x. x.now) result (skip_boolean e bytes.now) }
     ensures after { IfOk result (λ x. length x.now ≤ length bytes.now) }
 {
     match bytes {
@@ -144,9 +144,9 @@ pub fn boolean(alloc: Global, e: u64, bytes: &[u8]) -> Past<'_>
 }
 
 /// The bytes after `n` bytes.
-pub fn fixed(alloc: Global, n: usize, e: u64, bytes: &[u8]) -> Past<'_>
+pub fn fixed(alloc: Global, n: usize, e: u64, bytes: &[u8]) -> Skipped<'_>
     requires { length bytes.now ≤ e }
-    ensures gives { GivesItem (λ x. x.now) result (past_fixed n e bytes.now) }
+    ensures gives { GivesItem (λ x. x.now) result (skip_fixed n e bytes.now) }
     ensures after { IfOk result (λ x. length x.now ≤ length bytes.now) }
 {
     if bytes.len() < n {
@@ -159,7 +159,7 @@ pub fn fixed(alloc: Global, n: usize, e: u64, bytes: &[u8]) -> Past<'_>
 /// A number of four bytes, and the bytes after it.
 pub fn number(alloc: Global, short: FaultKind, e: u64, bytes: &[u8]) -> Result<(u32, &[u8]), Stop>
     requires { length bytes.now ≤ e }
-    ensures gives { GivesItem (λ x. (x.0, x.1.now)) result (past_number short e bytes.now) }
+    ensures gives { GivesItem (λ x. (x.0, x.1.now)) result (skip_number short e bytes.now) }
     ensures after { IfOk result (λ x. length x.1.now + 4 ≡ length bytes.now) }
 {
     if bytes.len() < 4 {
@@ -170,9 +170,9 @@ pub fn number(alloc: Global, short: FaultKind, e: u64, bytes: &[u8]) -> Result<(
 }
 
 /// The bytes after a zero.
-fn zero(alloc: Global, kind: FaultKind, e: u64, bytes: &[u8]) -> Past<'_>
+fn zero(alloc: Global, kind: FaultKind, e: u64, bytes: &[u8]) -> Skipped<'_>
     requires { length bytes.now ≤ e }
-    ensures gives { GivesItem (λ x. x.now) result (past_zero kind e bytes.now) }
+    ensures gives { GivesItem (λ x. x.now) result (skip_zero kind e bytes.now) }
     ensures after { IfOk result (λ x. length x.now + 1 ≡ length bytes.now) }
 {
     match bytes {
@@ -199,10 +199,10 @@ fn text(alloc: Global, at: u64, bytes: &[u8]) -> Result<&str, Stop>
 
 /// The bytes after such an element; none where it is another, or may have a fault.
 #[inline(always)]
-pub fn past_scalar(bytes: &[u8]) -> Option<&[u8]>
+pub fn skip_scalar(bytes: &[u8]) -> Option<&[u8]>
     requires { 0 < length bytes.now }
     ensures gives { IfSome result (λ x. (nested : Nested) (place : Option ℕ) (e : ℕ) →
-        past_element nested place e bytes.now ≡ Ok x.now) }
+        skip_element nested place e bytes.now ≡ Ok x.now) }
     ensures after { IfSome result (λ x. length x.now < length bytes.now) }
 {
     let (_, named) = bytes.split_at(1);
@@ -217,7 +217,7 @@ pub fn past_scalar(bytes: &[u8]) -> Option<&[u8]>
 #[inline(always)]
 fn after_value(kind: Kind, bytes: &[u8]) -> Option<&[u8]>
     ensures gives { IfSome result (λ x. (nested : Nested) (q e : ℕ) →
-        past_value nested kind q e bytes.now ≡ Ok x.now) }
+        skip_value nested kind q e bytes.now ≡ Ok x.now) }
     ensures after { IfSome result (λ x. length x.now ≤ length bytes.now) }
 {
     match kind {
@@ -236,9 +236,9 @@ fn after_value(kind: Kind, bytes: &[u8]) -> Option<&[u8]>
 
 /// The bytes after a string.
 #[inline(always)]
-#[tactic(auto, unfolding(crate::specs::FirstFault::past_string))]
+#[tactic(auto, unfolding(crate::specs::FirstFault::skip_string))]
 fn after_string(bytes: &[u8]) -> Option<&[u8]>
-    ensures gives { IfSome result (λ x. (e : ℕ) → past_string e bytes.now ≡ Ok x.now) }
+    ensures gives { IfSome result (λ x. (e : ℕ) → skip_string e bytes.now ≡ Ok x.now) }
     ensures after { IfSome result (λ x. length x.now ≤ length bytes.now) }
 {
     if bytes.len() < 4 {

@@ -3,35 +3,35 @@ use Rattle.std.proofs.Common.{◌≡◌, ◌≤◌, ◌<◌, ℕ, zero, suc, ◌
 use Rattle.std.proofs.Common.{append_assoc, append-nil, arith, inl, inr, slice_get}
 use Rattle.std.proofs.lemmas.{List.take-append-drop, List.length-drop, List.length-take, List.length-append, List.take_at, Option.slice_get-get_or}
 use Rattle.bd_value.specs.{Limits.longest_input, Tree.Tree, Tree.Doc, Tree.doc, Tree.fields_of, Tree.pairs_in, Tree.pairs_of-fields_of}
-use Rattle.bd_bson_check.specs.{Fault.Fault, Fault.TellsFault, Dump.AreJoined, Dump.IsDump, Dump.frame_fault, Dump.IsNext}
-use Rattle.bd_bson_view.specs.{Spelling.IsDocument, Sound.Sound, Sound.stands, Sound.stands_is, declared.raw.RawDoc.RawDoc}
-use Rattle.bd_bson_dump.specs.{Starts.StandAt, Starts.StandAt-prop, Starts.documents_starting_at, Collection.documents, Collection.IsUnread, declared.collection.Dump.Dump}
+use Rattle.bd_bson_check.specs.{Fault.Fault, Fault.ReportsFault, Dump.AreJoined, Dump.IsDump, Dump.frame_fault, Dump.IsNext}
+use Rattle.bd_bson_view.specs.{Spelling.IsDocument, Sound.Sound, Sound.meaning, Sound.meaning_is, declared.raw.RawDoc.RawDoc}
+use Rattle.bd_bson_dump.specs.{Starts.AreAt, Starts.AreAt-prop, Starts.documents_starting_at, Collection.documents, Collection.IsUnread, declared.collection.Dump.Dump}
 use Rattle.bd_bson_view.proofs.ValueAtLemmas.{reads_at}
 use Rattle.bd_bson_check.proofs.DumpLemmas.{joined_append, joined_one, document_frame, frame_inside}
 use Rattle.bd_value.specs.declared.node.Kind.TheVariants as kinds
-use Rattle.bd_bson_check.specs.declared.fault.Fault as told
+use Rattle.bd_bson_check.specs.declared.fault.Fault as reported
 
 -- ---- the documents at some starts
 
-abbrev document_sound : (bytes : List ℕ) (at : ℕ) (d : Doc) (front rest : List ℕ) → IsDocument d front → drop at bytes ≡ front ++ rest → Sound kinds.Doc (drop at bytes)
-document_sound bytes at d front rest is cut = record { tree = doc (fields_of d); begins = record { value = front; after = rest; spells = is.spells; typed = refl; cut = cut; short = is.short } }
+abbrev document_sound : (bytes : List ℕ) (at : ℕ) (d : Doc) (prefix rest : List ℕ) → IsDocument d prefix → drop at bytes ≡ prefix ++ rest → Sound kinds.Doc (drop at bytes)
+document_sound bytes at d prefix rest is splits = record { tree = doc (fields_of d); begins = record { value = prefix; after = rest; spells = is.spells; typed = refl; splits = splits; short = is.short } }
 
-document_there : (bytes : List ℕ) (at : ℕ) (d : Doc) (front rest : List ℕ) (is : IsDocument d front) (cut : drop at bytes ≡ front ++ rest)
-    (s : Sound kinds.Doc (drop at bytes)) → pairs_in (stands s) ≡ d
-document_there bytes at d front rest is cut s = ap pairs_in (stands_is s (document_sound bytes at d front rest is cut)) ∙ pairs_of-fields_of d
+document_there : (bytes : List ℕ) (at : ℕ) (d : Doc) (prefix rest : List ℕ) (is : IsDocument d prefix) (splits : drop at bytes ≡ prefix ++ rest)
+    (s : Sound kinds.Doc (drop at bytes)) → pairs_in (meaning s) ≡ d
+document_there bytes at d prefix rest is splits s = ap pairs_in (meaning_is s (document_sound bytes at d prefix rest is splits)) ∙ pairs_of-fields_of d
 
 -- one more start
-stand_more : (bytes starts : List ℕ) (at : ℕ) → StandAt bytes starts → Sound kinds.Doc (drop at bytes) → StandAt bytes (starts ++ at ∷ [])
-stand_more bytes [] at all s = (s, tt)
-stand_more bytes (t ∷ ts) at all s = (all.0, stand_more bytes ts at all.1 s)
+are_at_more : (bytes starts : List ℕ) (at : ℕ) → AreAt bytes starts → Sound kinds.Doc (drop at bytes) → AreAt bytes (starts ++ at ∷ [])
+are_at_more bytes [] at all s = (s, tt)
+are_at_more bytes (t ∷ ts) at all s = (all.0, are_at_more bytes ts at all.1 s)
 
-documents_more : (bytes starts : List ℕ) (at : ℕ) (all : StandAt bytes starts) (s : Sound kinds.Doc (drop at bytes))
-    → documents_starting_at bytes (starts ++ at ∷ []) (stand_more bytes starts at all s) ≡ documents_starting_at bytes starts all ++ pairs_in (stands s) ∷ []
-unfolding stand_more
+documents_more : (bytes starts : List ℕ) (at : ℕ) (all : AreAt bytes starts) (s : Sound kinds.Doc (drop at bytes))
+    → documents_starting_at bytes (starts ++ at ∷ []) (are_at_more bytes starts at all s) ≡ documents_starting_at bytes starts all ++ pairs_in (meaning s) ∷ []
+unfolding are_at_more
 documents_more bytes [] at all s = refl
-documents_more bytes (t ∷ ts) at all s = ap (λ (ds : List Doc). pairs_in (stands all.0) ∷ ds) (documents_more bytes ts at all.1 s)
+documents_more bytes (t ∷ ts) at all s = ap (λ (ds : List Doc). pairs_in (meaning all.0) ∷ ds) (documents_more bytes ts at all.1 s)
 
-pub documents_count : (bytes starts : List ℕ) (all : StandAt bytes starts) → length (documents_starting_at bytes starts all) ≡ length starts
+pub documents_count : (bytes starts : List ℕ) (all : AreAt bytes starts) → length (documents_starting_at bytes starts all) ≡ length starts
 documents_count bytes [] all = refl
 documents_count bytes (s ∷ ss) all = ap suc (documents_count bytes ss all.1)
 
@@ -41,27 +41,27 @@ some d = Some d
 -- a dump has as many documents as starts
 pub documents_length : (dump : Dump) → length (documents dump) ≡ length dump.starts.items
 unfolding documents
-documents_length dump = documents_count dump.bytes.items dump.starts.items dump.stand
+documents_length dump = documents_count dump.bytes.items dump.starts.items dump.are_at
 
 -- the document of a number
-pub stands_there : (bytes starts : List ℕ) (all : StandAt bytes starts) (i start : ℕ) → slice_get starts i ≡ Some start → Sound kinds.Doc (drop start bytes)
-stands_there bytes [] all i start is = absurd cc
-stands_there bytes (s ∷ ss) all zero start is = let e : s ≡ start = cc in subst (λ (n : ℕ). Sound kinds.Doc (drop n bytes)) e all.0
-stands_there bytes (s ∷ ss) all (suc i) start is = stands_there bytes ss all.1 i start is
+pub means_there : (bytes starts : List ℕ) (all : AreAt bytes starts) (i start : ℕ) → slice_get starts i ≡ Some start → Sound kinds.Doc (drop start bytes)
+means_there bytes [] all i start is = absurd cc
+means_there bytes (s ∷ ss) all zero start is = let e : s ≡ start = cc in subst (λ (n : ℕ). Sound kinds.Doc (drop n bytes)) e all.0
+means_there bytes (s ∷ ss) all (suc i) start is = means_there bytes ss all.1 i start is
 
-document_in : (bytes starts : List ℕ) (all : StandAt bytes starts) (i start : ℕ) (g : Sound kinds.Doc (drop start bytes))
-    → slice_get starts i ≡ Some start → slice_get (documents_starting_at bytes starts all) i ≡ Some (pairs_in (stands g))
+document_in : (bytes starts : List ℕ) (all : AreAt bytes starts) (i start : ℕ) (g : Sound kinds.Doc (drop start bytes))
+    → slice_get starts i ≡ Some start → slice_get (documents_starting_at bytes starts all) i ≡ Some (pairs_in (meaning g))
 document_in bytes [] all i start g is = absurd cc
 document_in bytes (s ∷ ss) all zero start g is =
     let e : s ≡ start = cc in
-    subst (λ (n : ℕ). (y : Sound kinds.Doc (drop n bytes)) → some (pairs_in (stands all.0)) ≡ some (pairs_in (stands y))) e
-    (λ y. ap (λ (t : Tree). some (pairs_in t)) (stands_is all.0 y ∙ sym (stands_is y y))) g
+    subst (λ (n : ℕ). (y : Sound kinds.Doc (drop n bytes)) → some (pairs_in (meaning all.0)) ≡ some (pairs_in (meaning y))) e
+    (λ y. ap (λ (t : Tree). some (pairs_in t)) (meaning_is all.0 y ∙ sym (meaning_is y y))) g
 document_in bytes (s ∷ ss) all (suc i) start g is = document_in bytes ss all.1 i start g is
 
-pub document_of : (bytes starts : List ℕ) (all : StandAt bytes starts) (i start : ℕ) (here : List ℕ) (g : Sound kinds.Doc (drop start here))
-    → slice_get starts i ≡ Some start → bytes ≡ here → slice_get (documents_starting_at bytes starts all) i ≡ Some (pairs_in (stands g))
+pub document_of : (bytes starts : List ℕ) (all : AreAt bytes starts) (i start : ℕ) (here : List ℕ) (g : Sound kinds.Doc (drop start here))
+    → slice_get starts i ≡ Some start → bytes ≡ here → slice_get (documents_starting_at bytes starts all) i ≡ Some (pairs_in (meaning g))
 document_of bytes starts all i start here g is same =
-    subst (λ (x : List ℕ). (y : Sound kinds.Doc (drop start x)) → slice_get (documents_starting_at bytes starts all) i ≡ Some (pairs_in (stands y)))
+    subst (λ (x : List ℕ). (y : Sound kinds.Doc (drop start x)) → slice_get (documents_starting_at bytes starts all) i ≡ Some (pairs_in (meaning y)))
     same (λ y. document_in bytes starts all i start y is) g
 
 pub start_at : (starts : List ℕ) (n start : ℕ) → n < length starts → start ≡ get_or starts n start → slice_get starts n ≡ Some start
@@ -69,7 +69,7 @@ start_at starts n start lt is = slice_get-get_or starts n start lt ∙ ap (λ (s
 
 pub start_inside : (bytes : List ℕ) (start : ℕ) → Sound kinds.Doc (drop start bytes) → start ≤ length bytes
 start_inside bytes start s =
-    let l = ap (λ (x : List ℕ). length x) s.begins.cut in
+    let l = ap (λ (x : List ℕ). length x) s.begins.splits in
     let a = length-append s.begins.value s.begins.after in
     let d = length-drop start bytes in
     let r = reads_at kinds.Doc (drop start bytes) s in
@@ -77,7 +77,7 @@ start_inside bytes start s =
 
 -- what the loop keeps: the documents at the starts are those of the bytes up to the place
 abbrev Collected : (bytes starts : List ℕ) → ℕ → Type 0
-Collected bytes starts at = (all : StandAt bytes starts) × AreJoined (documents_starting_at bytes starts all) (take at bytes)
+Collected bytes starts at = (all : AreAt bytes starts) × AreJoined (documents_starting_at bytes starts all) (take at bytes)
 
 pub record SoFar (bytes starts : List ℕ) (at : ℕ) : Type 0 where
   pub collected : Collected bytes starts at
@@ -92,56 +92,56 @@ module _ (bytes : List ℕ) where
     few = rw is (omega arith);
   }
 
-  taken_more : (front : List ℕ) (at after : ℕ) → at ≤ length bytes → after ≤ length bytes → drop at bytes ≡ front ++ drop after bytes
-      → at + length front ≡ after → take after bytes ≡ take at bytes ++ front
-  taken_more front at after le in_bytes cut size =
-      let whole : bytes ≡ (take at bytes ++ front) ++ drop after bytes = sym (take-append-drop at bytes) ∙ ap (λ x. take at bytes ++ x) cut
-      ∙ sym (append_assoc (take at bytes) front (drop after bytes)) in
-      ap (take after) whole ∙ take_at (take at bytes ++ front) (drop after bytes) after (omega (arith, length-append (take at bytes) front, length-take at bytes))
+  taken_more : (prefix : List ℕ) (at after : ℕ) → at ≤ length bytes → after ≤ length bytes → drop at bytes ≡ prefix ++ drop after bytes
+      → at + length prefix ≡ after → take after bytes ≡ take at bytes ++ prefix
+  taken_more prefix at after le in_bytes splits size =
+      let whole : bytes ≡ (take at bytes ++ prefix) ++ drop after bytes = sym (take-append-drop at bytes) ∙ ap (λ x. take at bytes ++ x) splits
+      ∙ sym (append_assoc (take at bytes) prefix (drop after bytes)) in
+      ap (take after) whole ∙ take_at (take at bytes ++ prefix) (drop after bytes) after (omega (arith, length-append (take at bytes) prefix, length-take at bytes))
 
-  front_size : (d : Doc) (front : List ℕ) → IsDocument d front → 5 ≤ length front
-  front_size d front is = (frame_inside (front ++ []) (length front) (document_frame d front [] is)).0
+  prefix_size : (d : Doc) (prefix : List ℕ) → IsDocument d prefix → 5 ≤ length prefix
+  prefix_size d prefix is = (frame_inside (prefix ++ []) (length prefix) (document_frame d prefix [] is)).0
 
   pub goes_on : (starts more : List ℕ) (at after : ℕ) (raw : RawDoc) → SoFar bytes starts at → IsNext bytes at (Some (raw, after)) → more ≡ starts ++ at ∷ [] → SoFar bytes more after
   goes_on starts more at after raw s next is =
-      let d = pairs_in (stands raw.sound) in
-      let size = front_size (pairs_in (stands raw.sound)) next.0 next.1 in
-      let here = document_sound bytes at (pairs_in (stands raw.sound)) next.0 (drop after bytes) next.1 next.2 in
+      let d = pairs_in (meaning raw.sound) in
+      let size = prefix_size (pairs_in (meaning raw.sound)) next.0 next.1 in
+      let here = document_sound bytes at (pairs_in (meaning raw.sound)) next.0 (drop after bytes) next.1 next.2 in
       let all = s.collected.0 in
-      let same : documents_starting_at bytes (starts ++ at ∷ []) (stand_more bytes starts at s.collected.0 here)
-      ≡ documents_starting_at bytes starts s.collected.0 ++ pairs_in (stands raw.sound) ∷ [] =
+      let same : documents_starting_at bytes (starts ++ at ∷ []) (are_at_more bytes starts at s.collected.0 here)
+      ≡ documents_starting_at bytes starts s.collected.0 ++ pairs_in (meaning raw.sound) ∷ [] =
       documents_more bytes starts at s.collected.0 here ∙ ap (λ (x : Doc). documents_starting_at bytes starts s.collected.0 ++ x ∷ [])
-      (document_there bytes at (pairs_in (stands raw.sound)) next.0 (drop after bytes) next.1 next.2 here) in
-      let joined : AreJoined (documents_starting_at bytes starts s.collected.0 ++ pairs_in (stands raw.sound) ∷ []) (take after bytes) =
-      subst (AreJoined (documents_starting_at bytes starts s.collected.0 ++ pairs_in (stands raw.sound) ∷ []))
+      (document_there bytes at (pairs_in (meaning raw.sound)) next.0 (drop after bytes) next.1 next.2 here) in
+      let joined : AreJoined (documents_starting_at bytes starts s.collected.0 ++ pairs_in (meaning raw.sound) ∷ []) (take after bytes) =
+      subst (AreJoined (documents_starting_at bytes starts s.collected.0 ++ pairs_in (meaning raw.sound) ∷ []))
       (sym (taken_more next.0 at after s.inside next.4 next.2 next.3))
-      (joined_append (documents_starting_at bytes starts s.collected.0) (pairs_in (stands raw.sound) ∷ []) (take at bytes) next.0 s.collected.1
-      (joined_one (pairs_in (stands raw.sound)) next.0 next.1)) in
+      (joined_append (documents_starting_at bytes starts s.collected.0) (pairs_in (meaning raw.sound) ∷ []) (take at bytes) next.0 s.collected.1
+      (joined_one (pairs_in (meaning raw.sound)) next.0 next.1)) in
       record {
         collected = subst (λ (ss : List ℕ). Collected bytes ss after) (sym is)
-            (stand_more bytes starts at s.collected.0 here, subst (λ (ds : List Doc). AreJoined ds (take after bytes)) (sym same) joined);
+            (are_at_more bytes starts at s.collected.0 here, subst (λ (ds : List Doc). AreJoined ds (take after bytes)) (sym same) joined);
         inside = next.4;
         few = let f = s.few in let n = next.3 in omega (arith, length-append starts (at ∷ []), ap (λ (ss : List ℕ). length ss) is);
       }
 
   pub later : (at after : ℕ) (raw : RawDoc) → IsNext bytes at (Some (raw, after)) → at + 5 ≤ after
-  later at after raw next = let size = front_size (pairs_in (stands raw.sound)) next.0 next.1 in let n = next.3 in omega arith
+  later at after raw next = let size = prefix_size (pairs_in (meaning raw.sound)) next.0 next.1 in let n = next.3 in omega arith
 
-  pub ended : (starts : List ℕ) (at : ℕ) → SoFar bytes starts at → drop at bytes ≡ [] → length bytes ≤ longest_input → (all : StandAt bytes starts)
+  pub ended : (starts : List ℕ) (at : ℕ) → SoFar bytes starts at → drop at bytes ≡ [] → length bytes ≤ longest_input → (all : AreAt bytes starts)
       × IsDump (documents_starting_at bytes starts all) bytes
   ended starts at s is short =
       let e : take at bytes ≡ bytes = sym (append-nil (take at bytes)) ∙ ap (λ x. take at bytes ++ x) (sym is) ∙ take-append-drop at bytes in
       (s.collected.0, (subst (AreJoined (documents_starting_at bytes starts s.collected.0)) e s.collected.1, short))
 
-  pub failed : (starts : List ℕ) (at number : ℕ) (e : told.Fault) → SoFar bytes starts at → number ≡ length starts → length bytes ≤ longest_input
-      → TellsFault number (frame_fault at (drop at bytes)) e → IsUnread bytes e
-  failed starts at number e s count short tells = fails_as (frame_fault at (drop at bytes)) refl tells
+  pub failed : (starts : List ℕ) (at number : ℕ) (e : reported.Fault) → SoFar bytes starts at → number ≡ length starts → length bytes ≤ longest_input
+      → ReportsFault number (frame_fault at (drop at bytes)) e → IsUnread bytes e
+  failed starts at number e s count short reports = fails_as (frame_fault at (drop at bytes)) refl reports
     where
       size : length (take at bytes) ≡ at
       size = let i = s.inside in omega (arith, length-take at bytes)
 
-      fails_as : (o : Option Fault) → frame_fault at (drop at bytes) ≡ o → TellsFault number o e → IsUnread bytes e
-      fails_as None is told = inr (short, inl told)
+      fails_as : (o : Option Fault) → frame_fault at (drop at bytes) ≡ o → ReportsFault number o e → IsUnread bytes e
+      fails_as None is reported = inr (short, inl reported)
       fails_as (Some f) is (inl want) = inr (short, inl want)
       fails_as (Some f) is (inr h) = inr (
         short,
@@ -153,11 +153,11 @@ module _ (bytes : List ℕ) where
       )
 
 -- the documents do not depend on how it is known that they stand there
-pub same_documents : (bytes starts : List ℕ) (all other : StandAt bytes starts) → documents_starting_at bytes starts all ≡ documents_starting_at bytes starts other
-same_documents bytes starts all other = ap (documents_starting_at bytes starts) (StandAt-prop bytes starts all other)
+pub same_documents : (bytes starts : List ℕ) (all other : AreAt bytes starts) → documents_starting_at bytes starts all ≡ documents_starting_at bytes starts other
+same_documents bytes starts all other = ap (documents_starting_at bytes starts) (AreAt-prop bytes starts all other)
 
-pub dump_is : (bytes here starts : List ℕ) (all : StandAt bytes starts) → here ≡ bytes → (h : StandAt here starts)
+pub dump_is : (bytes here starts : List ℕ) (all : AreAt bytes starts) → here ≡ bytes → (h : AreAt here starts)
     × IsDump (documents_starting_at here starts h) here → IsDump (documents_starting_at bytes starts all) bytes
 dump_is bytes here starts all same found =
-    let f = subst (λ (x : List ℕ). (h : StandAt x starts) × IsDump (documents_starting_at x starts h) x) same found in
+    let f = subst (λ (x : List ℕ). (h : AreAt x starts) × IsDump (documents_starting_at x starts h) x) same found in
     subst (λ (ds : List Doc). IsDump ds bytes) (same_documents bytes starts f.0 all) f.1

@@ -1,2 +1,2 @@
 pub mod CollectionLemmas
-pub mod VerdictLemmas
+pub mod CheckResultLemmas

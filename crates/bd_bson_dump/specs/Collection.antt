@@ -8,7 +8,7 @@ use Rattle.bd_bson_dump.specs.{Starts.documents_starting_at, declared.collection
 
 -- the documents of a dump in memory, in file order
 unfoldable pub documents : Dump → List Doc
-documents dump = documents_starting_at dump.bytes.items dump.starts.items dump.stand
+documents dump = documents_starting_at dump.bytes.items dump.starts.items dump.are_at
 
 -- the bytes that a dump in memory was read from
 abbrev pub bytes_of : Dump → List ℕ

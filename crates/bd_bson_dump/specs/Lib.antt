@@ -1,3 +1,3 @@
 pub mod Collection
 pub mod Starts
-pub mod Verdicts
+pub mod CheckResults

@@ -4,7 +4,7 @@ ghost use Rattle.std.specs.Prelude.{◌≡◌, ◌≤◌, length, IfOk, IfErr, S
 ghost use Rattle.bd_value.specs.Limits.{longest_input};
 ghost use Rattle.bd_bson_check.specs.Dump.{IsDump};
 ghost use Rattle.bd_bson_dump.specs.Collection.{documents, bytes_of, IsUnread};
-ghost use Rattle.bd_bson_dump.specs.Starts.{StandAt, documents_starting_at};
+ghost use Rattle.bd_bson_dump.specs.Starts.{AreAt, documents_starting_at};
 
 use crate::collection::Dump;
 use bd_bson_check::{Fault, FaultKind, frame_fault, next_document, want_of_memory};
@@ -40,9 +40,9 @@ pub fn read_dump(alloc: Global, bytes: Vec<u8>) -> Result<Dump, Fault>
 /// Where the documents start that bytes which are not too many are a dump of.
 fn starts_in(alloc: Global, bytes: &[u8]) -> Result<Vec<u32>, Fault>
     requires { length bytes.now ≤ longest_input }
-    ensures dump { IfOk result (λ starts. (all : StandAt bytes.now starts.items)
+    ensures dump { IfOk result (λ starts. (all : AreAt bytes.now starts.items)
         × IsDump (documents_starting_at bytes.now starts.items all) bytes.now) }
-    ensures few { IfOk result (λ starts. length starts.items ≤ length bytes.now) }
+    ensures within_limit { IfOk result (λ starts. length starts.items ≤ length bytes.now) }
     ensures fault { IfErr result (IsUnread bytes.now) }
 {
     let mut starts = Vec::new(alloc);

@@ -3,8 +3,8 @@
 ghost use Rattle.std.specs.Prelude.{◌≡◌, ◌≤◌, ◌<◌, Some, length, slice_get};
 ghost use Rattle.bd_value.specs.Limits.{longest_input};
 ghost use Rattle.bd_value.specs.Tree.{Tree, pairs_in};
-ghost use Rattle.bd_bson_view.specs.Sound.{StandsAt, IsPlace, stands};
-ghost use Rattle.bd_bson_dump.specs.Starts.{StandAt, StandAt-prop};
+ghost use Rattle.bd_bson_view.specs.Sound.{IsAt, IsPlace, meaning};
+ghost use Rattle.bd_bson_dump.specs.Starts.{AreAt, AreAt-prop};
 
 use bd_bson_view::{At, RawDoc, RawValue};
 use std::cell::Cell;
@@ -19,9 +19,9 @@ pub struct Dump {
     pub(crate) reads: Cell<u64>,
     /// How often a value was asked for by where it stands.
     pub(crate) value_reads: Cell<u64>,
-    ghost few: { length starts.items ≤ longest_input },
+    ghost within_limit: { length starts.items ≤ longest_input },
     ghost short: { length bytes.items ≤ longest_input },
-    ghost stand: { StandAt bytes.items starts.items } by { StandAt-prop bytes.items starts.items },
+    ghost are_at: { AreAt bytes.items starts.items } by { AreAt-prop bytes.items starts.items },
 }
 
 impl Dump {
@@ -38,8 +38,8 @@ impl Dump {
     pub fn document(&self, n: u32) -> RawDoc<'_>
         requires { n < length (documents self.now) }
         ensures document { slice_get (documents self.now) n
-            ≡ Some (pairs_in (stands result.sound)) }
-        ensures kept { result.bytes.now ≡ bytes_of self.now }
+            ≡ Some (pairs_in (meaning result.sound)) }
+        ensures same_source { result.bytes.now ≡ bytes_of self.now }
     {
         self.reads.set(self.reads.get().saturating_add(1));
         RawDoc::at(&self.bytes, self.starts[n as usize] as usize)
@@ -50,8 +50,8 @@ impl Dump {
     pub fn value_at(&self, at: At) -> RawValue<'_>
         requires { IsPlace (bytes_of self.now) at }
         ensures value { (tree : Tree) →
-            StandsAt (bytes_of self.now) at tree → stands result.sound ≡ tree }
-        ensures kept { result.bytes.now ≡ bytes_of self.now }
+            IsAt (bytes_of self.now) at tree → meaning result.sound ≡ tree }
+        ensures same_source { result.bytes.now ≡ bytes_of self.now }
     {
         self.value_reads
             .set(self.value_reads.get().saturating_add(1));

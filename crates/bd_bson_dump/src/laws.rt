@@ -5,26 +5,27 @@ ghost use Rattle.std.specs.List.{AllByRecursion};
 ghost use Rattle.bd_value.specs.Tree.{Doc};
 ghost use Rattle.bd_bson_check.specs.Fault.{Fault as FaultView};
 ghost use Rattle.bd_bson_check.specs.FirstFault.{first_fault};
-ghost use Rattle.bd_bson_check.specs.Dump.{AreJoined, IsWalk, frame_length};
+ghost use Rattle.bd_bson_check.specs.Dump.{AreJoined, IsDumpScan, frame_length};
 ghost use Rattle.bd_bson_check.specs.declared.fault.FaultKind.{FaultKind as Kind};
-ghost use Rattle.bd_bson_dump.specs.Verdicts.{BeginAs, verdicts, verdicts_at};
+ghost use Rattle.bd_bson_dump.specs.CheckResults.{BeginAs, check_results, check_results_at};
 
 /// Documents are judged in turn, each by the bytes that its length counts, whatever was found before it. The end of the
 /// bytes is the end, and so is a fault of a length itself.
-pub fn judges_in_turn()
-    ensures end { (base : ℕ) → verdicts_at base [] ≡ [] }
+pub fn checks_in_turn()
+    ensures end { (base : ℕ) → check_results_at base [] ≡ [] }
     ensures turn { (base n : ℕ) (bytes : List ℕ) →
-        frame_length bytes ≡ Ok (Some n) → verdicts_at base bytes
-        ≡ first_fault base (take n bytes) ∷ verdicts_at (base + n) (drop n bytes) }
+        frame_length bytes ≡ Ok (Some n) → check_results_at base bytes
+        ≡ first_fault base (take n bytes) ∷ check_results_at (base + n) (drop n bytes) }
     ensures last { (base : ℕ) (bytes : List ℕ) (kind : Kind) → frame_length bytes ≡ Err kind →
-        verdicts_at base bytes ≡ Some (record { kind = kind; offset = base; path = [] }) ∷ [] }
+        check_results_at base bytes ≡ Some (record { kind = kind; offset = base; path = [] }) ∷ [] }
 {}
 
 /// The first document that is found to have a fault is the one at which a walk ends, and its fault is the walk's. So bytes
 /// are documents joined exactly where no document is found to have a fault.
-pub fn judges_as_the_walk()
+pub fn checks_as_the_scan()
     ensures begin { (ds : List Doc) (end : Option FaultView) (bytes : List ℕ) →
-        IsWalk ds end bytes → BeginAs ds end (verdicts bytes) }
+        IsDumpScan ds end bytes → BeginAs ds end (check_results bytes) }
     ensures whole { (bytes : List ℕ) → ((i : ℕ) → slice_index bytes i < 256) →
-        AllByRecursion (λ v. v ≡ None) (verdicts bytes) → (ds : List Doc) × AreJoined ds bytes }
+        AllByRecursion (λ v. v ≡ None) (check_results bytes) →
+        (ds : List Doc) × AreJoined ds bytes }
 {}

@@ -21,4 +21,4 @@ mod laws;
 
 pub use collecting::read_dump;
 pub use collection::Dump;
-pub use laws::{judges_as_the_walk, judges_in_turn};
+pub use laws::{checks_as_the_scan, checks_in_turn};

@@ -5,7 +5,7 @@ use Rattle.std.specs.Io.KnownBytes.{Consumes, IsAtEnd}
 use Rattle.bd_value.specs.Limits.{longest_document}
 use Rattle.bd_io_device.specs.{Devices.after_more, Devices.AreReads, Devices.Over, Devices.Reader, Devices.ReadsUntil, Devices.over}
 use Rattle.bd_io_device.specs.declared.reading.{Limits.Limits, ReadFault.ReadFault}
-use Rattle.bd_bson_check.specs.{Dump.frame_length, Dump.length_told, declared.fault.FaultKind.FaultKind}
+use Rattle.bd_bson_check.specs.{Dump.frame_length, Dump.stated_length, declared.fault.FaultKind.FaultKind}
 use Rattle.bd_bson_stream.specs.declared.{doc_buffer.DocBuffer.DocBuffer, doc_buffer.DocFault.DocFault}
 use Rattle.bd_bson_stream.specs.declared.{doc_reader.DocReader.DocReader, doc_reader.RawBytes.RawBytes}
 
@@ -19,30 +19,30 @@ AreFrames [] bytes = bytes ≡ []
 AreFrames (frame ∷ frames) bytes = (rest : List ℕ) × IsFrame frame × AreFrames frames rest × (bytes ≡ frame ++ rest)
 
 -- The bytes are fewer than a document: fewer than four, or fewer than a length that could be one says.
-abbrev pub IsCut : List ℕ → Type 0
-IsCut bytes = (length bytes < 4)
-    ⊎ ((5 ≤ length_told bytes) × (length_told bytes ≤ longest_document) × (length bytes < length_told bytes))
+abbrev pub IsCutShort : List ℕ → Type 0
+IsCutShort bytes = (length bytes < 4)
+    ⊎ ((5 ≤ stated_length bytes) × (stated_length bytes ≤ longest_document) × (length bytes < stated_length bytes))
 
 -- The bytes do not go past one document: at most four, or no more than a length that could be one says.
 abbrev pub IsWithinOne : List ℕ → Type 0
 IsWithinOne bytes = (length bytes ≤ 4)
-    ⊎ ((5 ≤ length_told bytes) × (length_told bytes ≤ longest_document) × (length bytes ≤ length_told bytes))
+    ⊎ ((5 ≤ stated_length bytes) × (stated_length bytes ≤ longest_document) × (length bytes ≤ stated_length bytes))
 
 -- The bytes are documents by their lengths and a part of one more,
 -- and with the last ones they do not go past that one.
 abbrev pub EndsWithinOne : List ℕ → List ℕ → Type 0
-EndsWithinOne bytes last = (frames : List (List ℕ)) × (front : List ℕ) × (part : List ℕ) × AreFrames frames front
-    × (bytes ≡ front ++ part) × IsWithinOne (part ++ last)
+EndsWithinOne bytes last = (frames : List (List ℕ)) × (prefix : List ℕ) × (part : List ℕ) × AreFrames frames prefix
+    × (bytes ≡ prefix ++ part) × IsWithinOne (part ++ last)
 
 -- The head and what the device still gives after it (if that is unknown,
 -- some bytes) begin with no length of a document, for this reason.
 abbrev pub HasNoFrame : List ℕ → Option (List ℕ) → FaultKind → Type 0
-HasNoFrame head left kind = (bytes : List ℕ) × IfSome left (λ rest. bytes ≡ head ++ rest)
+HasNoFrame head remaining kind = (bytes : List ℕ) × IfSome remaining (λ rest. bytes ≡ head ++ rest)
     × (frame_length bytes ≡ Err kind)
 
 -- what the device may still be asked for
-abbrev pub limits_left : DocBuffer → Limits
-limits_left documents = documents.left
+abbrev pub limits_remaining : DocBuffer → Limits
+limits_remaining documents = documents.remaining
 
 -- the offset of the next document's first byte
 abbrev pub next_place : DocBuffer → ℕ
@@ -65,8 +65,8 @@ abbrev pub held_size : DocBuffer → ℕ
 held_size documents = documents.size
 
 -- the bytes of the document that the buffer holds
-abbrev pub held_bytes : DocBuffer → List ℕ
-held_bytes documents = take documents.size documents.buffer.items
+abbrev pub buffered_bytes : DocBuffer → List ℕ
+buffered_bytes documents = take documents.size documents.buffer.items
 
 -- the buffer is the same
 abbrev pub KeepsBuffer : DocBuffer → DocBuffer → Type 0
@@ -82,30 +82,30 @@ module _ {R : Type 0} where
   buffer_of reader = reader.documents
 
 -- the buffer is as long as it was, or as a document needs
-abbrev pub HoldsAsMuch : ℕ → ℕ → ℕ → Type 0
-HoldsAsMuch before after size = (after ≡ before) ⊎ ((before < size) × (after ≡ size))
+abbrev pub BuffersAsMuch : ℕ → ℕ → ℕ → Type 0
+BuffersAsMuch before after size = (after ≡ before) ⊎ ((before < size) × (after ≡ size))
 
 -- The buffer is as long as before, or it has grown to the length that these first bytes of a document say.
 abbrev pub GrowsFor : ℕ → ℕ → List ℕ → Type 0
-GrowsFor before after bytes = (after ≡ before) ⊎ ((4 ≤ length bytes) × HoldsAsMuch before after (length_told bytes))
+GrowsFor before after bytes = (after ≡ before) ⊎ ((4 ≤ length bytes) × BuffersAsMuch before after (stated_length bytes))
 
 -- Each read takes one from the reads that may still be made.
 abbrev pub CountsReads : DocBuffer → DocBuffer → Over Reader → Type 0
-CountsReads before after file = (after.left.turns ≤ before.left.turns)
-    × (file.after.calls ≡ after_more file.before.calls (before.left.turns - after.left.turns))
+CountsReads before after file = (after.remaining.turns ≤ before.remaining.turns)
+    × (file.after.calls ≡ after_more file.before.calls (before.remaining.turns - after.remaining.turns))
 
 -- No document is buffered, and the next one is still the same.
-pub record HoldsNone (before after : DocBuffer) : Type 0 where
+pub record BuffersNone (before after : DocBuffer) : Type 0 where
   pub offset : after.place ≡ before.place
   pub number : after.number ≡ before.number
-  pub room : after.left.bytes ≡ before.left.bytes
+  pub capacity : after.remaining.bytes ≡ before.remaining.bytes
   pub empty : after.size ≡ 0
 
 -- The reads after this head of a document: the end came inside it, or its four bytes are a bad length,
 -- after which nothing is read.
 abbrev pub ReadsToFault : {R : Type 0} → (R → Option (List ℕ) → R → Type 0) → List ℕ → R → List ℕ → R → Type 0
 ReadsToFault gives head old given new = (turns : ℕ)
-    × ((IsCut (head ++ given) × ReadsUntil gives turns old given (Some []) new)
+    × ((IsCutShort (head ++ given) × ReadsUntil gives turns old given (Some []) new)
     ⊎ ((length (head ++ given) ≡ 4) × AreReads gives turns old given new))
 
 -- For a reader in this state, whose read gives these bytes, or fails (None), and leaves the reader so.
@@ -113,51 +113,51 @@ module _ {R : Type 0} (state : R → Reader) where
   module _ (gives : R → Option (List ℕ) → R → Type 0) where
     -- There is no next document: one read found the end of the device.
     pub record FindsEnd (before after : DocBuffer) (old new : R) : Type 0 where
-      pub kept : HoldsNone before after
-      pub end : IsAtEnd (state new).left
-      pub gave : Consumes (state old).left (state new).left []
-      pub one : (before.left.turns ≡ suc after.left.turns) × gives old (Some []) new
+      pub unchanged : BuffersNone before after
+      pub end : IsAtEnd (state new).remaining
+      pub gave : Consumes (state old).remaining (state new).remaining []
+      pub one : (before.remaining.turns ≡ suc after.remaining.turns) × gives old (Some []) new
       pub counted : CountsReads before after (over state old new)
-      pub well : (state new).failures ≡ (state old).failures
+      pub no_failure : (state new).failures ≡ (state old).failures
       pub grown : length after.buffer.items ≡ length before.buffer.items
 
     -- The next document was read, and no byte after it.
     pub record ReadsDocument (before after : DocBuffer) (old new : R) : Type 0 where
-      pub frame : IsFrame (held_bytes after)
-      pub gave : Consumes (state old).left (state new).left (held_bytes after)
-      pub reads : AreReads gives (before.left.turns - after.left.turns) old (held_bytes after) new
+      pub frame : IsFrame (buffered_bytes after)
+      pub gave : Consumes (state old).remaining (state new).remaining (buffered_bytes after)
+      pub reads : AreReads gives (before.remaining.turns - after.remaining.turns) old (buffered_bytes after) new
       pub offset : after.place ≡ before.place + after.size
       pub number : after.number ≡ before.number + 1
-      pub room : after.left.bytes + after.size ≡ before.left.bytes
+      pub capacity : after.remaining.bytes + after.size ≡ before.remaining.bytes
       pub counted : CountsReads before after (over state old new)
-      pub well : (state new).failures ≡ (state old).failures
-      pub grown : HoldsAsMuch (length before.buffer.items) (length after.buffer.items) after.size
+      pub no_failure : (state new).failures ≡ (state old).failures
+      pub grown : BuffersAsMuch (length before.buffer.items) (length after.buffer.items) after.size
 
     -- why a document was not read, of which the reader gave these bytes after its head; memory is needed once the four
     -- bytes of its length were read, and none is read after them;
     -- of a bad length no byte is read past what it counts
     abbrev pub IsReason : DocBuffer → R → R → List ℕ → List ℕ → DocFault → Type 0
     IsReason before old new head given (DocFault.Frame f) =
-        (f.offset ≡ before.place) × (f.document ≡ before.number) × HasNoFrame head (state old).left f.kind
-        × (frame_length (head ++ given) ≡ Err f.kind) × (length (head ++ given) ≤ before.left.bytes)
+        (f.offset ≡ before.place) × (f.document ≡ before.number) × HasNoFrame head (state old).remaining f.kind
+        × (frame_length (head ++ given) ≡ Err f.kind) × (length (head ++ given) ≤ before.remaining.bytes)
         × ((state new).failures ≡ (state old).failures) × IsWithinOne (head ++ given)
         × ReadsToFault gives head old given new
     IsReason before old new head given (DocFault.Read ReadFault.Device) =
-        IsCut (head ++ given) × (length (head ++ given) ≤ before.left.bytes)
+        IsCutShort (head ++ given) × (length (head ++ given) ≤ before.remaining.bytes)
         × ((state new).failures ≡ after_more (state old).failures 1)
         × ((turns : ℕ) × ReadsUntil gives turns old given None new)
     IsReason before old new head given (DocFault.Read ReadFault.TooLong) =
-        (front : List ℕ) × (last : List ℕ) × (given ≡ front ++ last) × IsCut (head ++ front)
-        × (length (head ++ front) ≤ before.left.bytes) × (before.left.bytes < length (head ++ front) + length last)
+        (prefix : List ℕ) × (last : List ℕ) × (given ≡ prefix ++ last) × IsCutShort (head ++ prefix)
+        × (length (head ++ prefix) ≤ before.remaining.bytes) × (before.remaining.bytes < length (head ++ prefix) + length last)
         × IsWithinOne (head ++ given) × ((state new).failures ≡ (state old).failures)
-        × ((turns : ℕ) × ReadsUntil gives turns old front (Some last) new)
+        × ((turns : ℕ) × ReadsUntil gives turns old prefix (Some last) new)
     IsReason before old new head given (DocFault.Read ReadFault.TooManyTurns) =
-        IsCut (head ++ given) × (length (head ++ given) ≤ before.left.bytes)
-        × AreReads gives before.left.turns old given new
-        × ((state new).calls ≡ after_more (state old).calls before.left.turns)
+        IsCutShort (head ++ given) × (length (head ++ given) ≤ before.remaining.bytes)
+        × AreReads gives before.remaining.turns old given new
+        × ((state new).calls ≡ after_more (state old).calls before.remaining.turns)
         × ((state new).failures ≡ (state old).failures)
-    IsReason before old new head given (DocFault.Read ReadFault.NoMemory) = IsCut (head ++ given)
-        × (length (head ++ given) ≤ before.left.bytes) × ((state new).failures ≡ (state old).failures)
+    IsReason before old new head given (DocFault.Read ReadFault.NoMemory) = IsCutShort (head ++ given)
+        × (length (head ++ given) ≤ before.remaining.bytes) × ((state new).failures ≡ (state old).failures)
         × (length (head ++ given) ≡ 4) × ((turns : ℕ) × AreReads gives turns old given new)
     IsReason before old new head given DocFault.Failed = ⊥
 
@@ -165,9 +165,9 @@ module _ {R : Type 0} (state : R → Reader) where
     -- the reader gave only these bytes, for this reason.
     pub record FailsToRead (head : List ℕ) (before after : DocBuffer) (old new : R) (fault : DocFault) : Type 0 where
       pub given : List ℕ
-      pub gave : Consumes (state old).left (state new).left given
-      pub kept : HoldsNone before after
-      pub counted : (state new).calls ≤ after_more (state old).calls before.left.turns
+      pub gave : Consumes (state old).remaining (state new).remaining given
+      pub unchanged : BuffersNone before after
+      pub counted : (state new).calls ≤ after_more (state old).calls before.remaining.turns
       pub grown : GrowsFor (length before.buffer.items) (length after.buffer.items) (head ++ given)
       pub reason : IsReason before old new head given fault
 
@@ -175,8 +175,8 @@ module _ {R : Type 0} (state : R → Reader) where
     -- a document was read, there is none, or reading failed.
     abbrev pub Leaves : DocBuffer → R → Result (Option RawBytes) DocFault → DocBuffer → R → Type 0
     Leaves before old (Ok (Some document)) after new =
-        ReadsDocument before after old new × (document.bytes.now ≡ held_bytes after) × (after.failed ≡ false)
+        ReadsDocument before after old new × (document.bytes.now ≡ buffered_bytes after) × (after.failed ≡ false)
     Leaves before old (Ok None) after new = FindsEnd before after old new × (after.failed ≡ false)
     Leaves before old (Err fault) after new =
         IsTrue after.failed × (before.failed ≡ false → FailsToRead [] before after old new fault)
-        × (IsTrue before.failed → (new ≡ old) × HoldsNone before after × (after.buffer ≡ before.buffer))
+        × (IsTrue before.failed → (new ≡ old) × BuffersNone before after × (after.buffer ≡ before.buffer))

@@ -4,7 +4,7 @@ ghost use Rattle.std.specs.Prelude.{◌≡◌, ◌≤◌, ◌<◌, ◌+◌, ◌-
 ghost use Rattle.std.specs.Io.KnownBytes.{Consumes, prepend_known};
 ghost use Rattle.bd_value.specs.Limits.{longest_document, longest_input};
 ghost use Rattle.bd_io_device.specs.Devices.{AreReads, over};
-ghost use Rattle.bd_bson_check.specs.Dump.{length_told};
+ghost use Rattle.bd_bson_check.specs.Dump.{stated_length};
 ghost use Rattle.bd_bson_stream.specs.declared.doc_buffer.FrameFault.{FrameFault};
 ghost use Rattle.bd_bson_stream.specs.declared.doc_buffer.DocFault.TheVariants.{Frame as framed, Read as unread};
 
@@ -63,7 +63,7 @@ impl From<ReadFault> for DocFault {
 #[derive(Drop)]
 pub struct DocBuffer {
     /// What the device may still be asked for.
-    left: Limits,
+    remaining: Limits,
     buffer: Vec<u8>,
     /// The length of the document that is held.
     size: usize,
@@ -72,26 +72,26 @@ pub struct DocBuffer {
     /// The number of the next document.
     number: u32,
     failed: bool,
-    ghost held: { length buffer.items ≤ longest_document },
+    ghost within_limit: { length buffer.items ≤ longest_document },
     ghost inside: { size ≤ length buffer.items },
-    ghost short: { place + left.bytes ≤ longest_input },
+    ghost short: { place + remaining.bytes ≤ longest_input },
     ghost counted: { number * 5 ≤ place },
     ghost emptied: { failed ≡ true → size ≡ 0 },
 }
 
 impl DocBuffer {
-    ghost use Rattle.bd_bson_stream.specs.Stream.{CountsReads, FailsToRead, FindsEnd, HoldsAsMuch, HoldsNone, IsFrame, KeepsBuffer, ReadsDocument};
-    ghost use Rattle.bd_bson_stream.specs.Stream.{buffer_bytes, has_failed, held_bytes, held_size, limits_left, next_number, next_place};
+    ghost use Rattle.bd_bson_stream.specs.Stream.{CountsReads, FailsToRead, FindsEnd, BuffersAsMuch, BuffersNone, IsFrame, KeepsBuffer, ReadsDocument};
+    ghost use Rattle.bd_bson_stream.specs.Stream.{buffer_bytes, has_failed, buffered_bytes, held_size, limits_remaining, next_number, next_place};
 
     /// No document yet. No memory is taken. `limits.bytes` is at most 4,294,967,295.
     pub fn new(alloc: Global, limits: Limits) -> DocBuffer
         requires { limits.bytes ≤ longest_input }
-        ensures starts { (limits_left result ≡ limits)
+        ensures starts { (limits_remaining result ≡ limits)
             × (next_place result ≡ 0) × (next_number result ≡ 0) × (has_failed result ≡ false) }
         ensures empty { (held_size result ≡ 0) × (buffer_bytes result ≡ []) }
     {
         DocBuffer {
-            left: limits,
+            remaining: limits,
             buffer: Vec::new(alloc),
             size: 0,
             place: 0,
@@ -121,9 +121,9 @@ impl DocBuffer {
         // After a fault, and only then, the call is refused, and reads nothing.
         ensures refused { (result ≡ Err DocFault.Failed) ↔ IsTrue (has_failed self.old) }
         ensures failed { OnErr result (IsTrue (has_failed self.new)) }
-        ensures works { OnOk result (has_failed self.new ≡ false) }
-        ensures quiet { result ≡ Err DocFault.Failed → (reader.new ≡ reader.old)
-            × HoldsNone self.old self.new × KeepsBuffer self.old self.new }
+        ensures not_failed { OnOk result (has_failed self.new ≡ false) }
+        ensures no_read { result ≡ Err DocFault.Failed → (reader.new ≡ reader.old)
+            × BuffersNone self.old self.new × KeepsBuffer self.old self.new }
     {
         if self.failed {
             return Err(DocFault::Failed);
@@ -135,7 +135,7 @@ impl DocBuffer {
 
     /// The bytes of the document that was read last; none before the first, at the end and after a fault.
     pub fn bytes(&self) -> &[u8]
-        ensures { result.now ≡ held_bytes self.now }
+        ensures { result.now ≡ buffered_bytes self.now }
     {
         &self.buffer[..self.size]
     }
@@ -163,7 +163,7 @@ impl DocBuffer {
 
     /// Takes the next document into the buffer; false at the end.
     fn advance<R: Input>(&mut self, reader: &mut R) -> Result<bool, DocFault>
-        requires works { self.old.failed ≡ false }
+        requires not_failed { self.old.failed ≡ false }
         ensures reads { result ≡ Ok true →
             ReadsDocument R.state R.read_gives self.old self.new reader.old reader.new }
         ensures end { result ≡ Ok false →
@@ -183,24 +183,25 @@ impl DocBuffer {
     /// Reads the four bytes that the next document begins with, which tell how many bytes it has; none at the end.
     fn read_length<R: Input>(&mut self, reader: &mut R) -> Result<Option<[u8; 4]>, DocFault>
         requires empty { self.old.size ≡ 0 }
-        ensures kept { HoldsNone self.old self.new
+        ensures unchanged { BuffersNone self.old self.new
             × (self.new.failed ≡ self.old.failed) × (self.new.buffer ≡ self.old.buffer) }
-        ensures length { IfOk result (λ o. IfSome o (λ head. (5 ≤ length_told head)
-            × (length_told head ≤ longest_document) × (4 ≤ self.old.left.bytes)
-            × Consumes (R.state reader.old).left (R.state reader.new).left head)) }
+        ensures length { IfOk result (λ o. IfSome o (λ head. (5 ≤ stated_length head)
+            × (stated_length head ≤ longest_document) × (4 ≤ self.old.remaining.bytes)
+            × Consumes (R.state reader.old).remaining (R.state reader.new).remaining head)) }
         ensures reads { IfOk result (λ o. IfSome o (λ head. AreReads R.read_gives
-            (self.old.left.turns - self.new.left.turns) reader.old head reader.new)) }
+            (self.old.remaining.turns - self.new.remaining.turns) reader.old head reader.new)) }
         ensures counted { OnOk result
             (CountsReads self.old self.new (over R.state reader.old reader.new)) }
-        ensures well { OnOk result ((R.state reader.new).failures ≡ (R.state reader.old).failures) }
+        ensures no_failure { OnOk result ((R.state reader.new).failures
+            ≡ (R.state reader.old).failures) }
         ensures end { result ≡ Ok None →
             FindsEnd R.state R.read_gives self.old self.new reader.old reader.new }
         ensures fails { IfErr result
             (FailsToRead R.state R.read_gives [] self.old self.new reader.old reader.new) }
     {
         let mut head = [0; 4];
-        let filled = fill(reader, &mut head, self.left)?;
-        self.left.turns -= filled.turns;
+        let filled = fill(reader, &mut head, self.remaining)?;
+        self.remaining.turns -= filled.turns;
         if filled.bytes == 0 {
             return Ok(None);
         }
@@ -216,36 +217,37 @@ impl DocBuffer {
 
     /// Reads the rest of the document that begins with these four bytes.
     fn read_rest<R: Input>(&mut self, reader: &mut R, head: [u8; 4]) -> Result<(), DocFault>
-        requires works { self.old.failed ≡ false }
+        requires not_failed { self.old.failed ≡ false }
         requires empty { self.old.size ≡ 0 }
-        requires length { (5 ≤ length_told head)
-            × (length_told head ≤ longest_document) × (4 ≤ self.old.left.bytes) }
-        ensures frame { OnOk result (IsFrame (held_bytes self.new)) }
-        ensures gives { OnOk result (Consumes (prepend_known head (R.state reader.old).left)
-            (R.state reader.new).left (held_bytes self.new)) }
-        ensures reads { OnOk result ((given : List ℕ)
-            × (held_bytes self.new ≡ head ++ given) × AreReads R.read_gives (self.old.left.turns
-            - self.new.left.turns) reader.old given reader.new) }
+        requires length { (5 ≤ stated_length head)
+            × (stated_length head ≤ longest_document) × (4 ≤ self.old.remaining.bytes) }
+        ensures frame { OnOk result (IsFrame (buffered_bytes self.new)) }
+        ensures gives { OnOk result (Consumes (prepend_known head (R.state reader.old).remaining)
+            (R.state reader.new).remaining (buffered_bytes self.new)) }
+        ensures reads { OnOk result ((given : List ℕ) × (buffered_bytes self.new ≡ head ++ given)
+            × AreReads R.read_gives (self.old.remaining.turns
+            - self.new.remaining.turns) reader.old given reader.new) }
         ensures place { OnOk result ((self.new.place ≡ self.old.place + self.new.size)
             × (self.new.number ≡ self.old.number + 1)
-            × (self.new.left.bytes + self.new.size ≡ self.old.left.bytes)) }
+            × (self.new.remaining.bytes + self.new.size ≡ self.old.remaining.bytes)) }
         ensures state { self.new.failed ≡ self.old.failed }
         ensures counted { OnOk result
             (CountsReads self.old self.new (over R.state reader.old reader.new)) }
-        ensures well { OnOk result ((R.state reader.new).failures ≡ (R.state reader.old).failures) }
-        ensures grown { OnOk result (HoldsAsMuch
+        ensures no_failure { OnOk result ((R.state reader.new).failures
+            ≡ (R.state reader.old).failures) }
+        ensures grown { OnOk result (BuffersAsMuch
             (length self.old.buffer.items) (length self.new.buffer.items) self.new.size) }
         ensures fails { IfErr result
             (FailsToRead R.state R.read_gives head self.old self.new reader.old reader.new) }
     {
         let length = u32::from_le_bytes(head) as usize;
-        make_room(&mut self.buffer, length)?;
+        grow_buffer(&mut self.buffer, length)?;
         let limits = Limits {
-            bytes: self.left.bytes - 4,
-            turns: self.left.turns,
+            bytes: self.remaining.bytes - 4,
+            turns: self.remaining.turns,
         };
         let filled = fill_after(reader, &mut self.buffer, head, length, limits)?;
-        self.left.turns -= filled.turns;
+        self.remaining.turns -= filled.turns;
         if filled.bytes < length - 4 {
             return Err(self.fault(FaultKind::BadLength));
         }
@@ -267,17 +269,18 @@ impl DocBuffer {
 
     /// Goes past the document of that size, which is in the buffer.
     fn pass(&mut self, size: usize)
-        requires works { self.old.failed ≡ false }
+        requires not_failed { self.old.failed ≡ false }
         requires size { (5 ≤ size)
-            × (size ≤ self.old.left.bytes) × (size ≤ length self.old.buffer.items) }
-        ensures held { self.new.size ≡ size }
+            × (size ≤ self.old.remaining.bytes) × (size ≤ length self.old.buffer.items) }
+        ensures sized { self.new.size ≡ size }
         ensures place { (self.new.place ≡ self.old.place + size)
             × (self.new.number ≡ self.old.number + 1) }
-        ensures left { (self.new.left.bytes + size ≡ self.old.left.bytes)
-            × (self.new.left.turns ≡ self.old.left.turns) }
-        ensures kept { (self.new.buffer ≡ self.old.buffer) × (self.new.failed ≡ self.old.failed) }
+        ensures remaining { (self.new.remaining.bytes + size ≡ self.old.remaining.bytes)
+            × (self.new.remaining.turns ≡ self.old.remaining.turns) }
+        ensures unchanged { (self.new.buffer ≡ self.old.buffer)
+            × (self.new.failed ≡ self.old.failed) }
     {
-        self.left.bytes -= size as u64;
+        self.remaining.bytes -= size as u64;
         self.place += size as u64;
         self.number += 1;
         self.size = size;
@@ -285,11 +288,11 @@ impl DocBuffer {
 }
 
 /// Makes the buffer at least so long.
-fn make_room(buffer: &mut Vec<u8>, size: usize) -> Result<(), ReadFault>
-    ensures room { OnOk result ((size ≤ length buffer.new.items)
+fn grow_buffer(buffer: &mut Vec<u8>, size: usize) -> Result<(), ReadFault>
+    ensures capacity { OnOk result ((size ≤ length buffer.new.items)
         × ((length buffer.new.items ≡ length buffer.old.items)
         ⊎ ((length buffer.old.items < size) × (length buffer.new.items ≡ size)))) }
-    ensures kept { OnErr result (buffer.new.items ≡ buffer.old.items) }
+    ensures err { OnErr result (buffer.new.items ≡ buffer.old.items) }
     ensures memory { IfErr result (λ f. f ≡ ReadFault.NoMemory) }
 {
     if buffer.len() < size && buffer.resize(size, 0).is_err() {

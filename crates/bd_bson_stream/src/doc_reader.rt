@@ -5,8 +5,8 @@ ghost use Rattle.std.specs.Io.KnownBytes.{IsAtEnd};
 ghost use Rattle.std.specs.Io.BufRead.{Rests};
 ghost use Rattle.std.specs.Borrow.{sem};
 ghost use Rattle.bd_value.specs.Limits.{longest_document, longest_input};
-ghost use Rattle.bd_bson_stream.specs.Stream.{FailsToRead, FindsEnd, HoldsNone, IsFrame, KeepsBuffer, Leaves, ReadsDocument};
-ghost use Rattle.bd_bson_stream.specs.Stream.{buffer_bytes, buffer_of, device_of, has_failed, held_bytes, held_size, limits_left, next_number, next_place};
+ghost use Rattle.bd_bson_stream.specs.Stream.{FailsToRead, FindsEnd, BuffersNone, IsFrame, KeepsBuffer, Leaves, ReadsDocument};
+ghost use Rattle.bd_bson_stream.specs.Stream.{buffer_bytes, buffer_of, device_of, has_failed, buffered_bytes, held_size, limits_remaining, next_number, next_place};
 ghost use Rattle.bd_bson_stream.specs.declared.doc_buffer.DocBuffer.{DocBuffer};
 
 use crate::doc_buffer::{DocBuffer, DocFault};
@@ -38,7 +38,7 @@ impl<R: Input + Drop> DocReader<R> {
     pub fn new(alloc: Global, reader: R, limits: Limits) -> DocReader<R>
         requires { limits.bytes ≤ longest_input }
         ensures reader { (device_of result ≡ reader)
-            × (limits_left (buffer_of result) ≡ limits)
+            × (limits_remaining (buffer_of result) ≡ limits)
             × (has_failed (buffer_of result) ≡ false) }
         ensures place { (next_place (buffer_of result) ≡ 0)
             × (next_number (buffer_of result) ≡ 0) }
@@ -64,12 +64,12 @@ impl<R: Input + Drop> DocReader<R> {
     /// The errors are those of `DocBuffer::read_next`.
     pub fn next(&mut self) -> Result<Option<RawBytes<'_>>, DocFault>
         ensures frame { IfOk result (λ o. IfSome o (λ d. IsFrame d.bytes.now)) }
-        ensures front { IfOk result (λ o. IfSome o (λ d.
-            IfSome (R.state (device_of self.old)).left (λ xs. StartsWith xs d.bytes.now))) }
-        ensures stands { IfOk result (λ o. IfSome o (λ d.
+        ensures prefix { IfOk result (λ o. IfSome o (λ d.
+            IfSome (R.state (device_of self.old)).remaining (λ xs. StartsWith xs d.bytes.now))) }
+        ensures is_at { IfOk result (λ o. IfSome o (λ d.
             (d.start ≡ next_place (buffer_of self.old))
             × (d.number ≡ next_number (buffer_of self.old)))) }
-        ensures end { result ≡ Ok None → IsAtEnd (R.state (device_of self.old)).left }
+        ensures end { result ≡ Ok None → IsAtEnd (R.state (device_of self.old)).remaining }
         ensures refused { (result ≡ Err DocFault.Failed)
             ↔ IsTrue (has_failed (buffer_of self.old)) }
         ensures* after { sem 𝓛 (Rests (the_row R.row) self.entry (λ new.
@@ -104,10 +104,10 @@ impl<R: Input + Drop> DocReader<R> {
         ensures refused { (result ≡ Err DocFault.Failed)
             ↔ IsTrue (has_failed (buffer_of self.old)) }
         ensures failed { OnErr result (IsTrue (has_failed (buffer_of self.new))) }
-        ensures works { OnOk result (has_failed (buffer_of self.new) ≡ false) }
-        ensures quiet { result ≡ Err DocFault.Failed →
+        ensures not_failed { OnOk result (has_failed (buffer_of self.new) ≡ false) }
+        ensures no_read { result ≡ Err DocFault.Failed →
             (device_of self.new ≡ device_of self.old)
-            × HoldsNone (buffer_of self.old) (buffer_of self.new)
+            × BuffersNone (buffer_of self.old) (buffer_of self.new)
             × KeepsBuffer (buffer_of self.old) (buffer_of self.new) }
     {
         self.documents.read_next(&mut self.reader)
@@ -115,7 +115,7 @@ impl<R: Input + Drop> DocReader<R> {
 
     /// The bytes of the document that was read last; none before the first, at the end and after a fault.
     pub fn bytes(&self) -> &[u8]
-        ensures { result.now ≡ held_bytes (buffer_of self.now) }
+        ensures { result.now ≡ buffered_bytes (buffer_of self.now) }
     {
         self.documents.bytes()
     }

@@ -1,10 +1,10 @@
 //! Values found again by where they stand in a dump, at offsets that were counted by hand, and reads that were counted.
 
 ghost use Rattle.std.specs.Prelude.{◌≡◌, IfSome};
-ghost use Rattle.bd_bson_view.specs.Sound.{stands};
+ghost use Rattle.bd_bson_view.specs.Sound.{meaning};
 ghost use Rattle.bd_bson_dump.specs.Collection.{bytes_of};
 
-use crate::samples::is_shown;
+use crate::samples::is_printed;
 use bd_bson_dump::{Dump, read_dump};
 use bd_bson_view::{At, RawDoc, RawValue};
 use bd_value::{Class, Kind, Reading, class_of_node};
@@ -58,8 +58,8 @@ fn document<'a>(rt: &impl Abort, dump: &'a Dump, number: u32) -> RawDoc<'a>
 /// What stands where the value stands.
 fn again<'a>(dump: &'a Dump, value: RawValue<'_>) -> RawValue<'a>
     requires { value.bytes.now ≡ bytes_of dump.now }
-    ensures value { stands result.sound ≡ stands value.entry.sound }
-    ensures kept { result.bytes.now ≡ bytes_of dump.now }
+    ensures value { meaning result.sound ≡ meaning value.entry.sound }
+    ensures same_source { result.bytes.now ≡ bytes_of dump.now }
 {
     dump.value_at(value.at())
 }
@@ -81,13 +81,13 @@ fn value_in<'a>(whole: RawValue<'a>, name: &str, is_inside: bool) -> Option<RawV
 fn is_found(alloc: Global, dump: &Dump, whole: RawValue<'_>, row: &Found<'_>) -> bool
     requires { whole.bytes.now ≡ bytes_of dump.now }
 {
-    let (name, is_inside, kind, start, class, shown) = *row;
+    let (name, is_inside, kind, start, class, printed) = *row;
     let Some(value) = value_in(whole, name, is_inside) else {
         return false;
     };
     let found = again(dump, value);
     let is_there = value.at() == At { kind, start };
-    is_there && class_of_node(found) == class && is_shown(alloc, found, shown)
+    is_there && class_of_node(found) == class && is_printed(alloc, found, printed)
 }
 
 /// The whole document, its fields, and what is inside them stand in the same bytes.
@@ -121,8 +121,8 @@ fn finds_what_takes_no_byte(rt: HostRuntime) -> Result<(), Fail> {
     let alloc = rt.alloc();
     let text = r#"{"$undefined":true}"#;
     let dump = read_dump(alloc, Vec::new(alloc))?;
-    assert!(rt; is_shown(alloc, dump.value_at(At::null()), "null"));
-    assert!(rt; is_shown(alloc, dump.value_at(At::undefined()), text));
+    assert!(rt; is_printed(alloc, dump.value_at(At::null()), "null"));
+    assert!(rt; is_printed(alloc, dump.value_at(At::undefined()), text));
     Ok(())
 }
 
@@ -135,7 +135,7 @@ fn counts_reads_of_documents(rt: HostRuntime) -> Result<(), Fail> {
     assert!(rt; dump.reads() == 1);
     // What is found by its place is no read, and neither are the bytes.
     let found = again(&dump, whole);
-    assert!(rt; is_shown(alloc, found, "{}"));
+    assert!(rt; is_printed(alloc, found, "{}"));
     assert!(rt; dump.bytes().len() == 57);
     assert!(rt; dump.reads() == 1);
     for number in [1, 1, 0] {

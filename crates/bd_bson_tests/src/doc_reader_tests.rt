@@ -152,25 +152,30 @@ fn each_document_with_its_start_and_number(rt: HostRuntime) {
 }
 
 /// The number, the place and the bytes of a buffer of `THREE` after each of its documents, and at the end.
-const STANDS: [(u32, u64, &[u8]); 4] = [(1, 5, EMPTY), (2, 17, ONE), (3, 22, EMPTY), (3, 22, b"")];
+const POSITIONS: [(u32, u64, &[u8]); 4] = [
+    (1, 5, EMPTY),
+    (2, 17, ONE),
+    (3, 22, EMPTY),
+    (3, 22, b""),
+];
 
 /// Whether a buffer holds these bytes, of the document before that number, which ends there.
-fn stands_at(documents: &DocBuffer, number: u32, place: u64, bytes: &[u8]) -> bool {
+fn is_at(documents: &DocBuffer, number: u32, place: u64, bytes: &[u8]) -> bool {
     documents.number() == number && documents.place() == place && documents.bytes() == bytes
 }
 
 /// Whether a buffer takes the three documents and the end, after so many reads.
 fn takes_three(alloc: Global, input: &mut MemoryInput<'_>, counts: [u64; 4]) -> bool {
     let mut documents = DocBuffer::new(alloc, AMPLE);
-    if !stands_at(&documents, 0, 0, b"") {
+    if !is_at(&documents, 0, 0, b"") {
         return false;
     }
     for i in 0..4 {
-        let (number, place, bytes) = STANDS[i];
+        let (number, place, bytes) = POSITIONS[i];
         let Ok(is_there) = documents.read_next(input) else {
             return false;
         };
-        let is_right = stands_at(&documents, number, place, bytes);
+        let is_right = is_at(&documents, number, place, bytes);
         if !is_right || is_there == (i == 3) || input.calls() != counts[i] {
             return false;
         }
@@ -196,19 +201,19 @@ fn no_read_more_than_a_document_takes(rt: HostRuntime) {
 }
 
 /// Whether these bytes are left of `THREE` after so many documents.
-fn leaves(rt: &impl Abort, alloc: Global, most: usize, count: u32, left: &[u8]) -> bool {
+fn leaves(rt: &impl Abort, alloc: Global, most: usize, count: u32, remaining: &[u8]) -> bool {
     assert!(rt; most > 0);
     let mut input = MemoryInput::new(THREE, most, None);
     let _documents = read_documents(rt, alloc, &mut input, count);
-    read_all(alloc, &mut input, AMPLE).is_ok_and(|read| read.as_slice() == left)
+    read_all(alloc, &mut input, AMPLE).is_ok_and(|read| read.as_slice() == remaining)
 }
 
 #[test]
 fn no_byte_after_a_document_is_taken(rt: HostRuntime) {
     for most in [1, 2, 3, 7, 100] {
-        for (count, left) in [(0, THREE), (1, &THREE[5..]), (2, EMPTY), (3, b"")] {
-            let is_left = leaves(&rt, rt.alloc(), most, count, left);
-            assert!(rt; is_left, "after {count} at {most}");
+        for (count, remaining) in [(0, THREE), (1, &THREE[5..]), (2, EMPTY), (3, b"")] {
+            let is_remaining = leaves(&rt, rt.alloc(), most, count, remaining);
+            assert!(rt; is_remaining, "after {count} at {most}");
         }
     }
 }
@@ -221,7 +226,7 @@ fn fault_after(
     count: u32,
     fault: Answer,
     calls: u64,
-    left: &[u8],
+    remaining: &[u8],
 ) {
     let mut documents = read_documents(rt, alloc, input, count);
     for wanted in [fault, Answer::Failed, Answer::Failed] {
@@ -230,7 +235,7 @@ fn fault_after(
     }
     assert!(rt; input.failures() == u64::from(fault == Answer::Read(ReadFault::Device)));
     let rest = read_all(alloc, input, AMPLE);
-    assert!(rt; rest.is_ok_and(|rest| rest.as_slice() == left));
+    assert!(rt; rest.is_ok_and(|rest| rest.as_slice() == remaining));
 }
 
 /// A read for each byte, and one that finds the end: two for one byte of a length, and so on up to twelve for 11 bytes of a
@@ -276,9 +281,9 @@ fn what_a_fault_leaves(rt: HostRuntime) {
         (12, b"\0"),
     ];
     let fault = Answer::Read(ReadFault::Device);
-    for (failing, left) in rows {
+    for (failing, remaining) in rows {
         let mut input = MemoryInput::new(ONE, 1, Some(failing));
-        fault_after(&rt, rt.alloc(), &mut input, 0, fault, failing, left);
+        fault_after(&rt, rt.alloc(), &mut input, 0, fault, failing, remaining);
     }
     let mut input = MemoryInput::new(THREE, 1, Some(7));
     fault_after(&rt, rt.alloc(), &mut input, 1, fault, 7, &THREE[6..]);
@@ -286,7 +291,7 @@ fn what_a_fault_leaves(rt: HostRuntime) {
 
 /// Nothing is held of an empty device.
 #[test]
-fn nothing_is_held_of_no_document(rt: HostRuntime) {
+fn nothing_is_buffered_of_no_document(rt: HostRuntime) {
     let mut input = MemoryInput::new(b"", 8, None);
     let mut documents = DocBuffer::new(rt.alloc(), AMPLE);
     assert!(rt; matches!(documents.read_next(&mut input), Ok(false)));
@@ -303,23 +308,23 @@ fn fifty_and_one(alloc: Global) -> Result<Vec<u8>, NoMemory> {
 }
 
 /// How much is held behind the next document, where that is this one; none where it is not.
-fn held_after(reader: &mut DocReader<MemoryInput<'_>>, wanted: &[u8]) -> Option<usize> {
+fn buffered_after(reader: &mut DocReader<MemoryInput<'_>>, wanted: &[u8]) -> Option<usize> {
     let is_there = matches!(reader.advance(), Ok(true)) && reader.bytes() == wanted;
     is_there.then_some(reader.held())
 }
 
 /// As much is held as one document takes, of any more.
 #[test]
-fn documents_share_what_is_held(rt: HostRuntime) -> Result<(), Fail> {
+fn documents_share_what_is_buffered(rt: HostRuntime) -> Result<(), Fail> {
     let bytes = fifty_and_one(rt.alloc())?;
     let mut reader = DocReader::new(rt.alloc(), MemoryInput::new(&bytes, 100, None), AMPLE);
     assert!(rt; reader.held() == 0);
-    let held = held_after(&mut reader, ONE);
+    let held = buffered_after(&mut reader, ONE);
     assert!(rt; held >= Some(12));
     for number in 1..51 {
         let wanted = if number < 50 { ONE } else { EMPTY };
         assert!(rt;
-            held_after(&mut reader, wanted) == held,
+            buffered_after(&mut reader, wanted) == held,
             "document {number}"
         );
     }

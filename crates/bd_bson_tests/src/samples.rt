@@ -105,7 +105,7 @@ pub(crate) fn view<'a>(rt: &impl Abort, alloc: Global, bytes: &'a [u8]) -> RawDo
 }
 
 /// Whether this is the canonical text of the node.
-pub(crate) fn is_shown<N: Reading>(alloc: Global, node: N, want: &str) -> bool {
+pub(crate) fn is_printed<N: Reading>(alloc: Global, node: N, want: &str) -> bool {
     let mut text = Vec::new(alloc);
     match write_node(node, &mut text) {
         Ok(()) => text.as_slice() == want.as_bytes(),

@@ -1,6 +1,6 @@
 //! Places of faults, fronts of documents, and frames. The documents and the faults of other bytes are those of the program:
-//! `tests/rows/check-*.jsonl` and `cut-kinds.jsonl`.
-use crate::samples::{every_kind, is_shown, joined};
+//! `tests/rows/check-*.jsonl` and `splits-kinds.jsonl`.
+use crate::samples::{every_kind, is_printed, joined};
 use bd_bson_check::{Fault, FaultKind, check_document, next_frame, read_document};
 use bd_value::{NoMemory, Tree};
 use std::alloc::Global;
@@ -43,7 +43,7 @@ fn adds_an_offset_and_a_number(rt: HostRuntime) {
     }
     let one = read_document(alloc, b"\x0c\0\0\0\x10a\0\x01\0\0\0\0", 4, 7);
     let want = r#"{"a":{"$numberInt":"1"}}"#;
-    assert!(rt; one.is_ok_and(|document| is_shown(alloc, Tree::Doc(&document), want)));
+    assert!(rt; one.is_ok_and(|document| is_printed(alloc, Tree::Doc(&document), want)));
     let base = 4_294_967_286;
     assert!(rt; check_document(alloc, b"\x09\0\0\0\x08b\0\x01\0", base, 0).is_ok());
     let last = check_document(alloc, b"\x09\0\0\0\x08b\0\x02\0", base, 4_294_967_295);
@@ -55,15 +55,15 @@ fn adds_an_offset_and_a_number(rt: HostRuntime) {
 }
 
 /// Asserts that the bytes are a document or not, and no front of them is one.
-fn no_front(rt: &impl Abort, alloc: Global, bytes: &[u8], is_one: bool) {
+fn no_prefix(rt: &impl Abort, alloc: Global, bytes: &[u8], is_one: bool) {
     assert!(rt; bytes.len() < 100_000);
     assert!(rt; read_document(alloc, bytes, 0, 0).is_ok() == is_one);
-    for cut in 0..bytes.len() {
-        let want = match cut {
+    for splits in 0..bytes.len() {
+        let want = match splits {
             0..4 => "document 3, byte 100: length cut short",
             _ => "document 3, byte 100: bad length",
         };
-        refused(rt, alloc, &bytes[..cut], want);
+        refused(rt, alloc, &bytes[..splits], want);
     }
 }
 
@@ -79,18 +79,18 @@ fn nested(alloc: Global, levels: u32) -> Result<Vec<u8>, NoMemory> {
 /// Fronts of the document of each kind, of binary data of subtype 02, of a timestamp, and of a text with a zero; of as many
 /// levels as may be, and of one more, which are no document as a whole.
 #[test]
-fn no_front_of_a_document_is_one(rt: HostRuntime) -> Result<(), Fail> {
+fn no_prefix_of_a_document_is_one(rt: HostRuntime) -> Result<(), Fail> {
     let rows: &[&[u8]] = &[
         b"\x13\0\0\0\x05x\0\x06\0\0\0\x02\x02\0\0\0\xff\xff\0",
         b"\x10\0\0\0\x11t\0\x02\0\0\0\x01\0\0\0\0",
         b"\x10\0\0\0\x02s\0\x04\0\0\0a\0b\0\0",
     ];
     for bytes in rows {
-        no_front(&rt, rt.alloc(), bytes, true);
+        no_prefix(&rt, rt.alloc(), bytes, true);
     }
-    no_front(&rt, rt.alloc(), &every_kind(rt.alloc())?, true);
+    no_prefix(&rt, rt.alloc(), &every_kind(rt.alloc())?, true);
     for (levels, is_one) in [(200, true), (201, false)] {
-        no_front(&rt, rt.alloc(), &nested(rt.alloc(), levels)?, is_one);
+        no_prefix(&rt, rt.alloc(), &nested(rt.alloc(), levels)?, is_one);
     }
     Ok(())
 }

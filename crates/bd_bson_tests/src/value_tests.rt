@@ -44,8 +44,8 @@ fn keeps_pairs_in_their_order(rt: HostRuntime) -> Result<(), Fail> {
 /// The text of the document of every kind.
 fn every_kind(alloc: Global) -> Result<String, Fail> {
     let mut text = String::from_str(alloc, "{\"\":null")?;
-    for (name, _, shown) in elements() {
-        write!(text, ",\"{name}\":{shown}")?;
+    for (name, _, printed) in elements() {
+        write!(text, ",\"{name}\":{printed}")?;
     }
     text.push_str("}")?;
     Ok(text)

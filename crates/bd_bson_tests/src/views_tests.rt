@@ -1,5 +1,5 @@
 //! Each call of a view on every kind, and of its copies in memory.
-use crate::samples::{Element, elements, every_kind, is_shown, view};
+use crate::samples::{Element, elements, every_kind, is_printed, view};
 use bd_bson_view::{Elements, RawDoc, RawValue, type_byte};
 use bd_value::{Document, Kind, NoMemory, Node, Reading, Scalar, Tree, to_document, to_value};
 use std::alloc::Global;
@@ -7,10 +7,10 @@ use std::test::Fail;
 
 /// Whether a field is the element: its name, and each call of its value.
 fn is_element<'a, N: Node<'a>>(alloc: Global, name: &str, node: N, element: &Element<'_>) -> bool {
-    let (want, bytes, shown) = *element;
+    let (want, bytes, printed) = *element;
     let kind = node.kind();
     let holder = kind == Kind::Doc || kind == Kind::Array;
-    let holds = [
+    let contents = [
         node.scalar().is_none(),
         node.leaf().is_none(),
         node.len() > 0,
@@ -18,14 +18,14 @@ fn is_element<'a, N: Node<'a>>(alloc: Global, name: &str, node: N, element: &Ele
     let finds = [node.scope().is_some(), node.first("x").is_some()];
     name == want
         && bytes.first() == Some(&type_byte(kind))
-        && holds == [holder; 3]
+        && contents == [holder; 3]
         && finds == [kind == Kind::CodeScope, kind == Kind::Doc]
-        && is_shown(alloc, node, shown)
+        && is_printed(alloc, node, printed)
 }
 
 /// Whether the copy of a node is shown as this.
-fn is_copied<N: Reading>(alloc: Global, node: N, shown: &str) -> bool {
-    to_value(alloc, node).is_ok_and(|copy| is_shown(alloc, Tree::Value(&copy), shown))
+fn is_copied<N: Reading>(alloc: Global, node: N, printed: &str) -> bool {
+    to_value(alloc, node).is_ok_and(|copy| is_printed(alloc, Tree::Value(&copy), printed))
 }
 
 /// Whether each call of a node that finds a field gives this one.
@@ -93,7 +93,7 @@ fn has_parts<'a, N: Node<'a>>(alloc: Global, node: N) -> bool {
     };
     node.scalar().is_none()
         && node.scope().is_none()
-        && is_shown(alloc, scope, r#"{"k":false}"#)
+        && is_printed(alloc, scope, r#"{"k":false}"#)
         && matches!(code.scalar(), Some(Scalar::CodeScope("y")))
         && has_items(alloc, array)
 }
@@ -103,8 +103,8 @@ fn has_items<'a, N: Node<'a>>(alloc: Global, array: N) -> bool {
     if array.kind() != Kind::Array || array.len() != 3 || array.first("z").is_some() {
         return false;
     }
-    for (i, (_, shown)) in items().iter().enumerate() {
-        if i >= array.len() || !is_shown(alloc, array.element(i), shown) {
+    for (i, (_, printed)) in items().iter().enumerate() {
+        if i >= array.len() || !is_printed(alloc, array.element(i), printed) {
             return false;
         }
     }
@@ -132,14 +132,14 @@ fn sees_by_name(alloc: Global, document: RawDoc<'_>, element: &Element<'_>) -> b
     };
     is_element(alloc, element.0, first, element)
         && is_element(alloc, element.0, found, element)
-        && is_seen(alloc, found, element.2)
+        && is_viewed(alloc, found, element.2)
 }
 
 /// Whether a view's value has elements exactly where it is no scalar, and its copy is shown as it.
-fn is_seen(alloc: Global, value: RawValue<'_>, shown: &str) -> bool {
+fn is_viewed(alloc: Global, value: RawValue<'_>, printed: &str) -> bool {
     let copy = value.to_value(alloc);
     value.elements().is_some() == value.scalar().is_none()
-        && copy.is_ok_and(|copy| is_shown(alloc, Tree::Value(&copy), shown))
+        && copy.is_ok_and(|copy| is_printed(alloc, Tree::Value(&copy), printed))
 }
 
 /// What follows in a view's elements, where this element is the next of so many.
@@ -172,7 +172,7 @@ fn sees_every_kind(alloc: Global, document: RawDoc<'_>) -> bool {
 }
 
 /// Whether a document in memory has every kind, by each of its own calls.
-fn holds_every_kind(alloc: Global, document: &Document) -> bool {
+fn has_every_kind_of_scalar(alloc: Global, document: &Document) -> bool {
     for (i, element) in elements().iter().enumerate() {
         if document.len() != 19 || i >= document.len() {
             return false;
@@ -193,7 +193,9 @@ fn holds_every_kind(alloc: Global, document: &Document) -> bool {
 /// Whether a document in memory has every kind, by each of its calls and of a node.
 fn is_whole(alloc: Global, document: &Document) -> bool {
     let node = Tree::Doc(document);
-    holds_every_kind(alloc, document) && has_every_kind(alloc, node) && has_parts(alloc, node)
+    has_every_kind_of_scalar(alloc, document)
+        && has_every_kind(alloc, node)
+        && has_parts(alloc, node)
 }
 
 /// Whether the view has that array, with the names that stand in its bytes.
@@ -204,11 +206,11 @@ fn sees_items(alloc: Global, document: RawDoc<'_>) -> bool {
     let Some(mut rest) = array.elements() else {
         return false;
     };
-    for (want, shown) in items() {
+    for (want, printed) in items() {
         let Some((name, value, after)) = rest.next() else {
             return false;
         };
-        if name != *want || !is_shown(alloc, value, shown) {
+        if name != *want || !is_printed(alloc, value, printed) {
             return false;
         }
         rest = after;
@@ -245,7 +247,7 @@ fn finds_first(alloc: Global, twice: RawDoc<'_>) -> bool {
     let (Some(first), Some(found)) = (twice.first("a"), twice.elements().find("a")) else {
         return false;
     };
-    twice.len() == 2 && is_shown(alloc, first, one) && is_shown(alloc, found, one)
+    twice.len() == 2 && is_printed(alloc, first, one) && is_printed(alloc, found, one)
 }
 
 /// Whether there is an array of an array of two and a number.
@@ -253,7 +255,7 @@ fn sees_nested(alloc: Global, document: RawDoc<'_>) -> bool {
     let Some(array) = document.first("a") else {
         return false;
     };
-    array.len() == 2 && is_shown(alloc, array, "[[null,null],{\"$numberInt\":\"1\"}]")
+    array.len() == 2 && is_printed(alloc, array, "[[null,null],{\"$numberInt\":\"1\"}]")
 }
 
 #[test]

@@ -7,26 +7,26 @@ use Rattle.bd_value.specs.declared.node.Kind.{Kind}
 use Rattle.bd_value.specs.declared.node.Kind.TheVariants as kinds
 use Rattle.bd_bson_view.specs.Spelling.{IsDocument, type_byte, type_at}
 use Rattle.bd_bson_view.specs.Unique.{type_is, no_holder, values}
-use Rattle.bd_bson_view.specs.Sound.{Begins, Sound, Left, stands, stands_is, elements_left, StandsAt, IsPlace}
+use Rattle.bd_bson_view.specs.Sound.{Begins, Sound, Remaining, meaning, meaning_is, elements_remaining, IsAt, IsPlace}
 use Rattle.bd_bson_view.specs.declared.views.At.{At}
 use Rattle.bd_bson_view.specs.declared.raw_parts.ElementType.TheVariants.{Kept}
 use Rattle.bd_bson_view.proofs.ValueAtLemmas.{kind_is}
-use Rattle.bd_bson_view.proofs.ContentsLemmas.{document_held}
+use Rattle.bd_bson_view.proofs.ContentsLemmas.{document_has_elements}
 
 abbrev pub whole_sound : (bytes : List ℕ) (d : Doc) → IsDocument d bytes → Sound kinds.Doc bytes
-whole_sound bytes d h = record { tree = doc (fields_of d); begins = record { value = bytes; after = []; spells = h.spells; typed = refl; cut = sym (append-nil bytes); short = h.short } }
+whole_sound bytes d h = record { tree = doc (fields_of d); begins = record { value = bytes; after = []; spells = h.spells; typed = refl; splits = sym (append-nil bytes); short = h.short } }
 
-pub whole_is : (bytes : List ℕ) (d : Doc) (h : IsDocument d bytes) (s : Sound kinds.Doc bytes) → IsDocument (pairs_in (stands s)) bytes
+pub whole_is : (bytes : List ℕ) (d : Doc) (h : IsDocument d bytes) (s : Sound kinds.Doc bytes) → IsDocument (pairs_in (meaning s)) bytes
 whole_is bytes d h s =
-    let e : d ≡ pairs_in (stands s) = sym (ap pairs_in (stands_is s (whole_sound bytes d h)) ∙ pairs_of-fields_of d) in
+    let e : d ≡ pairs_in (meaning s) = sym (ap pairs_in (meaning_is s (whole_sound bytes d h)) ∙ pairs_of-fields_of d) in
     subst (λ (c : Doc). IsDocument c bytes) e h
 
-pub document_elements : (bytes : List ℕ) (start : ℕ) (s : Sound kinds.Doc (drop start bytes)) (g : Left (drop (start + 4) bytes)) → elements_left g ≡ pairs_in (stands s)
-document_elements bytes start s g = sym (ap pairs_in ((document_held bytes start kinds.Doc s refl).1 g) ∙ pairs_of-fields_of (elements_left g))
+pub document_elements : (bytes : List ℕ) (start : ℕ) (s : Sound kinds.Doc (drop start bytes)) (g : Remaining (drop (start + 4) bytes)) → elements_remaining g ≡ pairs_in (meaning s)
+document_elements bytes start s g = sym (ap pairs_in ((document_has_elements bytes start kinds.Doc s refl).1 g) ∙ pairs_of-fields_of (elements_remaining g))
 
 -- a document is the pairs in it
-pub document_tree : (bytes : List ℕ) (s : Sound kinds.Doc bytes) → stands s ≡ doc (fields_of (pairs_in (stands s)))
-document_tree bytes s = as_pairs (stands s) (ap kind_of (stands_is s s) ∙ kind_is kinds.Doc bytes s)
+pub document_tree : (bytes : List ℕ) (s : Sound kinds.Doc bytes) → meaning s ≡ doc (fields_of (pairs_in (meaning s)))
+document_tree bytes s = as_pairs (meaning s) (ap kind_of (meaning_is s s) ∙ kind_is kinds.Doc bytes s)
   where
     as_pairs : (t : Tree) → kind_of t ≡ kinds.Doc → t ≡ doc (fields_of (pairs_in t))
     as_pairs (leaf a) k = absurd (no_holder a kinds.Doc k refl)
@@ -40,15 +40,15 @@ document_unique bytes c d p q =
     sym (pairs_of-fields_of c) ∙ ap pairs_in e ∙ pairs_of-fields_of d
 
 -- one tree stands at a place
-pub same_tree : {kind : Kind} {bytes : List ℕ} (s t : Sound kind bytes) → stands s ≡ stands t
-same_tree s t = stands_is s t ∙ sym (stands_is t t)
+pub same_tree : {kind : Kind} {bytes : List ℕ} (s t : Sound kind bytes) → meaning s ≡ meaning t
+same_tree s t = meaning_is s t ∙ sym (meaning_is t t)
 
 -- ---- places
 
 -- where a view stands
 pub placed : (bytes : List ℕ) (start byte : ℕ) (kind : Kind) (s : Sound kind (drop start bytes)) → start ≤ length bytes → byte ≡ type_byte kind
-    → StandsAt bytes (record { kind = byte; start = start }) (stands s)
-unfolding stands
+    → IsAt bytes (record { kind = byte; start = start }) (meaning s)
+unfolding meaning
 placed bytes start byte kind s inside is = (inside, subst (λ (n : ℕ). Begins n (drop start bytes) s.tree) (sym is) s.begins)
 
 -- a view of what stands there
@@ -57,13 +57,13 @@ sound_there bytes at kind p is =
     let k : kind_of p.0 ≡ kind = cc (sym (type_is (kind_of p.0)) ∙ ap type_at p.1.1.typed ∙ is) in
     record { tree = p.0; begins = subst (λ (n : ℕ). Begins n (drop at.start bytes) p.0) (sym p.1.1.typed ∙ ap type_byte k) p.1.1 }
 
-pub tree_there : (bytes : List ℕ) (at : At) (kind : Kind) (s : Sound kind (drop at.start bytes)) (t : Tree) → StandsAt bytes at t → type_at at.kind ≡ Some (Kept kind) → stands s ≡ t
+pub tree_there : (bytes : List ℕ) (at : At) (kind : Kind) (s : Sound kind (drop at.start bytes)) (t : Tree) → IsAt bytes at t → type_at at.kind ≡ Some (Kept kind) → meaning s ≡ t
 unfolding sound_there
-tree_there bytes at kind s t h is = stands_is s (sound_there bytes at kind (t, h) is)
+tree_there bytes at kind s t h is = meaning_is s (sound_there bytes at kind (t, h) is)
 
 -- what takes no byte stands at the start of any bytes
-pub null_there : (bytes : List ℕ) → StandsAt bytes (record { kind = 10; start = 0 }) (leaf null)
-null_there bytes = (omega arith, record { value = []; after = bytes; spells = refl; typed = refl; cut = refl; short = omega arith })
+pub null_there : (bytes : List ℕ) → IsAt bytes (record { kind = 10; start = 0 }) (leaf null)
+null_there bytes = (omega arith, record { value = []; after = bytes; spells = refl; typed = refl; splits = refl; short = omega arith })
 
-pub undefined_there : (bytes : List ℕ) → StandsAt bytes (record { kind = 6; start = 0 }) (leaf undefined)
-undefined_there bytes = (omega arith, record { value = []; after = bytes; spells = refl; typed = refl; cut = refl; short = omega arith })
+pub undefined_there : (bytes : List ℕ) → IsAt bytes (record { kind = 6; start = 0 }) (leaf undefined)
+undefined_there bytes = (omega arith, record { value = []; after = bytes; spells = refl; typed = refl; splits = refl; short = omega arith })

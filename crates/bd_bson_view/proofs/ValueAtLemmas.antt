@@ -5,14 +5,14 @@ use Rattle.std.proofs.lemmas.List.{length-append}
 use Rattle.std.proofs.lemmas.Bool.Decides.{nat_tests}
 use Rattle.bd_value.specs.Limits.{longest_document}
 use Rattle.bd_value.specs.Tree as trees
-use Rattle.bd_value.specs.Tree.{Scalar, Tree, leaf, doc, array, code_scope, Own, own, own_code, own_of}
+use Rattle.bd_value.specs.Tree.{Scalar, Tree, leaf, doc, array, code_scope, Leaf, scalar_leaf, code_leaf, leaf_of}
 use Rattle.bd_value.specs.View.{scalar_kind, kind_of}
 use Rattle.bd_value.specs.declared.node.Kind.{Kind}
-use Rattle.bd_bson_view.specs.Spelling.{number, string, data_of, scoped, framed, IsName, IsText, IsScalar, IsValue, OwnIsShort}
+use Rattle.bd_bson_view.specs.Spelling.{number, string, data_of, scoped, framed, IsName, IsText, IsScalar, IsValue, LeafIsShort}
 use Rattle.bd_bson_view.specs.Sizes.{number_of, after_name, size_of, TextAt, NameAt, BinaryAt, HasBytesOf}
-use Rattle.bd_bson_view.specs.Unique.{number_length, number_front, zero_place, name_front, name_after, string_length, string_number, string_text, binary_count}
+use Rattle.bd_bson_view.specs.Unique.{number_length, number_prefix, zero_place, name_prefix, name_after, string_length, string_number, string_text, binary_count}
 use Rattle.bd_bson_view.specs.Unique.{binary_subtype, regex_whole, scalar_size, same_kind, framed_after}
-use Rattle.bd_bson_view.specs.Sound.{Sound, extent, extent_is, stands, stands_is}
+use Rattle.bd_bson_view.specs.Sound.{Sound, extent, extent_is, meaning, meaning_is}
 
 pub text_reads : (s rest : List ℕ) → IsText s → TextAt (string s ++ rest)
 text_reads s rest h = record {
@@ -24,7 +24,7 @@ text_reads s rest h = record {
 pub name_reads : (name rest : List ℕ) → IsName name → NameAt (name ++ 0 ∷ rest)
 name_reads name rest h = record {
   inside = omega (arith, zero_place name rest h.1, length-append name (0 ∷ rest));
-  utf8 = subst IsUtf8 (sym (name_front name rest h)) h.0;
+  utf8 = subst IsUtf8 (sym (name_prefix name rest h)) h.0;
 }
 
 data_length : (k : ℕ) (s : List ℕ) → (k == 2) ≡ true → length (data_of k s) ≡ 4 + length s
@@ -70,14 +70,14 @@ scoped_length s d = omega (arith, length-append (number (length (string s ++ d) 
 framed_size : (body v r : List ℕ) → v ≡ framed body → length v ≤ longest_document → number_of (v ++ r) ≡ length v
 framed_size body v r e short =
     let len : length v ≡ length body + 5 = ap length e ∙ framed_length body in
-    ap (λ (x : List ℕ). number_of (x ++ r)) e ∙ ap number_of (framed_after body r) ∙ number_front (length body + 5) (body ++ 0 ∷ r) (omega arith) ∙ sym len
+    ap (λ (x : List ℕ). number_of (x ++ r)) e ∙ ap number_of (framed_after body r) ∙ number_prefix (length body + 5) (body ++ 0 ∷ r) (omega arith) ∙ sym len
 
 scoped_size : (s d v r : List ℕ) → v ≡ scoped s d → length v ≤ longest_document → number_of (v ++ r) ≡ length v
 scoped_size s d v r e short =
     let n = length (string s ++ d) + 4 in
     let len : length v ≡ length (string s ++ d) + 4 = ap (λ (x : List ℕ). length x) e ∙ scoped_length s d in
     ap (λ (x : List ℕ). number_of (x ++ r)) e ∙ ap number_of (append_assoc (number (length (string s ++ d) + 4)) (string s ++ d) r)
-    ∙ number_front (length (string s ++ d) + 4) ((string s ++ d) ++ r) (omega arith) ∙ sym len
+    ∙ number_prefix (length (string s ++ d) + 4) ((string s ++ d) ++ r) (omega arith) ∙ sym len
 
 size_is : (t : Tree) (v r : List ℕ) → IsValue t v → length v ≤ longest_document → size_of (kind_of t) (v ++ r) ≡ length v
 size_is (leaf a) v r h short = scalar_size a v r h
@@ -97,11 +97,11 @@ kind_is kind bytes s = same_kind (kind_of s.tree) kind s.begins.typed
 
 -- where a value stands, the bytes that reading it needs are there
 pub reads_at : (kind : Kind) (bytes : List ℕ) (s : Sound kind bytes) → HasBytesOf kind bytes
-reads_at kind bytes s = subst (HasBytesOf kind) (sym s.begins.cut)
+reads_at kind bytes s = subst (HasBytesOf kind) (sym s.begins.splits)
     (subst (λ (k : Kind). HasBytesOf k (s.begins.value ++ s.begins.after)) (kind_is kind bytes s) (value_reads s.tree s.begins.value s.begins.after s.begins.spells))
 
 pub size_at : (kind : Kind) (bytes : List ℕ) (s : Sound kind bytes) → size_of kind bytes ≡ extent s
-size_at kind bytes s = ap (size_of kind) s.begins.cut
+size_at kind bytes s = ap (size_of kind) s.begins.splits
     ∙ ap (λ (k : Kind). size_of k (s.begins.value ++ s.begins.after)) (sym (kind_is kind bytes s))
     ∙ size_is s.tree s.begins.value s.begins.after s.begins.spells s.begins.short ∙ sym (extent_is s s)
 
@@ -111,7 +111,7 @@ payload_short : (k : ℕ) (s : List ℕ) (b : Bool) → (k == 2) ≡ b → lengt
 payload_short k s true is = rw is (omega (arith, length-append (number (length s)) s))
 payload_short k s false is = rw is (omega arith)
 
-scalar_short : (a : Scalar) (v : List ℕ) → IsScalar a v → length v ≤ longest_document → OwnIsShort (own a)
+scalar_short : (a : Scalar) (v : List ℕ) → IsScalar a v → length v ≤ longest_document → LeafIsShort (scalar_leaf a)
 scalar_short (trees.text s) v h short = omega (arith, ap length h.1, string_length s)
 scalar_short (trees.symbol s) v h short = omega (arith, ap length h.1, string_length s)
 scalar_short (trees.code s) v h short = omega (arith, ap length h.1, string_length s)
@@ -123,12 +123,12 @@ scalar_short (trees.binary k s) v h short =
     omega (arith, payload_short k s (k == 2) refl, ap length h.2, length-append (number (length (data_of k s))) (k ∷ data_of k s))
 scalar_short _ v h short = tt
 
-value_short : (t : Tree) (v : List ℕ) → IsValue t v → length v ≤ longest_document → (o : Own) → own_of t ≡ Some o → OwnIsShort o
-value_short (leaf a) v h short o is = let same : own a ≡ o = cc in subst OwnIsShort same (scalar_short a v h short)
+value_short : (t : Tree) (v : List ℕ) → IsValue t v → length v ≤ longest_document → (o : Leaf) → leaf_of t ≡ Some o → LeafIsShort o
+value_short (leaf a) v h short o is = let same : scalar_leaf a ≡ o = cc in subst LeafIsShort same (scalar_short a v h short)
 value_short (code_scope s fs) v h short o is =
-    let same : own_code s ≡ o = cc in
-    subst OwnIsShort same (omega (arith, ap length h.2, scoped_length s (framed h.0), length-append (string s) (framed h.0), string_length s))
+    let same : code_leaf s ≡ o = cc in
+    subst LeafIsShort same (omega (arith, ap length h.2, scoped_length s (framed h.0), length-append (string s) (framed h.0), string_length s))
 value_short _ v h short o is = absurd cc
 
-pub own_short : (kind : Kind) (bytes : List ℕ) (s : Sound kind bytes) (o : Own) → own_of (stands s) ≡ Some o → OwnIsShort o
-own_short kind bytes s o is = value_short s.tree s.begins.value s.begins.spells s.begins.short o (sym (ap own_of (stands_is s s)) ∙ is)
+pub leaf_short : (kind : Kind) (bytes : List ℕ) (s : Sound kind bytes) (o : Leaf) → leaf_of (meaning s) ≡ Some o → LeafIsShort o
+leaf_short kind bytes s o is = value_short s.tree s.begins.value s.begins.spells s.begins.short o (sym (ap leaf_of (meaning_is s s)) ∙ is)

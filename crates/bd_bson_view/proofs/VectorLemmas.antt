@@ -21,13 +21,13 @@ module _ (p : ℕ → Bool) where
 
   -- the lowest bit that is set in the mask of sixteen bytes is the index of the first byte that passes
   pub first_in_vector : (xs : List ℕ) (r : ℕ) → 16 ≤ length xs → 0 < mask_l (map p (chunk 0 16 xs)) → r ≡ count_trailing_zeros 64 (mask_l (map p (chunk 0 16 xs))) → position p xs ≡ Some r
-  first_in_vector xs r room some counted =
+  first_in_vector xs r long_enough some counted =
       let c = chunk 0 16 xs in
-      let long : length c ≡ 16 = length-chunk 0 16 xs room in
+      let long : length c ≡ 16 = length-chunk 0 16 xs long_enough in
       let run : r ≡ prefix_len (λ x. not (p x)) c = counted ∙ trailing_mask_l p 64 c (omega arith) some in
       let full : prefix_len (λ x. not (p x)) c ≡ length c → mask_l (map p c) ≡ 0 = empty c in
       let few : r < 16 = grind (arith, prefix_len-le-length (λ x. not (p x)) c, full, some, run, long) in
-      let quiet = run_in_chunk_fails p xs 0 16 r 0 room run in
-      let here : p (get_or xs r 0) ≡ true = ap (λ (i : ℕ). p (get_or xs i 0)) (zero-add r) ∙ run_in_chunk_stops p xs 0 16 r 0 room run few in
+      let quiet = run_in_chunk_fails p xs 0 16 r 0 long_enough run in
+      let here : p (get_or xs r 0) ≡ true = ap (λ (i : ℕ). p (get_or xs i 0)) (zero-add r) ∙ run_in_chunk_stops p xs 0 16 r 0 long_enough run few in
       let e = position_or_len_is p xs r 0 (omega arith) (λ k lt. quiet k (omega arith) (omega arith)) (λ _. here) in
       grind (arith, nat_tests, e, few)

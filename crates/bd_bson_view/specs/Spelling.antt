@@ -6,7 +6,7 @@ use Rattle.std.specs.Int.{w32, w64, to_le_bytes, cast_unsigned}
 use Rattle.bd_value.specs.{Limits.longest_document, Limits.most_levels, View.kind_of, declared.node.Kind.Kind}
 use Rattle.bd_value.specs.Tree as trees
 use Rattle.bd_value.specs.Tree.{Scalar, Tree, leaf, doc, array, code_scope, Items, no_items, item, Fields, no_fields}
-use Rattle.bd_value.specs.Tree.{field, Doc, fields_of, Own, own, own_code}
+use Rattle.bd_value.specs.Tree.{field, Doc, fields_of, Leaf, scalar_leaf, code_leaf}
 use Rattle.bd_value.specs.declared.node.Kind.TheVariants as kinds
 use Rattle.bd_bson_view.specs.declared.raw_parts.ElementType.{ElementType}
 use Rattle.bd_bson_view.specs.declared.raw_parts.ElementType.TheVariants.{Kept, Double, Decimal128}
@@ -51,11 +51,11 @@ abbrev pub type_at : ℕ → Option ElementType
 type_at b = lookup (nat_eq b) types
 
 -- whether a value of this kind holds other values: documents, arrays and code with scope do
-abbrev pub holds : Kind → Bool
-holds kinds.Doc = true
-holds kinds.Array = true
-holds kinds.CodeScope = true
-holds _ = false
+abbrev pub is_holder : Kind → Bool
+is_holder kinds.Doc = true
+is_holder kinds.Array = true
+is_holder kinds.CodeScope = true
+is_holder _ = false
 
 -- `int32`: four bytes, least first
 unfoldable pub number : ℕ → List ℕ
@@ -147,12 +147,12 @@ abbrev pub IsShort : List ℕ → Type 0
 IsShort text = length text ≤ longest_document
 
 -- Each text, and the data, of the scalar or the code is no longer than a document may be.
-abbrev pub OwnIsShort : Own → Type 0
-OwnIsShort (own (trees.text s)) = IsShort s
-OwnIsShort (own (trees.symbol s)) = IsShort s
-OwnIsShort (own (trees.binary subtype payload)) = IsShort payload
-OwnIsShort (own (trees.regex pattern options)) = IsShort pattern × IsShort options
-OwnIsShort (own (trees.db_pointer space id)) = IsShort space
-OwnIsShort (own (trees.code s)) = IsShort s
-OwnIsShort (own_code s) = IsShort s
-OwnIsShort _ = Unit {0}
+abbrev pub LeafIsShort : Leaf → Type 0
+LeafIsShort (scalar_leaf (trees.text s)) = IsShort s
+LeafIsShort (scalar_leaf (trees.symbol s)) = IsShort s
+LeafIsShort (scalar_leaf (trees.binary subtype payload)) = IsShort payload
+LeafIsShort (scalar_leaf (trees.regex pattern options)) = IsShort pattern × IsShort options
+LeafIsShort (scalar_leaf (trees.db_pointer space id)) = IsShort space
+LeafIsShort (scalar_leaf (trees.code s)) = IsShort s
+LeafIsShort (code_leaf s) = IsShort s
+LeafIsShort _ = Unit {0}

@@ -14,7 +14,7 @@ use Rattle.bd_value.specs.Tree.{item}
 use Rattle.bd_value.specs.{View.scalar_kind, View.kind_of, declared.node.Kind.Kind}
 use Rattle.bd_value.specs.declared.node.Kind.TheVariants as kinds
 use Rattle.bd_bson_view.specs.{declared.raw_parts.ElementType.TheVariants.Kept, Sizes.size_of, Sizes.scalar_at}
-use Rattle.bd_bson_view.specs.Spelling.{type_byte, type_at, holds, number, long, string, data_of, framed, scoped, element}
+use Rattle.bd_bson_view.specs.Spelling.{type_byte, type_at, is_holder, number, long, string, data_of, framed, scoped, element}
 use Rattle.bd_bson_view.specs.Spelling.{IsName, IsText, IsScalar, IsValue, AreFields, AreItems}
 use Rattle.bd_bson_view.specs.Sizes.{number_of, long_of, zero_at, name_of, after_name, text_of}
 
@@ -46,8 +46,8 @@ unfolding number
 number_value n lt = from_le_bytes-to_le_bytes_4 n lt
 
 -- the four bytes of a number below 2^32 read back as that number, whatever bytes follow them
-pub number_front : (n : ℕ) (x : List ℕ) → n < 2 ^ 32 → number_of (number n ++ x) ≡ n
-number_front n x lt = ap (from_le_bytes w32) (take_at (number n) x 4 (number_length n)) ∙ number_value n lt
+pub number_prefix : (n : ℕ) (x : List ℕ) → n < 2 ^ 32 → number_of (number n ++ x) ≡ n
+number_prefix n x lt = ap (from_le_bytes w32) (take_at (number n) x 4 (number_length n)) ∙ number_value n lt
 
 -- after the four bytes of a number come the bytes that follow it
 pub number_after : (n : ℕ) (x : List ℕ) → drop 4 (number n ++ x) ≡ x
@@ -59,9 +59,9 @@ unfolding long
 long_length n = refl
 
 -- the eight bytes of a number below 2^64 read back as that number, whatever bytes follow them
-long_front : (n : ℕ) (x : List ℕ) → n < 2 ^ 64 → long_of (long n ++ x) ≡ n
+long_prefix : (n : ℕ) (x : List ℕ) → n < 2 ^ 64 → long_of (long n ++ x) ≡ n
 unfolding long
-long_front n x lt = from_le_bytes-to_le_bytes_8 n lt
+long_prefix n x lt = from_le_bytes-to_le_bytes_8 n lt
 
 -- ---- texts
 
@@ -76,8 +76,8 @@ zero_place (b ∷ name) rest h = let e : 1 + length name ≡ suc (length name) =
     rw (not_zero b h.0) (ap (λ (k : ℕ). 1 + k) (zero_place name rest h.1) ∙ e)
 
 -- a `cstring` reads back as its name, whatever follows it
-pub name_front : (name rest : List ℕ) → IsName name → name_of (name ++ 0 ∷ rest) ≡ name
-name_front name rest h = rw (zero_place name rest h.1) (take_at name (0 ∷ rest) (length name) refl)
+pub name_prefix : (name rest : List ℕ) → IsName name → name_of (name ++ 0 ∷ rest) ≡ name
+name_prefix name rest h = rw (zero_place name rest h.1) (take_at name (0 ∷ rest) (length name) refl)
 
 -- after a `cstring` come the bytes that follow its zero
 pub name_after : (name rest : List ℕ) → IsName name → after_name (name ++ 0 ∷ rest) ≡ rest
@@ -100,7 +100,7 @@ string_length s =
 
 -- the length at the start of a `string` counts its text and one zero
 pub string_number : (s r : List ℕ) → length s + 1 < 2 ^ 32 → number_of (string s ++ r) ≡ length s + 1
-string_number s r lt = ap number_of (string_after s r) ∙ number_front (length s + 1) (s ++ 0 ∷ r) lt
+string_number s r lt = ap number_of (string_after s r) ∙ number_prefix (length s + 1) (s ++ 0 ∷ r) lt
 
 -- a `string` reads back as its text, whatever follows it
 pub string_text : (s r : List ℕ) → length s + 1 < 2 ^ 32 → text_of (string s ++ r) ≡ s
@@ -133,7 +133,7 @@ fifth n k x = refl
 
 -- the count at the start of binary reads back as the length of its data
 pub binary_count : (k : ℕ) (d r : List ℕ) → length d < 2 ^ 31 → number_of ((number (length d) ++ k ∷ d) ++ r) ≡ length d
-binary_count k d r lt = ap number_of (binary_whole k d r) ∙ number_front (length d) (k ∷ (d ++ r)) (omega arith)
+binary_count k d r lt = ap number_of (binary_whole k d r) ∙ number_prefix (length d) (k ∷ (d ++ r)) (omega arith)
 
 -- the fifth byte of binary is its subtype
 pub binary_subtype : (k : ℕ) (d r : List ℕ) → slice_index_or ((number (length d) ++ k ∷ d) ++ r) 4 0 ≡ k
@@ -156,14 +156,14 @@ inner false s = refl
 -- the bytes of a scalar read back as that scalar, whatever follows them
 pub scalar_back : (a : Scalar) (v r : List ℕ) → IsScalar a v → scalar_at (scalar_kind a) (v ++ r) ≡ a
 scalar_back (trees.int32 z) v r h =
-    rw (h.1, number_front (cast_unsigned w32 z) r (omega (arith, ints, h.0))) (ap trees.int32 (to_z-of_z w32 z h.0))
+    rw (h.1, number_prefix (cast_unsigned w32 z) r (omega (arith, ints, h.0))) (ap trees.int32 (to_z-of_z w32 z h.0))
 scalar_back (trees.int64 z) v r h =
-    rw (h.1, long_front (cast_unsigned w64 z) r (omega (arith, ints, h.0))) (ap trees.int64 (to_z-of_z w64 z h.0))
+    rw (h.1, long_prefix (cast_unsigned w64 z) r (omega (arith, ints, h.0))) (ap trees.int64 (to_z-of_z w64 z h.0))
 scalar_back (trees.date z) v r h =
-    rw (h.1, long_front (cast_unsigned w64 z) r (omega (arith, ints, h.0))) (ap trees.date (to_z-of_z w64 z h.0))
+    rw (h.1, long_prefix (cast_unsigned w64 z) r (omega (arith, ints, h.0))) (ap trees.date (to_z-of_z w64 z h.0))
 scalar_back (trees.timestamp s i) v r h =
-    rw (h.2, append_assoc (number i) (number s) r, number_front i (number s ++ r) h.1, number_after i (number s ++ r))
-    (ap (λ n. trees.timestamp n i) (number_front s r h.0))
+    rw (h.2, append_assoc (number i) (number s) r, number_prefix i (number s ++ r) h.1, number_after i (number s ++ r))
+    (ap (λ n. trees.timestamp n i) (number_prefix s r h.0))
 scalar_back (trees.boolean true) v r h = rw h refl
 scalar_back (trees.boolean false) v r h = rw h refl
 scalar_back (trees.object_id id) v r h = rw (h.1, take_at id r 12 h.0) refl
@@ -177,7 +177,7 @@ scalar_back (trees.binary k s) v r h =
     rw (h.2, binary_subtype k (data_of k s) r, binary_data k (data_of k s) r h.1)
     (ap (trees.binary k) (inner (k == 2) s))
 scalar_back (trees.regex p o) v r h = rw (h.2, regex_whole p o r)
-    (ap₂ trees.regex (name_front p (o ++ 0 ∷ r) h.0) (ap name_of (name_after p (o ++ 0 ∷ r) h.0) ∙ name_front o r h.1))
+    (ap₂ trees.regex (name_prefix p (o ++ 0 ∷ r) h.0) (ap name_of (name_after p (o ++ 0 ∷ r) h.0) ∙ name_prefix o r h.1))
 scalar_back _ v r h = refl
 
 -- the size that the bytes of a scalar give is the number of those bytes, whatever follows them
@@ -210,13 +210,13 @@ scalars a b v w r s p q k h = let same : a ≡ b = sym (scalar_back a v r p) ∙
     (same, sym (take_at v r (length v) refl) ∙ ap (take (length v)) h ∙ take_at w s (length v) (sym len))
 
 -- the kind of a scalar holds no other values
-scalar_holds : (a : Scalar) → holds (scalar_kind a) ≡ false
-scalar_holds trees.min_key = refl
-scalar_holds _ = refl
+scalar_is_no_holder : (a : Scalar) → is_holder (scalar_kind a) ≡ false
+scalar_is_no_holder trees.min_key = refl
+scalar_is_no_holder _ = refl
 
 -- a scalar is no document, array or code with scope
-pub no_holder : (a : Scalar) (k : Kind) → scalar_kind a ≡ k → holds k ≡ true → ⊥
-no_holder a k e h = let f : false ≡ true = sym (scalar_holds a) ∙ ap holds e ∙ h in cc
+pub no_holder : (a : Scalar) (k : Kind) → scalar_kind a ≡ k → is_holder k ≡ true → ⊥
+no_holder a k e h = let f : false ≡ true = sym (scalar_is_no_holder a) ∙ ap is_holder e ∙ h in cc
 
 -- ---- parts
 

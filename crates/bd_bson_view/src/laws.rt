@@ -3,7 +3,7 @@
 ghost use Rattle.std.specs.Prelude.{◌≡◌, ℕ, List};
 ghost use Rattle.bd_value.specs.Tree.{Doc, Tree};
 ghost use Rattle.bd_bson_view.specs.Spelling.{IsDocument};
-ghost use Rattle.bd_bson_view.specs.Sound.{StandsAt};
+ghost use Rattle.bd_bson_view.specs.Sound.{IsAt};
 ghost use Rattle.bd_bson_view.specs.declared.views.At.{At};
 
 /// Bytes spell one document at most.
@@ -12,7 +12,7 @@ pub fn spells_one_document()
 {}
 
 /// One value at most stands at a place in bytes.
-pub fn one_value_stands()
+pub fn one_value_is_at()
     ensures { (bytes : List ℕ) (at : At) (t u : Tree) →
-        StandsAt bytes at t → StandsAt bytes at u → t ≡ u }
+        IsAt bytes at t → IsAt bytes at u → t ≡ u }
 {}

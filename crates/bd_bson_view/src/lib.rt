@@ -22,7 +22,7 @@ mod raw;
 pub mod raw_parts;
 mod views;
 
-pub use laws::{one_value_stands, spells_one_document};
+pub use laws::{one_value_is_at, spells_one_document};
 pub use raw::{Elements, RawDoc, RawValue};
 pub use raw_parts::{ElementType, Holder, element_type, type_byte};
 pub use views::At;

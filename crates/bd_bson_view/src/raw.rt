@@ -5,7 +5,7 @@ ghost use Rattle.bd_value.specs.Limits.{longest_input};
 ghost use Rattle.bd_value.specs.Tree.{Doc, doc, fields_of, pairs_in};
 ghost use Rattle.bd_value.specs.declared.node.Kind.TheVariants as kinds;
 ghost use Rattle.bd_bson_view.specs.Spelling.{IsShort, IsDocument};
-ghost use Rattle.bd_bson_view.specs.Sound.{Sound, Sound-prop, Left, Left-prop, stands, extent, elements_left};
+ghost use Rattle.bd_bson_view.specs.Sound.{Sound, Sound-prop, Remaining, Remaining-prop, meaning, extent, elements_remaining};
 
 use crate::raw_parts as parts;
 use bd_value::Kind;
@@ -39,15 +39,15 @@ pub struct Elements<'a> {
     pub(crate) bytes: &'a [u8],
     pub(crate) at: usize,
     ghost short: { length bytes.now ≤ longest_input },
-    ghost left: { Left (drop at bytes.now) } by { Left-prop (drop at bytes.now) },
+    ghost remaining: { Remaining (drop at bytes.now) } by { Remaining-prop (drop at bytes.now) },
 }
 
 impl<'a> RawDoc<'a> {
     /// All of the bytes, which are known to spell one document.
     pub fn whole(bytes: &'a [u8]) -> RawDoc<'a>
         requires { (d : Doc) × IsDocument d bytes.now }
-        ensures document { IsDocument (pairs_in (stands result.sound)) bytes.now }
-        ensures kept { result.bytes.now ≡ bytes.now }
+        ensures document { IsDocument (pairs_in (meaning result.sound)) bytes.now }
+        ensures same_source { result.bytes.now ≡ bytes.now }
     {
         RawDoc { bytes, start: 0 }
     }
@@ -57,19 +57,19 @@ impl<'a> RawDoc<'a> {
         requires short { length bytes.now ≤ longest_input }
         requires inside { start ≤ length bytes.now }
         requires sound { Sound kinds.Doc (drop start bytes.now) }
-        ensures stands { (sound : Sound kinds.Doc (drop start bytes.now)) →
-            stands result.sound ≡ stands sound }
-        ensures kept { result.bytes.now ≡ bytes.now }
+        ensures meaning { (sound : Sound kinds.Doc (drop start bytes.now)) →
+            meaning result.sound ≡ meaning sound }
+        ensures same_source { result.bytes.now ≡ bytes.now }
     {
         RawDoc { bytes, start }
     }
 
     /// The document as a value.
     pub fn value(self) -> RawValue<'a>
-        ensures value { stands result.sound ≡ stands self.entry.sound }
-        ensures document { stands result.sound
-            ≡ doc (fields_of (pairs_in (stands self.entry.sound))) }
-        ensures kept { result.bytes.now ≡ self.entry.bytes.now }
+        ensures value { meaning result.sound ≡ meaning self.entry.sound }
+        ensures document { meaning result.sound
+            ≡ doc (fields_of (pairs_in (meaning self.entry.sound))) }
+        ensures same_source { result.bytes.now ≡ self.entry.bytes.now }
     {
         RawValue {
             bytes: self.bytes,
@@ -80,8 +80,9 @@ impl<'a> RawDoc<'a> {
 
     /// The elements.
     pub fn elements(self) -> Elements<'a>
-        ensures elements { elements_left result.left ≡ pairs_in (stands self.entry.sound) }
-        ensures kept { result.bytes.now ≡ self.entry.bytes.now }
+        ensures elements { elements_remaining result.remaining
+            ≡ pairs_in (meaning self.entry.sound) }
+        ensures same_source { result.bytes.now ≡ self.entry.bytes.now }
     {
         Elements {
             bytes: self.bytes,
@@ -105,12 +106,12 @@ impl<'a> Elements<'a> {
     /// The name and the value of the next element, and the elements after it.
     #[inline(always)]
     pub fn next(self) -> Option<(&'a str, RawValue<'a>, Elements<'a>)>
-        ensures some { IfSome result (λ x.
-            elements_left self.entry.left ≡ (x.0.now, stands x.1.sound) ∷ elements_left x.2.left) }
-        ensures kept { IfSome result (λ x. (x.1.bytes.now ≡ self.entry.bytes.now)
+        ensures some { IfSome result (λ x. elements_remaining self.entry.remaining
+            ≡ (x.0.now, meaning x.1.sound) ∷ elements_remaining x.2.remaining) }
+        ensures same_source { IfSome result (λ x. (x.1.bytes.now ≡ self.entry.bytes.now)
             × (x.2.bytes.now ≡ self.entry.bytes.now)) }
         ensures short { IfSome result (λ x. IsShort x.0.now) }
-        ensures none { IfNone result (elements_left self.entry.left ≡ []) }
+        ensures none { IfNone result (elements_remaining self.entry.remaining ≡ []) }
     {
         let byte = self.bytes[self.at];
         if byte == 0 {
@@ -121,7 +122,7 @@ impl<'a> Elements<'a> {
         let value = RawValue {
             bytes: self.bytes,
             start: self.at + name.len() + 2,
-            kind: parts::kept(byte),
+            kind: parts::same_source(byte),
         };
         let after = Elements {
             bytes: self.bytes,

@@ -2,10 +2,10 @@
 
 ghost use Rattle.std.specs.Prelude.{◌≡◌, ◌<◌, ◌≤◌, ◌+◌, ◌==◌, false, length, map, take, drop, position, slice_index_or, IfSome, Some};
 ghost use Rattle.std.specs.Simd.Lanes.{mask_l};
-ghost use Rattle.bd_value.specs.Tree.{own};
-ghost use Rattle.bd_value.specs.View.{seen};
+ghost use Rattle.bd_value.specs.Tree.{scalar_leaf};
+ghost use Rattle.bd_value.specs.View.{view_of};
 ghost use Rattle.bd_value.specs.declared.node.Kind as kinds;
-ghost use Rattle.bd_bson_view.specs.Spelling.{type_at, holds, type_byte as byte_of};
+ghost use Rattle.bd_bson_view.specs.Spelling.{type_at, is_holder, type_byte as byte_of};
 ghost use Rattle.bd_bson_view.specs.Sizes.{number_of, long_of, zero_at, name_of, text_of, payload_of, size_of, scalar_at, TextAt, NameAt, BinaryAt, HasBytesOf};
 ghost use Rattle.bd_bson_view.specs.declared.raw_parts.ElementType.TheVariants.{Kept};
 
@@ -92,7 +92,7 @@ pub fn element_type(byte: u8) -> Option<ElementType>
 
 /// The kind that the type byte of an element tells.
 #[inline(always)]
-pub fn kept(byte: u8) -> Kind
+pub fn same_source(byte: u8) -> Kind
     requires { (kind : kinds.Kind) × (type_at byte ≡ Some (Kept kind)) }
     ensures { type_at byte ≡ Some (Kept result) }
 {
@@ -134,8 +134,8 @@ pub fn number(bytes: &[u8]) -> u32
     requires { 4 ≤ length bytes.now }
     ensures { result ≡ number_of bytes.now }
 {
-    let (front, _) = bytes.split_at(4);
-    u32::from_le_bytes([front[0], front[1], front[2], front[3]])
+    let (prefix, _) = bytes.split_at(4);
+    u32::from_le_bytes([prefix[0], prefix[1], prefix[2], prefix[3]])
 }
 
 /// The number that the first eight bytes are.
@@ -144,9 +144,9 @@ fn long(bytes: &[u8]) -> u64
     requires { 8 ≤ length bytes.now }
     ensures { result ≡ long_of bytes.now }
 {
-    let (front, _) = bytes.split_at(8);
+    let (prefix, _) = bytes.split_at(8);
     u64::from_le_bytes([
-        front[0], front[1], front[2], front[3], front[4], front[5], front[6], front[7],
+        prefix[0], prefix[1], prefix[2], prefix[3], prefix[4], prefix[5], prefix[6], prefix[7],
     ])
 }
 
@@ -201,9 +201,9 @@ fn payload(bytes: &[u8]) -> &[u8]
 /// The scalar that stands at the front.
 #[inline(always)]
 pub fn scalar(kind: Kind, bytes: &[u8]) -> Scalar<'_>
-    requires scalar { holds kind ≡ false }
+    requires scalar { is_holder kind ≡ false }
     requires reads { HasBytesOf kind bytes.now }
-    ensures { seen result ≡ own (scalar_at kind bytes.now) }
+    ensures { view_of result ≡ scalar_leaf (scalar_at kind bytes.now) }
 {
     match kind {
         Kind::MinKey => Scalar::MinKey,

@@ -2,11 +2,11 @@
 
 ghost use Rattle.std.specs.Prelude.{◌≡◌, ◌<◌, ◌≤◌, ◌↔◌, ℕ, List, [], length, slice_get, Some, option_map, IfOk, IfSome, IfNone, IsTrue};
 ghost use Rattle.bd_value.specs.Limits.{longest_input};
-ghost use Rattle.bd_value.specs.Tree.{Tree, leaf, null, undefined, pairs_in, own_of, first_of, AreParts, HoldsNoParts};
-ghost use Rattle.bd_value.specs.View.{tree_of, pairs, seen};
-ghost use Rattle.bd_bson_view.specs.Spelling.{IsShort, OwnIsShort};
-ghost use Rattle.bd_bson_view.specs.Sound.{stands, elements_left, StandsAt, IsPlace};
-ghost use Rattle.bd_bson_view.specs.Contents.{HoldsContents};
+ghost use Rattle.bd_value.specs.Tree.{Tree, leaf, null, undefined, pairs_in, leaf_of, first_of, AreParts, HasNoParts};
+ghost use Rattle.bd_value.specs.View.{tree_of, pairs, view_of};
+ghost use Rattle.bd_bson_view.specs.Spelling.{IsShort, LeafIsShort};
+ghost use Rattle.bd_bson_view.specs.Sound.{meaning, elements_remaining, IsAt, IsPlace};
+ghost use Rattle.bd_bson_view.specs.Contents.{HasContents};
 
 use crate::raw::{Elements, RawDoc, RawValue};
 use crate::raw_parts as parts;
@@ -16,24 +16,24 @@ use std::alloc::Global;
 impl<'a> RawDoc<'a> {
     /// The number of pairs. It goes through all of them.
     pub fn len(self) -> usize
-        ensures { result ≡ length (pairs_in (stands self.entry.sound)) }
+        ensures { result ≡ length (pairs_in (meaning self.entry.sound)) }
     {
         self.elements().count()
     }
 
     /// Whether it has no pair.
     pub fn is_empty(self) -> bool
-        ensures { IsTrue result ↔ (pairs_in (stands self.entry.sound) ≡ []) }
+        ensures { IsTrue result ↔ (pairs_in (meaning self.entry.sound) ≡ []) }
     {
         self.elements().next().is_none()
     }
 
     /// The name and the value of the pair at an index, counted from 0. It goes through those before it.
     pub fn pair(self, i: usize) -> (&'a str, RawValue<'a>)
-        requires { i < length (pairs_in (stands self.sound)) }
-        ensures pair { slice_get (pairs_in (stands self.entry.sound)) i
-            ≡ Some (result.0.now, stands result.1.sound) }
-        ensures kept { result.1.bytes.now ≡ self.entry.bytes.now }
+        requires { i < length (pairs_in (meaning self.sound)) }
+        ensures pair { slice_get (pairs_in (meaning self.entry.sound)) i
+            ≡ Some (result.0.now, meaning result.1.sound) }
+        ensures same_source { result.1.bytes.now ≡ self.entry.bytes.now }
         ensures short { IsShort result.0.now }
     {
         self.elements().nth(i)
@@ -41,16 +41,16 @@ impl<'a> RawDoc<'a> {
 
     /// The value of the first pair of that name; none where no pair has it.
     pub fn first(self, name: &str) -> Option<RawValue<'a>>
-        ensures first { option_map (λ v. stands v.sound) result
-            ≡ first_of name.now (pairs_in (stands self.entry.sound)) }
-        ensures kept { IfSome result (λ v. v.bytes.now ≡ self.entry.bytes.now) }
+        ensures first { option_map (λ v. meaning v.sound) result
+            ≡ first_of name.now (pairs_in (meaning self.entry.sound)) }
+        ensures same_source { IfSome result (λ v. v.bytes.now ≡ self.entry.bytes.now) }
     {
         self.elements().find(name)
     }
 
     /// The document in memory. It fails only if memory runs out.
     pub fn to_document(self, alloc: Global) -> Result<Document, NoMemory>
-        ensures { IfOk result (λ d. pairs d ≡ pairs_in (stands self.entry.sound)) }
+        ensures { IfOk result (λ d. pairs d ≡ pairs_in (meaning self.entry.sound)) }
     {
         to_document::<RawValue<'a>>(alloc, self.elements())
     }
@@ -60,9 +60,9 @@ impl<'a> RawValue<'a> {
     /// The elements of a document or an array; every other value has none.
     pub fn elements(self) -> Option<Elements<'a>>
         ensures some { IfSome result (λ x.
-            AreParts (stands self.entry.sound) (elements_left x.left)) }
-        ensures kept { IfSome result (λ x. x.bytes.now ≡ self.entry.bytes.now) }
-        ensures none { IfNone result (HoldsNoParts (stands self.entry.sound)) }
+            AreParts (meaning self.entry.sound) (elements_remaining x.remaining)) }
+        ensures same_source { IfSome result (λ x. x.bytes.now ≡ self.entry.bytes.now) }
+        ensures none { IfNone result (HasNoParts (meaning self.entry.sound)) }
     {
         match self.contents() {
             Contents::Document(elements) => Some(elements),
@@ -73,14 +73,14 @@ impl<'a> RawValue<'a> {
 
     /// The value in memory. It fails only if memory runs out.
     pub fn to_value(self, alloc: Global) -> Result<Value, NoMemory>
-        ensures { IfOk result (λ v. tree_of v ≡ stands self.entry.sound) }
+        ensures { IfOk result (λ v. tree_of v ≡ meaning self.entry.sound) }
     {
         to_value(alloc, self)
     }
 
     /// Where it stands in its bytes.
     pub fn at(self) -> At
-        ensures stands { StandsAt self.entry.bytes.now result (stands self.entry.sound) }
+        ensures meaning { IsAt self.entry.bytes.now result (meaning self.entry.sound) }
         ensures start { result.start ≡ self.entry.start }
     {
         At {
@@ -92,7 +92,7 @@ impl<'a> RawValue<'a> {
     /// What it holds.
     #[inline(always)]
     pub(crate) fn contents(self) -> Contents<'a>
-        ensures { HoldsContents self.entry.bytes.now (stands self.entry.sound) result }
+        ensures { HasContents self.entry.bytes.now (meaning self.entry.sound) result }
     {
         let (bytes, at) = (self.bytes, self.start + 4);
         let (_, here) = bytes.split_at(self.start);
@@ -115,11 +115,11 @@ impl<'a> RawValue<'a> {
 impl<'a> Reading for RawValue<'a> {
     type Rest = Elements<'a>;
 
-    ghost tree = { λ s. stands s.sound };
+    ghost tree = { λ s. meaning s.sound };
 
     ghost source = { λ s. s.bytes.now };
 
-    ghost left = { λ r. elements_left r.left };
+    ghost remaining = { λ r. elements_remaining r.remaining };
 
     ghost rest_source = { λ r. r.bytes.now };
 
@@ -183,8 +183,8 @@ impl<'a> Node<'a> for RawValue<'a> {
     /// What it holds besides other values. A text of it is no longer than a document may be.
     #[inline(always)]
     fn scalar(self) -> Option<Scalar<'a>>
-        ensures scalar { option_map seen result ≡ own_of (stands self.entry.sound) }
-        ensures short { IfSome result (λ s. OwnIsShort (seen s)) }
+        ensures scalar { option_map view_of result ≡ leaf_of (meaning self.entry.sound) }
+        ensures short { IfSome result (λ s. LeafIsShort (view_of s)) }
     {
         match self.contents() {
             Contents::Scalar(scalar) => Some(scalar),
@@ -214,7 +214,7 @@ pub enum Contents<'a> {
 impl<'a> Elements<'a> {
     /// How many elements there are from here on. It goes through all of them.
     pub fn count(self) -> usize
-        ensures { result ≡ length (elements_left self.entry.left) }
+        ensures { result ≡ length (elements_remaining self.entry.remaining) }
     {
         let mut rest = self;
         let mut n = 0;
@@ -227,10 +227,10 @@ impl<'a> Elements<'a> {
 
     /// The name and the value of the element at an index, counted from 0. It goes through those before it.
     pub fn nth(self, i: usize) -> (&'a str, RawValue<'a>)
-        requires { i < length (elements_left self.left) }
-        ensures pair { slice_get (elements_left self.entry.left) i
-            ≡ Some (result.0.now, stands result.1.sound) }
-        ensures kept { result.1.bytes.now ≡ self.entry.bytes.now }
+        requires { i < length (elements_remaining self.remaining) }
+        ensures pair { slice_get (elements_remaining self.entry.remaining) i
+            ≡ Some (result.0.now, meaning result.1.sound) }
+        ensures same_source { result.1.bytes.now ≡ self.entry.bytes.now }
         ensures short { IsShort result.0.now }
     {
         let mut rest = self;
@@ -250,9 +250,9 @@ impl<'a> Elements<'a> {
 
     /// The value of the first element of that name; none where no element has it.
     pub fn find(self, name: &str) -> Option<RawValue<'a>>
-        ensures first { option_map (λ v. stands v.sound) result
-            ≡ first_of name.now (elements_left self.entry.left) }
-        ensures kept { IfSome result (λ v. v.bytes.now ≡ self.entry.bytes.now) }
+        ensures first { option_map (λ v. meaning v.sound) result
+            ≡ first_of name.now (elements_remaining self.entry.remaining) }
+        ensures same_source { IfSome result (λ v. v.bytes.now ≡ self.entry.bytes.now) }
     {
         let mut rest = self;
         while let Some((here, value, after)) = rest.next() {
@@ -276,7 +276,7 @@ pub struct At {
 impl At {
     /// Where a null stands. It takes no byte, so that one stands at the start of any bytes.
     pub fn null() -> At
-        ensures { (bytes : List ℕ) → StandsAt bytes result (leaf null) }
+        ensures { (bytes : List ℕ) → IsAt bytes result (leaf null) }
     {
         At {
             kind: 0x0A,
@@ -286,7 +286,7 @@ impl At {
 
     /// Where an undefined stands. It takes no byte, so that one stands at the start of any bytes.
     pub fn undefined() -> At
-        ensures { (bytes : List ℕ) → StandsAt bytes result (leaf undefined) }
+        ensures { (bytes : List ℕ) → IsAt bytes result (leaf undefined) }
     {
         At {
             kind: 0x06,
@@ -298,13 +298,13 @@ impl At {
     pub fn value_in(self, bytes: &[u8]) -> RawValue<'_>
         requires short { length bytes.now ≤ longest_input }
         requires place { IsPlace bytes.now self }
-        ensures value { (tree : Tree) → StandsAt bytes.now self tree → stands result.sound ≡ tree }
-        ensures kept { result.bytes.now ≡ bytes.now }
+        ensures value { (tree : Tree) → IsAt bytes.now self tree → meaning result.sound ≡ tree }
+        ensures same_source { result.bytes.now ≡ bytes.now }
     {
         RawValue {
             bytes,
             start: self.start as usize,
-            kind: parts::kept(self.kind),
+            kind: parts::same_source(self.kind),
         }
     }
 }

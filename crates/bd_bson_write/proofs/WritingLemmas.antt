@@ -7,7 +7,7 @@ use Rattle.std.specs.{Char.digit_value, Str.Parse.AllDigits, List.AllByRecursion
 use Rattle.bd_value.specs.Tree.{Tree, doc, code_scope, Fields, Doc, fields_of, items_of, Scalar, leaf, array, Items, no_items, item, no_fields, field}
 use Rattle.bd_value.specs.Fits.{has_zero, zero_in, zero_in_fields, zero_in_items, zero_in_parts, zero_in_scalar}
 use Rattle.bd_value.specs.Fits.{ScalarFits, Fits, ItemsFit, FieldsFit}
-use Rattle.bd_value.specs.{Tree.scope_of, Tree.values_of, Tree.Own, Tree.own_of, Tree.own_code, Limits.longest_document}
+use Rattle.bd_value.specs.{Tree.scope_of, Tree.values_of, Tree.Leaf, Tree.leaf_of, Tree.code_leaf, Limits.longest_document}
 use Rattle.bd_bson_view.specs.Unique.{number_length, string_length}
 use Rattle.bd_bson_view.specs.Spelling.{number, string, framed, scoped, IsName, data_of, element, IsText, IsScalar, IsValue, AreFields, AreItems, IsDocument}
 use Rattle.bd_bson_write.specs.TreeBytes.{OverrunsLimit, scalar_bytes, bytes_of, fields_bytes, items_bytes, SpellsPlainly}
@@ -49,9 +49,9 @@ sealed old rest out at is here =
     let whole : out ≡ old ++ (number 0 ++ rest) = is ∙ append_assoc old (number 0) rest in
     let size : length (old ++ number 0) ≡ at + 4 = omega (arith, here, length-append old (number 0), number_length 0) in
     let total : length out - at ≡ length rest + 4 = omega (arith, here, ap (λ xs. length xs) is, length-append (old ++ number 0) rest, size) in
-    let front : take at out ≡ old = ap (take at) whole ∙ take_at old (number 0 ++ rest) at (sym here) in
+    let prefix : take at out ≡ old = ap (take at) whole ∙ take_at old (number 0 ++ rest) at (sym here) in
     let back : drop (at + 4) out ≡ rest = ap (drop (at + 4)) is ∙ drop_at (old ++ number 0) rest (at + 4) size in
-    ap₂ (λ (x y : List ℕ). x ++ y) front (ap₂ (λ (n : ℕ) (x : List ℕ). number n ++ x) total back)
+    ap₂ (λ (x y : List ℕ). x ++ y) prefix (ap₂ (λ (n : ℕ) (x : List ℕ). number n ++ x) total back)
 
 pub sealed_size : (old rest out : List ℕ) → out ≡ (old ++ number 0) ++ rest → length out ≡ length old + (4 + length rest)
 sealed_size old rest out is = omega (arith, ap (λ xs. length xs) is, length-append (old ++ number 0) rest, length-append old (number 0), number_length 0)
@@ -87,9 +87,9 @@ element_within old body out piece rest whole =
 
 -- ---- code with scope
 
-pub code_parts : (t u : Tree) (o : Own) → own_of t ≡ Some o → scope_of t ≡ Some u → (s : List ℕ) × (fs : Fields) × (t ≡ code_scope s fs) × (o ≡ own_code s) × (u ≡ doc fs)
-code_parts (code_scope s fs) u o own scope = (s, fs, refl, cc, cc)
-code_parts _ u o own scope = absurd cc
+pub code_parts : (t u : Tree) (o : Leaf) → leaf_of t ≡ Some o → scope_of t ≡ Some u → (s : List ℕ) × (fs : Fields) × (t ≡ code_scope s fs) × (o ≡ code_leaf s) × (u ≡ doc fs)
+code_parts (code_scope s fs) u o scalar_leaf scope = (s, fs, refl, cc, cc)
+code_parts _ u o scalar_leaf scope = absurd cc
 
 pub scoped_ok : (old code scope out : List ℕ) (at : ℕ) → out ≡ (old ++ number 0) ++ (string code ++ scope) → at ≡ length old
     → take at out ++ (number (length out - at) ++ drop (at + 4) out) ≡ old ++ scoped code scope
@@ -149,8 +149,8 @@ scalar_spelled (trees.code s) fits none short = (is_text s fits short, refl)
 scalar_spelled (trees.db_pointer s id) fits none short = (is_text s fits.0 (omega (arith, short, length-append (string s) id)), fits.1.0, refl)
 scalar_spelled (trees.regex p o) fits none short = let n = are_names p o fits.0 fits.1 none in (n.0, n.1, refl)
 scalar_spelled (trees.binary k bs) fits none short =
-    let held = data_of k bs in
-    (fits.0, omega (arith, short, length-append (number (length held)) (k ∷ held), number_length (length held)), refl)
+    let content = data_of k bs in
+    (fits.0, omega (arith, short, length-append (number (length content)) (k ∷ content), number_length (length content)), refl)
 scalar_spelled _ fits none short = refl
 
 mutual

@@ -4,7 +4,7 @@ use Rattle.std.specs.Int.{w32, w64, cast_unsigned}
 use Rattle.bd_value.specs.Tree as trees
 use Rattle.bd_value.specs.Tree.{Scalar, Tree, leaf, doc, array, code_scope, Items, no_items, item, Fields, no_fields}
 use Rattle.bd_value.specs.Tree.{field, Doc, fields_of}
-use Rattle.bd_value.specs.{Limits.longest_document, Limits.most_levels, Tree.depth, Tree.Own, Tree.own, Tree.own_code}
+use Rattle.bd_value.specs.{Limits.longest_document, Limits.most_levels, Tree.depth, Tree.Leaf, Tree.scalar_leaf, Tree.code_leaf}
 use Rattle.bd_value.specs.{Fits.zero_in}
 use Rattle.bd_bson_write.specs.declared.writing.WriteFault.{WriteFault}
 use Rattle.bd_bson_write.specs.declared.writing.WriteFault.TheVariants as faults
@@ -48,14 +48,14 @@ abbrev mutual
   items_bytes place (item t ts) = element t (decimal place) (bytes_of t) ++ items_bytes (suc place) ts
 
 -- the bytes of a scalar, or of the code of code with scope, which is a `string`
-abbrev pub own_bytes : Own → List ℕ
-own_bytes (own s) = scalar_bytes s
-own_bytes (own_code s) = string s
+abbrev pub leaf_bytes : Leaf → List ℕ
+leaf_bytes (scalar_leaf s) = scalar_bytes s
+leaf_bytes (code_leaf s) = string s
 
 -- The scalar or the code is within its BSON type, so that its bytes spell it.
-abbrev pub OwnSpells : Own → Type 0
-OwnSpells (own s) = IsScalar s (scalar_bytes s)
-OwnSpells (own_code s) = IsText s
+abbrev pub LeafSpells : Leaf → Type 0
+LeafSpells (scalar_leaf s) = IsScalar s (scalar_bytes s)
+LeafSpells (code_leaf s) = IsText s
 
 -- The bytes are this document, with array elements named by their indexes:
 -- at most 16,793,600 bytes and 200 levels, and no zero in a `cstring`.

@@ -3,7 +3,7 @@
 
 ghost use Rattle.std.specs.Prelude.{◌≡◌, ◌≤◌, ◌<◌, ◌↔◌, ◌+◌, ◌++◌, ◌∷◌, [], length, take, drop, vec_len, true, false, IfOk, IfErr, IsErrOf, OnErr, OnOk, Err};
 ghost use Rattle.bd_value.specs.Limits.{longest_document, most_levels};
-ghost use Rattle.bd_value.specs.Tree.{depth as depth_in, HoldsNoParts, Doc, doc, fields_of};
+ghost use Rattle.bd_value.specs.Tree.{depth as depth_in, HasNoParts, Doc, doc, fields_of};
 ghost use Rattle.bd_value.specs.Fits.{zero_in, zero_in_parts};
 ghost use Rattle.bd_value.specs.View.{pairs};
 ghost use Rattle.bd_bson_view.specs.Spelling.{type_byte as byte_of, IsDocument, IsValue, framed, number, string};
@@ -39,7 +39,7 @@ pub fn write_document(alloc: Global, document: &Document) -> Result<Vec<u8>, Wri
     if depth(document) > MOST_LEVELS as u64 {
         return Err(WriteFault::TooDeep);
     }
-    if holds_zero(Tree::Doc(document)) {
+    if contains_zero(Tree::Doc(document)) {
         return Err(WriteFault::NulInName);
     }
     let mut bytes = Vec::new(alloc);
@@ -57,7 +57,7 @@ pub fn write_document(alloc: Global, document: &Document) -> Result<Vec<u8>, Wri
 pub fn begin_body(out: &mut Vec<u8>) -> Result<usize, NoMemory>
     ensures place { IfOk result (λ at. at ≡ length out.old.items) }
     ensures begun { OnOk result (out.new.items ≡ out.old.items ++ number 0) }
-    ensures kept { OnErr result (out.new.items ≡ out.old.items) }
+    ensures unchanged { OnErr result (out.new.items ≡ out.old.items) }
 {
     let at = out.len();
     write_number(0, out)?;
@@ -74,7 +74,7 @@ pub fn append_label(kind: Kind, name: &str, out: &mut Vec<u8>) -> Result<(), Wri
     ensures ok { OnOk result ((out.new.items ≡ out.old.items
         ++ (byte_of kind ∷ (name.now ++ 0 ∷ []))) × (length out.old.items ≤ longest_document)) }
     ensures err { IfErr result (OverrunsLimit (length out.old.items)) }
-    ensures kept { OnErr result (out.new.items ≡ out.old.items) }
+    ensures unchanged { OnErr result (out.new.items ≡ out.old.items) }
 {
     let before = out.len();
     let label = put_label(kind, name, out);
@@ -95,7 +95,7 @@ pub fn append_value<N: Reading>(node: N, out: &mut Vec<u8>) -> Result<(), WriteF
     ensures spells { OnOk result (IsValue (N.tree node) (bytes_of (N.tree node))) }
     ensures err { IfErr result
         (OverrunsLimit (length out.old.items + length (bytes_of (N.tree node)))) }
-    ensures kept { OnErr result (out.new.items ≡ out.old.items) }
+    ensures unchanged { OnErr result (out.new.items ≡ out.old.items) }
 {
     let before = out.len();
     let value = put_value(node, out);
@@ -117,7 +117,7 @@ pub fn end_body(at: usize, out: &mut Vec<u8>) -> Result<(), WriteFault>
         ≡ take at out.old.items ++ framed (drop (at + 4) out.old.items)) }
     ensures within { OnOk result (length out.new.items ≤ longest_document) }
     ensures err { IfErr result (OverrunsLimit (length out.old.items + 1)) }
-    ensures kept { OnErr result (out.new.items ≡ out.old.items) }
+    ensures unchanged { OnErr result (out.new.items ≡ out.old.items) }
 {
     let before = out.len();
     out.extend_from_slice(b"\0")?;
@@ -130,7 +130,7 @@ pub fn end_body(at: usize, out: &mut Vec<u8>) -> Result<(), WriteFault>
 
 /// Whether a name, or a text of a regular expression, has a zero.
 #[cycle(zeros)]
-fn holds_zero<N: Reading>(node: N) -> bool
+fn contains_zero<N: Reading>(node: N) -> bool
     ensures { result ≡ zero_in (N.tree node) }
 {
     match node.kind() {
@@ -143,15 +143,15 @@ fn holds_zero<N: Reading>(node: N) -> bool
 /// The same of what is neither a document nor an array.
 #[cycle(zeros)]
 fn zero_in_leaf<N: Reading>(node: N) -> bool
-    requires { HoldsNoParts (N.tree node) }
+    requires { HasNoParts (N.tree node) }
     ensures { result ≡ zero_in (N.tree node) }
 {
-    let Some(own) = node.leaf() else {
+    let Some(scalar_leaf) = node.leaf() else {
         unreachable!()
     };
     match node.scope() {
-        Some(scope) => holds_zero(scope),
-        None => match own {
+        Some(scope) => contains_zero(scope),
+        None => match scalar_leaf {
             Scalar::Regex { pattern, options } => has_zero(pattern) || has_zero(options),
             _ => false,
         },
@@ -161,14 +161,14 @@ fn zero_in_leaf<N: Reading>(node: N) -> bool
 /// The same of pairs, or of elements, whose names are passed over.
 #[cycle(zeros)]
 fn zero_in_some<N: Reading>(parts: N::Rest, named: bool) -> bool
-    ensures { result ≡ zero_in_parts named (N.left parts) }
+    ensures { result ≡ zero_in_parts named (N.remaining parts) }
 {
     let mut rest = parts;
     while let Some(next) = N::next(&rest) {
         if named && has_zero(next.0) {
             return true;
         }
-        if holds_zero(next.1) {
+        if contains_zero(next.1) {
             return true;
         }
         rest = next.2;

@@ -3,11 +3,11 @@
 ghost use Rattle.std.specs.Prelude.{◌≡◌, ◌≤◌, ◌+◌, ◌-◌, ◌++◌, ◌∷◌, [], length, take, drop, vec_len, decimal, false, IfErr, OnErr, OnOk};
 ghost use Rattle.std.specs.Io.{StartsWith};
 ghost use Rattle.bd_value.specs.Limits.{longest_document};
-ghost use Rattle.bd_value.specs.View.{seen};
-ghost use Rattle.bd_value.specs.Tree.{fields_of, items_of, values_of, HoldsNoParts};
-ghost use Rattle.bd_value.specs.Fits.{zero_in_own, has_zero, zero_in, zero_in_fields, zero_in_items};
+ghost use Rattle.bd_value.specs.View.{view_of};
+ghost use Rattle.bd_value.specs.Tree.{fields_of, items_of, values_of, HasNoParts};
+ghost use Rattle.bd_value.specs.Fits.{zero_in_leaf, has_zero, zero_in, zero_in_fields, zero_in_items};
 ghost use Rattle.bd_bson_view.specs.Spelling.{type_byte as byte_of, number, long, string, data_of, framed, element, IsName, IsValue, AreFields, AreItems};
-ghost use Rattle.bd_bson_write.specs.TreeBytes.{OverrunsLimit, own_bytes, OwnSpells, bytes_of, fields_bytes, items_bytes};
+ghost use Rattle.bd_bson_write.specs.TreeBytes.{OverrunsLimit, leaf_bytes, LeafSpells, bytes_of, fields_bytes, items_bytes};
 
 use bd_bson_view::type_byte;
 use bd_value::{Kind, LONGEST_DOCUMENT, NoMemory, Reading, Scalar};
@@ -43,14 +43,14 @@ impl From<AllocError> for WriteFault {
 
 /// Appends the bytes of a value. The names of an array's elements are their places from 0.
 #[cycle(writing)]
-#[tactic(auto, using(bd_value::proofs::FrontLemmas::fronts))]
+#[tactic(auto, using(bd_value::proofs::PrefixLemmas::prefixes))]
 pub(crate) fn put_value<N: Reading>(node: N, out: &mut Vec<u8>) -> Result<(), WriteFault>
     requires { zero_in (N.tree node) ≡ false }
     ensures ok { OnOk result (out.new.items ≡ out.old.items ++ bytes_of (N.tree node)) }
     ensures spells { OnOk result (IsValue (N.tree node) (bytes_of (N.tree node))) }
     ensures err { IfErr result
         (OverrunsLimit (length out.old.items + length (bytes_of (N.tree node)))) }
-    ensures front { OnErr result (StartsWith out.new.items out.old.items) }
+    ensures prefix { OnErr result (StartsWith out.new.items out.old.items) }
 {
     match node.kind() {
         Kind::Doc => append_fields::<N>(node.parts(), out),
@@ -61,16 +61,16 @@ pub(crate) fn put_value<N: Reading>(node: N, out: &mut Vec<u8>) -> Result<(), Wr
 
 /// Appends the document of these pairs.
 #[cycle(writing)]
-#[tactic(auto, using(bd_value::proofs::FrontLemmas::fronts))]
+#[tactic(auto, using(bd_value::proofs::PrefixLemmas::prefixes))]
 fn append_fields<N: Reading>(fields: N::Rest, out: &mut Vec<u8>) -> Result<(), WriteFault>
-    requires { zero_in_fields (fields_of (N.left fields)) ≡ false }
+    requires { zero_in_fields (fields_of (N.remaining fields)) ≡ false }
     ensures ok { OnOk result (out.new.items
-        ≡ out.old.items ++ framed (fields_bytes (fields_of (N.left fields)))) }
-    ensures spells { OnOk result
-        (AreFields (fields_of (N.left fields)) (fields_bytes (fields_of (N.left fields)))) }
+        ≡ out.old.items ++ framed (fields_bytes (fields_of (N.remaining fields)))) }
+    ensures spells { OnOk result (AreFields
+        (fields_of (N.remaining fields)) (fields_bytes (fields_of (N.remaining fields)))) }
     ensures err { IfErr result (OverrunsLimit (length out.old.items
-        + length (framed (fields_bytes (fields_of (N.left fields)))))) }
-    ensures front { OnErr result (StartsWith out.new.items out.old.items) }
+        + length (framed (fields_bytes (fields_of (N.remaining fields)))))) }
+    ensures prefix { OnErr result (StartsWith out.new.items out.old.items) }
 {
     let at = out.len();
     write_number(0, out)?;
@@ -85,16 +85,16 @@ fn append_fields<N: Reading>(fields: N::Rest, out: &mut Vec<u8>) -> Result<(), W
 
 /// Appends the array of these elements, whose names are their places from 0.
 #[cycle(writing)]
-#[tactic(auto, using(bd_value::proofs::FrontLemmas::fronts))]
+#[tactic(auto, using(bd_value::proofs::PrefixLemmas::prefixes))]
 fn append_items<N: Reading>(items: N::Rest, out: &mut Vec<u8>) -> Result<(), WriteFault>
-    requires { zero_in_items (items_of (values_of (N.left items))) ≡ false }
+    requires { zero_in_items (items_of (values_of (N.remaining items))) ≡ false }
     ensures ok { OnOk result (out.new.items
-        ≡ out.old.items ++ framed (items_bytes 0 (items_of (values_of (N.left items))))) }
-    ensures spells { OnOk result (AreItems (items_of (values_of (N.left items)))
-        (items_bytes 0 (items_of (values_of (N.left items))))) }
+        ≡ out.old.items ++ framed (items_bytes 0 (items_of (values_of (N.remaining items))))) }
+    ensures spells { OnOk result (AreItems (items_of (values_of (N.remaining items)))
+        (items_bytes 0 (items_of (values_of (N.remaining items))))) }
     ensures err { IfErr result (OverrunsLimit (length out.old.items
-        + length (framed (items_bytes 0 (items_of (values_of (N.left items))))))) }
-    ensures front { OnErr result (StartsWith out.new.items out.old.items) }
+        + length (framed (items_bytes 0 (items_of (values_of (N.remaining items))))))) }
+    ensures prefix { OnErr result (StartsWith out.new.items out.old.items) }
 {
     let at = out.len();
     write_number(0, out)?;
@@ -112,7 +112,7 @@ fn append_items<N: Reading>(items: N::Rest, out: &mut Vec<u8>) -> Result<(), Wri
 
 /// Appends an element: its type, its name and its value.
 #[cycle(writing)]
-#[tactic(auto, using(bd_value::proofs::FrontLemmas::fronts))]
+#[tactic(auto, using(bd_value::proofs::PrefixLemmas::prefixes))]
 fn append_element<N: Reading>(name: &str, node: N, out: &mut Vec<u8>) -> Result<(), WriteFault>
     requires name { has_zero name.now ≡ false }
     requires zero { zero_in (N.tree node) ≡ false }
@@ -123,7 +123,7 @@ fn append_element<N: Reading>(name: &str, node: N, out: &mut Vec<u8>) -> Result<
         × IsValue (N.tree node) (bytes_of (N.tree node))) }
     ensures err { IfErr result (OverrunsLimit (length out.old.items
         + length (element (N.tree node) name.now (bytes_of (N.tree node))))) }
-    ensures front { OnErr result (StartsWith out.new.items out.old.items) }
+    ensures prefix { OnErr result (StartsWith out.new.items out.old.items) }
 {
     put_label(node.kind(), name, out)?;
     put_value(node, out)
@@ -131,37 +131,37 @@ fn append_element<N: Reading>(name: &str, node: N, out: &mut Vec<u8>) -> Result<
 
 /// Appends what is neither a document nor an array. Code with scope begins with the count of its bytes.
 #[cycle(writing)]
-#[tactic(auto, using(bd_value::proofs::FrontLemmas::fronts))]
+#[tactic(auto, using(bd_value::proofs::PrefixLemmas::prefixes))]
 fn append_leaf<N: Reading>(node: N, out: &mut Vec<u8>) -> Result<(), WriteFault>
-    requires kind { HoldsNoParts (N.tree node) }
+    requires kind { HasNoParts (N.tree node) }
     requires zero { zero_in (N.tree node) ≡ false }
     ensures ok { OnOk result (out.new.items ≡ out.old.items ++ bytes_of (N.tree node)) }
     ensures spells { OnOk result (IsValue (N.tree node) (bytes_of (N.tree node))) }
     ensures err { IfErr result
         (OverrunsLimit (length out.old.items + length (bytes_of (N.tree node)))) }
-    ensures front { OnErr result (StartsWith out.new.items out.old.items) }
+    ensures prefix { OnErr result (StartsWith out.new.items out.old.items) }
 {
-    let Some(own) = node.leaf() else {
+    let Some(scalar_leaf) = node.leaf() else {
         unreachable!()
     };
     let Some(scope) = node.scope() else {
-        return write_scalar(own, out);
+        return write_scalar(scalar_leaf, out);
     };
     let at = out.len();
     write_number(0, out)?;
-    write_scalar(own, out)?;
+    write_scalar(scalar_leaf, out)?;
     put_value(scope, out)?;
     seal(at, out)
 }
 
 /// Appends what stands before an element's value, its type and its name: BSON 1.1, `element`.
-#[tactic(auto, using(bd_value::proofs::FrontLemmas::fronts))]
+#[tactic(auto, using(bd_value::proofs::PrefixLemmas::prefixes))]
 #[inline(always)]
 pub(crate) fn put_label(kind: Kind, name: &str, out: &mut Vec<u8>) -> Result<(), WriteFault>
     ensures ok { OnOk result ((out.new.items ≡ out.old.items
         ++ (byte_of kind ∷ (name.now ++ 0 ∷ []))) × (length out.old.items ≤ longest_document)) }
     ensures err { IfErr result (OverrunsLimit (length out.old.items)) }
-    ensures front { OnErr result (StartsWith out.new.items out.old.items) }
+    ensures prefix { OnErr result (StartsWith out.new.items out.old.items) }
 {
     if out.len() > LONGEST_DOCUMENT {
         return Err(WriteFault::TooLong);
@@ -179,7 +179,7 @@ pub(crate) fn seal(at: usize, out: &mut Vec<u8>) -> Result<(), WriteFault>
         ++ (number (length out.old.items - at) ++ drop (at + 4) out.old.items)) }
     ensures within { OnOk result (length out.new.items ≤ longest_document) }
     ensures err { IfErr result (OverrunsLimit (length out.old.items)) }
-    ensures kept { OnErr result (out.new.items ≡ out.old.items) }
+    ensures unchanged { OnErr result (out.new.items ≡ out.old.items) }
 {
     if out.len() > LONGEST_DOCUMENT {
         return Err(WriteFault::TooLong);
@@ -191,14 +191,14 @@ pub(crate) fn seal(at: usize, out: &mut Vec<u8>) -> Result<(), WriteFault>
 }
 
 /// What a value holds besides other values: of code with scope the code.
-#[tactic(auto, using(bd_value::proofs::FrontLemmas::fronts))]
+#[tactic(auto, using(bd_value::proofs::PrefixLemmas::prefixes))]
 fn write_scalar(scalar: Scalar<'_>, out: &mut Vec<u8>) -> Result<(), WriteFault>
-    requires { zero_in_own (seen scalar) ≡ false }
-    ensures ok { OnOk result (out.new.items ≡ out.old.items ++ own_bytes (seen scalar.entry)) }
-    ensures spells { OnOk result (OwnSpells (seen scalar.entry)) }
+    requires { zero_in_leaf (view_of scalar) ≡ false }
+    ensures ok { OnOk result (out.new.items ≡ out.old.items ++ leaf_bytes (view_of scalar.entry)) }
+    ensures spells { OnOk result (LeafSpells (view_of scalar.entry)) }
     ensures err { IfErr result
-        (OverrunsLimit (length out.old.items + length (own_bytes (seen scalar.entry)))) }
-    ensures front { OnErr result (StartsWith out.new.items out.old.items) }
+        (OverrunsLimit (length out.old.items + length (leaf_bytes (view_of scalar.entry)))) }
+    ensures prefix { OnErr result (StartsWith out.new.items out.old.items) }
 {
     match scalar {
         Scalar::MinKey | Scalar::Undefined | Scalar::Null | Scalar::MaxKey => {}
@@ -226,7 +226,7 @@ fn write_scalar(scalar: Scalar<'_>, out: &mut Vec<u8>) -> Result<(), WriteFault>
 }
 
 /// `binary`: the count of the bytes, the subtype, the bytes.
-#[tactic(auto, using(bd_value::proofs::FrontLemmas::fronts))]
+#[tactic(auto, using(bd_value::proofs::PrefixLemmas::prefixes))]
 fn write_binary(subtype: u8, payload: &[u8], out: &mut Vec<u8>) -> Result<(), WriteFault>
     ensures ok { OnOk result
         ((out.new.items ≡ out.old.items
@@ -235,7 +235,7 @@ fn write_binary(subtype: u8, payload: &[u8], out: &mut Vec<u8>) -> Result<(), Wr
     ensures err { IfErr result
         (OverrunsLimit (length out.old.items + length
         (number (length (data_of subtype payload.now)) ++ subtype ∷ data_of subtype payload.now))) }
-    ensures front { OnErr result (StartsWith out.new.items out.old.items) }
+    ensures prefix { OnErr result (StartsWith out.new.items out.old.items) }
 {
     if payload.len() > LONGEST_DOCUMENT {
         return Err(WriteFault::TooLong);
@@ -247,11 +247,11 @@ fn write_binary(subtype: u8, payload: &[u8], out: &mut Vec<u8>) -> Result<(), Wr
 }
 
 /// The data of `binary`.
-#[tactic(auto, using(bd_value::proofs::FrontLemmas::fronts))]
+#[tactic(auto, using(bd_value::proofs::PrefixLemmas::prefixes))]
 fn write_data(subtype: u8, payload: &[u8], out: &mut Vec<u8>) -> Result<(), NoMemory>
     requires { length payload.now ≤ longest_document }
     ensures ok { OnOk result (out.new.items ≡ out.old.items ++ data_of subtype payload.now) }
-    ensures front { OnErr result (StartsWith out.new.items out.old.items) }
+    ensures prefix { OnErr result (StartsWith out.new.items out.old.items) }
 {
     if subtype == 2 {
         write_number(payload.len() as u32, out)?;
@@ -271,13 +271,13 @@ fn data_length(subtype: u8, payload: &[u8]) -> u32
 }
 
 /// `string`: the length with the zero at the end, the text, the zero.
-#[tactic(auto, using(bd_value::proofs::FrontLemmas::fronts))]
+#[tactic(auto, using(bd_value::proofs::PrefixLemmas::prefixes))]
 #[inline(always)]
 pub(crate) fn put_text(text: &str, out: &mut Vec<u8>) -> Result<(), WriteFault>
     ensures ok { OnOk result ((out.new.items ≡ out.old.items ++ string text.now)
         × (length text.now ≤ longest_document)) }
     ensures err { IfErr result (OverrunsLimit (length out.old.items + length (string text.now))) }
-    ensures front { OnErr result (StartsWith out.new.items out.old.items) }
+    ensures prefix { OnErr result (StartsWith out.new.items out.old.items) }
 {
     if text.len() > LONGEST_DOCUMENT {
         return Err(WriteFault::TooLong);
@@ -288,10 +288,10 @@ pub(crate) fn put_text(text: &str, out: &mut Vec<u8>) -> Result<(), WriteFault>
 }
 
 /// `cstring`.
-#[tactic(auto, using(bd_value::proofs::FrontLemmas::fronts))]
+#[tactic(auto, using(bd_value::proofs::PrefixLemmas::prefixes))]
 fn write_name(name: &str, out: &mut Vec<u8>) -> Result<(), NoMemory>
     ensures ok { OnOk result (out.new.items ≡ out.old.items ++ (name.now ++ 0 ∷ [])) }
-    ensures front { OnErr result (StartsWith out.new.items out.old.items) }
+    ensures prefix { OnErr result (StartsWith out.new.items out.old.items) }
 {
     out.extend_from_slice(name.as_bytes())?;
     out.extend_from_slice(b"\0")?;
@@ -302,7 +302,7 @@ fn write_name(name: &str, out: &mut Vec<u8>) -> Result<(), NoMemory>
 #[tactic(auto, unfolding(bd_bson_view::specs::Spelling::long))]
 fn write_long(n: u64, out: &mut Vec<u8>) -> Result<(), NoMemory>
     ensures ok { OnOk result (out.new.items ≡ out.old.items ++ long n) }
-    ensures kept { OnErr result (out.new.items ≡ out.old.items) }
+    ensures unchanged { OnErr result (out.new.items ≡ out.old.items) }
 {
     out.extend_from_slice(&n.to_le_bytes())
 }
@@ -311,7 +311,7 @@ fn write_long(n: u64, out: &mut Vec<u8>) -> Result<(), NoMemory>
 #[tactic(auto, unfolding(bd_bson_view::specs::Spelling::number))]
 pub(crate) fn write_number(n: u32, out: &mut Vec<u8>) -> Result<(), NoMemory>
     ensures ok { OnOk result (out.new.items ≡ out.old.items ++ number n) }
-    ensures kept { OnErr result (out.new.items ≡ out.old.items) }
+    ensures unchanged { OnErr result (out.new.items ≡ out.old.items) }
 {
     out.extend_from_slice(&n.to_le_bytes())
 }

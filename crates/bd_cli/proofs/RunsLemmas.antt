@@ -12,7 +12,7 @@ use Rattle.bd_cli_service.specs.ServiceView.{KeepsState, RepliesTo, service_dump
 use Rattle.bd_cli_service.specs.declared.service.Service.{Service}
 use Rattle.bd_cli_service.proofs.ServedLemmas.{served, stopped}
 use Rattle.bd_cli_files.specs.{declared.output.Status.Status, declared.output.Status.TheVariants.Done, declared.output.Status.TheVariants.Failed}
-use Rattle.bd_cli_files.specs.Output.{TellsMessage, error_line, fault_text, no_memory}
+use Rattle.bd_cli_files.specs.Output.{ReportsMessage, error_line, fault_text, no_memory}
 use Rattle.bd_cli.specs.Runs.{ServesRead, ServesToAFault, ServesToTheEnd, command_limits, serve_words}
 use Rattle.bd_bson_check.specs.declared.fault.Fault as declared
 use Rattle.bd_bson_check.specs.declared.fault.FaultKind.TheVariants as kinds
@@ -36,26 +36,26 @@ never_too_many state gives old new out s t u =
 
 pub to_a_fault : {C : Type 0} (state : C → Reader) (gives : C → Option (List ℕ) → C → Type 0) (dump : Dump) (old new : C) (out err : Over Writer)
     (s t : Service) (fault : ServeFault) (status : Status) → service_state s ≡ new_state → service_dump s ≡ dump
-    → StopsServing state gives RepliesTo command_limits old new out s t KeepsState fault → TellsMessage err (error_line (serve_words fault)) Failed status
+    → StopsServing state gives RepliesTo command_limits old new out s t KeepsState fault → ReportsMessage err (error_line (serve_words fault)) Failed status
     → ServesToAFault state gives old new out err status (bytes_of dump) (documents dump)
-to_a_fault state gives dump old new out err s t fault status is_new is_over stops told =
+to_a_fault state gives dump old new out err s t fault status is_new is_over stops reported =
     let few : fault ≡ faults.Unread reads.TooManyTurns → ⊥ = λ is.
     never_too_many state gives old new out s t
     (subst (λ f. StopsServing state gives RepliesTo command_limits old new out s t KeepsState f) is stops) in
-    (service_state t, fault, few, rw (is_new, is_over) at (stopped state gives command_limits old new out s t fault stops), told)
+    (service_state t, fault, few, rw (is_new, is_over) at (stopped state gives command_limits old new out s t fault stops), reported)
 
 -- ---- what is told where nothing is served
 
 -- an input that is no dump
-pub fault_told : {C : Type 0} (state : C → Reader) (gives : C → Option (List ℕ) → C → Type 0) (bytes : List ℕ) (fault : declared.Fault) (old : C)
+pub fault_reported : {C : Type 0} (state : C → Reader) (gives : C → Option (List ℕ) → C → Type 0) (bytes : List ℕ) (fault : declared.Fault) (old : C)
     (out err : Over Writer) (status : Status) → length bytes ≤ longest_input → IsUnread bytes fault → ¬ (fault.kind ≡ kinds.NoMemory) → out.after ≡ out.before
-    → TellsMessage err (error_line (fault_text fault.document (fault_view fault))) Failed status ⊎ TellsMessage err (error_line no_memory) Failed status
+    → ReportsMessage err (error_line (fault_text fault.document (fault_view fault))) Failed status ⊎ ReportsMessage err (error_line no_memory) Failed status
     → ServesRead state gives old old out err status (Ok bytes)
-fault_told state gives bytes fault old out err status le unread other silent (inr told) = inl (record { unread = refl; silent = silent; told = told })
-fault_told state gives bytes fault old out err status le (inl long) other silent (inl told) = absurd (let more = long.0 in omega arith)
-fault_told state gives bytes fault old out err status le (inr (_, inl want)) other silent (inl told) = absurd (other want.kind)
-fault_told state gives bytes fault old out err status le (inr (_, inr first)) other silent (inl told) =
+fault_reported state gives bytes fault old out err status le unread other silent (inr reported) = inl (record { unread = refl; silent = silent; reported = reported })
+fault_reported state gives bytes fault old out err status le (inl long) other silent (inl reported) = absurd (let more = long.0 in omega arith)
+fault_reported state gives bytes fault old out err status le (inr (_, inl want)) other silent (inl reported) = absurd (other want.kind)
+fault_reported state gives bytes fault old out err status le (inr (_, inr first)) other silent (inl reported) =
     let words = fault_text (length first.before) (fault_view fault) in
     let line : error_line (fault_text fault.document (fault_view fault)) ≡ error_line words = ap (λ k. error_line (fault_text k (fault_view fault))) first.document in
-    let shown = subst (λ t. TellsMessage err t Failed status) line told in
-    inr (inl (first.before, fault_view fault, first.fails, record { unread = refl; silent = silent; told = shown }))
+    let output = subst (λ t. ReportsMessage err t Failed status) line reported in
+    inr (inl (first.before, fault_view fault, first.fails, record { unread = refl; silent = silent; reported = output }))

@@ -2,18 +2,18 @@
 use Rattle.std.specs.Prelude.{◌≡◌, ◌≢◌, ◌⊎◌, ℕ, List, length, Option, Some, None, Result, Ok, Err, ◌<◌, []}
 use Rattle.bd_value.specs.{Limits.longest_input, Limits.most_reads, Tree.Doc}
 use Rattle.bd_cursor_model.specs.{Session.State, Laws.new_state}
-use Rattle.bd_bson_check.specs.{Dump.IsWalk, Fault.Fault}
+use Rattle.bd_bson_check.specs.{Dump.IsDumpScan, Fault.Fault}
 use Rattle.bd_io_device.specs.{declared.reading.Limits.Limits, declared.reading.ReadFault.ReadFault}
 use Rattle.bd_io_device.specs.Devices.{Over, Reader, Writer, read_words}
 use Rattle.bd_io_lines.specs.{Serving.ServesAll, Serving.StopsServing, declared.serving.ServeFault.ServeFault}
-use Rattle.bd_cli_service.specs.Talk.{IsKept, RepliesInText}
+use Rattle.bd_cli_service.specs.Talk.{IsUnchanged, RepliesInText}
 use Rattle.bd_cli_files.specs.{Input.ReadsInput, declared.output.Status.Status, Pack.PacksInput, DumpAndCheck.ChecksInput}
 use Rattle.bd_cli_files.specs.{DumpAndCheck.DumpsInput}
 use Rattle.bd_cli_files.specs.declared.output.Status.TheVariants.{Done, Failed, Usage}
-use Rattle.bd_cli_files.specs.Output.{TellsMessage, cannot_write, error_line, fault_text, no_memory, shown_refusal, Transcript}
+use Rattle.bd_cli_files.specs.Output.{ReportsMessage, cannot_write, error_line, fault_text, no_memory, refusal_output, Transcript}
 use Rattle.bd_cli_args.specs.{FindWords.find_words_of, declared.order.Order.Order}
 use Rattle.bd_cli_args.specs.{declared.command_line.TheConstants.USAGE, declared.order.WordsFault.WordsFault}
-use Rattle.bd_cli_find.specs.{Find.FindsDocuments, Asking.AsksNothing}
+use Rattle.bd_cli_find.specs.{Find.FindsDocuments, Asking.RequestsNothing}
 use Rattle.bd_io_lines.specs.declared.serving.ServeFault.TheVariants as faults
 use Rattle.bd_cli_args.specs.declared.order.Order.TheVariants as orders
 use Rattle.bd_cli_args.specs.declared.order.WordsFault.TheVariants as words
@@ -34,7 +34,7 @@ pub record ServesNothing {C : Type 0} (old new : C) (out err : Over Writer) (sta
     (message : List ℕ) : Type 0 where
   pub unread : new ≡ old
   pub silent : out.after ≡ out.before
-  pub told : TellsMessage err (error_line message) Failed status
+  pub reported : ReportsMessage err (error_line message) Failed status
 
 -- For the reader of the commands: what its reads may give, its state before and after, and what was written.
 module _ {C : Type 0} (state : C → Reader) (gives : C → Option (List ℕ) → C → Type 0) (old new : C)
@@ -49,8 +49,8 @@ module _ {C : Type 0} (state : C → Reader) (gives : C → Option (List ℕ) �
   -- and the fault is reported. There are never too many reads.
   abbrev pub ServesToAFault : List ℕ → List Doc → Type 0
   ServesToAFault bytes ds = (t : State) × (fault : ServeFault) × (fault ≢ faults.Unread reads.TooManyTurns)
-      × StopsServing state gives (RepliesInText bytes ds) command_limits old new out new_state t IsKept fault
-      × TellsMessage err (error_line (serve_words fault)) Failed status
+      × StopsServing state gives (RepliesInText bytes ds) command_limits old new out new_state t IsUnchanged fault
+      × ReportsMessage err (error_line (serve_words fault)) Failed status
 
   -- Over a well-formed dump: each command had its reply,
   -- or those before a fault had theirs and the fault is reported.
@@ -62,9 +62,9 @@ module _ {C : Type 0} (state : C → Reader) (gives : C → Option (List ℕ) �
   abbrev pub ServesRead : Result (List ℕ) ReadFault → Type 0
   ServesRead (Err fault) = ServesNothing old new out err status (read_words fault)
   ServesRead (Ok bytes) = ServesNothing old new out err status no_memory
-      ⊎ (((ds : List Doc) × (fault : Fault) × IsWalk ds (Some fault) bytes
+      ⊎ (((ds : List Doc) × (fault : Fault) × IsDumpScan ds (Some fault) bytes
       × ServesNothing old new out err status (fault_text (length ds) fault))
-      ⊎ ((ds : List Doc) × IsWalk ds None bytes × ServesDump bytes ds))
+      ⊎ ((ds : List Doc) × IsDumpScan ds None bytes × ServesDump bytes ds))
 
   -- `serve` ran: its file was read whole or not, and then its commands were served or it is reported why not.
   abbrev pub ServesInput : Over Reader → Type 0
@@ -80,7 +80,7 @@ module _ {C : Type 0} (state : C → Reader) (gives : C → Option (List ℕ) �
 
 -- The command is a `find` whose options are refused, whatever the file holds, so that the file is not read.
 abbrev pub ReadsNoFile : Order → Type 0
-ReadsNoFile (orders.Find path options) = AsksNothing (find_words_of options)
+ReadsNoFile (orders.Find path options) = RequestsNothing (find_words_of options)
 ReadsNoFile _ = ⊥
 
 -- The command is not `serve`, so that no commands are read.
@@ -99,7 +99,7 @@ DeviceFails file commands out err =
     ⊎ WriteFails out err
 
 -- what is shown of arguments that are no command: the usage, for `--help` on standard output
-abbrev pub shown_report : WordsFault → Transcript
-shown_report words.Help = record { out = USAGE.now; err = []; status = Done }
-shown_report words.Usage = record { out = []; err = USAGE.now; status = Usage }
-shown_report words.NoMemory = shown_refusal no_memory
+abbrev pub report_output : WordsFault → Transcript
+report_output words.Help = record { out = USAGE.now; err = []; status = Done }
+report_output words.Usage = record { out = []; err = USAGE.now; status = Usage }
+report_output words.NoMemory = refusal_output no_memory

@@ -9,41 +9,44 @@ ghost use Rattle.bd_bson_check.specs.Dump.{AreJoined};
 ghost use Rattle.bd_cli_args.specs.FindWords.{FindWords};
 ghost use Rattle.bd_io_lines.specs.{Lines.commands_of, Lines.text_lines, Serving.RepliesInTurn};
 ghost use Rattle.bd_cli_service.specs.Talk.{AreAlikeTexts, IsReadLine, RepliesInText};
-ghost use Rattle.bd_cli_files.specs.DumpAndCheck.{IsShownByCheck, IsShownByDump};
+ghost use Rattle.bd_cli_files.specs.DumpAndCheck.{IsOutputOfCheck, IsOutputOfDump};
 ghost use Rattle.bd_cli_files.specs.Output.{Transcript, lines};
-ghost use Rattle.bd_cli_files.specs.Pack.{AreAlike, IsShownByPack, PacksLines};
+ghost use Rattle.bd_cli_files.specs.Pack.{AreAlike, IsOutputOfPack, PacksLines};
 ghost use Rattle.bd_cli_files.specs.declared.pack.BadLine.{BadLine};
-ghost use Rattle.bd_cli_find.specs.{Asking.ReadsText, Find.IsShownByFind};
+ghost use Rattle.bd_cli_find.specs.{Asking.ReadsText, Find.IsOutputOfFind};
 
 /// One thing is shown of each input, and of each list of bytes there is something to show; so also for `check`, and for
 /// `find`, of each words. For `pack` and `find` it is one thing but for the kind and the place of the fault of a line, or of a
 /// query or a sort, that is no document. `serve` has one text of replies to each text of commands, but for such a fault of a
 /// command.
-pub fn shows_one_thing()
-    ensures one { (bytes : List ℕ) (fault : Option ReadFault) (shown other : Transcript) →
-        IsShownByDump bytes fault shown → IsShownByDump bytes fault other → shown ≡ other }
+pub fn prints_one_thing()
+    ensures one { (bytes : List ℕ) (fault : Option ReadFault) (output other : Transcript) →
+        IsOutputOfDump bytes fault output → IsOutputOfDump bytes fault other → output ≡ other }
     ensures some { (bytes : List ℕ) → ((i : ℕ) → slice_index bytes i < 256) →
-        (shown : Transcript) × IsShownByDump bytes None shown }
-    ensures judged_one { (bytes : List ℕ) (fault : Option ReadFault) (shown other : Transcript) →
-        IsShownByCheck bytes fault shown → IsShownByCheck bytes fault other → shown ≡ other }
-    ensures judged_some { (bytes : List ℕ) →
-        (shown : Transcript) × IsShownByCheck bytes None shown }
+        (output : Transcript) × IsOutputOfDump bytes None output }
+    ensures checked_one { (bytes : List ℕ) (fault : Option ReadFault) (output other : Transcript) →
+        IsOutputOfCheck bytes fault output → IsOutputOfCheck bytes fault other → output ≡ other }
+    ensures checked_some { (bytes : List ℕ) →
+        (output : Transcript) × IsOutputOfCheck bytes None output }
     ensures found_one { (words : FindWords) (query sort : Doc) (input : Result (List ℕ) ReadFault)
-        (shown other : Transcript) → ReadsText (codes "query") words.query (Ok query) →
+        (output other : Transcript) → ReadsText (codes "query") words.query (Ok query) →
         ReadsText (codes "sort") words.sort (Ok sort) →
-        IsShownByFind words input shown → IsShownByFind words input other → shown ≡ other }
-    ensures found_alike { (words : FindWords) (input : Result (List ℕ) ReadFault)
-        (shown other : Transcript) → IsShownByFind words input shown →
-        IsShownByFind words input other → (shown.out ≡ other.out) × (shown.status ≡ other.status) }
-    ensures found_some { (words : FindWords) (bytes : List ℕ) → ((i : ℕ) →
-        slice_index bytes i < 256) → (shown : Transcript) × IsShownByFind words (Ok bytes) shown }
+        IsOutputOfFind words input output → IsOutputOfFind words input other → output ≡ other }
+    ensures found_alike { (words : FindWords)
+        (input : Result (List ℕ) ReadFault) (output other : Transcript) →
+        IsOutputOfFind words input output → IsOutputOfFind words input other →
+        (output.out ≡ other.out) × (output.status ≡ other.status) }
+    ensures found_some { (words : FindWords) (bytes : List ℕ) →
+        ((i : ℕ) → slice_index bytes i < 256) →
+        (output : Transcript) × IsOutputOfFind words (Ok bytes) output }
     ensures packed_one { (text : List ℕ) (ds es : List Doc) (bad other : Option BadLine) →
         PacksLines 1 (text_lines text) ds bad → PacksLines 1 (text_lines text) es other →
         (ds ≡ es) × AreAlike bad other }
-    ensures packed_alike { (input : Result (List ℕ) ReadFault) (shown other : Transcript) →
-        IsShownByPack input shown → IsShownByPack input other → (shown.out ≡ other.out)
-        × (shown.status ≡ other.status) }
-    ensures packed_some { (text : List ℕ) → (shown : Transcript) × IsShownByPack (Ok text) shown }
+    ensures packed_alike { (input : Result (List ℕ) ReadFault) (output other : Transcript) →
+        IsOutputOfPack input output → IsOutputOfPack input other → (output.out ≡ other.out)
+        × (output.status ≡ other.status) }
+    ensures packed_some { (text : List ℕ) →
+        (output : Transcript) × IsOutputOfPack (Ok text) output }
     ensures served_one { (bytes : List ℕ) (ds : List Doc)
         (commands replies other : List ℕ) (s t : State) → All IsReadLine (commands_of commands) →
         RepliesInTurn (RepliesInText bytes ds) new_state (commands_of commands) replies s →
@@ -58,16 +61,16 @@ pub fn shows_one_thing()
 
 /// Of each input `check` and `dump` give the same status: there is a document with a fault where there is a first fault.
 pub fn check_has_the_status_of_dump()
-    ensures { (bytes : List ℕ) (fault : Option ReadFault) (shown other : Transcript) →
-        IsShownByDump bytes fault shown →
-        IsShownByCheck bytes fault other → shown.status ≡ other.status }
+    ensures { (bytes : List ℕ) (fault : Option ReadFault) (output other : Transcript) →
+        IsOutputOfDump bytes fault output →
+        IsOutputOfCheck bytes fault other → output.status ≡ other.status }
 {}
 
 /// What `dump` wrote before a write failed, or before memory ran out, is a front of what is to be shown of the input, whatever
 /// bytes follow those that it read. For `check`, `pack` and `find` the clauses of `run` say so themselves.
-pub fn dump_shows_a_front()
-    ensures { (bytes given rest : List ℕ) (shown : Transcript)
-        (ds : List Doc) (front more : List ℕ) → ((i : ℕ) → slice_index bytes i < 256) →
-        bytes ≡ given ++ rest → IsShownByDump bytes None shown → AreJoined ds given →
-        lines ds ≡ front ++ more → (after : List ℕ) × (shown.out ≡ front ++ after) }
+pub fn dump_prints_a_prefix()
+    ensures { (bytes given rest : List ℕ) (output : Transcript)
+        (ds : List Doc) (prefix more : List ℕ) → ((i : ℕ) → slice_index bytes i < 256) →
+        bytes ≡ given ++ rest → IsOutputOfDump bytes None output → AreJoined ds given →
+        lines ds ≡ prefix ++ more → (after : List ℕ) × (output.out ≡ prefix ++ after) }
 {}

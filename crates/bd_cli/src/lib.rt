@@ -10,9 +10,9 @@
 //! };
 //! let mut file = MemoryInput::new(b"\x05\0\0\0\0", 5, None);
 //! let mut commands = MemoryInput::new(b"", 1, None);
-//! let mut room = [0; 100];
+//! let mut buffer = [0; 100];
 //! let mut out = MemoryOutput::new(&mut [], 1, None);
-//! let mut err = MemoryOutput::new(&mut room, 100, None);
+//! let mut err = MemoryOutput::new(&mut buffer, 100, None);
 //! let status = run(alloc, &order, &mut file, &mut commands, &mut out, &mut err);
 //! assert!(rt; status == Status::Done);
 //! assert!(rt; err.bytes() == b"1 documents, 0 faulty\n".as_slice());
@@ -29,5 +29,5 @@ mod runs;
 pub use bd_cli_args::{FindOptions, Order, USAGE, WordsFault, parse_words};
 pub use bd_cli_files::Status;
 pub use bd_cli_files::output::CANNOT_WRITE;
-pub use laws::{check_has_the_status_of_dump, dump_shows_a_front, shows_one_thing};
+pub use laws::{check_has_the_status_of_dump, dump_prints_a_prefix, prints_one_thing};
 pub use runs::{report, run};

@@ -5,13 +5,14 @@ ghost use Rattle.bd_value.specs.{Limits.longest_input};
 ghost use Rattle.bd_io_device.specs.{Devices.over};
 ghost use Rattle.bd_bson_dump.specs.Collection.{bytes_of, documents};
 ghost use Rattle.bd_cli_files.specs.Input.{ReadsNoFurther};
-ghost use Rattle.bd_cli_files.specs.Output.{PrintsShown};
-ghost use Rattle.bd_cli.specs.Runs.{CarriesOut, DeviceFails, ReadsNoCommands, ReadsNoFile, ServesDump, ServesInput, ServesRead, WriteFails, shown_report};
+ghost use Rattle.bd_cli_files.specs.Output.{PrintsOutput};
+ghost use Rattle.bd_cli.specs.Runs.{CarriesOut, DeviceFails, ReadsNoCommands, ReadsNoFile, ServesDump, ServesInput, ServesRead, WriteFails, report_output};
 
 use bd_bson_dump::{Dump, read_dump};
 use bd_cli_args::{Order, USAGE, WordsFault};
 use bd_cli_files::output::{
-    is_want_of_memory, status_of, tell_dump_fault, tell_no_memory, tell_read_fault, tell_unwritten,
+    is_want_of_memory, report_dump_fault, report_no_memory, report_read_fault, report_unwritten,
+    status_of,
 };
 use bd_cli_files::pack::pack;
 use bd_cli_files::{LIMITS, Status, check, dump, read_input};
@@ -38,7 +39,7 @@ pub fn run<F: Input, C: Input, O: Output, E: Output>(
         (over O.state out.old out.new)
         (over E.state err.old err.new) result (over F.state file.old file.new) order.now }
     // After a failed read, or at the end, the file is read no more.
-    ensures further { ReadsNoFurther F.read_gives file.old file.new }
+    ensures stops_reading { ReadsNoFurther F.read_gives file.old file.new }
     // What is not wanted is not touched.
     ensures file { ReadsNoFile order.now → file.new ≡ file.old }
     ensures commands { ReadsNoCommands order.now → commands.new ≡ commands.old }
@@ -68,11 +69,11 @@ fn serve<F: Input, C: Input, O: Output, E: Output>(
     ensures serves { ServesInput C.state C.read_gives commands.old commands.new
         (over O.state out.old out.new)
         (over E.state err.old err.new) result (over F.state file.old file.new) }
-    ensures further { ReadsNoFurther F.read_gives file.old file.new }
+    ensures stops_reading { ReadsNoFurther F.read_gives file.old file.new }
 {
     match read_input(alloc, file) {
         Ok(bytes) => serve_bytes(alloc, bytes, commands, out, err),
-        Err(fault) => tell_read_fault(fault, err),
+        Err(fault) => report_read_fault(fault, err),
     }
 }
 
@@ -92,9 +93,9 @@ fn serve_bytes<C: Input, O: Output, E: Output>(
         Ok(dump) => serve_dump(alloc, dump, commands, out, err),
         Err(fault) => {
             if is_want_of_memory(&fault) {
-                return tell_no_memory(err);
+                return report_no_memory(err);
             }
-            tell_dump_fault(alloc, &fault, err)
+            report_dump_fault(alloc, &fault, err)
         }
     }
 }
@@ -114,9 +115,9 @@ fn serve_dump<C: Input, O: Output, E: Output>(
     let mut service = Service::new(alloc, dump);
     match bd_io_lines::serve(alloc, LIMITS, commands, &mut service, out) {
         Ok(()) => Status::Done,
-        Err(ServeFault::Unread(fault)) => tell_read_fault(fault, err),
-        Err(ServeFault::NoMemory) => tell_no_memory(err),
-        Err(ServeFault::Unwritten) => tell_unwritten(err),
+        Err(ServeFault::Unread(fault)) => report_read_fault(fault, err),
+        Err(ServeFault::NoMemory) => report_no_memory(err),
+        Err(ServeFault::Unwritten) => report_unwritten(err),
     }
 }
 
@@ -125,17 +126,17 @@ fn serve_dump<C: Input, O: Output, E: Output>(
 /// A request for help prints the usage on `out`, with status 0; words that are not taken print it on `err`, with
 /// status 2; out of memory is reported on `err`, with status 1. A device that fails makes the status 1.
 pub fn report<O: Output, E: Output>(fault: &WordsFault, out: &mut O, err: &mut E) -> Status
-    ensures shown { PrintsShown (over O.state out.old out.new)
-        (over E.state err.old err.new) (shown_report fault.now) result }
+    ensures output { PrintsOutput (over O.state out.old out.new)
+        (over E.state err.old err.new) (report_output fault.now) result }
     ensures failed { WriteFails (over O.state out.old out.new) (over E.state err.old err.new) →
         result ≡ Status.Failed }
 {
     match fault {
         WordsFault::Help => match write_all(out, USAGE.as_bytes()) {
             Ok(()) => Status::Done,
-            Err(_) => tell_unwritten(err),
+            Err(_) => report_unwritten(err),
         },
         WordsFault::Usage => status_of(write_all(err, USAGE.as_bytes()), Status::Usage),
-        WordsFault::NoMemory => tell_no_memory(err),
+        WordsFault::NoMemory => report_no_memory(err),
     }
 }

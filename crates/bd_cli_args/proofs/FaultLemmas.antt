@@ -20,7 +20,7 @@ use Rattle.clap.specs.{Lexer.long_of, Lexer.short_of, Values.is_request, Values.
 use Rattle.clap.specs.{Matches.count_text, Takes.is_given, Simple.Shape, Simple.App, Simple.entered, Simple.label_of, Simple.names_of}
 use Rattle.clap.specs.{declared.builder.action.ArgAction.ArgAction, declared.builder.value_parser.Reading.Reading, declared.parser.matches.ValueSource.ValueSource}
 use Rattle.clap.specs.{ValueTests.accepts, declared.builder.value_parser.ValueParser.ValueParser, declared.error.kind.ErrorKind.ErrorKind}
-use Rattle.bd_cli_args.specs.CommandLine.{refusal_told}
+use Rattle.bd_cli_args.specs.CommandLine.{explain_refusal}
 use Rattle.clap.specs.declared.error.kind.ErrorKind.TheVariants as kind
 
 left_nil : (a b : Kinds) → or_else a b ≡ [] → a ≡ []
@@ -75,47 +75,47 @@ used_as-filled _ id how values rows some h = h
 -- ---- what is told of a refusal
 
 -- the kinds are all told as the first
-abbrev pub SameTold : Kinds → Type 0
-SameTold [] = ⊤
-SameTold (k ∷ ks) = (x : ErrorKind) → IsAmong x ks → refusal_told x ≡ refusal_told k
+abbrev pub SameExplained : Kinds → Type 0
+SameExplained [] = ⊤
+SameExplained (k ∷ ks) = (x : ErrorKind) → IsAmong x ks → explain_refusal x ≡ explain_refusal k
 
-one : (k : ErrorKind) → SameTold (k ∷ [])
+one : (k : ErrorKind) → SameExplained (k ∷ [])
 one k x a = absurd a
 
-same-or_else : (a b : Kinds) → SameTold a → SameTold b → SameTold (or_else a b)
+same-or_else : (a b : Kinds) → SameExplained a → SameExplained b → SameExplained (or_else a b)
 same-or_else [] b sa sb = sb
 same-or_else (k ∷ ks) b sa sb = sa
 
-same-cond : (c : Bool) (a b : Kinds) → SameTold a → SameTold b → SameTold (cond c a b)
+same-cond : (c : Bool) (a b : Kinds) → SameExplained a → SameExplained b → SameExplained (cond c a b)
 same-cond true a b sa sb = sa
 same-cond false a b sa sb = sb
 
 -- ---- a use of an argument
 
-same-value : (i : Bool) (p : ValueParser) (t : Text) → SameTold (value_kinds i p t)
+same-value : (i : Bool) (p : ValueParser) (t : Text) → SameExplained (value_kinds i p t)
 same-value i p t = same-cond (accepts i p t) [] (refused_kind p ∷ []) tt (one (refused_kind p))
 
-same-values : (i : Bool) (p : ValueParser) (ts : List Text) → SameTold (values_kinds i p ts)
+same-values : (i : Bool) (p : ValueParser) (ts : List Text) → SameExplained (values_kinds i p ts)
 same-values i p [] = tt
 same-values i p (t ∷ ts) = same-or_else (value_kinds i p t) (values_kinds i p ts) (same-value i p t) (same-values i p ts)
 
-same-count : (a : Rule) (values : List Text) (rows : List Row) → SameTold (count_fault a values rows)
+same-count : (a : Rule) (values : List Text) (rows : List Row) → SameExplained (count_fault a values rows)
 same-count a [] rows = same-value a.ignore_case (parser_of_value a.parser) (count_text (min (count_of a.id rows + 1) 255))
 same-count a (v ∷ vs) rows = same-values a.ignore_case (parser_of_value a.parser) (v ∷ vs)
 
-same-set : (again : Bool) (a : Rule) (values : List Text) (rows : List Row) → SameTold (set_fault again a values rows)
+same-set : (again : Bool) (a : Rule) (values : List Text) (rows : List Row) → SameExplained (set_fault again a values rows)
 same-set again a values rows =
     same-or_else (repeat_fault again a.id rows) (values_fault a values)
     (same-cond (has_row a.id rows && not again) (kind.ArgumentConflict ∷ []) [] (one kind.ArgumentConflict) tt) (same-values a.ignore_case (parser_of_value a.parser) values)
 
-same-request : (x : ArgAction) → SameTold (request_kinds x)
+same-request : (x : ArgAction) → SameExplained (request_kinds x)
 same-request Help = one kind.DisplayHelp
 same-request HelpShort = one kind.DisplayHelp
 same-request HelpLong = one kind.DisplayHelp
 same-request Version = one kind.DisplayVersion
 same-request _ = tt
 
-same-action : (x : ArgAction) (again : Bool) (a : Rule) (values : List Text) (rows : List Row) → SameTold (action_fault x again a values rows)
+same-action : (x : ArgAction) (again : Bool) (a : Rule) (values : List Text) (rows : List Row) → SameExplained (action_fault x again a values rows)
 same-action Set again a values rows = same-set again a values rows
 same-action SetTrue again a values rows = same-set again a values rows
 same-action SetFalse again a values rows = same-set again a values rows
@@ -123,13 +123,13 @@ same-action Append again a values rows = same-values a.ignore_case (parser_of_va
 same-action Count again a values rows = same-count a values rows
 same-action _ again a values rows = λ x none. absurd none
 
-same-range : (least most n : ℕ) → SameTold (range_kinds least most n)
+same-range : (least most n : ℕ) → SameExplained (range_kinds least most n)
 same-range least most n =
     same-cond (nat_lt 0 least && n == 0) _ _ (one kind.InvalidValue) (same-cond (least == most) _ _
     (same-cond (least == n) _ _ tt (one kind.WrongNumberOfValues))
     (same-cond (nat_lt n least) _ _ (one kind.TooFewValues) (same-cond (nat_lt most n) _ _ (one kind.TooManyValues) tt)))
 
-same-use : (again : Bool) (a : Rule) (values : List Text) (rows : List Row) → SameTold (use_fault again a values rows)
+same-use : (again : Bool) (a : Rule) (values : List Text) (rows : List Row) → SameExplained (use_fault again a values rows)
 same-use again a values rows =
     same-or_else (range_kinds (unwrap_or_range a.range).start_inclusive (most_values a) (length values)) _
     (same-range (unwrap_or_range a.range).start_inclusive (most_values a) (length values)) (same-action (action_of a) again a (values_or_missing a values) rows)
@@ -160,31 +160,31 @@ found-passes keeps p (x ∷ xs) all =
 
 -- all that a step may be refused for is told as one fault; and where it is not refused, P holds
 pub record Sound (kinds : Kinds) (P : Type 0) : Type 0 where
-  pub told : SameTold kinds
+  pub explained : SameExplained kinds
   pub leaves : kinds ≡ [] → P
 
 nothing : {P : Type 0} → P → Sound [] P
-nothing p = record { told = tt; leaves = λ e. p }
+nothing p = record { explained = tt; leaves = λ e. p }
 
 single : {P : Type 0} (k : ErrorKind) → Sound (k ∷ []) P
-single k = record { told = one k; leaves = λ e. let f : ⊥ = cc in absurd f }
+single k = record { explained = one k; leaves = λ e. let f : ⊥ = cc in absurd f }
 
 in_turn : {P Q : Type 0} (a b : Kinds) → Sound a P → (P → Sound b Q) → Sound (or_else a b) Q
 in_turn [] b first more = more (first.leaves refl)
-in_turn (k ∷ ks) b first more = record { told = first.told; leaves = λ e. let f : ⊥ = cc in absurd f }
+in_turn (k ∷ ks) b first more = record { explained = first.explained; leaves = λ e. let f : ⊥ = cc in absurd f }
 
 kept_on : {P Q : Type 0} {kinds : Kinds} → Sound kinds P → (P → Q) → Sound kinds Q
-kept_on s more = record { told = s.told; leaves = λ e. more (s.leaves e) }
+kept_on s more = record { explained = s.explained; leaves = λ e. more (s.leaves e) }
 
-itself : (kinds : Kinds) → SameTold kinds → Sound kinds (kinds ≡ [])
-itself kinds same = record { told = same; leaves = λ e. e }
+itself : (kinds : Kinds) → SameExplained kinds → Sound kinds (kinds ≡ [])
+itself kinds same = record { explained = same; leaves = λ e. e }
 
 used-sound : (again : Bool) (a : Rule) (values : List Text) (rows : List Row) → fills a ≡ true → AllFilled rows → Sound (use_fault again a values rows) (AllFilled (used a values rows))
-used-sound again a values rows fill h = record { told = same-use again a values rows; leaves = λ e. used-filled again a values rows fill e h }
+used-sound again a values rows fill h = record { explained = same-use again a values rows; leaves = λ e. used-filled again a values rows fill e h }
 
-same-stray : (s : Shape) → SameTold (stray_fault s)
+same-stray : (s : Shape) → SameExplained (stray_fault s)
 same-stray s = same-cond s.is_leaf (kind.UnknownArgument ∷ []) (kind.UnknownArgument ∷ kind.InvalidSubcommand ∷ []) (one kind.UnknownArgument)
-    (λ x a. elim a [ inl e ↦ ap refusal_told e | inr none ↦ absurd none ])
+    (λ x a. elim a [ inl e ↦ ap explain_refusal e | inr none ↦ absurd none ])
 
 -- ---- the walk
 
@@ -279,9 +279,9 @@ module _ (c : List Rule) (again : Bool) (fill : list_all fills c ≡ true) where
       let met = long_met c (arg_by_long c p.0) p.1 h in
       kept_on (long-sound (arg_by_long c p.0) p.1 h (found-passes fills _ c fill) rows) (after-filled waiting word met.0 met.1)
 
-  positional-sound : (o : Option Rule) (word : Text) (w : Walk) (h : Held) (stray : Kinds) → SameTold stray → AllFilled h.rows
+  positional-sound : (o : Option Rule) (word : Text) (w : Walk) (h : Held) (stray : Kinds) → SameExplained stray → AllFilled h.rows
       → Sound (option_map_or (λ a. positional_fault c again a h) o stray) (AllFilled (to_positional c o word w h).held.rows)
-  positional-sound None word w h stray same rows = record { told = same; leaves = λ e. rows }
+  positional-sound None word w h stray same rows = record { explained = same; leaves = λ e. rows }
   positional-sound (Some a) word w h stray same rows =
       elim (is_pending a h.pending && takes_several a) as (λ b. Sound (cond b [] (settle_fault c again h)) (AllFilled (cond b h (settled c h)).rows)) [
         | true ↦ nothing rows
@@ -346,20 +346,20 @@ defaults-filled : (c : List Rule) (rows : List Row) → AllFilled rows → AllFi
 defaults-filled [] rows h = h
 defaults-filled (a ∷ c) rows h = defaults-filled c (with_default rows a) (with_default-filled rows a h)
 
-same-default : (rows : List Row) (a : Rule) → SameTold (default_fault rows a)
+same-default : (rows : List Row) (a : Rule) → SameExplained (default_fault rows a)
 same-default rows a = same-cond (has_row a.id rows || is_empty a.defaults) [] (given_default_fault a a.defaults) tt
     (same-or_else (request_kinds (action_of a)) (values_fault a a.defaults) (same-request (action_of a)) (same-values a.ignore_case (parser_of_value a.parser) a.defaults))
 
-same-defaults : (rows : List Row) (c : List Rule) → SameTold (defaults_fault rows c)
+same-defaults : (rows : List Row) (c : List Rule) → SameExplained (defaults_fault rows c)
 unfolding defaults_fault
 same-defaults rows [] = tt
 same-defaults rows (a ∷ rest) = same-or_else (default_fault rows a) _ (same-default rows a) (same-defaults (with_default rows a) rest)
 
-same-checks : (a b c : Bool) → SameTold (check_kinds a b c)
+same-checks : (a b c : Bool) → SameExplained (check_kinds a b c)
 same-checks a b c = same-cond a _ _ (one kind.DisplayHelpOnMissingArgumentOrSubcommand)
     (same-cond b _ _ (one kind.MissingSubcommand) (same-cond c _ _ (one kind.MissingRequiredArgument) tt))
 
-same-check : (s : Shape) (rows : List Row) (has : Bool) → SameTold (check_fault s rows has)
+same-check : (s : Shape) (rows : List Row) (has : Bool) → SameExplained (check_fault s rows has)
 same-check s rows has =
     same-checks (not has && (s.arg_required_else_help && not (list_any (λ r. explicit_source r.source) rows))) (not has && s.subcommand_required)
     (not (s.subcommand_negates_reqs && has) && list_any (λ a. a.required && not (is_given a.id rows)) s.rules)
@@ -370,7 +370,7 @@ is_plain s = s.disable_help_subcommand && list_all fills s.rules
 
 -- one level of a command line: all its faults are reported as one,
 -- and without a fault each argument has a value
-pub level-sound : (s : Shape) (names : Names) (words : List Text) (has : Bool) (below : Kinds) → is_plain s ≡ true → SameTold below
+pub level-sound : (s : Shape) (names : Names) (words : List Text) (has : Bool) (below : Kinds) → is_plain s ≡ true → SameExplained below
     → Sound (level_fault s names nothing_held words has below)
     (AllFilled (rows_after s.rules names words) × (below ≡ []) × (check_fault s (rows_after s.rules names words) has ≡ []))
 level-sound s names words has below meets same =
@@ -384,21 +384,21 @@ level-sound s names words has below meets same =
     kept_on (itself _ (same-check s (finished s.rules end) has)) (λ checked. (filled, entered, checked))))))
 
 -- all faults of a subcommand are reported as one
-pub same-entered : (a : App) (stop : Option (Text × List Text)) → list_all is_plain a.subs ≡ true → SameTold (entered_fault a stop)
+pub same-entered : (a : App) (stop : Option (Text × List Text)) → list_all is_plain a.subs ≡ true → SameExplained (entered_fault a stop)
 same-entered a None meets = tt
 same-entered a (Some p) meets =
     found (find (λ s. answers_to p.0 (label_of s)) a.subs) (found-passes is_plain (λ s. answers_to p.0 (label_of s)) a.subs meets)
   where
-    found : (o : Option Shape) → IfSome o (λ s. is_plain s ≡ true) → SameTold (option_map_or (λ s. level_fault s [] nothing_held p.1 false []) o [])
+    found : (o : Option Shape) → IfSome o (λ s. is_plain s ≡ true) → SameExplained (option_map_or (λ s. level_fault s [] nothing_held p.1 false []) o [])
     found None meets = tt
-    found (Some s) meets = (level-sound s [] p.1 false [] meets tt).told
+    found (Some s) meets = (level-sound s [] p.1 false [] meets tt).explained
 
 -- all faults of a command line are reported as one
-pub same-fault : (a : App) (words : List Text) → (is_plain a.top && list_all is_plain a.subs) ≡ true → SameTold (built_fault a nothing_held words)
+pub same-fault : (a : App) (words : List Text) → (is_plain a.top && list_all is_plain a.subs) ≡ true → SameExplained (built_fault a nothing_held words)
 same-fault a words meets =
     let both = and_parts (is_plain a.top) (list_all is_plain a.subs) meets in
     let stop = (walk a.top.rules (names_of a) nothing_held words).stopped in
-    (level-sound a.top (names_of a) words (is_some (entered a stop)) (entered_fault a stop) both.0 (same-entered a stop both.1)).told
+    (level-sound a.top (names_of a) words (is_some (entered a stop)) (entered_fault a stop) both.0 (same-entered a stop both.1)).explained
 
 -- ---- what was given has a value
 

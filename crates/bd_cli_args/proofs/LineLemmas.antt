@@ -18,12 +18,12 @@ use Rattle.clap.specs.{Faults.fault_of, Faults.is_simple_and_free, Faults.level_
 use Rattle.clap.specs.{Words.ReadsOne, ValueTests.is_unsigned_in, declared.builder.value_parser.ValueParser.TheVariants.Unsigned}
 use Rattle.clap.proofs.ValueTestLemmas.{accepts-Accepts, Accepts-accepts}
 use Rattle.clap.proofs.{OnLiterals.clap_on_literals, WalkLemmas.first_value-rows, WalkLemmas.one_text-rows}
-use Rattle.bd_cli_args.specs.CommandLine.{OrderView, GivesOrder, meant, check, dump, pack, serve, fault_for, file_app, find_app, find_words_in, refusal_told}
+use Rattle.bd_cli_args.specs.CommandLine.{OrderView, GivesOrder, meant, check, dump, pack, serve, fault_for, file_app, find_app, find_words_in, explain_refusal}
 use Rattle.bd_cli_args.specs.CommandLine.{is_help_line, is_serve_of_input, line_app, order_of, ordered_by, parser_refusal, serves_input, IsFileCommand, is_file_word}
 use Rattle.bd_cli_args.specs.CommandLine.{is_serve_input_line, number_read}
 use Rattle.bd_cli_args.specs.declared.order.WordsFault.TheVariants.{NoMemory, Usage}
 use Rattle.bd_cli_args.specs.{declared.order.Order.Order, declared.order.WordsFault.WordsFault}
-use Rattle.bd_cli_args.proofs.FaultLemmas.{SameTold, given_first, is_plain, level-sound, same-entered, same-fault}
+use Rattle.bd_cli_args.proofs.FaultLemmas.{SameExplained, given_first, is_plain, level-sound, same-entered, same-fault}
 
 refused : (k : ErrorKind) → k ∷ [] ≡ [] → ⊥
 refused k e = cc
@@ -137,20 +137,20 @@ help_words [] e = let f : ⊥ = cc in absurd f
 help_words (w ∷ rest) e = (rest, ap (λ x. x ∷ rest) ((bytes_eq-Decides w (codes "help")).0 e))
 
 -- what a line is told as, by what the parser refuses and by what the words order
-pub told_by : (words : List Text) (refusal : Option WordsFault) (is_of_input : Bool) → parser_refusal words ≡ refusal → serves_input words ≡ is_of_input
+pub explained_by : (words : List Text) (refusal : Option WordsFault) (is_of_input : Bool) → parser_refusal words ≡ refusal → serves_input words ≡ is_of_input
     → fault_for words ≡ option_or refusal (if is_of_input then Some Usage else None)
-told_by words refusal is_of_input refused served =
+explained_by words refusal is_of_input refused served =
     ap₂ (λ (r : Option WordsFault) (b : Bool). option_or r (if b then Some Usage else None)) refused served
 
 pub served_as : (words : List Text) (order : OrderView) (is_of_input : Bool) → order_of words ≡ Some order → is_serve_of_input order ≡ is_of_input
     → serves_input words ≡ is_of_input
 served_as words order is_of_input is e = ap (λ o. option_map_or is_serve_of_input o false) is ∙ e
 
-pub help_line_told : (words : List Text) → is_help_line words ≡ true → fault_for words ≡ Some Usage
-help_line_told words e =
+pub help_line_explained : (words : List Text) → is_help_line words ≡ true → fault_for words ≡ Some Usage
+help_line_explained words e =
     let h = help_words words e in
-    told_by words (Some Usage) (serves_input words)
-    (ap parser_refusal h.1 ∙ ap (λ ks. option_map refusal_told (slice_get ks 0)) (help_fault h.0)) refl
+    explained_by words (Some Usage) (serves_input words)
+    (ap parser_refusal h.1 ∙ ap (λ ks. option_map explain_refusal (slice_get ks 0)) (help_fault h.0)) refl
 
 pub help_line_refused : (words : List Text) → is_help_line words ≡ true → takes line_app words ≡ true → ⊥
 help_line_refused words e taken =
@@ -164,24 +164,24 @@ IsTaken words order = (fault_of line_app words ≡ []) × (order_of words ≡ So
 
 -- ---- what a refusal is told as
 
-first_told : (kinds : Kinds) (k : ErrorKind) → SameTold kinds → IsAmong k kinds → option_map refusal_told (slice_get kinds 0) ≡ Some (refusal_told k)
-first_told [] k same a = absurd a
-first_told (x ∷ xs) k same (inl is) = ap (λ y. Some (refusal_told y)) (sym is)
-first_told (x ∷ xs) k same (inr more) = ap (λ f. Some f) (sym (same k more))
+first_explained : (kinds : Kinds) (k : ErrorKind) → SameExplained kinds → IsAmong k kinds → option_map explain_refusal (slice_get kinds 0) ≡ Some (explain_refusal k)
+first_explained [] k same a = absurd a
+first_explained (x ∷ xs) k same (inl is) = ap (λ y. Some (explain_refusal y)) (sym is)
+first_explained (x ∷ xs) k same (inr more) = ap (λ f. Some f) (sym (same k more))
 
-kind_told : (words : List Text) (e : Error) → HasKind (fault_of line_app words) e
-    → (refusal_told (kind_of e) ≡ NoMemory) ⊎ (parser_refusal words ≡ Some (refusal_told (kind_of e)))
-kind_told words e (inl memory) = inl (ap refusal_told memory)
-kind_told words e (inr among) = inr (first_told (fault_of line_app words) (kind_of e) (same-fault (built line_app) words refl) among)
+kind_explained : (words : List Text) (e : Error) → HasKind (fault_of line_app words) e
+    → (explain_refusal (kind_of e) ≡ NoMemory) ⊎ (parser_refusal words ≡ Some (explain_refusal (kind_of e)))
+kind_explained words e (inl memory) = inl (ap explain_refusal memory)
+kind_explained words e (inr among) = inr (first_explained (fault_of line_app words) (kind_of e) (same-fault (built line_app) words refl) among)
 
 pub refusal_none : (words : List Text) → fault_of line_app words ≡ [] → parser_refusal words ≡ None
-refusal_none words is = ap (λ ks. option_map refusal_told (slice_get ks 0)) is
+refusal_none words is = ap (λ ks. option_map explain_refusal (slice_get ks 0)) is
 
 -- words without a fault are refused only if memory runs out
 pub only_memory : (words : List Text) (f : WordsFault) → fault_for words ≡ None → (f ≡ NoMemory) ⊎ (fault_for words ≡ Some f) → f ≡ NoMemory
 only_memory words f is (inl memory) = memory
-only_memory words f is (inr told) =
-    let none : None ≡ Some f = sym is ∙ told in
+only_memory words f is (inr explained) =
+    let none : None ≡ Some f = sym is ∙ explained in
     let bad : ⊥ = cc in absurd bad
 
 -- ---- from what the code reads of the matches to the order
@@ -211,14 +211,14 @@ no_file name rows e = rw e (simp same_cond)
 -- ---- the clauses of the parse, at the program's line
 
 pub refused_as : (a : App) (words : List Text) (e : Error) (f : WordsFault) → a ≡ line_app → (is_simple_and_free a ≡ true → HasKind (fault_of a words) e)
-    → f ≡ refusal_told (kind_of e) → (f ≡ NoMemory) ⊎ (parser_refusal words ≡ Some f)
-refused_as a words e f is h told =
+    → f ≡ explain_refusal (kind_of e) → (f ≡ NoMemory) ⊎ (parser_refusal words ≡ Some f)
+refused_as a words e f is h explained =
     let kinds = subst (λ (x : App). is_simple_and_free x ≡ true → HasKind (fault_of x words) e) is h line_free in
-    subst (λ (x : WordsFault). (x ≡ NoMemory) ⊎ (parser_refusal words ≡ Some x)) (sym told) (kind_told words e kinds)
+    subst (λ (x : WordsFault). (x ≡ NoMemory) ⊎ (parser_refusal words ≡ Some x)) (sym explained) (kind_explained words e kinds)
 
 pub refused_taken : (a : App) (words : List Text) (e : Error) → a ≡ line_app → (takes a words ≡ true → kind_of e ≡ OutOfMemory) → takes line_app words ≡ true
-    → refusal_told (kind_of e) ≡ NoMemory
-refused_taken a words e is h taken = ap refusal_told (h (ap (λ (x : App). takes x words) is ∙ taken))
+    → explain_refusal (kind_of e) ≡ NoMemory
+refused_taken a words e is h taken = ap explain_refusal (h (ap (λ (x : App). takes x words) is ∙ taken))
 
 pub no_fault : (a : App) (words : List Text) → a ≡ line_app → (is_simple_and_free a ≡ true → fault_of a words ≡ []) → fault_of line_app words ≡ []
 no_fault a words is h = subst (λ (x : App). is_simple_and_free x ≡ true → fault_of x words ≡ []) is h line_free
@@ -246,7 +246,7 @@ pub answered : (r : Result Order WordsFault) (words line : List Text) (order : O
 answered (Ok o) words line order is taken other ok err = orders_when (Ok o) words order (ap order_of is ∙ taken.1) ok err
 answered (Err f) words line order is taken other ok err =
     let refusal = refusal_none words (ap (fault_of line_app) is ∙ taken.0) in
-    only_memory words f (told_by words None false refusal (served_as words order false (ap order_of is ∙ taken.1) other)) err
+    only_memory words f (explained_by words None false refusal (served_as words order false (ap order_of is ∙ taken.1) other)) err
 
 -- ---- lines of a command that takes a file and nothing else
 
@@ -309,7 +309,7 @@ IsOfInput words = (serves_input words ≡ true) × (fault_for words ≡ Some Usa
 taken_of_input : (words : List Text) → IsTaken words (serve (codes "-")) → IsOfInput words
 taken_of_input words taken =
     let served = served_as words (serve (codes "-")) true taken.1 refl in
-    (served, told_by words None true (refusal_none words taken.0) served)
+    (served, explained_by words None true (refusal_none words taken.0) served)
 
 pub line_of_input : (words : List Text) → is_serve_input_line words ≡ true → IsOfInput words
 line_of_input (a ∷ b ∷ []) e =

@@ -117,15 +117,15 @@ abbrev pub order_of : List Text → Option OrderView
 order_of words = option_and_then (λ p. ordered_by p.0 p.1) (subcommand_of line_app words)
 
 -- how a refusal of the parser is reported: as a request for help, as out of memory, else by the usage
-abbrev pub refusal_told : ErrorKind → WordsFault
-refusal_told ErrorKind.DisplayHelp = WordsFault.Help
-refusal_told ErrorKind.OutOfMemory = WordsFault.NoMemory
-refusal_told _ = WordsFault.Usage
+abbrev pub explain_refusal : ErrorKind → WordsFault
+explain_refusal ErrorKind.DisplayHelp = WordsFault.Help
+explain_refusal ErrorKind.OutOfMemory = WordsFault.NoMemory
+explain_refusal _ = WordsFault.Usage
 
 -- how the parser's refusal of arguments is reported; None if it accepts them.
 -- All its faults are reported as the first one.
 abbrev pub parser_refusal : List Text → Option WordsFault
-parser_refusal words = option_map refusal_told (slice_get (fault_of line_app words) 0)
+parser_refusal words = option_map explain_refusal (slice_get (fault_of line_app words) 0)
 
 -- whether the command is `serve -`: the commands come from standard input, so the dump cannot
 abbrev pub is_serve_of_input : OrderView → Bool

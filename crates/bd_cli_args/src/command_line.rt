@@ -4,7 +4,7 @@ ghost use Rattle.std.specs.Prelude.{◌≡◌, ◌⊎◌, [], ◌∷◌, ℕ, Li
 ghost use Rattle.clap.specs.Simple.{with_subcommand};
 ghost use Rattle.clap.specs.Words.{app_of, first_of, found_of, kind_of, rows_of, rule_of, takes};
 ghost use Rattle.clap.specs.declared.builder.command.Command.TheViews.{out-Command as fields_of};
-ghost use Rattle.bd_cli_args.specs.CommandLine.{GivesOrder, IsFileCommand, OrderView, fault_for, file_app, file_rule, find_app, find_words_in, is_file_word, is_help_line, is_serve_input_line, is_serve_of_input, line_app, meant, option_number, option_rule, order_of, ordered_by, parser_refusal, refusal_told, serves_input, top_app, with_file_commands, with_options, words_of};
+ghost use Rattle.bd_cli_args.specs.CommandLine.{GivesOrder, IsFileCommand, OrderView, fault_for, file_app, file_rule, find_app, find_words_in, is_file_word, is_help_line, is_serve_input_line, is_serve_of_input, line_app, meant, option_number, option_rule, order_of, ordered_by, parser_refusal, explain_refusal, serves_input, top_app, with_file_commands, with_options, words_of};
 ghost use Rattle.bd_cli_args.specs.FindWords.{find_words_of};
 ghost use Rattle.bd_cli_args.specs.declared.order.WordsFault.TheVariants.{NoMemory};
 
@@ -36,7 +36,7 @@ pub const USAGE: &str = "usage: bsonfind dump FILE
 /// - `Help` where the words ask for help by a flag, as `--help` and `dump -h` do.
 /// - `Usage` where they are not taken otherwise. The word `help` in the first place is no command.
 /// - `NoMemory` where memory ran out. The word `help` in the first place, `serve -` and `serve -- -` need none.
-#[tactic(auto, using(crate::proofs::LineLemmas::help_line_told, crate::proofs::LineLemmas::help_line_refused, crate::proofs::LineLemmas::line_of_input))]
+#[tactic(auto, using(crate::proofs::LineLemmas::help_line_explained, crate::proofs::LineLemmas::help_line_refused, crate::proofs::LineLemmas::line_of_input))]
 pub fn parse_words(alloc: Global, words: &[String]) -> Result<Order, WordsFault>
     ensures order { IfOk result (λ o. order_of (words_of words.now) ≡ Some (meant o)) }
     ensures only_taken { IfOk result (λ _. fault_for (words_of words.now) ≡ None) }
@@ -117,7 +117,7 @@ fn order_in(alloc: Global, words: &[String]) -> Result<Order, WordsFault>
     let command = line_command(alloc)?;
     let matches = match command.try_get_matches_from(words) {
         Ok(matches) => matches,
-        Err(error) => return Err(fault_told(&error)),
+        Err(error) => return Err(explain_error(&error)),
     };
     let Some((name, inner)) = matches.subcommand() else {
         unreachable!()
@@ -125,8 +125,8 @@ fn order_in(alloc: Global, words: &[String]) -> Result<Order, WordsFault>
     order_named(alloc, name, inner)
 }
 
-fn fault_told(error: &Error) -> WordsFault
-    ensures { result ≡ refusal_told (kind_of error.now) }
+fn explain_error(error: &Error) -> WordsFault
+    ensures { result ≡ explain_refusal (kind_of error.now) }
 {
     match error.kind() {
         ErrorKind::DisplayHelp => WordsFault::Help,

@@ -12,30 +12,30 @@ use Rattle.bd_cli_command.specs.CommandOf.{first_command, missing_fault, pair_fa
 use Rattle.bd_value.proofs.ViewLemmas as lookup
 
 -- a pair of the front
-pub at_front : (d : Doc) (i n : ℕ) (p : Pair) → i < n → slice_get d i ≡ Some p → slice_get (take n d) i ≡ Some p
-at_front [] i n p lt is = absurd cc
-at_front (q ∷ d) zero zero p lt is = let f : ⊥ = omega (arith, lt) in absurd f
-at_front (q ∷ d) (suc i) zero p lt is = let f : ⊥ = omega (arith, lt) in absurd f
-at_front (q ∷ d) zero (suc n) p lt is = is
-at_front (q ∷ d) (suc i) (suc n) p lt is = at_front d i n p (omega (arith, lt)) is
+pub at_prefix : (d : Doc) (i n : ℕ) (p : Pair) → i < n → slice_get d i ≡ Some p → slice_get (take n d) i ≡ Some p
+at_prefix [] i n p lt is = absurd cc
+at_prefix (q ∷ d) zero zero p lt is = let f : ⊥ = omega (arith, lt) in absurd f
+at_prefix (q ∷ d) (suc i) zero p lt is = let f : ⊥ = omega (arith, lt) in absurd f
+at_prefix (q ∷ d) zero (suc n) p lt is = is
+at_prefix (q ∷ d) (suc i) (suc n) p lt is = at_prefix d i n p (omega (arith, lt)) is
 
 -- the front, with the next pair
-pub front_with : (d : Doc) (i : ℕ) (p : Pair) → slice_get d i ≡ Some p → take (i + 1) d ≡ take i d ++ p ∷ []
-front_with [] i p is = absurd cc
-front_with (q ∷ d) zero p is = cc
-front_with (q ∷ d) (suc i) p is =
+pub prefix_with : (d : Doc) (i : ℕ) (p : Pair) → slice_get d i ≡ Some p → take (i + 1) d ≡ take i d ++ p ∷ []
+prefix_with [] i p is = absurd cc
+prefix_with (q ∷ d) zero p is = cc
+prefix_with (q ∷ d) (suc i) p is =
     let e : take (i + 1) d ≡ take (suc i) d = rw add-one refl in
-    rw add-one (ap (λ (ps : Doc). q ∷ ps) (sym e ∙ front_with d i p is))
+    rw add-one (ap (λ (ps : Doc). q ∷ ps) (sym e ∙ prefix_with d i p is))
 
 -- ---- whether a name stands before a position
 
 module _ (name : List ℕ) (d : Doc) (i n : ℕ) (p : Pair) (lt : i < n) (at : slice_get d i ≡ Some p)
     (so_far : first_of name (drop i (take n d)) ≡ first_of name (take n d)) where
   pub name_skipped : false ≡ bytes_eq p.0 name → first_of name (drop (i + 1) (take n d)) ≡ first_of name (take n d)
-  name_skipped other = lookup.skipped name (take n d) i p _ (at_front d i n p lt at) so_far other
+  name_skipped other = lookup.skipped name (take n d) i p _ (at_prefix d i n p lt at) so_far other
 
   pub name_found : true ≡ bytes_eq p.0 name → true ≡ is_some (first_of name (take n d))
-  name_found same = sym (ap (λ (o : Option Tree). is_some o) (lookup.found name (take n d) i p _ (at_front d i n p lt at) so_far same))
+  name_found same = sym (ap (λ (o : Option Tree). is_some o) (lookup.found name (take n d) i p _ (at_prefix d i n p lt at) so_far same))
 
 -- ---- the first fault
 
@@ -52,7 +52,7 @@ module _ (command : CommandName) (d : Doc) (i : ℕ) (total fault : Option Comma
       let p = (there d i lt).0 in
       let at = (there d i lt).1 in
       ap (λ (f : Option CommandFault). option_or f (pairs_fault command (take (i + 1) d) (drop (i + 1) d))) (here p at)
-      ∙ ap (λ (before : Doc). option_or (pair_fault command (take i d) p) (pairs_fault command before (drop (i + 1) d))) (front_with d i p at)
+      ∙ ap (λ (before : Doc). option_or (pair_fault command (take i d) p) (pairs_fault command before (drop (i + 1) d))) (prefix_with d i p at)
       ∙ sym (ap (pairs_fault command (take i d)) (lookup.next_at d i p at)) ∙ so_far
 
   pub fault_later : fault ≡ None → pairs_fault command (take (i + 1) d) (drop (i + 1) d) ≡ total
@@ -178,8 +178,8 @@ module _ (command : CommandName) (d : Doc) where
       (kept_passed b.0 (omega (arith, lt)) b.3) (here_alone command d b.0 b.1 b.2) f b.4)
   fields_refused f (inr (good, missing)) = sym (all_kept good) ∙ missing
 
-  fields_told : (f : CommandFault) → pairs_fault command [] d ≡ Some f → FieldsBreak f
-  fields_told f is = go (ends_so (Some f) is)
+  fields_reported : (f : CommandFault) → pairs_fault command [] d ≡ Some f → FieldsBreak f
+  fields_reported f is = go (ends_so (Some f) is)
     where
       go : Ends (Some f) → FieldsBreak f
       go (inl kept) = inr kept
@@ -209,7 +209,7 @@ of_document d = go (first_command d) refl
         fields : (o : Option CommandFault) → pairs_fault command [] d ≡ o
             → ((c : Command) × (command_of d ≡ Ok c) × IsCommandDocument d) ⊎ ((f : CommandFault) × (command_of d ≡ Err f) × IsFaultOf d f)
         fields None a = inl (command_in command d, rw e rw a refl, fields_taken_are command d (sym e) (sym a))
-        fields (Some f) a = inr (f, rw e rw a refl, inr (command, e, fields_told command d f a))
+        fields (Some f) a = inr (f, rw e rw a refl, inr (command, e, fields_reported command d f a))
 
 fault_refused : (d : Doc) (f : CommandFault) → IsFaultOf d f → command_of d ≡ Err f
 fault_refused d f (inl (none, is)) = rw none (ap Err (sym is))
@@ -231,10 +231,10 @@ commands_keep_rules d = (kept, suffice)
         (command_in h.0 d, rw h.1 rw none refl)
 
 pub faults_break_rules : (d : Doc) (f : CommandFault) → (command_of d ≡ Err f) ↔ IsFaultOf d f
-faults_break_rules d f = (told, fault_refused d f)
+faults_break_rules d f = (fact, fault_refused d f)
   where
-    told : command_of d ≡ Err f → IsFaultOf d f
-    told refused = go (of_document d)
+    fact : command_of d ≡ Err f → IsFaultOf d f
+    fact refused = go (of_document d)
       where
         go : ((c : Command) × (command_of d ≡ Ok c) × IsCommandDocument d) ⊎ ((g : CommandFault) × (command_of d ≡ Err g) × IsFaultOf d g) → IsFaultOf d f
         go (inl (c, is, h)) = absurd cc

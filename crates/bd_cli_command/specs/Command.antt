@@ -1,8 +1,8 @@
 -- What a command asks for, with texts as their bytes and documents as their pairs; and why a document is no command.
 use Rattle.std.specs.Prelude.{ℕ, Bool, List, string_bytes, codes}
 use Rattle.bd_value.specs.{Tree.Doc, View.pairs}
-use Rattle.bd_cli_command.specs.declared.command.{Command.Command as HeldCommand, FindCommand.FindCommand as HeldFind}
-use Rattle.bd_cli_command.specs.declared.{command.Hint.Hint as HeldHint, field.HintForm.HintForm}
+use Rattle.bd_cli_command.specs.declared.command.{Command.Command as CommandInMemory, FindCommand.FindCommand as FindInMemory}
+use Rattle.bd_cli_command.specs.declared.{command.Hint.Hint as HintInMemory, field.HintForm.HintForm}
 use Rattle.bd_cli_command.specs.declared.command.{CommandFault.CommandFault}
 
 -- how documents are to be found (`use`): by any index that serves, by a scan, or by the index on a path
@@ -31,10 +31,10 @@ pub data Command : Type 0 where
   explains : FindCommand → Command
 
 -- what the field `use` in memory asks for
-abbrev pub hint_tree : HeldHint → Hint
-hint_tree HeldHint.Auto = any_way
-hint_tree HeldHint.Scan = by_scan
-hint_tree (HeldHint.Index path) = by_index (string_bytes path)
+abbrev pub hint_tree : HintInMemory → Hint
+hint_tree HintInMemory.Auto = any_way
+hint_tree HintInMemory.Scan = by_scan
+hint_tree (HintInMemory.Index path) = by_index (string_bytes path)
 
 -- what the field `use` asks for, with a path that is borrowed
 abbrev pub hint_read : HintForm → Hint
@@ -43,7 +43,7 @@ hint_read HintForm.Scan = by_scan
 hint_read (HintForm.Index path) = by_index path.now
 
 -- what is to be found, by a command in memory
-abbrev pub find_tree : HeldFind → FindCommand
+abbrev pub find_tree : FindInMemory → FindCommand
 find_tree f = record {
   filter = pairs f.filter;
   sort = pairs f.sort;
@@ -53,14 +53,14 @@ find_tree f = record {
 }
 
 -- the command that one in memory stands for
-abbrev pub command_tree : HeldCommand → Command
-command_tree (HeldCommand.CreateIndex path sparse) = creates_index (string_bytes path) sparse
-command_tree (HeldCommand.DropIndex path) = drops_index (string_bytes path)
-command_tree (HeldCommand.Find find) = finds (find_tree find)
-command_tree (HeldCommand.Resume token find) = resumes (string_bytes token) (find_tree find)
-command_tree (HeldCommand.GetMore id batch) = gets_more id batch
-command_tree (HeldCommand.KillCursor id) = kills_cursor id
-command_tree (HeldCommand.Explain find) = explains (find_tree find)
+abbrev pub command_tree : CommandInMemory → Command
+command_tree (CommandInMemory.CreateIndex path sparse) = creates_index (string_bytes path) sparse
+command_tree (CommandInMemory.DropIndex path) = drops_index (string_bytes path)
+command_tree (CommandInMemory.Find find) = finds (find_tree find)
+command_tree (CommandInMemory.Resume token find) = resumes (string_bytes token) (find_tree find)
+command_tree (CommandInMemory.GetMore id batch) = gets_more id batch
+command_tree (CommandInMemory.KillCursor id) = kills_cursor id
+command_tree (CommandInMemory.Explain find) = explains (find_tree find)
 
 -- the number of a command fault in a reply; out of memory is no reply
 abbrev pub command_fault_number : CommandFault → ℕ

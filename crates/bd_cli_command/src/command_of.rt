@@ -28,7 +28,7 @@ pub fn read_command(alloc: Global, document: &Document) -> Result<Command, Comma
     ensures command { IfOk result (λ c. command_of (pairs document.now) ≡ Ok (command_tree c)) }
     ensures fault { IfErr result (λ f. (f ≡ NoMemory) ⊎ (command_of (pairs document.now) ≡ Err f)) }
     // Want of memory hides no fault.
-    ensures starved { IsErrOf result CommandFault.NoMemory →
+    ensures out_of_memory { IsErrOf result CommandFault.NoMemory →
         IsCommandDocument (pairs document.now) }
 {
     let Some(name) = first_command(document) else {
@@ -66,7 +66,7 @@ fn check_field(command: CommandName, document: &Document, i: usize) -> Result<()
         (p : Pair) → slice_get d i ≡ Some p → result_err result ≡ pair_fault command (take i d) p }
 {
     let (name, value) = document.pair(i);
-    if stands_before(document, i, name) {
+    if is_before_field(document, i, name) {
         return Err(CommandFault::RepeatedField);
     }
     match command.field_kind(name) {
@@ -77,7 +77,7 @@ fn check_field(command: CommandName, document: &Document, i: usize) -> Result<()
 }
 
 /// Whether a field stands before an index.
-fn stands_before(document: &Document, end: usize, field: &str) -> bool
+fn is_before_field(document: &Document, end: usize, field: &str) -> bool
     requires { end < length (pairs document.now) }
     ensures { result ≡ is_some (first_of field.now (take end (pairs document.now))) }
 {

@@ -18,17 +18,17 @@ module _ {V R : Type 0} (bytes : V → List ℕ) (size : V → ℕ) (sized : (v 
   never_too_many (given, short, each) = let n = reads_at_least most_reads old new given each in omega (arith, n, short)
 
   pub was_read : (before after : Reader) (r : Result V ReadFault)
-      → IfOk r (λ v. IfSome before.left (λ xs. bytes v ≡ xs)) → OnOk r (IsAtEnd after.left) → IfOk r (λ v. size v ≤ longest_input)
+      → IfOk r (λ v. IfSome before.remaining (λ xs. bytes v ≡ xs)) → OnOk r (IsAtEnd after.remaining) → IfOk r (λ v. size v ≤ longest_input)
       → (¬ IsErrOf r reads.Device → after.failures ≡ before.failures) → (IsErrOf r reads.Device → after.failures ≡ after_more before.failures 1)
-      → (IsErrOf r reads.TooLong → IfSome before.left (λ xs. longest_input < length xs)) → (IsErrOf r reads.TooManyTurns → Exhausts)
+      → (IsErrOf r reads.TooLong → IfSome before.remaining (λ xs. longest_input < length xs)) → (IsErrOf r reads.TooManyTurns → Exhausts)
       → (IsErrOf r reads.NoMemory → TakesAtMost longest_input (between before after))
       → MatchResult r (λ v. ReadsInput (between before after) (Ok (bytes v))) (λ f. ReadsInput (between before after) (Err f))
-  was_read before after (Ok v) all end short well failed long many few =
-      let n = sized v in (all, end, (let fits : length (bytes v) ≤ longest_input = omega (arith, short, n) in fits), well (λ e. absurd cc))
-  was_read before after (Err reads.Device) all end short well failed long many few = failed refl
-  was_read before after (Err reads.TooLong) all end short well failed long many few = (long refl, well (λ e. absurd cc))
-  was_read before after (Err reads.TooManyTurns) all end short well failed long many few = never_too_many (many refl)
-  was_read before after (Err reads.NoMemory) all end short well failed long many few = (few refl, well (λ e. absurd cc))
+  was_read before after (Ok v) all end short no_failure failed long many few =
+      let n = sized v in (all, end, (let fits : length (bytes v) ≤ longest_input = omega (arith, short, n) in fits), no_failure (λ e. absurd cc))
+  was_read before after (Err reads.Device) all end short no_failure failed long many few = failed refl
+  was_read before after (Err reads.TooLong) all end short no_failure failed long many few = (long refl, no_failure (λ e. absurd cc))
+  was_read before after (Err reads.TooManyTurns) all end short no_failure failed long many few = never_too_many (many refl)
+  was_read before after (Err reads.NoMemory) all end short no_failure failed long many few = (few refl, no_failure (λ e. absurd cc))
 
   pub no_further : (limit turns : ℕ) (r : Result V ReadFault)
       → IfOk r (λ v. (n : ℕ) × (last : R) × (n < turns) × AreReads gives n old (bytes v) last × gives last (Some []) new)

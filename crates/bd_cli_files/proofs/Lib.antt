@@ -3,4 +3,4 @@ pub mod DumpLemmas
 pub mod InputLemmas
 pub mod OutputLemmas
 pub mod PackLemmas
-pub mod WalkLemmas
+pub mod ScanLemmas

@@ -4,13 +4,13 @@ use Rattle.std.proofs.lemmas.{Bool.Decides.nat_tests, Str.IsUtf8-append, Str.IsU
 use Rattle.std.specs.Prelude.{OnErr, OnOk, Result, Ok, Err, string_bytes}
 use Rattle.std.specs.List.{join_with_byte}
 use Rattle.bd_value.specs.Tree.{Doc, doc, fields_of}
-use Rattle.bd_io_device.specs.Devices.{BreaksWithin, TakesFront, TakesText, Writer, between}
-use Rattle.bd_io_device.proofs.DevicesLemmas.{breaks_first, breaks_second, takes_both}
+use Rattle.bd_io_device.specs.Devices.{WriteFailsWithin, TakesPrefix, TakesText, Writer, between}
+use Rattle.bd_io_device.proofs.DevicesLemmas.{write_fails_first, write_fails_second, takes_both}
 use Rattle.json.proofs.Printed.Utf8.{IsUtf8-are_ascii, IsUtf8-quoted}
 use Rattle.bd_extjson_text.specs.Text.{escape_byte, escaped, quoted, text}
 use Rattle.bd_cli_files.specs.{declared.output.OutputFault.OutputFault, declared.output.Status.Status, declared.output.Status.TheVariants.Failed}
 use Rattle.bd_cli_files.specs.declared.output.OutputFault.TheVariants.{NoMemory, Unwritten}
-use Rattle.bd_cli_files.specs.Output.{lines, PrintsOrStarves, StopsWithin, TellsMessage, Transcript, error_line, no_memory, stop_words}
+use Rattle.bd_cli_files.specs.Output.{lines, PrintsOrRunsOut, StopsWithin, ReportsMessage, Transcript, error_line, no_memory, stop_words}
 use Rattle.json.specs.Print as printed
 
 -- the lines of two lists of documents are those of both joined
@@ -32,43 +32,43 @@ on_err_map (Err e) P Q h f = f h
 
 -- an answer to the writing of the second of two texts
 pub second_err : {A E : Type 0} (r : Result A E) (old mid new : Writer) (first second : List ℕ) → TakesText (between old mid) first
-    → OnErr r (BreaksWithin (between mid new) second) → OnErr r (BreaksWithin (between old new) (first ++ second))
+    → OnErr r (WriteFailsWithin (between mid new) second) → OnErr r (WriteFailsWithin (between old new) (first ++ second))
 second_err (Ok x) old mid new first second a h = _
-second_err (Err e) old mid new first second a h = breaks_second old mid new first second a h
+second_err (Err e) old mid new first second a h = write_fails_second old mid new first second a h
 
 pub second_ok : {A E : Type 0} (r : Result A E) (old mid new : Writer) (first second : List ℕ) → TakesText (between old mid) first
     → OnOk r (TakesText (between mid new) second) → OnOk r (TakesText (between old new) (first ++ second))
 second_ok (Ok x) old mid new first second a h = takes_both old mid new first second a h
 second_ok (Err e) old mid new first second a h = _
 
-pub ruleset taking = (takes_both, breaks_first, breaks_second)
+pub ruleset taking = (takes_both, write_fails_first, write_fails_second)
 
 -- ---- a text of which a front was taken
 
 -- a writer that took a prefix of a text took a prefix
-pub front_taken : (old new : Writer) (front rest all : List ℕ) → TakesText (between old new) front → all ≡ front ++ rest → TakesFront (between old new) all
-front_taken old new front rest all took cut = (front, rest, cut, took)
+pub prefix_taken : (old new : Writer) (prefix rest all : List ℕ) → TakesText (between old new) prefix → all ≡ prefix ++ rest → TakesPrefix (between old new) all
+prefix_taken old new prefix rest all took splits = (prefix, rest, splits, took)
 
 -- a write failed in the piece after what was taken
-pub breaks_piece : (old mid new : Writer) (front piece rest all : List ℕ) → TakesText (between old mid) front → BreaksWithin (between mid new) piece
-    → all ≡ front ++ (piece ++ rest) → BreaksWithin (between old new) all
-breaks_piece old mid new front piece rest all took broke cut =
-    let whole = breaks_first old new (front ++ piece) rest (breaks_second old mid new front piece took broke) in
-    subst (λ (x : List ℕ). BreaksWithin (between old new) x) (append_assoc front piece rest ∙ sym cut) whole
+pub write_fails_piece : (old mid new : Writer) (prefix piece rest all : List ℕ) → TakesText (between old mid) prefix → WriteFailsWithin (between mid new) piece
+    → all ≡ prefix ++ (piece ++ rest) → WriteFailsWithin (between old new) all
+write_fails_piece old mid new prefix piece rest all took failed_write splits =
+    let whole = write_fails_first old new (prefix ++ piece) rest (write_fails_second old mid new prefix piece took failed_write) in
+    subst (λ (x : List ℕ). WriteFailsWithin (between old new) x) (append_assoc prefix piece rest ∙ sym splits) whole
 
 -- if standard output has all and standard error the message, or that memory ran out,
 -- the run printed what it is to show
-pub all_shown : (out_old out_new err_old err_new : Writer) (status : Status) (shown : Transcript) → TakesText (between out_old out_new) shown.out
-    → TellsMessage (between err_old err_new) shown.err shown.status status ⊎ TellsMessage (between err_old err_new) (error_line no_memory) Failed status
-    → PrintsOrStarves (between out_old out_new) (between err_old err_new) shown status
-all_shown out_old out_new err_old err_new status shown wrote (inl told) = inl (wrote, told)
-all_shown out_old out_new err_old err_new status shown wrote (inr told) = inr (inr ((shown.out, [], sym (append-nil shown.out), wrote), told))
+pub all_output : (out_old out_new err_old err_new : Writer) (status : Status) (output : Transcript) → TakesText (between out_old out_new) output.out
+    → ReportsMessage (between err_old err_new) output.err output.status status ⊎ ReportsMessage (between err_old err_new) (error_line no_memory) Failed status
+    → PrintsOrRunsOut (between out_old out_new) (between err_old err_new) output status
+all_output out_old out_new err_old err_new status output wrote (inl reported) = inl (wrote, reported)
+all_output out_old out_new err_old err_new status output wrote (inr reported) = inr (inr ((output.out, [], sym (append-nil output.out), wrote), reported))
 
 -- standard output was stopped
-pub stop_shown : (out_old out_new err_old err_new : Writer) (status : Status) (shown : Transcript) (stopped : OutputFault) → StopsWithin (between out_old out_new) shown.out stopped
-    → TellsMessage (between err_old err_new) (error_line (stop_words stopped)) Failed status → PrintsOrStarves (between out_old out_new) (between err_old err_new) shown status
-stop_shown out_old out_new err_old err_new status shown NoMemory front told = inr (inr (front, told))
-stop_shown out_old out_new err_old err_new status shown Unwritten broke told = inr (inl (broke, told))
+pub stop_output : (out_old out_new err_old err_new : Writer) (status : Status) (output : Transcript) (stopped : OutputFault) → StopsWithin (between out_old out_new) output.out stopped
+    → ReportsMessage (between err_old err_new) (error_line (stop_words stopped)) Failed status → PrintsOrRunsOut (between out_old out_new) (between err_old err_new) output status
+stop_output out_old out_new err_old err_new status output NoMemory prefix reported = inr (inr (prefix, reported))
+stop_output out_old out_new err_old err_new status output Unwritten failed_write reported = inr (inl (failed_write, reported))
 
 -- ---- a path is UTF-8
 

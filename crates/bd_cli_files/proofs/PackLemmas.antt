@@ -8,17 +8,17 @@ use Rattle.std.specs.{List.All, List.flat_map, Str.Lossy.utf8_valid_len}
 use Rattle.bd_value.specs.{Limits.longest_document, Limits.most_reads, Tree.Doc}
 use Rattle.memchr.specs.Find.{IsFirstByte, is_byte}
 use Rattle.bd_extjson.specs.Read.{ReadsAs, reading}
-use Rattle.bd_extjson_fault.specs.{JsonFault.IsPlaced, JsonFault.TellsBadUtf8, declared.json_fault.JsonFault.JsonFault}
+use Rattle.bd_extjson_fault.specs.{JsonFault.IsPlaced, JsonFault.ReportsBadUtf8, declared.json_fault.JsonFault.JsonFault}
 use Rattle.bd_extjson_pack.specs.Packable.{plain, IsPackable, IsBad}
 use Rattle.bd_extjson_pack.specs.declared.line.LineFault.{LineFault}
 use Rattle.bd_cli_files.specs.{declared.output.OutputFault.OutputFault, declared.output.OutputFault.TheVariants.NoMemory, declared.output.OutputFault.TheVariants.Unwritten, declared.pack.BadLine.BadLine}
 use Rattle.bd_cli_files.specs.{declared.pack.Packing.Packing, declared.output.Status.Status, declared.output.Status.TheVariants.Failed}
-use Rattle.bd_cli_files.specs.Output.{stop_words, PrintsOrStarves, TellsMessage, Transcript, error_line, no_memory, wrong_line, wrong_status}
-use Rattle.bd_cli_files.specs.Pack.{IsShownByPack, PacksLines, bad_line_text, shown_pack, IsPacking, StopsPacking, left_size, lines_left, objects_packed, AreAlike}
+use Rattle.bd_cli_files.specs.Output.{stop_words, PrintsOrRunsOut, ReportsMessage, Transcript, error_line, no_memory, wrong_line, wrong_status}
+use Rattle.bd_cli_files.specs.Pack.{IsOutputOfPack, PacksLines, bad_line_text, pack_output, IsPacking, StopsPacking, remaining_size, lines_remaining, objects_packed, AreAlike}
 use Rattle.bd_io_device.proofs.DevicesLemmas.{takes_both}
-use Rattle.bd_cli_files.proofs.OutputLemmas.{all_shown, stop_shown, breaks_piece, front_taken}
+use Rattle.bd_cli_files.proofs.OutputLemmas.{all_output, stop_output, write_fails_piece, prefix_taken}
 use Rattle.bd_io_lines.specs.Lines.{is_empty_line, text_lines}
-use Rattle.bd_io_device.specs.Devices.{BreaksWithin, TakesText, Writer, between}
+use Rattle.bd_io_device.specs.Devices.{WriteFailsWithin, TakesText, Writer, between}
 use Rattle.bd_io_device.specs.declared.reading.ReadFault.{ReadFault}
 use Rattle.bd_extjson_fault.specs.declared.json_fault.JsonFaultKind.TheVariants as kinds
 use Rattle.bd_extjson_pack.specs.declared.line.LineFault.TheVariants as faults
@@ -54,10 +54,10 @@ packs_once number (line ∷ lines) ds es bad other (inl p) (inl q) = packs_once 
 packs_once number (line ∷ lines) ds es bad other (inl p) (inr (inl q)) = blank_or_not _ p.0 q.0
 packs_once number (line ∷ lines) ds es bad other (inl p) (inr (inr q)) = blank_or_not _ p.0 q.0
 packs_once number (line ∷ lines) ds es bad other (inr (inl p)) (inl q) = blank_or_not _ q.0 p.0
-packs_once number (line ∷ lines) ds es bad other (inr (inl (full, (d, xs, good, cut, p)))) (inr (inl (also, (e, ys, fine, split, q)))) =
+packs_once number (line ∷ lines) ds es bad other (inr (inl (full, (d, xs, good, splits, p)))) (inr (inl (also, (e, ys, fine, split, q)))) =
     let more = packs_once (suc number) lines xs ys bad other p q in
-    (cut ∙ ap₂ (λ (x : Doc) (zs : List Doc). x ∷ zs) (read_once line d e good.0 fine.0) more.0 ∙ sym split, more.1)
-packs_once number (line ∷ lines) ds es bad other (inr (inl (full, (d, xs, good, cut, p)))) (inr (inr (also, (fault, is, none, end)))) = absurd (good_or_bad line d fault good is)
+    (splits ∙ ap₂ (λ (x : Doc) (zs : List Doc). x ∷ zs) (read_once line d e good.0 fine.0) more.0 ∙ sym split, more.1)
+packs_once number (line ∷ lines) ds es bad other (inr (inl (full, (d, xs, good, splits, p)))) (inr (inr (also, (fault, is, none, end)))) = absurd (good_or_bad line d fault good is)
 packs_once number (line ∷ lines) ds es bad other (inr (inr p)) (inl q) = blank_or_not _ q.0 p.0
 packs_once number (line ∷ lines) ds es bad other (inr (inr (full, (fault, is, none, end)))) (inr (inl (also, (e, ys, fine, split, q)))) = absurd (good_or_bad line e fault fine is)
 packs_once number (line ∷ lines) ds es bad other (inr (inr (full, (f, is, none, end)))) (inr (inr (also, (g, was, nothing, there)))) =
@@ -69,11 +69,11 @@ same_status None (Some b) a = absurd a
 same_status (Some b) None a = absurd a
 same_status (Some b) (Some c) a = refl
 
-pub packed_alike : (input : Result (List ℕ) ReadFault) (s t : Transcript) → IsShownByPack input s → IsShownByPack input t → (s.out ≡ t.out) × (s.status ≡ t.status)
-packed_alike (Ok text) s t (ds, bad, packs, shows) (es, other, packed, showed) =
+pub packed_alike : (input : Result (List ℕ) ReadFault) (s t : Transcript) → IsOutputOfPack input s → IsOutputOfPack input t → (s.out ≡ t.out) × (s.status ≡ t.status)
+packed_alike (Ok text) s t (ds, bad, packs, prints) (es, other, packed, showed) =
     let same = packs_once 1 (text_lines text) ds es bad other packs packed in
-    let out : s.out ≡ t.out = ap (λ (x : Transcript). x.out) shows ∙ ap (flat_map plain) same.0 ∙ ap (λ (x : Transcript). x.out) (sym showed) in
-    (out, ap (λ (x : Transcript). x.status) shows ∙ same_status bad other same.1 ∙ ap (λ (x : Transcript). x.status) (sym showed))
+    let out : s.out ≡ t.out = ap (λ (x : Transcript). x.out) prints ∙ ap (flat_map plain) same.0 ∙ ap (λ (x : Transcript). x.out) (sym showed) in
+    (out, ap (λ (x : Transcript). x.status) prints ∙ same_status bad other same.1 ∙ ap (λ (x : Transcript). x.status) (sym showed))
 packed_alike (Err fault) s t p q = (ap (λ (x : Transcript). x.out) (p ∙ sym q), ap (λ (x : Transcript). x.status) (p ∙ sym q))
 
 -- ---- any lines are packed in some way
@@ -95,7 +95,7 @@ packs_some number (line ∷ lines) = by_blank (is_empty_line line) refl (packs_s
     by_reading None none full rest =
         let fault : JsonFault = record { kind = kinds.Syntax; at = utf8_valid_len line } in
         let placed : IsPlaced (length line) fault = record { inside = utf8_valid_len_le line; whole = λ e. absurd cc; memory = λ e. absurd cc } in
-        let bytes : TellsBadUtf8 line fault = record { kind = λ _. refl; at = λ _. refl } in
+        let bytes : ReportsBadUtf8 line fault = record { kind = λ _. refl; at = λ _. refl } in
         ([], Some (record { number = number; fault = faults.Unread fault }), inr (inr (full, (faults.Unread fault, (λ e. cc, λ d is. cc, placed, bytes), refl, refl))))
     by_reading (Some d) is full rest = short d full is rest (cases_lt longest_document (length (plain d)))
 
@@ -107,24 +107,24 @@ packs_some number (line ∷ lines) = by_blank (is_empty_line line) refl (packs_s
 
 module _ (text : List ℕ) (out_old out_new : Writer) (err_old err_new : Writer) (status : Status) where
   -- something was shown that is to be shown of the text
-  abbrev pub Shows : Type 0
-  Shows = (shown : Transcript) × IsShownByPack (Ok text) shown × PrintsOrStarves (between out_old out_new) (between err_old err_new) shown status
+  abbrev pub Prints : Type 0
+  Prints = (output : Transcript) × IsOutputOfPack (Ok text) output × PrintsOrRunsOut (between out_old out_new) (between err_old err_new) output status
 
-  abbrev Tells : List ℕ → Status → Type 0
-  Tells told wanted = TellsMessage (between err_old err_new) told wanted status ⊎ TellsMessage (between err_old err_new) (error_line no_memory) Failed status
+  abbrev Reports : List ℕ → Status → Type 0
+  Reports reported wanted = ReportsMessage (between err_old err_new) reported wanted status ⊎ ReportsMessage (between err_old err_new) (error_line no_memory) Failed status
 
   -- the bad line, where there is one, and this count
-  abbrev pub TellsPacking : ℕ → Option BadLine → Type 0
-  TellsPacking count bad = Tells (wrong_line (option_map bad_line_text bad) ++ (decimal count ++ objects_packed)) (wrong_status (option_map bad_line_text bad))
+  abbrev pub ReportsPacking : ℕ → Option BadLine → Type 0
+  ReportsPacking count bad = Reports (wrong_line (option_map bad_line_text bad) ++ (decimal count ++ objects_packed)) (wrong_status (option_map bad_line_text bad))
 
-  pub shows_packing : (packing : Packing) → IsPacking text (between out_old out_new) packing → TellsPacking packing.count packing.bad → Shows
-  shows_packing packing (ds, packs, counted, wrote) told =
-      let shown = shown_pack ds packing.bad in
-      (shown, (ds, packing.bad, packs, refl), all_shown out_old out_new err_old err_new status shown wrote (subst (λ n. TellsPacking n packing.bad) counted told))
+  pub prints_packing : (packing : Packing) → IsPacking text (between out_old out_new) packing → ReportsPacking packing.count packing.bad → Prints
+  prints_packing packing (ds, packs, counted, wrote) reported =
+      let output = pack_output ds packing.bad in
+      (output, (ds, packing.bad, packs, refl), all_output out_old out_new err_old err_new status output wrote (subst (λ n. ReportsPacking n packing.bad) counted reported))
 
-  pub shows_stop : (stopped : OutputFault) → StopsPacking text (between out_old out_new) stopped → TellsMessage (between err_old err_new) (error_line (stop_words stopped)) Failed status → Shows
-  shows_stop stopped (ds, bad, packs, stops) told =
-      (shown_pack ds bad, (ds, bad, packs, refl), stop_shown out_old out_new err_old err_new status (shown_pack ds bad) stopped stops told)
+  pub prints_stop : (stopped : OutputFault) → StopsPacking text (between out_old out_new) stopped → ReportsMessage (between err_old err_new) (error_line (stop_words stopped)) Failed status → Prints
+  prints_stop stopped (ds, bad, packs, stops) reported =
+      (pack_output ds bad, (ds, bad, packs, refl), stop_output out_old out_new err_old err_new status (pack_output ds bad) stopped stops reported)
 
 -- ---- lines cut off a text
 
@@ -141,8 +141,8 @@ none_before text k le none i d lt =
     let same : get_or (take k text) i d ≡ get_or text i 0 = get_or-take k text i d inside ∙ get_or_default text i d 0 (omega arith) in
     rw same (other_byte (get_or text i 0) (none i inside))
 
-pub cut_at : (text : List ℕ) (k : ℕ) → IsFirstByte (is_byte 10) text (Some k) → text_lines text ≡ take k text ∷ text_lines (drop (k + 1) text)
-cut_at text k first =
+pub split_at_byte : (text : List ℕ) (k : ℕ) → IsFirstByte (is_byte 10) text (Some k) → text_lines text ≡ take k text ∷ text_lines (drop (k + 1) text)
+split_at_byte text k first =
     let high = first.0.high in
     let here : get_or text k 0 ≡ 10 = newline (get_or text k 0) first.1 in
     let after : drop k text ≡ 10 ∷ drop (k + 1) text = rw add-one (drop-cons text k 0 high ∙ ap (λ b. b ∷ drop (suc k) text) here) in
@@ -150,25 +150,25 @@ cut_at text k first =
     let none = none_before text k (omega arith) (λ i lt. first.0.before i (omega arith) lt) in
     ap text_lines parts ∙ slice_split_at (λ b. b == 10) (take k text) 10 (drop (k + 1) text) none refl
 
-pub cut_none : (text : List ℕ) → IsFirstByte (is_byte 10) text None → text_lines text ≡ text ∷ []
-cut_none text none =
+pub split_none : (text : List ℕ) → IsFirstByte (is_byte 10) text None → text_lines text ≡ text ∷ []
+split_none text none =
     slice_split_none (λ b. b == 10) text (λ i d lt. let same : get_or text i d ≡ get_or text i 0 = get_or_default text i d 0 lt in rw same (other_byte (get_or text i 0) (none i (omega arith) lt)))
 
 -- ---- the loop over the lines
 
 -- what the loop keeps: the documents that were packed, whose bytes were taken
-pub record SoFar (text : List ℕ) (old new : Writer) (left : Option (List ℕ)) (number count : ℕ) : Type 0 where
+pub record SoFar (text : List ℕ) (old new : Writer) (remaining : Option (List ℕ)) (number count : ℕ) : Type 0 where
   pub done : List Doc
-  pub goes : (es : List Doc) (bad : Option BadLine) → PacksLines (suc number) (lines_left left) es bad → PacksLines 1 (text_lines text) (done ++ es) bad
+  pub goes : (es : List Doc) (bad : Option BadLine) → PacksLines (suc number) (lines_remaining remaining) es bad → PacksLines 1 (text_lines text) (done ++ es) bad
   pub counted : count ≡ length done
   pub few : count ≤ number
-  pub fits : number + left_size left ≤ most_reads
+  pub fits : number + remaining_size remaining ≤ most_reads
   pub wrote : TakesText (between old new) (flat_map plain done)
 
 module _ {text : List ℕ} {old new : Writer} {rest : List ℕ} {number count : ℕ} (s : SoFar text old new (Some rest) number count)
-    (line : List ℕ) (after : Option (List ℕ)) (cut : text_lines rest ≡ line ∷ lines_left after) where
-  go_on : (es : List Doc) (bad : Option BadLine) → PacksLines (suc number) (line ∷ lines_left after) es bad → PacksLines 1 (text_lines text) (s.done ++ es) bad
-  go_on es bad p = s.goes es bad (subst (λ (ls : List (List ℕ)). PacksLines (suc number) ls es bad) (sym cut) p)
+    (line : List ℕ) (after : Option (List ℕ)) (splits : text_lines rest ≡ line ∷ lines_remaining after) where
+  go_on : (es : List Doc) (bad : Option BadLine) → PacksLines (suc number) (line ∷ lines_remaining after) es bad → PacksLines 1 (text_lines text) (s.done ++ es) bad
+  go_on es bad p = s.goes es bad (subst (λ (ls : List (List ℕ)). PacksLines (suc number) ls es bad) (sym splits) p)
 
   next : number + 1 ≡ suc number
   next = omega arith
@@ -177,12 +177,12 @@ module _ {text : List ℕ} {old new : Writer} {rest : List ℕ} {number count : 
   with_one d es = flat_map-append plain s.done (d ∷ es)
 
   -- a line with a document, whose bytes were taken
-  pub packed : (end : Writer) (d : Doc) → left_size after ≤ length rest → is_empty_line line ≡ false → IsPackable line d → TakesText (between new end) (plain d)
+  pub packed : (end : Writer) (d : Doc) → remaining_size after ≤ length rest → is_empty_line line ≡ false → IsPackable line d → TakesText (between new end) (plain d)
       → SoFar text old end after (number + 1) (count + 1)
   packed end d smaller full is wrote = record {
     done = s.done ++ d ∷ [];
     goes = λ es bad p.
-        let tail = subst (λ (n : ℕ). PacksLines (suc n) (lines_left after) es bad) next p in
+        let tail = subst (λ (n : ℕ). PacksLines (suc n) (lines_remaining after) es bad) next p in
         subst (λ (ds : List Doc). PacksLines 1 (text_lines text) ds bad) (sym (append_assoc s.done (d ∷ []) es))
         (go_on (d ∷ es) bad (inr (inl (full, (d, es, is, refl, tail)))));
     counted = let c = s.counted in omega (arith, length-append s.done (d ∷ []));
@@ -193,12 +193,12 @@ module _ {text : List ℕ} {old new : Writer} {rest : List ℕ} {number count : 
   }
 
   -- standard output broke in its bytes
-  pub breaks : (end : Writer) (d : Doc) → is_empty_line line ≡ false → IsPackable line d → BreaksWithin (between new end) (plain d) → StopsPacking text (between old end) Unwritten
-  breaks end d full is broke =
-      let w = packs_some (suc (suc number)) (lines_left after) in
+  pub write_fails : (end : Writer) (d : Doc) → is_empty_line line ≡ false → IsPackable line d → WriteFailsWithin (between new end) (plain d) → StopsPacking text (between old end) Unwritten
+  write_fails end d full is failed_write =
+      let w = packs_some (suc (suc number)) (lines_remaining after) in
       let all = flat_map plain (s.done ++ d ∷ w.0) in
-      let front = breaks_piece old new end (flat_map plain s.done) (plain d) (flat_map plain w.0) all s.wrote broke (with_one d w.0) in
-      (s.done ++ d ∷ w.0, w.1, go_on (d ∷ w.0) w.1 (inr (inl (full, (d, w.0, is, refl, w.2)))), front)
+      let prefix = write_fails_piece old new end (flat_map plain s.done) (plain d) (flat_map plain w.0) all s.wrote failed_write (with_one d w.0) in
+      (s.done ++ d ∷ w.0, w.1, go_on (d ∷ w.0) w.1 (inr (inl (full, (d, w.0, is, refl, w.2)))), prefix)
 
   -- a bad line: the documents before it are all
   pub ends_bad : (fault : LineFault) → is_empty_line line ≡ false → IsBad line fault
@@ -208,21 +208,21 @@ module _ {text : List ℕ} {old new : Writer} {rest : List ℕ} {number count : 
       = rw next (go_on [] (Some (record { number = suc number; fault = fault })) (inr (inr (full, (fault, is, refl, refl))))) in
       (s.done, rw append-nil at packs, s.counted, s.wrote)
 
-module _ {text : List ℕ} {old new : Writer} {left : Option (List ℕ)} {number count : ℕ} (s : SoFar text old new left number count) where
+module _ {text : List ℕ} {old new : Writer} {remaining : Option (List ℕ)} {number count : ℕ} (s : SoFar text old new remaining number count) where
   -- memory ran out
-  pub starves : StopsPacking text (between old new) NoMemory
-  starves =
-      let w = packs_some (suc number) (lines_left left) in
+  pub runs_out : StopsPacking text (between old new) NoMemory
+  runs_out =
+      let w = packs_some (suc number) (lines_remaining remaining) in
       let all = flat_map plain (s.done ++ w.0) in
-      (s.done ++ w.0, w.1, s.goes w.0 w.1 w.2, front_taken old new (flat_map plain s.done) (flat_map plain w.0) all s.wrote (flat_map-append plain s.done w.0))
+      (s.done ++ w.0, w.1, s.goes w.0 w.1 w.2, prefix_taken old new (flat_map plain s.done) (flat_map plain w.0) all s.wrote (flat_map-append plain s.done w.0))
 
   -- the text is at its end
-  pub ends : left ≡ None → IsPacking text (between old new) (record { count = count; bad = None })
+  pub ends : remaining ≡ None → IsPacking text (between old new) (record { count = count; bad = None })
   ends none =
-      let last = subst (λ (o : Option (List ℕ)). PacksLines (suc number) (lines_left o) [] None) (sym none) (refl, refl) in
+      let last = subst (λ (o : Option (List ℕ)). PacksLines (suc number) (lines_remaining o) [] None) (sym none) (refl, refl) in
       (s.done, subst (λ (ds : List Doc). PacksLines 1 (text_lines text) ds None) (append-nil s.done) (s.goes [] None last), s.counted, s.wrote)
 
-pub packed_some : (text : List ℕ) → (shown : Transcript) × IsShownByPack (Ok text) shown
+pub packed_some : (text : List ℕ) → (output : Transcript) × IsOutputOfPack (Ok text) output
 packed_some text =
     let w = packs_some 1 (text_lines text) in
-    (shown_pack w.0 w.1, (w.0, w.1, w.2, refl))
+    (pack_output w.0 w.1, (w.0, w.1, w.2, refl))

@@ -4,21 +4,21 @@ use Rattle.std.specs.Prelude.{Option, Some, None}
 use Rattle.std.specs.Prelude.{is_some, option_map, unwrap_or, Result, Ok, Err}
 use Rattle.std.specs.{Io.KnownBytes.Consumes, List.count_by}
 use Rattle.bd_value.specs.{Limits.longest_input, Tree.Doc}
-use Rattle.bd_io_device.specs.Devices.{BreaksAfter, BreaksWithin, Over, Reader, TakesFront, TakesText, Writer, read_words}
+use Rattle.bd_io_device.specs.Devices.{WriteFailsAfter, WriteFailsWithin, Over, Reader, TakesPrefix, TakesText, Writer, read_words}
 use Rattle.bd_io_device.specs.declared.reading.ReadFault.{ReadFault}
 use Rattle.bd_bson_view.specs.Spelling.{IsDocument}
 use Rattle.bd_bson_check.specs.{Fault.fault_view, Fault.Fault, FirstFault.first_fault, declared.fault.FaultKind.FaultKind}
-use Rattle.bd_bson_check.specs.Dump.{AreJoined, IsWalk, frame_fault, frame_length}
-use Rattle.bd_bson_stream.specs.Stream.{AreFrames, IsCut, IsFrame}
-use Rattle.bd_bson_dump.specs.Verdicts.{verdicts}
-use Rattle.bd_cli_files.specs.{declared.dump_and_check.Ending.Ending, declared.dump_and_check.Walk.Walk}
+use Rattle.bd_bson_check.specs.Dump.{AreJoined, IsDumpScan, frame_fault, frame_length}
+use Rattle.bd_bson_stream.specs.Stream.{AreFrames, IsCutShort, IsFrame}
+use Rattle.bd_bson_dump.specs.CheckResults.{check_results}
+use Rattle.bd_cli_files.specs.{declared.dump_and_check.Ending.Ending, declared.dump_and_check.DumpScan.DumpScan}
 use Rattle.bd_cli_files.specs.{declared.output.OutputFault.OutputFault, declared.output.Status.Status}
 use Rattle.bd_cli_files.specs.{declared.output.OutputFault.TheVariants.NoMemory}
 use Rattle.bd_cli_files.specs.{declared.output.OutputFault.TheVariants.Unwritten, declared.output.Status.TheVariants.Done}
 use Rattle.bd_cli_files.specs.{declared.output.Status.TheVariants.Failed}
 use Rattle.bd_cli_files.specs.Input.{StopsInside, StopsWithinOne, StreamsInput}
-use Rattle.bd_cli_files.specs.Output.{StopsWriting, TellsEnd, Transcript, fault_text, lines, shown_before, wrong_line}
-use Rattle.bd_bson_check.specs.declared.fault.Fault as told
+use Rattle.bd_cli_files.specs.Output.{StopsWriting, ReportsEnd, Transcript, fault_text, lines, output_before, wrong_line}
+use Rattle.bd_bson_check.specs.declared.fault.Fault as reported
 use Rattle.bd_cli_files.specs.declared.dump_and_check.Ending.TheVariants as endings
 
 -- ---- `dump`
@@ -28,58 +28,58 @@ abbrev pub objects_found : List ℕ
 objects_found = codes " objects found" ++ 10 ∷ []
 
 -- what `dump` shows of documents and of what is wrong after them, if anything is
-abbrev pub shown_dump : List Doc → Option (List ℕ) → Transcript
-shown_dump ds wrong = shown_before (lines ds) wrong (decimal (length ds) ++ objects_found)
+abbrev pub dump_output : List Doc → Option (List ℕ) → Transcript
+dump_output ds wrong = output_before (lines ds) wrong (decimal (length ds) ++ objects_found)
 
 -- This is what `dump` shows of all bytes of an input, or of those before a failed read:
 -- well-formed documents and the beginning of one more.
-abbrev pub IsShownByDump : List ℕ → Option ReadFault → Transcript → Type 0
-IsShownByDump bytes None shown =
-    (ds : List Doc) × (end : Option Fault) × IsWalk ds end bytes
-    × (shown ≡ shown_dump ds (option_map (fault_text (length ds)) end))
-IsShownByDump bytes (Some fault) shown =
-    (ds : List Doc) × (front : List ℕ) × (part : List ℕ) × AreJoined ds front × IsCut part
-    × (bytes ≡ front ++ part) × (shown ≡ shown_dump ds (Some (read_words fault)))
+abbrev pub IsOutputOfDump : List ℕ → Option ReadFault → Transcript → Type 0
+IsOutputOfDump bytes None output =
+    (ds : List Doc) × (end : Option Fault) × IsDumpScan ds end bytes
+    × (output ≡ dump_output ds (option_map (fault_text (length ds)) end))
+IsOutputOfDump bytes (Some fault) output =
+    (ds : List Doc) × (prefix : List ℕ) × (part : List ℕ) × AreJoined ds prefix × IsCutShort part
+    × (bytes ≡ prefix ++ part) × (output ≡ dump_output ds (Some (read_words fault)))
 
 -- The input was read, whole or up to a failed read, and standard output has what is to be shown of it.
 -- If no read failed, no byte was read past the end, or past the document that has the first fault.
 abbrev pub DumpsWhole : Over Reader → Over Writer → Transcript → Type 0
-DumpsWhole file out shown = (bytes : List ℕ) × (fault : Option ReadFault) × StreamsInput file bytes fault
-    × IsShownByDump bytes fault shown × TakesText out shown.out
-    × (fault ≡ None → (ds : List Doc) × (front : List ℕ) × (rest : List ℕ)
-    × AreJoined ds front × (bytes ≡ front ++ rest)
-    × ((rest ≡ []) ⊎ ((f : Fault) × (frame_fault (length front) rest ≡ Some f))) × StopsWithinOne front file)
+DumpsWhole file out output = (bytes : List ℕ) × (fault : Option ReadFault) × StreamsInput file bytes fault
+    × IsOutputOfDump bytes fault output × TakesText out output.out
+    × (fault ≡ None → (ds : List Doc) × (prefix : List ℕ) × (rest : List ℕ)
+    × AreJoined ds prefix × (bytes ≡ prefix ++ rest)
+    × ((rest ≡ []) ⊎ ((f : Fault) × (frame_fault (length prefix) rest ≡ Some f))) × StopsWithinOne prefix file)
 
 -- The reader gave these documents and no byte after them,
 -- and a write to standard output failed in the line of the last of them.
-abbrev pub BreaksAtDocument : Over Reader → Over Writer → Type 0
-BreaksAtDocument file out = (ds : List Doc) × (d : Doc) × (given : List ℕ) × AreJoined (ds ++ d ∷ []) given
-    × Consumes file.before.left file.after.left given × (file.after.failures ≡ file.before.failures)
-    × BreaksAfter out (lines ds) (lines (d ∷ []))
+abbrev pub WriteFailsAtDocument : Over Reader → Over Writer → Type 0
+WriteFailsAtDocument file out = (ds : List Doc) × (d : Doc) × (given : List ℕ) × AreJoined (ds ++ d ∷ []) given
+    × Consumes file.before.remaining file.after.remaining given × (file.after.failures ≡ file.before.failures)
+    × WriteFailsAfter out (lines ds) (lines (d ∷ []))
 
 -- Memory ran out after the lines of these documents:
 -- the reader gave them and no byte past the next one, and no read failed.
-abbrev pub StarvesAfterDocuments : Over Reader → Over Writer → Type 0
-StarvesAfterDocuments file out = (ds : List Doc) × (given : List ℕ) × AreJoined ds given × StopsWithinOne given file
+abbrev pub RunsOutAfterDocuments : Over Reader → Over Writer → Type 0
+RunsOutAfterDocuments file out = (ds : List Doc) × (given : List ℕ) × AreJoined ds given × StopsWithinOne given file
     × (file.after.failures ≡ file.before.failures) × TakesText out (lines ds)
 
 -- `dump` ran: it printed what is to be shown of its input;
 -- or standard output failed within the line of a document, or memory ran out, and standard error says so.
 abbrev pub DumpsInput : Over Reader → Over Writer → Over Writer → Status → Type 0
-DumpsInput file out err status = (shown : Transcript)
-    × TellsEnd (DumpsWhole file out shown) (BreaksAtDocument file out) (StarvesAfterDocuments file out) err shown status
+DumpsInput file out err status = (output : Transcript)
+    × ReportsEnd (DumpsWhole file out output) (WriteFailsAtDocument file out) (RunsOutAfterDocuments file out) err output status
 
 -- ---- `check`
 
 -- the line of `check` for a document: its first fault; a document without a fault has no line
-abbrev pub verdict_line : ℕ → Option Fault → List ℕ
-verdict_line number None = []
-verdict_line number (Some f) = fault_text number f ++ 10 ∷ []
+abbrev pub check_result_line : ℕ → Option Fault → List ℕ
+check_result_line number None = []
+check_result_line number (Some f) = fault_text number f ++ 10 ∷ []
 
 -- the lines of `check` for documents whose numbers begin at `number`
-abbrev pub verdict_lines : ℕ → List (Option Fault) → List ℕ
-verdict_lines number [] = []
-verdict_lines number (v ∷ vs) = verdict_line number v ++ verdict_lines (suc number) vs
+abbrev pub check_result_lines : ℕ → List (Option Fault) → List ℕ
+check_result_lines number [] = []
+check_result_lines number (v ∷ vs) = check_result_line number v ++ check_result_lines (suc number) vs
 
 -- what `check` writes on standard error: why the input was not read to its end, if so,
 -- then how many documents there are and how many are faulty
@@ -94,50 +94,50 @@ check_status None zero = Done
 check_status _ faulty = Failed
 
 -- what `check` shows of documents, or of those before a failed read
-abbrev pub shown_check : List (Option Fault) → Option ReadFault → Transcript
-shown_check vs unread = record {
-  out = verdict_lines 0 vs;
+abbrev pub check_output : List (Option Fault) → Option ReadFault → Transcript
+check_output vs unread = record {
+  out = check_result_lines 0 vs;
   err = check_message unread (length vs) (count_by is_some vs);
   status = check_status unread (count_by is_some vs);
 }
 
 -- For each document of an input its first fault or None;
 -- if a read failed, for those before the document that it cut.
-abbrev pub AreVerdicts : List ℕ → Option ReadFault → List (Option Fault) → Type 0
-AreVerdicts bytes None vs = vs ≡ verdicts bytes
-AreVerdicts bytes (Some fault) vs =
-    (frames : List (List ℕ)) × (front : List ℕ) × (part : List ℕ) × AreFrames frames front × IsCut part
-    × (bytes ≡ front ++ part) × (vs ≡ verdicts front)
+abbrev pub AreCheckResults : List ℕ → Option ReadFault → List (Option Fault) → Type 0
+AreCheckResults bytes None vs = vs ≡ check_results bytes
+AreCheckResults bytes (Some fault) vs =
+    (frames : List (List ℕ)) × (prefix : List ℕ) × (part : List ℕ) × AreFrames frames prefix × IsCutShort part
+    × (bytes ≡ prefix ++ part) × (vs ≡ check_results prefix)
 
 -- This is what `check` shows of all bytes of an input, or of those before a failed read.
-abbrev pub IsShownByCheck : List ℕ → Option ReadFault → Transcript → Type 0
-IsShownByCheck bytes fault shown =
-    (vs : List (Option Fault)) × AreVerdicts bytes fault vs × (shown ≡ shown_check vs fault)
+abbrev pub IsOutputOfCheck : List ℕ → Option ReadFault → Transcript → Type 0
+IsOutputOfCheck bytes fault output =
+    (vs : List (Option Fault)) × AreCheckResults bytes fault vs × (output ≡ check_output vs fault)
 
 -- At most 4,294,967,295 bytes were checked: there are no more, or no more come before a bad length.
-abbrev pub JudgesWithinLimit : List ℕ → Option ReadFault → Type 0
-JudgesWithinLimit bytes None = (length bytes ≤ longest_input)
-    ⊎ ((frames : List (List ℕ)) × (front : List ℕ) × (rest : List ℕ) × (kind : FaultKind) × AreFrames frames front
-    × (bytes ≡ front ++ rest) × (frame_length rest ≡ Err kind) × (length front ≤ longest_input))
-JudgesWithinLimit bytes (Some f) = Unit {0}
+abbrev pub ChecksWithinLimit : List ℕ → Option ReadFault → Type 0
+ChecksWithinLimit bytes None = (length bytes ≤ longest_input)
+    ⊎ ((frames : List (List ℕ)) × (prefix : List ℕ) × (rest : List ℕ) × (kind : FaultKind) × AreFrames frames prefix
+    × (bytes ≡ prefix ++ rest) × (frame_length rest ≡ Err kind) × (length prefix ≤ longest_input))
+ChecksWithinLimit bytes (Some f) = Unit {0}
 
 -- The reader gave these documents and no byte after them,
 -- and a write to standard output failed in the line of the last of them.
-abbrev pub BreaksAtVerdict : Over Reader → Over Writer → Type 0
-BreaksAtVerdict file out =
-    (vs : List (Option Fault)) × (f : Fault) × (given : List ℕ) × (verdicts given ≡ vs ++ Some f ∷ [])
-    × Consumes file.before.left file.after.left given × (file.after.failures ≡ file.before.failures)
-    × BreaksAfter out (verdict_lines 0 vs) (verdict_line (length vs) (Some f))
+abbrev pub WriteFailsAtCheckResult : Over Reader → Over Writer → Type 0
+WriteFailsAtCheckResult file out =
+    (vs : List (Option Fault)) × (f : Fault) × (given : List ℕ) × (check_results given ≡ vs ++ Some f ∷ [])
+    × Consumes file.before.remaining file.after.remaining given × (file.after.failures ≡ file.before.failures)
+    × WriteFailsAfter out (check_result_lines 0 vs) (check_result_line (length vs) (Some f))
 
 -- `check` ran: its input was read, whole or up to a failed read,
 -- and standard output has what is to be shown of it, or a prefix.
 abbrev pub ChecksInput : Over Reader → Over Writer → Over Writer → Status → Type 0
 ChecksInput file out err status =
-    (bytes : List ℕ) × (fault : Option ReadFault) × (shown : Transcript) × StreamsInput file bytes fault
-    × IsShownByCheck bytes fault shown
-    × TellsEnd (JudgesWithinLimit bytes fault × TakesText out shown.out)
-    (BreaksWithin out shown.out × BreaksAtVerdict file out)
-    ((fault ≡ None) × TakesFront out shown.out) err shown status
+    (bytes : List ℕ) × (fault : Option ReadFault) × (output : Transcript) × StreamsInput file bytes fault
+    × IsOutputOfCheck bytes fault output
+    × ReportsEnd (ChecksWithinLimit bytes fault × TakesText out output.out)
+    (WriteFailsWithin out output.out × WriteFailsAtCheckResult file out)
+    ((fault ≡ None) × TakesPrefix out output.out) err output status
 
 -- ---- the walk over the documents
 
@@ -153,7 +153,7 @@ dump_texts = record { good = λ d. lines (d ∷ []); bad = λ number f. None }
 
 -- `check` writes nothing of a well-formed document, and the line of each fault
 abbrev pub check_texts : Texts
-check_texts = record { good = λ d. []; bad = λ number f. Some (verdict_line number (Some f)) }
+check_texts = record { good = λ d. []; bad = λ number f. Some (check_result_line number (Some f)) }
 
 -- At a fault the walk ended, or its text was written and the walk went on.
 abbrev pub MeetsFault : Option (List ℕ) → Over Writer → Result Bool OutputFault → Type 0
@@ -177,15 +177,15 @@ pub data AreVisited (texts : Texts) : List (Option Fault) → List ℕ → List 
 
 -- How the walk ended after that many documents of these bytes:
 -- at the end of the input, at a fault, or at a read that failed.
-abbrev pub EndsWalk : Texts → Over Reader → ℕ → List ℕ → Ending → Type 0
-EndsWalk texts file number given endings.Whole = StreamsInput file given None × StopsWithinOne given file
-EndsWalk texts file number given (endings.Faulty f) =
+abbrev pub EndsScan : Texts → Over Reader → ℕ → List ℕ → Ending → Type 0
+EndsScan texts file number given endings.Whole = StreamsInput file given None × StopsWithinOne given file
+EndsScan texts file number given (endings.Faulty f) =
     (part : List ℕ) × (rest : List ℕ) × StreamsInput file (given ++ (part ++ rest)) None × StopsInside given part file
     × (f.document ≡ number) × (frame_fault (length given) (part ++ rest) ≡ Some (fault_view f))
     × ((texts.bad number (fault_view f) ≡ None)
     ⊎ ((frame_length part ≡ Err f.kind) × (frame_length (part ++ rest) ≡ Err f.kind)))
-EndsWalk texts file number given (endings.Unread f) =
-    (part : List ℕ) × StreamsInput file (given ++ part) (Some f) × IsCut part
+EndsScan texts file number given (endings.Unread f) =
+    (part : List ℕ) × StreamsInput file (given ++ part) (Some f) × IsCutShort part
 
 -- the message of what ended the walk; None at the end of the input
 abbrev pub ending_words : Ending → Option (List ℕ)
@@ -200,24 +200,24 @@ text_at_end texts number (endings.Faulty f) = unwrap_or (texts.bad number (fault
 text_at_end texts number _ = []
 
 -- The walk went to its end, and the writer took what is to be written of its documents.
-abbrev pub WalksDocuments : Texts → Over Reader → Over Writer → Walk → Type 0
-WalksDocuments texts file out walk =
+abbrev pub ScansDocuments : Texts → Over Reader → Over Writer → DumpScan → Type 0
+ScansDocuments texts file out scan =
     (vs : List (Option Fault)) × (given : List ℕ) × (text : List ℕ) × AreVisited texts vs given text
-    × (walk.count ≡ length vs) × (walk.bad ≡ count_by is_some vs)
-    × EndsWalk texts file (length vs) given walk.ending
-    × TakesText out (text ++ text_at_end texts (length vs) walk.ending)
+    × (scan.count ≡ length vs) × (scan.bad ≡ count_by is_some vs)
+    × EndsScan texts file (length vs) given scan.ending
+    × TakesText out (text ++ text_at_end texts (length vs) scan.ending)
 
 -- The walk was stopped: memory ran out after these documents,
 -- or a write failed in the text of the next one or of the fault that ends the walk.
-abbrev pub StopsWalk : Texts → Over Reader → Over Writer → OutputFault → Type 0
-StopsWalk texts file out NoMemory =
+abbrev pub StopsScan : Texts → Over Reader → Over Writer → OutputFault → Type 0
+StopsScan texts file out NoMemory =
     (vs : List (Option Fault)) × (given : List ℕ) × (text : List ℕ) × AreVisited texts vs given text
     × StopsWithinOne given file × (file.after.failures ≡ file.before.failures) × TakesText out text
-StopsWalk texts file out Unwritten =
+StopsScan texts file out Unwritten =
     (vs : List (Option Fault)) × (given : List ℕ) × (text : List ℕ) × (piece : List ℕ)
-    × AreVisited texts vs given text × BreaksAfter out text piece
+    × AreVisited texts vs given text × WriteFailsAfter out text piece
     × (((v : Option Fault) × (frame : List ℕ) × IsFrame frame
     × IsTextOf texts (length vs) (length given) frame v piece × StopsInside given frame file
     × (file.after.failures ≡ file.before.failures))
-    ⊎ ((f : told.Fault) × EndsWalk texts file (length vs) given (endings.Faulty f)
+    ⊎ ((f : reported.Fault) × EndsScan texts file (length vs) given (endings.Faulty f)
     × (texts.bad (length vs) (fault_view f) ≡ Some piece)))

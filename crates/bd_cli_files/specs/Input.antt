@@ -14,11 +14,11 @@ use Rattle.bd_io_device.specs.declared.reading.ReadFault.TheVariants as reads
 -- The input was read whole, and is these bytes; or it was not, for this reason.
 abbrev pub ReadsInput : Over Reader → Result (List ℕ) ReadFault → Type 0
 ReadsInput file (Ok bytes) =
-    IfSome file.before.left (λ xs. bytes ≡ xs) × IsAtEnd file.after.left × (length bytes ≤ longest_input)
+    IfSome file.before.remaining (λ xs. bytes ≡ xs) × IsAtEnd file.after.remaining × (length bytes ≤ longest_input)
     × (file.after.failures ≡ file.before.failures)
 ReadsInput file (Err reads.Device) = file.after.failures ≡ after_more file.before.failures 1
 ReadsInput file (Err reads.TooLong) =
-    IfSome file.before.left (λ xs. longest_input < length xs) × (file.after.failures ≡ file.before.failures)
+    IfSome file.before.remaining (λ xs. longest_input < length xs) × (file.after.failures ≡ file.before.failures)
 ReadsInput file (Err reads.TooManyTurns) = ⊥
 ReadsInput file (Err reads.NoMemory) = TakesAtMost longest_input file × (file.after.failures ≡ file.before.failures)
 
@@ -33,26 +33,26 @@ ReadsNoFurther {R} gives old new = (n : ℕ) × (given : List ℕ) × (last : R)
 -- The reader gave these bytes and then this part of a document, no byte past that document,
 -- and no more than the limit in all.
 abbrev pub StopsInside : List ℕ → List ℕ → Over Reader → Type 0
-StopsInside front part file =
-    Consumes file.before.left file.after.left (front ++ part)
-    × (length (front ++ part) ≤ longest_input) × IsWithinOne part
+StopsInside prefix part file =
+    Consumes file.before.remaining file.after.remaining (prefix ++ part)
+    × (length (prefix ++ part) ≤ longest_input) × IsWithinOne part
 
 -- The reader gave these bytes, and of a document after them no byte past its end.
 abbrev pub StopsWithinOne : List ℕ → Over Reader → Type 0
-StopsWithinOne front file = (part : List ℕ) × StopsInside front part file
+StopsWithinOne prefix file = (part : List ℕ) × StopsInside prefix part file
 
 -- All bytes of the reader are these, and it gave documents by their lengths and of one more no byte past its
 -- end (if there is more, that one has a bad length); or it gave these bytes, and no more were read for this
 -- reason: a read that passed the limit gave no more than was missing of its document.
 abbrev pub StreamsInput : Over Reader → List ℕ → Option ReadFault → Type 0
-StreamsInput file bytes None = IfSome file.before.left (λ xs. bytes ≡ xs)
-    × ((frames : List (List ℕ)) × (front : List ℕ) × AreFrames frames front × StopsWithinOne front file)
+StreamsInput file bytes None = IfSome file.before.remaining (λ xs. bytes ≡ xs)
+    × ((frames : List (List ℕ)) × (prefix : List ℕ) × AreFrames frames prefix × StopsWithinOne prefix file)
     × (file.after.failures ≡ file.before.failures)
 StreamsInput file bytes (Some reads.Device) =
-    Consumes file.before.left file.after.left bytes × (length bytes ≤ longest_input)
+    Consumes file.before.remaining file.after.remaining bytes × (length bytes ≤ longest_input)
     × (file.after.failures ≡ after_more file.before.failures 1)
 StreamsInput file bytes (Some reads.TooLong) =
-    (last : List ℕ) × Consumes file.before.left file.after.left (bytes ++ last)
+    (last : List ℕ) × Consumes file.before.remaining file.after.remaining (bytes ++ last)
     × (length bytes ≤ longest_input) × (longest_input < length bytes + length last) × EndsWithinOne bytes last
     × (file.after.failures ≡ file.before.failures)
 StreamsInput file bytes (Some _) = ⊥

@@ -3,7 +3,7 @@ use Rattle.std.specs.Prelude.{◌≡◌, ◌⊎◌, ℕ, List, [], ◌∷◌, �
 use Rattle.std.specs.Prelude.{Err}
 use Rattle.std.specs.{Borrow.Bor, List.join_with_byte}
 use Rattle.bd_value.specs.Tree.{Doc, doc, fields_of}
-use Rattle.bd_io_device.specs.Devices.{BreaksWithin, Over, TakesFront, TakesText, Writer}
+use Rattle.bd_io_device.specs.Devices.{WriteFailsWithin, Over, TakesPrefix, TakesText, Writer}
 use Rattle.bd_io_device.specs.declared.reading.ReadFault.{ReadFault}
 use Rattle.bd_bson_check.specs.Fault.{Fault, fault_words}
 use Rattle.bd_extjson_text.specs.Text.{text, quoted}
@@ -56,8 +56,8 @@ stop_words Unwritten = cannot_write
 -- ---- what is shown
 
 -- what is shown if there is nothing but an error
-abbrev pub shown_refusal : List ℕ → Transcript
-shown_refusal message = record { out = []; err = error_line message; status = Failed }
+abbrev pub refusal_output : List ℕ → Transcript
+refusal_output message = record { out = []; err = error_line message; status = Failed }
 
 -- the first line of standard error, if there is a message of what is wrong
 abbrev pub wrong_line : Option (List ℕ) → List ℕ
@@ -71,52 +71,52 @@ wrong_status (Some message) = Failed
 
 -- what is shown up to the end of an input, or up to what is wrong in it:
 -- the output, the error if there is one, and the counts
-abbrev pub shown_before : List ℕ → Option (List ℕ) → List ℕ → Transcript
-shown_before out wrong counts = record { out = out; err = wrong_line wrong ++ counts; status = wrong_status wrong }
+abbrev pub output_before : List ℕ → Option (List ℕ) → List ℕ → Transcript
+output_before out wrong counts = record { out = out; err = wrong_line wrong ++ counts; status = wrong_status wrong }
 
 -- the bytes of a borrowed text, if there is one
-abbrev pub told_bytes : Option (Bor (List ℕ)) → Option (List ℕ)
-told_bytes None = None
-told_bytes (Some text) = Some text.now
+abbrev pub reported_bytes : Option (Bor (List ℕ)) → Option (List ℕ)
+reported_bytes None = None
+reported_bytes (Some text) = Some text.now
 
 -- ---- what was written
 
 -- The writer took the message, and the status is the one expected; or a write failed, and the status is 1.
-abbrev pub TellsMessage : Over Writer → List ℕ → Status → Status → Type 0
-TellsMessage err message wanted status =
-    (TakesText err message × (status ≡ wanted)) ⊎ (BreaksWithin err message × (status ≡ Failed))
+abbrev pub ReportsMessage : Over Writer → List ℕ → Status → Status → Type 0
+ReportsMessage err message wanted status =
+    (TakesText err message × (status ≡ wanted)) ⊎ (WriteFailsWithin err message × (status ≡ Failed))
 
 -- Standard output is as `Whole` says, and standard error has its message;
--- or a write to standard output failed (`Broke`), or memory ran out (`Starved`), and standard error says so.
-abbrev pub TellsEnd : Type 0 → Type 0 → Type 0 → Over Writer → Transcript → Status → Type 0
-TellsEnd Whole Broke Starved err shown status = (Whole × TellsMessage err shown.err shown.status status)
-    ⊎ (Broke × TellsMessage err (error_line cannot_write) Failed status)
-    ⊎ (Starved × TellsMessage err (error_line no_memory) Failed status)
+-- or a write to standard output failed (`WriteFailed`), or memory ran out (`OutOfMemory`), and standard error says so.
+abbrev pub ReportsEnd : Type 0 → Type 0 → Type 0 → Over Writer → Transcript → Status → Type 0
+ReportsEnd Whole WriteFailed OutOfMemory err output status = (Whole × ReportsMessage err output.err output.status status)
+    ⊎ (WriteFailed × ReportsMessage err (error_line cannot_write) Failed status)
+    ⊎ (OutOfMemory × ReportsMessage err (error_line no_memory) Failed status)
 
 -- Standard output has all that is to be shown; or a prefix of it, and a write failed.
-abbrev pub PrintsShown : Over Writer → Over Writer → Transcript → Status → Type 0
-PrintsShown out err shown status = TellsEnd (TakesText out shown.out) (BreaksWithin out shown.out) ⊥ err shown status
+abbrev pub PrintsOutput : Over Writer → Over Writer → Transcript → Status → Type 0
+PrintsOutput out err output status = ReportsEnd (TakesText out output.out) (WriteFailsWithin out output.out) ⊥ err output status
 
 -- Standard output has all that is to be shown; or a prefix of it, and a write failed or memory ran out.
-abbrev pub PrintsOrStarves : Over Writer → Over Writer → Transcript → Status → Type 0
-PrintsOrStarves out err shown status =
-    TellsEnd (TakesText out shown.out) (BreaksWithin out shown.out) (TakesFront out shown.out) err shown status
+abbrev pub PrintsOrRunsOut : Over Writer → Over Writer → Transcript → Status → Type 0
+PrintsOrRunsOut out err output status =
+    ReportsEnd (TakesText out output.out) (WriteFailsWithin out output.out) (TakesPrefix out output.out) err output status
 
 -- The run printed what is to be shown of an input;
 -- if that was not read whole, memory cannot have run out as well.
 abbrev pub PrintsInput : Result (List ℕ) ReadFault → Over Writer → Over Writer → Transcript → Status → Type 0
-PrintsInput (Ok bytes) out err shown status = PrintsOrStarves out err shown status
-PrintsInput (Err fault) out err shown status = PrintsShown out err shown status
+PrintsInput (Ok bytes) out err output status = PrintsOrRunsOut out err output status
+PrintsInput (Err fault) out err output status = PrintsOutput out err output status
 
 -- The writer took a prefix of the text: memory ran out, or a write of the rest failed.
 abbrev pub StopsWithin : Over Writer → List ℕ → OutputFault → Type 0
-StopsWithin out text NoMemory = TakesFront out text
-StopsWithin out text Unwritten = BreaksWithin out text
+StopsWithin out text NoMemory = TakesPrefix out text
+StopsWithin out text Unwritten = WriteFailsWithin out text
 
 -- Nothing of the text was written, since memory ran out; or a write failed after a prefix of it.
 abbrev pub StopsWriting : List ℕ → Over Writer → OutputFault → Type 0
 StopsWriting text out NoMemory = out.after ≡ out.before
-StopsWriting text out Unwritten = BreaksWithin out text
+StopsWriting text out Unwritten = WriteFailsWithin out text
 
 -- The writer took the text, or writing it was stopped.
 abbrev pub Writes : {A : Type 0} → List ℕ → Over Writer → Result A OutputFault → Type 0

@@ -11,7 +11,7 @@ use Rattle.bd_io_lines.specs.Lines.{is_empty_line, text_lines}
 use Rattle.bd_cli_files.specs.{Input.ReadsInput, declared.output.Status.Status, declared.pack.BadLine.BadLine}
 use Rattle.bd_cli_files.specs.{declared.pack.Packing.Packing}
 use Rattle.bd_cli_files.specs.declared.{output.OutputFault.OutputFault}
-use Rattle.bd_cli_files.specs.Output.{PrintsInput, StopsWithin, Transcript, shown_before, shown_refusal}
+use Rattle.bd_cli_files.specs.Output.{PrintsInput, StopsWithin, Transcript, output_before, refusal_output}
 use Rattle.bd_extjson_fault.specs.declared.json_fault.JsonFaultKind.TheVariants as kinds
 use Rattle.bd_extjson_pack.specs.declared.line.LineFault.TheVariants as faults
 
@@ -45,15 +45,15 @@ objects_packed = codes " objects packed" ++ 10 ∷ []
 
 -- what `pack` shows: the BSON of the documents before the first bad line, the message of that line,
 -- and how many were packed
-abbrev pub shown_pack : List Doc → Option BadLine → Transcript
-shown_pack ds bad = shown_before (flat_map plain ds) (option_map bad_line_text bad)
+abbrev pub pack_output : List Doc → Option BadLine → Transcript
+pack_output ds bad = output_before (flat_map plain ds) (option_map bad_line_text bad)
     (decimal (length ds) ++ objects_packed)
 
 -- This is what `pack` shows of a text, or of an input that was not read whole.
-abbrev pub IsShownByPack : Result (List ℕ) ReadFault → Transcript → Type 0
-IsShownByPack (Ok text) shown =
-    (ds : List Doc) × (bad : Option BadLine) × PacksLines 1 (text_lines text) ds bad × (shown ≡ shown_pack ds bad)
-IsShownByPack (Err fault) shown = shown ≡ shown_refusal (read_words fault)
+abbrev pub IsOutputOfPack : Result (List ℕ) ReadFault → Transcript → Type 0
+IsOutputOfPack (Ok text) output =
+    (ds : List Doc) × (bad : Option BadLine) × PacksLines 1 (text_lines text) ds bad × (output ≡ pack_output ds bad)
+IsOutputOfPack (Err fault) output = output ≡ refusal_output (read_words fault)
 
 -- Both are the same bad line, or none. Of a line that is no document,
 -- the kind and the offset of the fault may differ.
@@ -65,20 +65,20 @@ AreAlike _ _ = ⊥
 -- `pack` ran: its input was read whole or not, and what is to be shown of it was printed.
 abbrev pub PacksInput : Over Reader → Over Writer → Over Writer → Status → Type 0
 PacksInput file out err status =
-    (input : Result (List ℕ) ReadFault) × (shown : Transcript) × ReadsInput file input × IsShownByPack input shown
-    × PrintsInput input out err shown status
+    (input : Result (List ℕ) ReadFault) × (output : Transcript) × ReadsInput file input × IsOutputOfPack input output
+    × PrintsInput input out err output status
 
 -- ---- line by line
 
 -- the lines that remain to be packed; None is the end of the text
-abbrev pub lines_left : Option (List ℕ) → List (List ℕ)
-lines_left None = []
-lines_left (Some text) = text_lines text
+abbrev pub lines_remaining : Option (List ℕ) → List (List ℕ)
+lines_remaining None = []
+lines_remaining (Some text) = text_lines text
 
 -- how much remains to be packed: less after each line, and 0 at the end of the text
-abbrev pub left_size : Option (List ℕ) → ℕ
-left_size None = 0
-left_size (Some text) = suc (length text)
+abbrev pub remaining_size : Option (List ℕ) → ℕ
+remaining_size None = 0
+remaining_size (Some text) = suc (length text)
 
 -- The writer took the BSON of the documents before the first bad line,
 -- and that line and their count are these.

@@ -4,24 +4,24 @@
 ghost use Rattle.std.specs.Prelude.{◌≡◌, ◌<◌, ◌≤◌, ◌⊎◌, ◌++◌, [], ◌∷◌, None, Some, decimal, IfErr, IfOk, OnErr, OnOk};
 ghost use Rattle.bd_value.specs.Limits.{longest_input};
 ghost use Rattle.bd_value.specs.Tree.{pairs_in};
-ghost use Rattle.bd_io_device.specs.Devices.{BreaksWithin, TakesText, over};
-ghost use Rattle.bd_bson_view.specs.Sound.{stands};
+ghost use Rattle.bd_io_device.specs.Devices.{WriteFailsWithin, TakesText, over};
+ghost use Rattle.bd_bson_view.specs.Sound.{meaning};
 ghost use Rattle.bd_bson_check.specs.Fault.{fault_view};
-ghost use Rattle.bd_cli_files.specs.DumpAndCheck.{ChecksInput, DumpsInput, MeetsFault, StopsWalk, Texts};
-ghost use Rattle.bd_cli_files.specs.DumpAndCheck.{WalksDocuments, check_message, check_status, check_texts, dump_texts, ending_words, objects_found};
+ghost use Rattle.bd_cli_files.specs.DumpAndCheck.{ChecksInput, DumpsInput, MeetsFault, StopsScan, Texts};
+ghost use Rattle.bd_cli_files.specs.DumpAndCheck.{ScansDocuments, check_message, check_status, check_texts, dump_texts, ending_words, objects_found};
 ghost use Rattle.bd_cli_files.specs.Input.{ReadsNoFurther};
-ghost use Rattle.bd_cli_files.specs.Output.{TellsMessage, Writes, error_line, no_memory, wrong_line, wrong_status};
+ghost use Rattle.bd_cli_files.specs.Output.{ReportsMessage, Writes, error_line, no_memory, wrong_line, wrong_status};
 ghost use Rattle.bd_cli_files.specs.declared.output.Status.TheVariants.{Failed};
 
 use crate::input::LIMITS;
 use crate::output::{
-    OutputFault, Status, fault_message, is_want_of_memory, push_fault, status_of, tell_end,
-    tell_no_memory, tell_stop, words_of, write_count, write_end,
+    OutputFault, Status, fault_message, is_want_of_memory, push_fault, report_end,
+    report_no_memory, report_stop, status_of, words_of, write_count, write_end,
 };
 use bd_bson_check::{Fault, check_document};
 use bd_bson_stream::{DocBuffer, DocFault};
 use bd_bson_view::RawDoc;
-use bd_extjson_text::LineRoom;
+use bd_extjson_text::TextBuffer;
 use bd_io_device::{DeviceFault, Input, Output, ReadFault, write_all};
 use std::alloc::Global;
 
@@ -41,12 +41,12 @@ pub fn dump<R: Input, O: Output, E: Output>(
 ) -> Status
     ensures dumps { DumpsInput (over R.state input.old input.new) (over O.state out.old out.new)
         (over E.state err.old err.new) result }
-    ensures further { ReadsNoFurther R.read_gives input.old input.new }
+    ensures stops_reading { ReadsNoFurther R.read_gives input.old input.new }
 {
-    let room = LineRoom::new(alloc);
-    match walk_documents(alloc, input, &mut Printer { room }, out) {
-        Ok(walk) => tell_walk(alloc, &walk, err),
-        Err(fault) => tell_stop(fault, err),
+    let buffer = TextBuffer::new(alloc);
+    match scan_documents(alloc, input, &mut Printer { buffer }, out) {
+        Ok(scan) => report_scan(alloc, &scan, err),
+        Err(fault) => report_stop(fault, err),
     }
 }
 
@@ -54,14 +54,14 @@ pub fn dump<R: Input, O: Output, E: Output>(
 #[derive(Debug, Drop)]
 struct Printer {
     /// What their lines share.
-    room: LineRoom,
+    buffer: TextBuffer,
 }
 
 impl<O: Output> Visitor<O> for Printer {
     ghost texts = { dump_texts };
 
     fn visit(&mut self, document: RawDoc<'_>, out: &mut O) -> Result<(), OutputFault> {
-        let line = self.room.line(document.value())?;
+        let line = self.buffer.line(document.value())?;
         Ok(write_all(out, line)?)
     }
 
@@ -71,20 +71,21 @@ impl<O: Output> Visitor<O> for Printer {
 }
 
 /// Shows a walk on standard error, after its lines on standard output. Memory is taken only for the path of a fault.
-fn tell_walk<E: Output>(alloc: Global, walk: &Walk, err: &mut E) -> Status
-    ensures { TellsMessage (over E.state err.old err.new) (wrong_line (ending_words walk.now.ending)
-        ++ (decimal walk.now.count ++ objects_found)) (wrong_status (ending_words walk.now.ending))
-        result ⊎ ((fault : Fault) × (walk.now.ending ≡ Ending.Faulty fault)
-        × TellsMessage (over E.state err.old err.new) (error_line no_memory) Failed result) }
+fn report_scan<E: Output>(alloc: Global, scan: &DumpScan, err: &mut E) -> Status
+    ensures { ReportsMessage (over E.state err.old err.new)
+        (wrong_line (ending_words scan.now.ending) ++ (decimal scan.now.count ++ objects_found))
+        (wrong_status (ending_words scan.now.ending)) result
+        ⊎ ((fault : Fault) × (scan.now.ending ≡ Ending.Faulty fault)
+        × ReportsMessage (over E.state err.old err.new) (error_line no_memory) Failed result) }
 {
-    let count = u64::from(walk.count);
-    match &walk.ending {
-        Ending::Whole => tell_end(None, count, OBJECTS_FOUND, err),
+    let count = u64::from(scan.count);
+    match &scan.ending {
+        Ending::Whole => report_end(None, count, OBJECTS_FOUND, err),
         Ending::Faulty(fault) => match fault_message(alloc, fault) {
-            Ok(message) => tell_end(Some(&message), count, OBJECTS_FOUND, err),
-            Err(_) => tell_no_memory(err),
+            Ok(message) => report_end(Some(&message), count, OBJECTS_FOUND, err),
+            Err(_) => report_no_memory(err),
         },
-        Ending::Unread(fault) => tell_end(words_of(Some(*fault)), count, OBJECTS_FOUND, err),
+        Ending::Unread(fault) => report_end(words_of(Some(*fault)), count, OBJECTS_FOUND, err),
     }
 }
 
@@ -97,28 +98,28 @@ pub fn check<R: Input, O: Output, E: Output>(
 ) -> Status
     ensures checks { ChecksInput (over R.state input.old input.new) (over O.state out.old out.new)
         (over E.state err.old err.new) result }
-    ensures further { ReadsNoFurther R.read_gives input.old input.new }
+    ensures stops_reading { ReadsNoFurther R.read_gives input.old input.new }
 {
     let line = String::new(alloc);
-    match walk_documents(alloc, input, &mut Judge { line }, out) {
-        Ok(walk) => match walk.ending {
-            Ending::Whole => tell_findings(walk.count, walk.bad, None, err),
+    match scan_documents(alloc, input, &mut Checker { line }, out) {
+        Ok(scan) => match scan.ending {
+            Ending::Whole => report_findings(scan.count, scan.bad, None, err),
             // A bad length: no document after it is looked for.
-            Ending::Faulty(_) => tell_findings(walk.count + 1, walk.bad + 1, None, err),
-            Ending::Unread(fault) => tell_findings(walk.count, walk.bad, Some(fault), err),
+            Ending::Faulty(_) => report_findings(scan.count + 1, scan.bad + 1, None, err),
+            Ending::Unread(fault) => report_findings(scan.count, scan.bad, Some(fault), err),
         },
-        Err(fault) => tell_stop(fault, err),
+        Err(fault) => report_stop(fault, err),
     }
 }
 
 /// Writes a line for each document that has a fault.
 #[derive(Debug, Drop)]
-struct Judge {
+struct Checker {
     /// Room that their lines share.
     line: String,
 }
 
-impl<O: Output> Visitor<O> for Judge {
+impl<O: Output> Visitor<O> for Checker {
     ghost texts = { check_texts };
 
     fn visit(&mut self, _document: RawDoc<'_>, _out: &mut O) -> Result<(), OutputFault> {
@@ -135,13 +136,13 @@ impl<O: Output> Visitor<O> for Judge {
 }
 
 /// Tells how many documents were judged, how many of them have a fault, and why no more of the input was read. It takes no memory.
-fn tell_findings<E: Output>(
+fn report_findings<E: Output>(
     documents: u32,
     faulty: u32,
     unread: Option<ReadFault>,
     err: &mut E,
 ) -> Status
-    ensures { TellsMessage (over E.state err.old err.new)
+    ensures { ReportsMessage (over E.state err.old err.new)
         (check_message unread documents faulty) (check_status unread faulty) result }
 {
     let wanted = match (faulty, unread) {
@@ -162,7 +163,7 @@ fn write_findings<E: Output>(
     ensures ok { OnOk result
         (TakesText (over E.state err.old err.new) (check_message unread documents faulty)) }
     ensures err { OnErr result
-        (BreaksWithin (over E.state err.old err.new) (check_message unread documents faulty)) }
+        (WriteFailsWithin (over E.state err.old err.new) (check_message unread documents faulty)) }
 {
     write_end(words_of(unread), u64::from(documents), DOCUMENTS, err)?;
     write_count(u64::from(faulty), FAULTY, err)
@@ -175,7 +176,7 @@ pub(crate) trait Visitor<O: Output> {
 
     /// Takes a document without a fault.
     fn visit(&mut self, document: RawDoc<'_>, out: &mut O) -> Result<(), OutputFault>
-        ensures { Writes (texts.good (pairs_in (stands document.entry.sound)))
+        ensures { Writes (texts.good (pairs_in (meaning document.entry.sound)))
             (over O.state out.old out.new) result };
 
     /// Takes the fault of a document, and says whether the walk goes on.
@@ -185,18 +186,18 @@ pub(crate) trait Visitor<O: Output> {
 }
 
 /// Goes over the documents of an input.
-pub(crate) fn walk_documents<R: Input, O: Output, V: Visitor<O>>(
+pub(crate) fn scan_documents<R: Input, O: Output, V: Visitor<O>>(
     alloc: Global,
     input: &mut R,
     visitor: &mut V,
     out: &mut O,
-) -> Result<Walk, OutputFault>
-    ensures few { IfOk result (λ w. (w.count < longest_input) × (w.bad ≤ w.count)) }
-    ensures walks { IfOk result
-        (WalksDocuments V.texts (over R.state input.old input.new) (over O.state out.old out.new)) }
+) -> Result<DumpScan, OutputFault>
+    ensures within_limit { IfOk result (λ w. (w.count < longest_input) × (w.bad ≤ w.count)) }
+    ensures scans { IfOk result
+        (ScansDocuments V.texts (over R.state input.old input.new) (over O.state out.old out.new)) }
     ensures stops { IfErr result
-        (StopsWalk V.texts (over R.state input.old input.new) (over O.state out.old out.new)) }
-    ensures further { ReadsNoFurther R.read_gives input.old input.new }
+        (StopsScan V.texts (over R.state input.old input.new) (over O.state out.old out.new)) }
+    ensures stops_reading { ReadsNoFurther R.read_gives input.old input.new }
 {
     let mut buffer = DocBuffer::new(alloc, LIMITS);
     let mut bad = 0;
@@ -212,26 +213,26 @@ pub(crate) fn walk_documents<R: Input, O: Output, V: Visitor<O>>(
                     }
                     if !visitor.meet(&fault, out)? {
                         let ending = Ending::Faulty(fault);
-                        return Ok(Walk { count, bad, ending });
+                        return Ok(DumpScan { count, bad, ending });
                     }
                     bad += 1;
                 }
             },
             Ok(false) => {
                 let ending = Ending::Whole;
-                return Ok(Walk { count, bad, ending });
+                return Ok(DumpScan { count, bad, ending });
             }
             Err(DocFault::Frame(fault)) => {
                 let fault = fault.to_fault(alloc);
                 // A bad length: no document after it is looked for, whatever the visitor says.
                 let _goes_on = visitor.meet(&fault, out)?;
                 let ending = Ending::Faulty(fault);
-                return Ok(Walk { count, bad, ending });
+                return Ok(DumpScan { count, bad, ending });
             }
             Err(DocFault::Read(ReadFault::NoMemory)) => return Err(OutputFault::NoMemory),
             Err(DocFault::Read(fault)) => {
                 let ending = Ending::Unread(fault);
-                return Ok(Walk { count, bad, ending });
+                return Ok(DumpScan { count, bad, ending });
             }
             Err(DocFault::Failed) => unreachable!(),
         }
@@ -240,7 +241,7 @@ pub(crate) fn walk_documents<R: Input, O: Output, V: Visitor<O>>(
 
 /// The documents of an input that were gone over.
 #[derive(Debug, Drop)]
-pub struct Walk {
+pub struct DumpScan {
     /// How many there are.
     pub count: u32,
     /// How many of them have a fault.

@@ -23,7 +23,7 @@ pub fn read_input<R: Input>(alloc: Global, input: &mut R) -> Result<Vec<u8>, Rea
     ensures input { MatchResult result (λ bytes.
         ReadsInput (over R.state input.old input.new) (Ok bytes.items)) (λ fault.
         ReadsInput (over R.state input.old input.new) (Err fault)) }
-    ensures further { ReadsNoFurther R.read_gives input.old input.new }
+    ensures stops_reading { ReadsNoFurther R.read_gives input.old input.new }
 {
     read_all(alloc, input, LIMITS)
 }

@@ -4,9 +4,9 @@
 //!
 //! ```
 //! let mut file = MemoryInput::new(b"\x05\0\0\0\0", 5, None);
-//! let mut room = [0; 100];
+//! let mut buffer = [0; 100];
 //! let mut out = MemoryOutput::new(&mut [], 1, None);
-//! let mut err = MemoryOutput::new(&mut room, 100, None);
+//! let mut err = MemoryOutput::new(&mut buffer, 100, None);
 //! let status = check(alloc, &mut file, &mut out, &mut err);
 //! assert!(rt; status == Status::Done);
 //! assert!(rt; err.bytes() == b"1 documents, 0 faulty\n".as_slice());

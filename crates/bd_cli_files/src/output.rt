@@ -2,11 +2,11 @@
 
 ghost use Rattle.std.specs.Prelude.{◌≡◌, ◌++◌, ◌↔◌, ◌⊎◌, IfOk, IsTrue, OnErr, OnOk, decimal, map, option_map, string_bytes};
 ghost use Rattle.std.specs.List.{join_with_byte};
-ghost use Rattle.bd_io_device.specs.Devices.{BreaksWithin, TakesText, over, read_words};
+ghost use Rattle.bd_io_device.specs.Devices.{WriteFailsWithin, TakesText, over, read_words};
 ghost use Rattle.bd_bson_check.specs.Fault.{fault_view};
 ghost use Rattle.bd_bson_check.specs.declared.fault.FaultKind.TheVariants as kinds;
 ghost use Rattle.bd_extjson_text.specs.Text.{quoted};
-ghost use Rattle.bd_cli_files.specs.Output.{TellsMessage, cannot_write, error_line, fault_text, no_memory, place_text, stop_words, told_bytes, wrong_line, wrong_status};
+ghost use Rattle.bd_cli_files.specs.Output.{ReportsMessage, cannot_write, error_line, fault_text, no_memory, place_text, stop_words, reported_bytes, wrong_line, wrong_status};
 ghost use Rattle.bd_cli_files.specs.declared.output.OutputFault.TheVariants.{NoMemory as memory, Unwritten};
 ghost use Rattle.bd_cli_files.specs.declared.output.Status.TheVariants.{Failed};
 
@@ -71,7 +71,7 @@ pub fn is_want_of_memory(fault: &Fault) -> bool
 pub fn write_error<E: Output>(message: &str, err: &mut E) -> Result<(), DeviceFault>
     ensures ok { OnOk result (TakesText (over E.state err.old err.new) (error_line message.now)) }
     ensures err { OnErr result
-        (BreaksWithin (over E.state err.old err.new) (error_line message.now)) }
+        (WriteFailsWithin (over E.state err.old err.new) (error_line message.now)) }
 {
     write_all(err, b"bsonfind: ")?;
     write_all(err, message.as_bytes())?;
@@ -84,7 +84,7 @@ pub fn write_count<E: Output>(count: u64, words: &str, err: &mut E) -> Result<()
     ensures ok { OnOk result
         (TakesText (over E.state err.old err.new) (decimal count ++ words.now)) }
     ensures err { OnErr result
-        (BreaksWithin (over E.state err.old err.new) (decimal count ++ words.now)) }
+        (WriteFailsWithin (over E.state err.old err.new) (decimal count ++ words.now)) }
 {
     let mut buffer = Buffer::new();
     write_all(err, buffer.format(count).as_bytes())?;
@@ -93,7 +93,7 @@ pub fn write_count<E: Output>(count: u64, words: &str, err: &mut E) -> Result<()
 
 /// The words of a read fault, where there is one.
 pub(crate) fn words_of(unread: Option<ReadFault>) -> Option<&'static str>
-    ensures { told_bytes result ≡ option_map read_words unread }
+    ensures { reported_bytes result ≡ option_map read_words unread }
 {
     match unread {
         None => None,
@@ -110,9 +110,9 @@ pub(crate) fn write_end<E: Output>(
     err: &mut E,
 ) -> Result<(), DeviceFault>
     ensures ok { OnOk result (TakesText (over E.state err.old err.new)
-        (wrong_line (told_bytes wrong.entry) ++ (decimal count ++ words.now))) }
-    ensures err { OnErr result (BreaksWithin (over E.state err.old err.new)
-        (wrong_line (told_bytes wrong.entry) ++ (decimal count ++ words.now))) }
+        (wrong_line (reported_bytes wrong.entry) ++ (decimal count ++ words.now))) }
+    ensures err { OnErr result (WriteFailsWithin (over E.state err.old err.new)
+        (wrong_line (reported_bytes wrong.entry) ++ (decimal count ++ words.now))) }
 {
     match wrong {
         None => write_count(count, words, err),
@@ -135,14 +135,14 @@ pub fn status_of(written: Result<(), DeviceFault>, wanted: Status) -> Status
 }
 
 /// Tells what is wrong, where something is, and a count. It takes no memory.
-pub(crate) fn tell_end<E: Output>(
+pub(crate) fn report_end<E: Output>(
     wrong: Option<&str>,
     count: u64,
     words: &str,
     err: &mut E,
 ) -> Status
-    ensures { TellsMessage (over E.state err.old err.new) (wrong_line (told_bytes wrong.entry)
-        ++ (decimal count ++ words.now)) (wrong_status (told_bytes wrong.entry)) result }
+    ensures { ReportsMessage (over E.state err.old err.new) (wrong_line (reported_bytes wrong.entry)
+        ++ (decimal count ++ words.now)) (wrong_status (reported_bytes wrong.entry)) result }
 {
     let wanted = match wrong {
         None => Status::Done,
@@ -152,54 +152,55 @@ pub(crate) fn tell_end<E: Output>(
 }
 
 /// Tells an error. It takes no memory.
-pub fn tell_error<E: Output>(message: &str, err: &mut E) -> Status
-    ensures { TellsMessage (over E.state err.old err.new) (error_line message.now) Failed result }
+pub fn report_error<E: Output>(message: &str, err: &mut E) -> Status
+    ensures { ReportsMessage (over E.state err.old err.new) (error_line message.now) Failed result }
 {
     status_of(write_error(message, err), Status::Failed)
 }
 
 /// Tells that memory ran out. It takes none itself.
-pub fn tell_no_memory<E: Output>(err: &mut E) -> Status
-    ensures { TellsMessage (over E.state err.old err.new) (error_line no_memory) Failed result }
+pub fn report_no_memory<E: Output>(err: &mut E) -> Status
+    ensures { ReportsMessage (over E.state err.old err.new) (error_line no_memory) Failed result }
 {
-    tell_error(NO_MEMORY, err)
+    report_error(NO_MEMORY, err)
 }
 
 /// Tells that standard output failed.
-pub fn tell_unwritten<E: Output>(err: &mut E) -> Status
-    ensures { TellsMessage (over E.state err.old err.new) (error_line cannot_write) Failed result }
+pub fn report_unwritten<E: Output>(err: &mut E) -> Status
+    ensures { ReportsMessage
+        (over E.state err.old err.new) (error_line cannot_write) Failed result }
 {
-    tell_error(CANNOT_WRITE, err)
+    report_error(CANNOT_WRITE, err)
 }
 
 /// Tells why standard output has not all that is to be shown.
-pub fn tell_stop<E: Output>(fault: OutputFault, err: &mut E) -> Status
-    ensures { TellsMessage
+pub fn report_stop<E: Output>(fault: OutputFault, err: &mut E) -> Status
+    ensures { ReportsMessage
         (over E.state err.old err.new) (error_line (stop_words fault)) Failed result }
 {
     match fault {
-        OutputFault::NoMemory => tell_no_memory(err),
-        OutputFault::Unwritten => tell_unwritten(err),
+        OutputFault::NoMemory => report_no_memory(err),
+        OutputFault::Unwritten => report_unwritten(err),
     }
 }
 
 /// Tells why an input was not read whole. It takes no memory.
-pub fn tell_read_fault<E: Output>(fault: ReadFault, err: &mut E) -> Status
-    ensures { TellsMessage
+pub fn report_read_fault<E: Output>(fault: ReadFault, err: &mut E) -> Status
+    ensures { ReportsMessage
         (over E.state err.old err.new) (error_line (read_words fault)) Failed result }
 {
-    tell_error(fault.words(), err)
+    report_error(fault.words(), err)
 }
 
 /// Tells why an input is no dump.
-pub fn tell_dump_fault<E: Output>(alloc: Global, fault: &Fault, err: &mut E) -> Status
-    ensures { TellsMessage (over E.state err.old err.new)
+pub fn report_dump_fault<E: Output>(alloc: Global, fault: &Fault, err: &mut E) -> Status
+    ensures { ReportsMessage (over E.state err.old err.new)
         (error_line (fault_text fault.now.document (fault_view fault.now))) Failed result
-        ⊎ TellsMessage (over E.state err.old err.new) (error_line no_memory) Failed result }
+        ⊎ ReportsMessage (over E.state err.old err.new) (error_line no_memory) Failed result }
 {
     match fault_message(alloc, fault) {
-        Ok(message) => tell_error(&message, err),
-        Err(_) => tell_no_memory(err),
+        Ok(message) => report_error(&message, err),
+        Err(_) => report_no_memory(err),
     }
 }
 

@@ -5,13 +5,13 @@ ghost use Rattle.bd_value.specs.Limits.{longest_input};
 ghost use Rattle.bd_io_device.specs.Devices.{over};
 ghost use Rattle.bd_io_lines.specs.Lines.{text_lines};
 ghost use Rattle.bd_cli_files.specs.Input.{ReadsNoFurther};
-ghost use Rattle.bd_cli_files.specs.Output.{PrintsOrStarves, TellsMessage, Transcript, error_line, no_memory, told_bytes, wrong_line, wrong_status};
-ghost use Rattle.bd_cli_files.specs.Pack.{IsPacking, IsShownByPack, PacksInput, StopsPacking, bad_line_text, left_size, line_fault_text, lines_left, objects_packed};
+ghost use Rattle.bd_cli_files.specs.Output.{PrintsOrRunsOut, ReportsMessage, Transcript, error_line, no_memory, reported_bytes, wrong_line, wrong_status};
+ghost use Rattle.bd_cli_files.specs.Pack.{IsPacking, IsOutputOfPack, PacksInput, StopsPacking, bad_line_text, remaining_size, line_fault_text, lines_remaining, objects_packed};
 ghost use Rattle.bd_cli_files.specs.declared.output.Status.TheVariants.{Failed};
 
 use crate::input::read_input;
 use crate::output::{
-    OutputFault, Status, push_number, tell_end, tell_no_memory, tell_read_fault, tell_stop,
+    OutputFault, Status, push_number, report_end, report_no_memory, report_read_fault, report_stop,
 };
 use bd_extjson_fault::JsonFaultKind;
 use bd_extjson_pack::{LineFault, Packer};
@@ -33,23 +33,23 @@ pub fn pack<R: Input, O: Output, E: Output>(
 ) -> Status
     ensures packs { PacksInput (over R.state input.old input.new) (over O.state out.old out.new)
         (over E.state err.old err.new) result }
-    ensures further { ReadsNoFurther R.read_gives input.old input.new }
+    ensures stops_reading { ReadsNoFurther R.read_gives input.old input.new }
 {
     match read_input(alloc, input) {
         Ok(text) => pack_text(alloc, &text, out, err),
-        Err(fault) => tell_read_fault(fault, err),
+        Err(fault) => report_read_fault(fault, err),
     }
 }
 
 /// Shows what a text is packed as.
 fn pack_text<O: Output, E: Output>(alloc: Global, text: &[u8], out: &mut O, err: &mut E) -> Status
     requires { length text.now ≤ longest_input }
-    ensures { (shown : Transcript) × IsShownByPack (Ok text.now) shown × PrintsOrStarves
-        (over O.state out.old out.new) (over E.state err.old err.new) shown result }
+    ensures { (output : Transcript) × IsOutputOfPack (Ok text.now) output × PrintsOrRunsOut
+        (over O.state out.old out.new) (over E.state err.old err.new) output result }
 {
     match write_lines(text, &mut Packer::new(alloc), &mut Vec::new(alloc), out) {
-        Ok(packing) => tell_packing(alloc, &packing, err),
-        Err(fault) => tell_stop(fault, err),
+        Ok(packing) => report_packing(alloc, &packing, err),
+        Err(fault) => report_stop(fault, err),
     }
 }
 
@@ -85,10 +85,10 @@ fn write_lines<O: Output>(
 {
     let mut number = 0;
     let mut count = 0;
-    let mut left = Some(text);
-    while let Some(rest) = left {
-        let (line, after) = cut_line(rest);
-        left = after;
+    let mut remaining = Some(text);
+    while let Some(rest) = remaining {
+        let (line, after) = split_line(rest);
+        remaining = after;
         number += 1;
         if is_empty_line(line) {
             continue;
@@ -105,9 +105,9 @@ fn write_lines<O: Output>(
 }
 
 /// The first line of a text, and what is after its newline, where there is one.
-fn cut_line(text: &[u8]) -> (&[u8], Option<&[u8]>)
-    ensures line { text_lines text.now ≡ result.0.now ∷ lines_left (told_bytes result.1) }
-    ensures shorter { left_size (told_bytes result.1) ≤ length text.now }
+fn split_line(text: &[u8]) -> (&[u8], Option<&[u8]>)
+    ensures line { text_lines text.now ≡ result.0.now ∷ lines_remaining (reported_bytes result.1) }
+    ensures shorter { remaining_size (reported_bytes result.1) ≤ length text.now }
 {
     match memchr(b'\n', text) {
         Some(end) => (&text[..end], Some(&text[end + 1..])),
@@ -116,17 +116,17 @@ fn cut_line(text: &[u8]) -> (&[u8], Option<&[u8]>)
 }
 
 /// Tells how lines were packed, after the bytes on standard output.
-fn tell_packing<E: Output>(alloc: Global, packing: &Packing, err: &mut E) -> Status
-    ensures { TellsMessage (over E.state err.old err.new)
+fn report_packing<E: Output>(alloc: Global, packing: &Packing, err: &mut E) -> Status
+    ensures { ReportsMessage (over E.state err.old err.new)
         (wrong_line (option_map bad_line_text packing.now.bad) ++ (decimal packing.now.count
         ++ objects_packed)) (wrong_status (option_map bad_line_text packing.now.bad)) result
-        ⊎ TellsMessage (over E.state err.old err.new) (error_line no_memory) Failed result }
+        ⊎ ReportsMessage (over E.state err.old err.new) (error_line no_memory) Failed result }
 {
     match &packing.bad {
-        None => tell_end(None, packing.count, OBJECTS_PACKED, err),
+        None => report_end(None, packing.count, OBJECTS_PACKED, err),
         Some(bad) => match bad_line_message(alloc, bad) {
-            Ok(message) => tell_end(Some(&message), packing.count, OBJECTS_PACKED, err),
-            Err(_) => tell_no_memory(err),
+            Ok(message) => report_end(Some(&message), packing.count, OBJECTS_PACKED, err),
+            Err(_) => report_no_memory(err),
         },
     }
 }

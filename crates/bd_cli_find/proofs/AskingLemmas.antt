@@ -6,43 +6,43 @@ use Rattle.bd_io_device.specs.Devices.{Over, Writer}
 use Rattle.bd_cursor_request.specs.{Refused.IsRefusedPart, Refused.Reason, Refused.bad_filter, Refused.plain, Refused.reason_of, Refused.refused_words, declared.results.Refused.Refused}
 use Rattle.bd_query_filter.specs.{Fault.refusal_of, declared.fault.FilterFault.FilterFault}
 use Rattle.bd_cli_args.specs.FindWords.{FindWords}
-use Rattle.bd_cli_files.specs.{Output.TellsMessage, Output.error_line, Output.no_memory, declared.output.Status.Status, declared.output.Status.TheVariants.Failed}
-use Rattle.bd_cli_find.specs.Asking.{AsksInWords, ReadsText, TellsAskingFault, TellsReason, TellsRefusal, page_of, refusal_text, refused_option, refused_text}
+use Rattle.bd_cli_files.specs.{Output.ReportsMessage, Output.error_line, Output.no_memory, declared.output.Status.Status, declared.output.Status.TheVariants.Failed}
+use Rattle.bd_cli_find.specs.Asking.{RequestsInWords, ReadsText, ReportsAskingFault, ReportsReason, ReportsRefusal, page_of, refusal_text, refused_option, refused_text}
 use Rattle.bd_cli_find.specs.declared.asking.AskingFault.{AskingFault}
 use Rattle.bd_cli_find.specs.declared.asking.AskingFault.TheVariants as faults
 use Rattle.bd_cursor_request.specs.declared.results.Refused.TheVariants as reasons
 
 -- a part that is refused for a reason tells it
-pub reason_told : {Given : Type 0} (part : Result Given Reason) (refused : Refused) → refused ≢ reasons.NoMemory → IsRefusedPart part refused
-    → TellsReason part (faults.Refused refused)
-reason_told part refused other (inl starved) = absurd (other starved)
-reason_told part refused other (inr is) = rw is refl
+pub reason_reported : {Given : Type 0} (part : Result Given Reason) (refused : Refused) → refused ≢ reasons.NoMemory → IsRefusedPart part refused
+    → ReportsReason part (faults.Refused refused)
+reason_reported part refused other (inl out_of_memory) = absurd (other out_of_memory)
+reason_reported part refused other (inr is) = rw is refl
 
 -- the line of a filter's fault, and that of another refusal
-pub filter_told : (err : Over Writer) (refused : Refused) (fault : FilterFault) (text : List ℕ) (status : Status) → refused ≡ reasons.BadFilter fault
-    → text ≡ refusal_text (refusal_of fault) → TellsMessage err (error_line text) Failed status → TellsRefusal err (reason_of refused) status
-filter_told err refused fault text status is same told = rw is (inl (subst (λ (x : List ℕ). TellsMessage err (error_line x) Failed status) same told))
+pub filter_reported : (err : Over Writer) (refused : Refused) (fault : FilterFault) (text : List ℕ) (status : Status) → refused ≡ reasons.BadFilter fault
+    → text ≡ refusal_text (refusal_of fault) → ReportsMessage err (error_line text) Failed status → ReportsRefusal err (reason_of refused) status
+filter_reported err refused fault text status is same reported = rw is (inl (subst (λ (x : List ℕ). ReportsMessage err (error_line x) Failed status) same reported))
 
-pub plain_told : (err : Over Writer) (refused : Refused) (status : Status) → ((x : FilterFault) → refused ≡ reasons.BadFilter x → ⊥)
-    → TellsMessage err (error_line (refused_option refused ++ refused_words refused)) Failed status → TellsRefusal err (reason_of refused) status
-plain_told err (reasons.BadFilter fault) status other told = absurd (other fault refl)
-plain_told err refused status other told = told
+pub plain_reported : (err : Over Writer) (refused : Refused) (status : Status) → ((x : FilterFault) → refused ≡ reasons.BadFilter x → ⊥)
+    → ReportsMessage err (error_line (refused_option refused ++ refused_words refused)) Failed status → ReportsRefusal err (reason_of refused) status
+plain_reported err (reasons.BadFilter fault) status other reported = absurd (other fault refl)
+plain_reported err refused status other reported = reported
 
 -- the line of a refusal is written, or that memory ran out
-pub refusal_told : (err : Over Writer) (reason : Reason) (status : Status) → TellsRefusal err reason status
-    → TellsMessage err (error_line (refused_text reason)) Failed status ⊎ TellsMessage err (error_line no_memory) Failed status
-refusal_told err (plain refused) status told = inl told
-refusal_told err (bad_filter r) status told = told
+pub explain_refusal : (err : Over Writer) (reason : Reason) (status : Status) → ReportsRefusal err reason status
+    → ReportsMessage err (error_line (refused_text reason)) Failed status ⊎ ReportsMessage err (error_line no_memory) Failed status
+explain_refusal err (plain refused) status reported = inl reported
+explain_refusal err (bad_filter r) status reported = reported
 
 module _ (words : FindWords) (query : Doc) where
-  pub sort_refused : (fault : AskingFault) → ReadsText (codes "query") words.query (Ok query) → TellsAskingFault (ReadsText (codes "sort") words.sort) fault
-      → TellsAskingFault (AsksInWords words) fault
+  pub sort_refused : (fault : AskingFault) → ReadsText (codes "query") words.query (Ok query) → ReportsAskingFault (ReadsText (codes "sort") words.sort) fault
+      → ReportsAskingFault (RequestsInWords words) fault
   sort_refused faults.NoMemory q none = tt
   sort_refused (faults.Refused r) q none = inr (query, q, inl (refused_text (reason_of r), none, refl))
   sort_refused (faults.Message m) q none = inr (query, q, inl (string_bytes m, none, refl))
 
   pub page_refused : (sort : Doc) (fault : AskingFault) → ReadsText (codes "query") words.query (Ok query) → ReadsText (codes "sort") words.sort (Ok sort)
-      → TellsAskingFault (λ told. page_of words query sort ≡ told) fault → TellsAskingFault (AsksInWords words) fault
+      → ReportsAskingFault (λ reported. page_of words query sort ≡ reported) fault → ReportsAskingFault (RequestsInWords words) fault
   page_refused sort faults.NoMemory q s none = tt
   page_refused sort (faults.Refused r) q s none = inr (query, q, inr (sort, s, none))
   page_refused sort (faults.Message m) q s none = inr (query, q, inr (sort, s, none))

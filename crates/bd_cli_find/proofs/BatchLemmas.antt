@@ -7,16 +7,16 @@ use Rattle.std.proofs.lemmas.List.Elements.{All-drop, All-filter, All-take}
 use Rattle.std.specs.Prelude.{MatchOption, nat_lt, option_map}
 use Rattle.std.specs.{List.All, List.range_with_len, Str.bytes_eq}
 use Rattle.bd_value.specs.{Limits.greatest_count, Tree.Doc}
-use Rattle.bd_cursor_model.specs.Answer.{Selection, Mark, answer, at_most, before, cut, insert, insert_all, is_empty, matching, ordered, rest}
+use Rattle.bd_cursor_model.specs.Answer.{Selection, Position, answer, at_most, before, limited, insert, insert_all, is_empty, matching, ordered, rest}
 use Rattle.bd_cursor_model.specs.Session.{Call, GivenBatch, OpenCursor, Query, Reply, State, batch_of, changed_by, cursor_of, find_call, foreign_token, gave, next_call, opened, reply, resume_call}
 use Rattle.bd_cursor_model.specs.Session.{token_after, token_place, with_open}
 use Rattle.bd_cursor_model.proofs.{AnswerLemmas.ordered_in, OrderLemmas.in_at}
 use Rattle.bd_bson_check.specs.Dump.{AreJoined}
 use Rattle.bd_bson_check.proofs.DumpLemmas.{document_frame, frame_inside}
-use Rattle.bd_cursor.specs.SessionView.{IsRefusedCall, Steps, mark_of, marked_token, state_of}
+use Rattle.bd_cursor.specs.SessionView.{IsRefusedCall, Steps, position_of, positioned_token, state_of}
 use Rattle.bd_cursor.specs.declared.session.Session.{Session}
 use Rattle.bd_cursor_request.specs.{Refused.plain, Refused.reason_of, declared.results.Refused.Refused, declared.token.Token.Token}
-use Rattle.bd_cli_find.specs.Find.{left_over, AwaitsFirst, IsOpenedOn, IsReady, before_first, cursor_for, places_from}
+use Rattle.bd_cli_find.specs.Find.{remaining_over, AwaitsFirst, IsOpenedOn, IsReady, before_first, cursor_for, places_from}
 use Rattle.bd_cli_find.specs.Asking.{fits_batch}
 use Rattle.bd_cursor_request.specs.declared.results.Refused.TheVariants as reasons
 
@@ -25,9 +25,9 @@ use Rattle.bd_cursor_request.specs.declared.results.Refused.TheVariants as reaso
 -- each document has at least five bytes
 pub five_each : (ds : List Doc) (bytes : List ℕ) → AreJoined ds bytes → length ds * 5 ≤ length bytes
 five_each [] bytes e = omega arith
-five_each (d ∷ ds) bytes (front, rest, document, joined, cut) =
-    let five : 5 ≤ length front = (frame_inside (front ++ []) (length front) (document_frame d front [] document)).0 in
-    omega (arith, five, five_each ds rest joined, ap length cut, length-append front rest)
+five_each (d ∷ ds) bytes (prefix, rest, document, joined, limited) =
+    let five : 5 ≤ length prefix = (frame_inside (prefix ++ []) (length prefix) (document_frame d prefix [] document)).0 in
+    omega (arith, five, five_each ds rest joined, ap length limited, length-append prefix rest)
 
 -- ---- which places, and how many
 
@@ -54,8 +54,8 @@ few_filtered n test ps few =
 few_dropped : (n k : ℕ) (ps : List ℕ) → AreFew n ps → AreFew n (drop k ps)
 few_dropped n k ps few = (All-drop (λ p. p < n) k ps few.0, (let fewer = few.1 in omega (arith, fewer, length-drop k ps)))
 
-few_cut : (n limit given : ℕ) (ps : List ℕ) → AreFew n ps → AreFew n (cut limit given ps)
-few_cut n limit given ps few = go (limit == 0)
+few_limited : (n limit given : ℕ) (ps : List ℕ) → AreFew n ps → AreFew n (limited limit given ps)
+few_limited n limit given ps few = go (limit == 0)
   where
     go : (b : Bool) → AreFew n (cond b ps (take (limit - given) ps))
     go true = few
@@ -67,26 +67,26 @@ few_ordered a = (
   omega (
     arith,
     insert_all_length (before a.by) [] (matching a),
-    length-filter a.hits (range_with_len 0 a.count),
-    count_by-le-length a.hits (range_with_len 0 a.count),
+    length-filter a.matches_at (range_with_len 0 a.count),
+    count_by-le-length a.matches_at (range_with_len 0 a.count),
     length-range_with_len 0 a.count,
   ),
 )
 
 few_answered : (a : Selection) → AreFew a.count (answer a)
-few_answered a = few_cut a.count a.limit 0 (drop a.skip (ordered a)) (few_dropped a.count a.skip (ordered a) (few_ordered a))
+few_answered a = few_limited a.count a.limit 0 (drop a.skip (ordered a)) (few_dropped a.count a.skip (ordered a) (few_ordered a))
 
-few_left : (a : Selection) (m : Mark) → AreFew a.count (rest a m)
-few_left a m =
-    few_cut a.count a.limit m.given (filter (before a.by m.last) (ordered a)) (few_filtered a.count (before a.by m.last) (ordered a) (few_ordered a))
+few_remaining : (a : Selection) (m : Position) → AreFew a.count (rest a m)
+few_remaining a m =
+    few_limited a.count a.limit m.given (filter (before a.by m.last) (ordered a)) (few_filtered a.count (before a.by m.last) (ordered a) (few_ordered a))
 
 pub led_few : (q : Query) (token : Option Token) (ps : List ℕ) → places_from q token ≡ Ok ps → AreFew q.selection.count ps
 led_few q None ps e = let same : answer q.selection ≡ ps = cc in subst (AreFew q.selection.count) same (few_answered q.selection)
 led_few q (Some t) ps e = go (bytes_eq t.digest q.digest) (nat_lt t.last q.selection.count) e
   where
-    go : (same place : Bool) → cond same (cond place (Ok (rest q.selection (mark_of t))) (Err (plain reasons.TokenPlace)))
+    go : (same place : Bool) → cond same (cond place (Ok (rest q.selection (position_of t))) (Err (plain reasons.TokenPlace)))
         (Err (plain reasons.ForeignToken)) ≡ Ok ps → AreFew q.selection.count ps
-    go true true e = let is : rest q.selection (mark_of t) ≡ ps = cc in subst (AreFew q.selection.count) is (few_left q.selection (mark_of t))
+    go true true e = let is : rest q.selection (position_of t) ≡ ps = cc in subst (AreFew q.selection.count) is (few_remaining q.selection (position_of t))
     go true false e = absurd cc
     go false place e = absurd cc
 
@@ -106,30 +106,30 @@ only_place why h = absurd (let f : ⊥ = first_of (cc, assumption) in f)
 
 module _ (q : Query) (hint : Option (List ℕ)) (old new : Session) (first : AwaitsFirst (state_of old) hint) where
   -- the machine's reply, which it gives in the first state too
-  first_reply : (call : Call) (r : Reply) → reply (before_first first.marks) call ≡ r → reply (state_of old) call ≡ r
+  first_reply : (call : Call) (r : Reply) → reply (before_first first.index_keys) call ≡ r → reply (state_of old) call ≡ r
   first_reply call r is = ap (λ s. reply s call) first.is_unopened ∙ is
 
   -- a call that is granted opens the first cursor
   opens : (token : Option Token) (ps : List ℕ) (call : Call) → places_from q token ≡ Ok ps → reply (state_of old) call ≡ opened 1
-      → ((s : State) → changed_by (opened 1) call s ≡ with_open s q.digest (option_map marked_token token) ps)
+      → ((s : State) → changed_by (opened 1) call s ≡ with_open s q.digest (option_map positioned_token token) ps)
       → (result : Result ℕ Refused) → Steps opened call old result new → IsOpenedOn q token (state_of new) result
   opens token ps call led is opening (Ok id) step =
       let one : opened 1 ≡ opened id = sym is ∙ step.replies in
       let same : 1 ≡ id = cc in
-      let state : state_of new ≡ with_open (before_first first.marks) q.digest (option_map marked_token token) ps =
-      step.moves ∙ ap (λ r. changed_by r call (state_of old)) is ∙ opening (state_of old) ∙ ap (λ s. with_open s q.digest (option_map marked_token token) ps) first.is_unopened in
-      let there = subst (λ i. cursor_of i (with_open (before_first first.marks) q.digest (option_map marked_token token) ps).cursors ≡ Some (cursor_for i q token ps)) same refl in
+      let state : state_of new ≡ with_open (before_first first.index_keys) q.digest (option_map positioned_token token) ps =
+      step.moves ∙ ap (λ r. changed_by r call (state_of old)) is ∙ opening (state_of old) ∙ ap (λ s. with_open s q.digest (option_map positioned_token token) ps) first.is_unopened in
+      let there = subst (λ i. cursor_of i (with_open (before_first first.index_keys) q.digest (option_map positioned_token token) ps).cursors ≡ Some (cursor_for i q token ps)) same refl in
       (ps, led, ap (λ (s : State). cursor_of id s.cursors) state ∙ there)
   opens token ps call led is opening (Err why) step = inl (only_memory 1 why (subst (λ r. IsRefusedCall r why) is step.because))
 
   pub find_opens : (result : Result ℕ Refused) → Steps opened (find_call q hint) old result new → IsOpenedOn q None (state_of new) result
   find_opens = opens None (answer q.selection) (find_call q hint) refl (first_reply (find_call q hint) (opened 1) (rw first.is_there refl)) (λ s. refl)
 
-  pub resume_opens : (t : Token) (result : Result ℕ Refused) → Steps opened (resume_call q hint (marked_token t)) old result new → IsOpenedOn q (Some t) (state_of new) result
+  pub resume_opens : (t : Token) (result : Result ℕ Refused) → Steps opened (resume_call q hint (positioned_token t)) old result new → IsOpenedOn q (Some t) (state_of new) result
   resume_opens t = go (bytes_eq t.digest q.digest) refl (nat_lt t.last q.selection.count) refl
     where
       call : Call
-      call = resume_call q hint (marked_token t)
+      call = resume_call q hint (positioned_token t)
 
       -- the token is refused
       turned_away : (r : Reply) (why : Refused) → ((other : Refused) → IsRefusedCall r other → other ≡ why) → ((id : ℕ) → r ≡ opened id → ⊥) → places_from q (Some t) ≡ Err (reason_of why)
@@ -139,7 +139,7 @@ module _ (q : Query) (hint : Option (List ℕ)) (old new : Session) (first : Awa
 
       go : (same : Bool) → bytes_eq t.digest q.digest ≡ same → (place : Bool) → nat_lt t.last q.selection.count ≡ place
           → (result : Result ℕ Refused) → Steps opened call old result new → IsOpenedOn q (Some t) (state_of new) result
-      go true e true f = opens (Some t) (rest q.selection (mark_of t)) call (rw (e, f) refl) (first_reply call (opened 1) (rw (e, f, first.is_there) refl)) (λ s. refl)
+      go true e true f = opens (Some t) (rest q.selection (position_of t)) call (rw (e, f) refl) (first_reply call (opened 1) (rw (e, f, first.is_there) refl)) (λ s. refl)
       go true e false f = turned_away token_place reasons.TokenPlace only_place (λ id k. let g : ⊥ = cc in g) (rw (e, f) refl) (first_reply call token_place (rw (e, f) refl))
       go false e place f = turned_away foreign_token reasons.ForeignToken only_foreign (λ id k. let g : ⊥ = cc in g) (rw e refl) (first_reply call foreign_token (rw e refl))
 
@@ -167,9 +167,9 @@ pub taken_is : (size : Option ℕ) (n : ℕ) (ps : List ℕ) → IsMost size n �
 taken_is None n ps m le = take_all n ps (omega (arith, m, le))
 taken_is (Some k) n ps m le = ap (λ i. take i ps) m
 
-pub left_is : (size : Option ℕ) (n : ℕ) (ps : List ℕ) → IsMost size n → length ps ≤ greatest_count → drop n ps ≡ left_over size ps
-left_is None n ps m le = drop_all n ps (omega (arith, m, le))
-left_is (Some k) n ps m le = ap (λ i. drop i ps) m
+pub remaining_is : (size : Option ℕ) (n : ℕ) (ps : List ℕ) → IsMost size n → length ps ≤ greatest_count → drop n ps ≡ remaining_over size ps
+remaining_is None n ps m le = drop_all n ps (omega (arith, m, le))
+remaining_is (Some k) n ps m le = ap (λ i. drop i ps) m
 
 pub given_is : (s : State) (id n : ℕ) (c : OpenCursor) (size : Option ℕ) (b : GivenBatch) → IsMost size n → fits_batch size ≡ true → cursor_of id s.cursors ≡ Some c
     → reply s (next_call id n) ≡ gave b → b ≡ batch_of c n
@@ -183,19 +183,19 @@ taken_inside count n ps xs inside same = subst (All (λ p. p < count)) (sym same
 
 -- what a session gives is the first batch of the cursor
 pub record IsBatchOf (size : Option ℕ) (c : OpenCursor) (b : GivenBatch) : Type 0 where
-  pub places : b.places ≡ at_most size c.left
-  pub ends : b.ends ≡ is_empty (left_over size c.left)
-  pub token : b.token ≡ token_after c.digest c.token (at_most size c.left)
+  pub places : b.places ≡ at_most size c.remaining
+  pub ends : b.ends ≡ is_empty (remaining_over size c.remaining)
+  pub token : b.token ≡ token_after c.digest c.token (at_most size c.remaining)
 
 pub batch_given : (s : State) (id n : ℕ) (count : ℕ) (size : Option ℕ) (b : GivenBatch) → IsReady s id count → IsMost size n → fits_batch size ≡ true
     → reply s (next_call id n) ≡ gave b → (c : OpenCursor) → cursor_of id s.cursors ≡ Some c → IsBatchOf size c b
 batch_given s id n count size b ready most fits r c there =
     let same : ready.cursor ≡ c = (let e = sym ready.is_there ∙ there in cc) in
-    let few : length c.left ≤ greatest_count = subst (λ (x : OpenCursor). length x.left ≤ greatest_count) same ready.few in
+    let few : length c.remaining ≤ greatest_count = subst (λ (x : OpenCursor). length x.remaining ≤ greatest_count) same ready.few in
     let is = given_is s id n c size b most fits there r in
-    let places = taken_is size n c.left most few in
+    let places = taken_is size n c.remaining most few in
     record {
       places = ap (λ (x : GivenBatch). x.places) is ∙ places;
-      ends = ap (λ (x : GivenBatch). x.ends) is ∙ ap is_empty (left_is size n c.left most few);
+      ends = ap (λ (x : GivenBatch). x.ends) is ∙ ap is_empty (remaining_is size n c.remaining most few);
       token = ap (λ (x : GivenBatch). x.token) is ∙ ap (token_after c.digest c.token) places;
     }

@@ -9,10 +9,10 @@ use Rattle.bd_extjson_text.specs.Text.{text}
 use Rattle.bd_bson_dump.specs.{Collection.IsUnread, Collection.documents_at}
 use Rattle.bd_bson_check.specs.Fault.{fault_view}
 use Rattle.bd_cli_files.specs.{declared.output.Status.Status, declared.output.Status.TheVariants.Failed}
-use Rattle.bd_cli_files.specs.Output.{PrintsOrStarves, TellsMessage, Transcript, error_line, fault_text, lines, no_memory, shown_refusal}
+use Rattle.bd_cli_files.specs.Output.{PrintsOrRunsOut, ReportsMessage, Transcript, error_line, fault_text, lines, no_memory, refusal_output}
 use Rattle.bd_cursor_request.specs.{declared.results.Refused.Refused, Refused.IsRefusedPart, Refused.reason_of, Refused.refused_words}
 use Rattle.bd_cli_find.specs.Asking.{PageRequest, refused_text}
-use Rattle.bd_cli_find.specs.Find.{places_from, IsShownOfBytes, shown_of_dump}
+use Rattle.bd_cli_find.specs.Find.{places_from, IsOutputOfBytes, output_of_dump}
 use Rattle.bd_cursor_sort.specs.Selection.{query_to}
 use Rattle.bd_cli_files.proofs.OutputLemmas.{lines-append}
 use Rattle.bd_io_device.specs.Devices.{Writer, between}
@@ -27,8 +27,8 @@ abbrev pub all_lines : List Doc → List ℕ → List ℕ
 all_lines ds ps = lines (documents_at ds ps)
 
 module _ (ds : List Doc) (ps : List ℕ) where
-  pub cut_at : (i : ℕ) → all_lines ds ps ≡ lines_to ds ps i ++ lines (documents_at ds (drop i ps))
-  cut_at i =
+  pub split_at_document : (i : ℕ) → all_lines ds ps ≡ lines_to ds ps i ++ lines (documents_at ds (drop i ps))
+  split_at_document i =
       ap (λ xs. lines (documents_at ds xs)) (sym (take-append-drop i ps)) ∙ ap lines (filter_map-append (slice_get ds) (take i ps) (drop i ps))
       ∙ lines-append (documents_at ds (take i ps)) (documents_at ds (drop i ps))
 
@@ -45,40 +45,40 @@ module _ (ds : List Doc) (ps : List ℕ) where
 
 module _ (out_old out_new : Writer) (err_old err_new : Writer) (status : Status) where
   -- memory ran out before anything was written
-  pub nothing_shown : (shown : Transcript) → TellsMessage (between err_old err_new) (error_line no_memory) Failed status
-      → PrintsOrStarves (between out_old out_old) (between err_old err_new) shown status
-  nothing_shown shown told = inr (inr (([], shown.out, refl, takes_none out_old), told))
+  pub nothing_output : (output : Transcript) → ReportsMessage (between err_old err_new) (error_line no_memory) Failed status
+      → PrintsOrRunsOut (between out_old out_old) (between err_old err_new) output status
+  nothing_output output reported = inr (inr (([], output.out, refl, takes_none out_old), reported))
 
   -- the line of a fault alone, or memory ran out
-  pub refusal_shown : (words : List ℕ) → TellsMessage (between err_old err_new) (error_line words) Failed status ⊎ TellsMessage (between err_old err_new) (error_line no_memory) Failed status
-      → PrintsOrStarves (between out_old out_old) (between err_old err_new) (shown_refusal words) status
-  refusal_shown words (inl told) = inl (takes_none out_old, told)
-  refusal_shown words (inr told) = nothing_shown (shown_refusal words) told
+  pub refusal_is_output : (words : List ℕ) → ReportsMessage (between err_old err_new) (error_line words) Failed status ⊎ ReportsMessage (between err_old err_new) (error_line no_memory) Failed status
+      → PrintsOrRunsOut (between out_old out_old) (between err_old err_new) (refusal_output words) status
+  refusal_is_output words (inl reported) = inl (takes_none out_old, reported)
+  refusal_is_output words (inr reported) = nothing_output (refusal_output words) reported
 
   -- what is shown of a dump with a fault
-  pub fault_shown : (w : PageRequest) (bytes : List ℕ) (fault : declared.Fault) → length bytes ≤ longest_input → IsUnread bytes fault → ¬ (fault.kind ≡ kinds.NoMemory)
-      → TellsMessage (between err_old err_new) (error_line (fault_text fault.document (fault_view fault))) Failed status
-      ⊎ TellsMessage (between err_old err_new) (error_line no_memory) Failed status
-      → (shown : Transcript) × IsShownOfBytes w bytes shown × PrintsOrStarves (between out_old out_old) (between err_old err_new) shown status
-  fault_shown w bytes fault le (inl long) other told = absurd (let more = long.0 in omega arith)
-  fault_shown w bytes fault le (inr (_, inl want)) other told = absurd (other want.kind)
-  fault_shown w bytes fault le (inr (_, inr first)) other told =
+  pub fault_is_output : (w : PageRequest) (bytes : List ℕ) (fault : declared.Fault) → length bytes ≤ longest_input → IsUnread bytes fault → ¬ (fault.kind ≡ kinds.NoMemory)
+      → ReportsMessage (between err_old err_new) (error_line (fault_text fault.document (fault_view fault))) Failed status
+      ⊎ ReportsMessage (between err_old err_new) (error_line no_memory) Failed status
+      → (output : Transcript) × IsOutputOfBytes w bytes output × PrintsOrRunsOut (between out_old out_old) (between err_old err_new) output status
+  fault_is_output w bytes fault le (inl long) other reported = absurd (let more = long.0 in omega arith)
+  fault_is_output w bytes fault le (inr (_, inl want)) other reported = absurd (other want.kind)
+  fault_is_output w bytes fault le (inr (_, inr first)) other reported =
       let words = fault_text (length first.before) (fault_view fault) in
       let line : error_line (fault_text fault.document (fault_view fault)) ≡ error_line words = ap (λ k. error_line (fault_text k (fault_view fault))) first.document in (
-        shown_refusal words,
+        refusal_output words,
         (first.before, Some (fault_view fault), first.fails, refl),
-        refusal_shown words (subst (λ t. TellsMessage (between err_old err_new) t Failed status ⊎ TellsMessage (between err_old err_new) (error_line no_memory) Failed status) line told),
+        refusal_is_output words (subst (λ t. ReportsMessage (between err_old err_new) t Failed status ⊎ ReportsMessage (between err_old err_new) (error_line no_memory) Failed status) line reported),
       )
 
   -- what is shown where no cursor was opened
-  pub refused_shown : (bytes : List ℕ) (ds : List Doc) (w : PageRequest) (refused : Refused) → IsRefusedPart (places_from (query_to bytes ds w.request) w.token) refused
-      → TellsMessage (between err_old err_new) (error_line (refused_text (reason_of refused))) Failed status ⊎ TellsMessage (between err_old err_new) (error_line no_memory) Failed status
-      → PrintsOrStarves (between out_old out_old) (between err_old err_new) (shown_of_dump bytes ds w) status
+  pub refused_output : (bytes : List ℕ) (ds : List Doc) (w : PageRequest) (refused : Refused) → IsRefusedPart (places_from (query_to bytes ds w.request) w.token) refused
+      → ReportsMessage (between err_old err_new) (error_line (refused_text (reason_of refused))) Failed status ⊎ ReportsMessage (between err_old err_new) (error_line no_memory) Failed status
+      → PrintsOrRunsOut (between out_old out_old) (between err_old err_new) (output_of_dump bytes ds w) status
   unfolding refused_words
-  refused_shown bytes ds w refused (inl want) told = nothing_shown (shown_of_dump bytes ds w) (either (rw want at told))
+  refused_output bytes ds w refused (inl want) reported = nothing_output (output_of_dump bytes ds w) (either (rw want at reported))
     where
-      either : TellsMessage (between err_old err_new) (error_line no_memory) Failed status ⊎ TellsMessage (between err_old err_new) (error_line no_memory) Failed status
-          → TellsMessage (between err_old err_new) (error_line no_memory) Failed status
+      either : ReportsMessage (between err_old err_new) (error_line no_memory) Failed status ⊎ ReportsMessage (between err_old err_new) (error_line no_memory) Failed status
+          → ReportsMessage (between err_old err_new) (error_line no_memory) Failed status
       either (inl t) = t
       either (inr t) = t
-  refused_shown bytes ds w refused (inr led) told = rw led (refusal_shown (refused_text (reason_of refused)) told)
+  refused_output bytes ds w refused (inr led) reported = rw led (refusal_is_output (refused_text (reason_of refused)) reported)

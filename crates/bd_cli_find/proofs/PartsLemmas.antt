@@ -22,7 +22,7 @@ use Rattle.bd_extjson_pack.specs.Packable.{plain}
 use Rattle.bd_extjson_pack.proofs.PlainLemmas.{reads_plain}
 use Rattle.bd_cli_files.specs.{Pack.PacksLines, Output.lines}
 use Rattle.bd_cli_files.proofs.OutputLemmas.{lines-append}
-use Rattle.bd_cli_find.specs.Find.{IsReadBack, document_request, documents_shown}
+use Rattle.bd_cli_find.specs.Find.{IsReadBack, document_request, documents_output}
 
 -- ---- the documents shown are those that answer the request
 
@@ -33,42 +33,42 @@ is_selection : (f : Filter) (ss : List SortPath) (skip limit : ℕ) (ds : List D
     → IsSelectionOf (document_request f ss skip limit) ds (selection_for ds f ss skip limit)
 is_selection f ss skip limit ds = record {
   count = refl;
-  hits = λ i d is. ap (matches f) (at_place ds i d is);
+  matches_at = λ i d is. ap (matches f) (at_place ds i d is);
   by = λ i j d e is was. ap₂ (sort_cmp ss) (at_place ds i d is) (at_place ds j e was);
   skip = refl;
   limit = refl;
 }
 
-shown_is : (f : Filter) (ss : List SortPath) (skip limit : ℕ) (ds : List Doc)
-    → documents_shown f ss skip limit ds ≡ found_in (document_request f ss skip limit) ds
-shown_is f ss skip limit ds =
+output_is : (f : Filter) (ss : List SortPath) (skip limit : ℕ) (ds : List Doc)
+    → documents_output f ss skip limit ds ≡ found_in (document_request f ss skip limit) ds
+output_is f ss skip limit ds =
     answer_gives (document_request f ss skip limit) ds (selection_for ds f ss skip limit) (is_selection f ss skip limit ds)
 
 parts_are : (f : Filter) (ss : List SortPath) (most : ℕ) (parts : List (List Doc))
-    → flat_map (documents_shown f ss 0 most) parts ≡ flat_map (found_in (document_request f ss 0 most)) parts
+    → flat_map (documents_output f ss 0 most) parts ≡ flat_map (found_in (document_request f ss 0 most)) parts
 parts_are f ss most [] = refl
-parts_are f ss most (ds ∷ parts) = ap₂ (λ (x y : List Doc). x ++ y) (shown_is f ss 0 most ds) (parts_are f ss most parts)
+parts_are f ss most (ds ∷ parts) = ap₂ (λ (x y : List Doc). x ++ y) (output_is f ss 0 most ds) (parts_are f ss most parts)
 
 keys_total : (ss : List SortPath) → IsTotalOrder (λ c d. sort_cmp ss (doc (fields_of c)) (doc (fields_of d)))
 keys_total ss = on_total (λ (d : Doc). doc (fields_of d)) (sort_total ss)
 
-pub parts_show : (f : Filter) (ss : List SortPath) (skip limit most : ℕ) (parts : List (List Doc)) → IsEnough (document_request f ss skip limit) most
-    → lines (documents_shown f ss skip limit (flat_map (documents_shown f ss 0 most) parts)) ≡ lines (documents_shown f ss skip limit (flat_map (λ ds. ds) parts))
-parts_show f ss skip limit most parts enough =
+pub parts_print : (f : Filter) (ss : List SortPath) (skip limit most : ℕ) (parts : List (List Doc)) → IsEnough (document_request f ss skip limit) most
+    → lines (documents_output f ss skip limit (flat_map (documents_output f ss 0 most) parts)) ≡ lines (documents_output f ss skip limit (flat_map (λ ds. ds) parts))
+parts_print f ss skip limit most parts enough =
     let r = document_request f ss skip limit in
     ap lines (
-    shown_is f ss skip limit (flat_map (documents_shown f ss 0 most) parts)
+    output_is f ss skip limit (flat_map (documents_output f ss 0 most) parts)
     ∙ ap (found_in r) (parts_are f ss most parts)
     ∙ sym (parts_give r (keys_total ss) most enough parts)
-    ∙ sym (shown_is f ss skip limit (flat_map (λ ds. ds) parts))
+    ∙ sym (output_is f ss skip limit (flat_map (λ ds. ds) parts))
     )
 
 pub parts_joined : (f : Filter) (ss : List SortPath) (most : ℕ) (parts : List (List Doc))
-    → flat_map (λ ds. lines (documents_shown f ss 0 most ds)) parts ≡ lines (flat_map (documents_shown f ss 0 most) parts)
+    → flat_map (λ ds. lines (documents_output f ss 0 most ds)) parts ≡ lines (flat_map (documents_output f ss 0 most) parts)
 parts_joined f ss most [] = refl
 parts_joined f ss most (ds ∷ parts) =
-    ap (λ x. lines (documents_shown f ss 0 most ds) ++ x) (parts_joined f ss most parts)
-    ∙ sym (lines-append (documents_shown f ss 0 most ds) (flat_map (documents_shown f ss 0 most) parts))
+    ap (λ x. lines (documents_output f ss 0 most ds) ++ x) (parts_joined f ss most parts)
+    ∙ sym (lines-append (documents_output f ss 0 most ds) (flat_map (documents_output f ss 0 most) parts))
 
 -- ---- their lines are packed
 

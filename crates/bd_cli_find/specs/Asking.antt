@@ -3,18 +3,18 @@ use Rattle.std.specs.Prelude.{◌≡◌, ◌≢◌, ◌⊎◌, ℕ, nat_le, Bool
 use Rattle.std.specs.Prelude.{Result, Ok, Err, if◌then◌else◌, string_bytes}
 use Rattle.std.specs.List.{join_with_byte}
 use Rattle.bd_value.specs.{Limits.greatest_count, Tree.Doc}
-use Rattle.bd_extjson_fault.specs.{JsonFault.IsPlaced, JsonFault.TellsBadUtf8, JsonFault.json_fault_words}
+use Rattle.bd_extjson_fault.specs.{JsonFault.IsPlaced, JsonFault.ReportsBadUtf8, JsonFault.json_fault_words}
 use Rattle.bd_extjson_fault.specs.{declared.json_fault.JsonFault.JsonFault}
 use Rattle.bd_extjson_text.specs.Text.{quoted}
 use Rattle.bd_extjson.specs.Read.{ReadsAs, reading}
 use Rattle.bd_path.specs.{Path.path_fault_words, declared.path.PathFault.PathFault}
 use Rattle.bd_query_filter.specs.Fault.{Refusal, filter_fault_words}
 use Rattle.bd_cursor_request.specs.{declared.results.Refused.Refused, declared.token.Token.Token}
-use Rattle.bd_cursor_request.specs.Refused.{Reason, bad_filter, plain, reason_of, refused_words, then_part, told_as}
+use Rattle.bd_cursor_request.specs.Refused.{Reason, bad_filter, plain, reason_of, refused_words, then_part, error_as}
 use Rattle.bd_cursor_request.specs.Request.{Request, named_index, request_of, request_view, token_part}
 use Rattle.bd_cli_args.specs.FindWords.{FindWords}
 use Rattle.bd_io_device.specs.Devices.{Over, Writer}
-use Rattle.bd_cli_files.specs.{Output.TellsMessage, Output.error_line, Pack.byte_text, declared.output.Status.Status}
+use Rattle.bd_cli_files.specs.{Output.ReportsMessage, Output.error_line, Pack.byte_text, declared.output.Status.Status}
 use Rattle.bd_cli_files.specs.declared.output.Status.TheVariants.{Failed}
 use Rattle.bd_cli_find.specs.{declared.asking.Asking.Asking, declared.asking.AskingFault.AskingFault}
 use Rattle.bd_extjson_fault.specs.declared.json_fault.JsonFaultKind.TheVariants as kinds
@@ -63,7 +63,7 @@ ReadsText name None (Ok d) = d ≡ []
 ReadsText name None (Err message) = ⊥
 ReadsText name (Some text) (Ok d) = ReadsAs text d
 ReadsText name (Some text) (Err message) = (reading text ≡ None)
-    × ((f : JsonFault) × IsPlaced (length text) f × TellsBadUtf8 text f × (f.kind ≢ kinds.NoMemory)
+    × ((f : JsonFault) × IsPlaced (length text) f × ReportsBadUtf8 text f × (f.kind ≢ kinds.NoMemory)
     × (message ≡ json_fault_text name f))
 
 -- whether the size of a batch is at most 2,147,483,647
@@ -84,10 +84,10 @@ after_part (Some text) = then_part (token_part text) (λ t. Ok (Some t))
 -- of the request, the batch size, the path of the index, the token.
 abbrev pub page_of : FindWords → Doc → Doc → Result PageRequest (List ℕ)
 page_of words query sort =
-    then_part (told_as refused_text (request_of query sort words.skip words.limit)) (λ request.
-    then_part (told_as refused_text (batch_part words.batch)) (λ _.
-    then_part (told_as index_fault_text (named_index words.index)) (λ _.
-    then_part (told_as refused_text (after_part words.after)) (λ token.
+    then_part (error_as refused_text (request_of query sort words.skip words.limit)) (λ request.
+    then_part (error_as refused_text (batch_part words.batch)) (λ _.
+    then_part (error_as index_fault_text (named_index words.index)) (λ _.
+    then_part (error_as refused_text (after_part words.after)) (λ token.
     Ok (record { request = request; batch = words.batch; token = token })))))
 
 -- A part has a value, for which `IsRest` holds; or it is refused with a message, for which `IsRefused` holds.
@@ -98,31 +98,31 @@ IsRefusedOr {Given} IsRefused IsPart IsRest = ((message : List ℕ) × IsPart (E
 
 -- What the options of `find` ask for, or the message of the first refusal:
 -- of the query's text, the sort's text, then the rest.
-abbrev pub AsksInWords : FindWords → Result PageRequest (List ℕ) → Type 0
-AsksInWords words asked = IsRefusedOr (λ message. asked ≡ Err message) (ReadsText (codes "query") words.query) (λ query.
-    IsRefusedOr (λ message. asked ≡ Err message) (ReadsText (codes "sort") words.sort) (λ sort.
-    page_of words query sort ≡ asked))
+abbrev pub RequestsInWords : FindWords → Result PageRequest (List ℕ) → Type 0
+RequestsInWords words requested = IsRefusedOr (λ message. requested ≡ Err message) (ReadsText (codes "query") words.query) (λ query.
+    IsRefusedOr (λ message. requested ≡ Err message) (ReadsText (codes "sort") words.sort) (λ sort.
+    page_of words query sort ≡ requested))
 
 -- The options of `find` are refused, whatever the file holds.
-abbrev pub AsksNothing : FindWords → Type 0
-AsksNothing words = (w : PageRequest) → ¬ (AsksInWords words (Ok w))
+abbrev pub RequestsNothing : FindWords → Type 0
+RequestsNothing words = (w : PageRequest) → ¬ (RequestsInWords words (Ok w))
 
 -- what is asked for by an `Asking` in memory
 abbrev pub page_request_of : Asking → PageRequest
 page_request_of a = record { request = request_view a.request; batch = a.size; token = a.token }
 
 -- The fault reports the message that the part is refused with, or that memory ran out.
-abbrev pub TellsAskingFault : {Given : Type 0} → (Result Given (List ℕ) → Type 0) → AskingFault → Type 0
-TellsAskingFault IsPart faults.NoMemory = Unit {0}
-TellsAskingFault IsPart (faults.Refused refused) = IsPart (Err (refused_text (reason_of refused)))
-TellsAskingFault IsPart (faults.Message message) = IsPart (Err (string_bytes message))
+abbrev pub ReportsAskingFault : {Given : Type 0} → (Result Given (List ℕ) → Type 0) → AskingFault → Type 0
+ReportsAskingFault IsPart faults.NoMemory = Unit {0}
+ReportsAskingFault IsPart (faults.Refused refused) = IsPart (Err (refused_text (reason_of refused)))
+ReportsAskingFault IsPart (faults.Message message) = IsPart (Err (string_bytes message))
 
 -- The fault reports the reason that the part is refused for, or that memory ran out.
-abbrev pub TellsReason : {Given : Type 0} → Result Given Reason → AskingFault → Type 0
-TellsReason part fault = TellsAskingFault (λ told. told_as refused_text part ≡ told) fault
+abbrev pub ReportsReason : {Given : Type 0} → Result Given Reason → AskingFault → Type 0
+ReportsReason part fault = ReportsAskingFault (λ reported. error_as refused_text part ≡ reported) fault
 
 -- The line of the refusal was written; instead of that of a filter it may say that memory ran out.
-abbrev pub TellsRefusal : Over Writer → Reason → Status → Type 0
-TellsRefusal err (plain refused) status = TellsMessage err (error_line (refused_text (plain refused))) Failed status
-TellsRefusal err (bad_filter r) status = TellsMessage err (error_line (refusal_text r)) Failed status
-    ⊎ TellsMessage err (error_line (codes "no memory")) Failed status
+abbrev pub ReportsRefusal : Over Writer → Reason → Status → Type 0
+ReportsRefusal err (plain refused) status = ReportsMessage err (error_line (refused_text (plain refused))) Failed status
+ReportsRefusal err (bad_filter r) status = ReportsMessage err (error_line (refusal_text r)) Failed status
+    ⊎ ReportsMessage err (error_line (codes "no memory")) Failed status

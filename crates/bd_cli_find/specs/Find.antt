@@ -4,21 +4,21 @@ use Rattle.std.specs.Prelude.{Ok, Err, codes, if◌then◌else◌, ◌⊎◌, Bo
 use Rattle.std.specs.{Prelude.drop, Prelude.decimal, List.All, Str.bytes_eq}
 use Rattle.bd_value.specs.{Limits.greatest_count, Tree.Doc, Tree.doc, Tree.fields_of}
 use Rattle.bd_cursor_model.specs.Answer.{answer, rest, at_most, is_empty}
-use Rattle.bd_cursor_model.specs.Session.{IndexMark, OpenCursor, Query, State, cursor_of, has_index, MarkedToken, token_after}
+use Rattle.bd_cursor_model.specs.Session.{IndexKey, OpenCursor, Query, State, cursor_of, has_index, PositionedToken, token_after}
 use Rattle.bd_cursor_model.specs.Laws.{DocumentRequest}
-use Rattle.bd_cursor.specs.{Access.Way, Access.by_none, Access.by_one, SessionView.mark_of, SessionView.marked_token}
-use Rattle.bd_cursor_request.specs.{declared.results.Refused.Refused, declared.token.Token.Token, Results.marked_text}
+use Rattle.bd_cursor.specs.{Access.Way, Access.by_none, Access.by_one, SessionView.position_of, SessionView.positioned_token}
+use Rattle.bd_cursor_request.specs.{declared.results.Refused.Refused, declared.token.Token.Token, Results.positioned_text}
 use Rattle.bd_cursor_request.specs.Refused.{IsRefusedPart, Reason, plain}
 use Rattle.bd_bson_dump.specs.Collection.{documents_at}
 use Rattle.bd_io_device.specs.{Devices.Over, Devices.Reader, Devices.Writer, Devices.read_words}
 use Rattle.bd_io_device.specs.{declared.reading.ReadFault.ReadFault}
-use Rattle.bd_bson_check.specs.{Fault.Fault, Dump.IsWalk}
+use Rattle.bd_bson_check.specs.{Fault.Fault, Dump.IsDumpScan}
 use Rattle.bd_cli_args.specs.FindWords.{FindWords}
-use Rattle.bd_cli_find.specs.Asking.{AsksInWords, IsRefusedOr, PageRequest, refused_text}
+use Rattle.bd_cli_find.specs.Asking.{RequestsInWords, IsRefusedOr, PageRequest, refused_text}
 use Rattle.bd_cursor_sort.specs.Selection.{query_to, selection_for}
 use Rattle.bd_cli_files.specs.{Input.ReadsInput, declared.output.Status.Status}
 use Rattle.bd_cli_files.specs.declared.output.Status.TheVariants.{Done, Failed}
-use Rattle.bd_cli_files.specs.Output.{PrintsInput, TellsMessage, Transcript, error_line, lines, fault_text, no_memory, shown_refusal}
+use Rattle.bd_cli_files.specs.Output.{PrintsInput, ReportsMessage, Transcript, error_line, lines, fault_text, no_memory, refusal_output}
 use Rattle.bd_extjson_text.specs.Text.{text}
 use Rattle.bd_path.specs.Sort.{SortPath, sort_cmp}
 use Rattle.bd_query_filter.specs.{Filter.Filter, FilterMatch.matches}
@@ -30,15 +30,15 @@ use Rattle.bd_cursor_request.specs.declared.results.Refused.TheVariants as reaso
 abbrev pub places_from : Query → Option Token → Result (List ℕ) Reason
 places_from q None = Ok (answer q.selection)
 places_from q (Some t) = if bytes_eq t.digest q.digest
-    then (if nat_lt t.last q.selection.count then Ok (rest q.selection (mark_of t)) else Err (plain reasons.TokenPlace))
+    then (if nat_lt t.last q.selection.count then Ok (rest q.selection (position_of t)) else Err (plain reasons.TokenPlace))
     else Err (plain reasons.ForeignToken)
 
 -- an open cursor with these document numbers left
 abbrev pub cursor_for : ℕ → Query → Option Token → List ℕ → OpenCursor
-cursor_for id q token ps = record { id = id; digest = q.digest; token = option_map marked_token token; left = ps }
+cursor_for id q token ps = record { id = id; digest = q.digest; token = option_map positioned_token token; remaining = ps }
 
 -- the state of a session in which no cursor was opened
-abbrev pub before_first : List IndexMark → State
+abbrev pub before_first : List IndexKey → State
 before_first indexes = record { indexes = indexes; next_id = 1; cursors = [] }
 
 -- by the index that is named; without one by a scan
@@ -48,9 +48,9 @@ index_way (Some path) = by_one path
 
 -- No cursor was opened yet, and the index that is named is there.
 pub record AwaitsFirst (s : State) (hint : Option (List ℕ)) : Type 0 where
-  pub marks : List IndexMark
-  pub is_unopened : s ≡ before_first marks
-  pub is_there : has_index marks hint ≡ true
+  pub index_keys : List IndexKey
+  pub is_unopened : s ≡ before_first index_keys
+  pub is_there : has_index index_keys hint ≡ true
 
 -- A cursor was opened that has left what is asked for; or it is refused, or memory ran out.
 abbrev pub IsOpenedOn : Query → Option Token → State → Result ℕ Refused → Type 0
@@ -63,74 +63,74 @@ IsOpenedOn q token s (Err refused) = IsRefusedPart (places_from q token) refused
 pub record IsReady (s : State) (id : ℕ) (count : ℕ) : Type 0 where
   pub cursor : OpenCursor
   pub is_there : cursor_of id s.cursors ≡ Some cursor
-  pub inside : All (λ p. p < count) cursor.left
-  pub few : length cursor.left ≤ greatest_count
+  pub inside : All (λ p. p < count) cursor.remaining
+  pub few : length cursor.remaining ≤ greatest_count
 
 -- what remains after the first batch; without a size nothing
-abbrev pub left_over : Option ℕ → List ℕ → List ℕ
-left_over None ps = []
-left_over (Some n) ps = drop n ps
+abbrev pub remaining_over : Option ℕ → List ℕ → List ℕ
+remaining_over None ps = []
+remaining_over (Some n) ps = drop n ps
 
 -- the end of the line of counts if there is a token: `, token T`
-abbrev pub token_words : Option MarkedToken → List ℕ
+abbrev pub token_words : Option PositionedToken → List ℕ
 token_words None = []
-token_words (Some t) = codes ", token " ++ marked_text t
+token_words (Some t) = codes ", token " ++ positioned_text t
 
 -- the middle of the line of counts: whether documents remain (`more`) or not (`end`)
 abbrev pub end_words : Bool → List ℕ
 end_words ends = if ends then codes " documents, end" else codes " documents, more"
 
 -- the line of counts after a batch: how many documents, `end` or `more`, and the token if there is one
-abbrev pub find_count_line : ℕ → Bool → Option MarkedToken → List ℕ
+abbrev pub find_count_line : ℕ → Bool → Option PositionedToken → List ℕ
 find_count_line count ends token = decimal count ++ (end_words ends ++ (token_words token ++ 10 ∷ []))
 
 -- what `find` shows of a cursor: the documents of its first batch, and the line of counts with the token
-abbrev pub shown_batch : Option ℕ → List Doc → OpenCursor → Transcript
-shown_batch size ds c = let ps = at_most size c.left in record {
+abbrev pub batch_output : Option ℕ → List Doc → OpenCursor → Transcript
+batch_output size ds c = let ps = at_most size c.remaining in record {
   out = lines (documents_at ds ps);
-  err = find_count_line (length ps) (is_empty (left_over size c.left)) (token_after c.digest c.token ps);
+  err = find_count_line (length ps) (is_empty (remaining_over size c.remaining)) (token_after c.digest c.token ps);
   status = Done;
 }
 
 -- what `find` shows of a dump: the first batch of what is asked for, or why the token is refused
-abbrev pub shown_places : List ℕ → List Doc → PageRequest → Result (List ℕ) Reason → Transcript
-shown_places bytes ds w (Ok ps) = shown_batch w.batch ds (cursor_for 1 (query_to bytes ds w.request) w.token ps)
-shown_places bytes ds w (Err why) = shown_refusal (refused_text why)
+abbrev pub output_places : List ℕ → List Doc → PageRequest → Result (List ℕ) Reason → Transcript
+output_places bytes ds w (Ok ps) = batch_output w.batch ds (cursor_for 1 (query_to bytes ds w.request) w.token ps)
+output_places bytes ds w (Err why) = refusal_output (refused_text why)
 
 -- what `find` shows of a well-formed dump: the first batch, or why the token is refused
-abbrev pub shown_of_dump : List ℕ → List Doc → PageRequest → Transcript
-shown_of_dump bytes ds w = shown_places bytes ds w (places_from (query_to bytes ds w.request) w.token)
+abbrev pub output_of_dump : List ℕ → List Doc → PageRequest → Transcript
+output_of_dump bytes ds w = output_places bytes ds w (places_from (query_to bytes ds w.request) w.token)
 
 -- what `find` shows of bytes that are these documents; if one has a fault, that alone
-abbrev pub shown_of_walk : List ℕ → List Doc → Option Fault → PageRequest → Transcript
-shown_of_walk bytes ds None w = shown_of_dump bytes ds w
-shown_of_walk bytes ds (Some fault) w = shown_refusal (fault_text (length ds) fault)
+abbrev pub output_of_scan : List ℕ → List Doc → Option Fault → PageRequest → Transcript
+output_of_scan bytes ds None w = output_of_dump bytes ds w
+output_of_scan bytes ds (Some fault) w = refusal_output (fault_text (length ds) fault)
 
 -- This is what `find` shows of the bytes of its input.
-abbrev pub IsShownOfBytes : PageRequest → List ℕ → Transcript → Type 0
-IsShownOfBytes w bytes shown =
-    (ds : List Doc) × (end : Option Fault) × IsWalk ds end bytes × (shown ≡ shown_of_walk bytes ds end w)
+abbrev pub IsOutputOfBytes : PageRequest → List ℕ → Transcript → Type 0
+IsOutputOfBytes w bytes output =
+    (ds : List Doc) × (end : Option Fault) × IsDumpScan ds end bytes × (output ≡ output_of_scan bytes ds end w)
 
 -- This is what `find` shows of what is asked for and of an input: the first error alone, or the first batch.
-abbrev pub IsShownOf : Result PageRequest (List ℕ) → Result (List ℕ) ReadFault → Transcript → Type 0
-IsShownOf (Err message) input shown = shown ≡ shown_refusal message
-IsShownOf (Ok w) (Err fault) shown = shown ≡ shown_refusal (read_words fault)
-IsShownOf (Ok w) (Ok bytes) shown = IsShownOfBytes w bytes shown
+abbrev pub IsOutputOf : Result PageRequest (List ℕ) → Result (List ℕ) ReadFault → Transcript → Type 0
+IsOutputOf (Err message) input output = output ≡ refusal_output message
+IsOutputOf (Ok w) (Err fault) output = output ≡ refusal_output (read_words fault)
+IsOutputOf (Ok w) (Ok bytes) output = IsOutputOfBytes w bytes output
 
 -- This is what `find` shows of its options and of an input.
-abbrev pub IsShownByFind : FindWords → Result (List ℕ) ReadFault → Transcript → Type 0
-IsShownByFind words input shown =
-    (asked : Result PageRequest (List ℕ)) × AsksInWords words asked × IsShownOf asked input shown
+abbrev pub IsOutputOfFind : FindWords → Result (List ℕ) ReadFault → Transcript → Type 0
+IsOutputOfFind words input output =
+    (requested : Result PageRequest (List ℕ)) × RequestsInWords words requested × IsOutputOf requested input output
 
 -- `find` ran: its input was read unless an option is refused, and what is to be shown was printed;
 -- or memory ran out before, and nothing was read.
 abbrev pub FindsDocuments : FindWords → Over Reader → Over Writer → Over Writer → Status → Type 0
 FindsDocuments words file out err status =
     ((file.after ≡ file.before) × (out.after ≡ out.before)
-    × TellsMessage err (error_line no_memory) Failed status)
-    ⊎ ((input : Result (List ℕ) ReadFault) × (shown : Transcript)
-    × IsRefusedOr (λ message. file.after ≡ file.before) (AsksInWords words) (λ w. ReadsInput file input)
-    × IsShownByFind words input shown × PrintsInput input out err shown status)
+    × ReportsMessage err (error_line no_memory) Failed status)
+    ⊎ ((input : Result (List ℕ) ReadFault) × (output : Transcript)
+    × IsRefusedOr (λ message. file.after ≡ file.before) (RequestsInWords words) (λ w. ReadsInput file input)
+    × IsOutputOfFind words input output × PrintsInput input out err output status)
 
 -- the request of a filter, a sort, a skip and a limit, in terms of documents instead of their numbers
 abbrev pub document_request : Filter → List SortPath → ℕ → ℕ → DocumentRequest Doc
@@ -142,8 +142,8 @@ document_request f ss skip limit = record {
 }
 
 -- the documents that `find` shows of these documents, for a filter, a sort, a skip and a limit
-abbrev pub documents_shown : Filter → List SortPath → ℕ → ℕ → List Doc → List Doc
-documents_shown f ss skip limit ds = documents_at ds (answer (selection_for ds f ss skip limit))
+abbrev pub documents_output : Filter → List SortPath → ℕ → ℕ → List Doc → List Doc
+documents_output f ss skip limit ds = documents_at ds (answer (selection_for ds f ss skip limit))
 
 -- The canonical text of the document is read back as this document, and can be packed.
 abbrev pub IsReadBack : Doc → Type 0

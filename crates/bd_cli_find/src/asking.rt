@@ -2,19 +2,19 @@
 
 ghost use Rattle.std.specs.Prelude.{◌≡◌, ◌≢◌, ◌++◌, IfErr, IfOk, Ok, OnErr, OnOk, option_map, string_bytes, true};
 ghost use Rattle.bd_value.specs.View.{pairs};
-ghost use Rattle.bd_io_device.specs.Devices.{BreaksWithin, TakesText, over};
+ghost use Rattle.bd_io_device.specs.Devices.{WriteFailsWithin, TakesText, over};
 ghost use Rattle.bd_query_filter.specs.Fault.{refusal_of};
-ghost use Rattle.bd_cursor_request.specs.Refused.{reason_of, refused_words, told_as};
+ghost use Rattle.bd_cursor_request.specs.Refused.{reason_of, refused_words, error_as};
 ghost use Rattle.bd_cursor_request.specs.Request.{named_index, request_of, request_view};
 ghost use Rattle.bd_cli_args.specs.FindWords.{find_words_of};
 ghost use Rattle.bd_cli_files.specs.Output.{error_line};
-ghost use Rattle.bd_cli_find.specs.Asking.{AsksInWords, ReadsText, TellsAskingFault, TellsReason, TellsRefusal, after_part, batch_part};
+ghost use Rattle.bd_cli_find.specs.Asking.{RequestsInWords, ReadsText, ReportsAskingFault, ReportsReason, ReportsRefusal, after_part, batch_part};
 ghost use Rattle.bd_cli_find.specs.Asking.{fits_batch, index_fault_text, json_fault_text, page_of, page_request_of, refusal_text, refused_option};
 ghost use Rattle.bd_cli_find.specs.declared.asking.AskingFault.TheVariants.{NoMemory as no_memory};
 
 use bd_cli_args::FindOptions;
 use bd_cli_files::Status;
-use bd_cli_files::output::{push_number, push_path, status_of, tell_error, tell_no_memory};
+use bd_cli_files::output::{push_number, push_path, report_error, report_no_memory, status_of};
 use bd_cursor_request::{Refused, Request, Token};
 use bd_extjson::read_doc;
 use bd_extjson_fault::{JsonFault, JsonFaultKind};
@@ -59,11 +59,12 @@ impl From<AllocError> for AskingFault {
 /// What the options of `find` ask for. Without a query it is each document, without a sort the order of the dump.
 pub(crate) fn read_asking(alloc: Global, options: &FindOptions) -> Result<Asking, AskingFault>
     ensures asking { IfOk result (λ a.
-        AsksInWords (find_words_of options.now) (Ok (page_request_of a))) }
+        RequestsInWords (find_words_of options.now) (Ok (page_request_of a))) }
     ensures fits { IfOk result (λ a. fits_batch a.size ≡ true) }
     ensures index { IfOk result (λ a.
         option_map (λ path. string_bytes path.text) a.index ≡ (find_words_of options.now).index) }
-    ensures fault { IfErr result (TellsAskingFault (AsksInWords (find_words_of options.now))) }
+    ensures fault { IfErr result
+        (ReportsAskingFault (RequestsInWords (find_words_of options.now))) }
 {
     let query = read_text(alloc, "query", &options.query)?;
     let sort = read_text(alloc, "sort", &options.sort)?;
@@ -82,8 +83,8 @@ fn read_page(
     ensures fits { IfOk result (λ a. fits_batch a.size ≡ true) }
     ensures index { IfOk result (λ a.
         option_map (λ path. string_bytes path.text) a.index ≡ (find_words_of options.now).index) }
-    ensures fault { IfErr result (TellsAskingFault (λ told.
-        page_of (find_words_of options.now) (pairs query) (pairs sort) ≡ told)) }
+    ensures fault { IfErr result (ReportsAskingFault (λ reported.
+        page_of (find_words_of options.now) (pairs query) (pairs sort) ≡ reported)) }
 {
     let request = read_request(alloc, query, sort, options)?;
     check_batch(options.batch)?;
@@ -102,7 +103,7 @@ fn read_text(alloc: Global, name: &str, text: &Option<String>) -> Result<Documen
     ensures document { IfOk result (λ d.
         ReadsText name.now (option_map string_bytes text.now) (Ok (pairs d))) }
     ensures fault { IfErr result
-        (TellsAskingFault (ReadsText name.now (option_map string_bytes text.now))) }
+        (ReportsAskingFault (ReadsText name.now (option_map string_bytes text.now))) }
 {
     let Some(text) = text else {
         return Ok(Document::new(alloc));
@@ -144,7 +145,7 @@ fn read_request(
     ensures request { IfOk result (λ r. request_of
         (pairs query) (pairs sort) options.now.skip options.now.limit ≡ Ok (request_view r)) }
     ensures fault { IfErr result
-        (TellsReason (request_of (pairs query) (pairs sort) options.now.skip options.now.limit)) }
+        (ReportsReason (request_of (pairs query) (pairs sort) options.now.skip options.now.limit)) }
 {
     let (skip, limit) = (u64::from(options.skip), u64::from(options.limit));
     match Request::new(alloc, query, sort, skip, limit) {
@@ -157,7 +158,7 @@ fn read_request(
 /// Refuses a batch that may not have that size. It takes no memory.
 fn check_batch(size: Option<u32>) -> Result<(), AskingFault>
     ensures fits { OnOk result (fits_batch size ≡ true) }
-    ensures fault { IfErr result (TellsReason (batch_part size)) }
+    ensures fault { IfErr result (ReportsReason (batch_part size)) }
     ensures known { IfErr result (λ fault. fault ≢ no_memory) }
 {
     match size {
@@ -171,8 +172,8 @@ fn read_index(alloc: Global, text: &Option<String>) -> Result<Option<Path>, Aski
     ensures path { OnOk result (named_index (option_map string_bytes text.now) ≡ Ok tt) }
     ensures text { IfOk result (λ index.
         option_map (λ path. string_bytes path.text) index ≡ option_map string_bytes text.now) }
-    ensures fault { IfErr result (TellsAskingFault (λ told.
-        told_as index_fault_text (named_index (option_map string_bytes text.now)) ≡ told)) }
+    ensures fault { IfErr result (ReportsAskingFault (λ reported.
+        error_as index_fault_text (named_index (option_map string_bytes text.now)) ≡ reported)) }
 {
     let Some(text) = text else {
         return Ok(None);
@@ -188,7 +189,7 @@ fn read_index(alloc: Global, text: &Option<String>) -> Result<Option<Path>, Aski
 fn read_token(text: &Option<String>) -> Result<Option<Token>, AskingFault>
     ensures token { IfOk result (λ token.
         after_part (option_map string_bytes text.now) ≡ Ok token) }
-    ensures fault { IfErr result (TellsReason (after_part (option_map string_bytes text.now))) }
+    ensures fault { IfErr result (ReportsReason (after_part (option_map string_bytes text.now))) }
     ensures known { IfErr result (λ fault. fault ≢ no_memory) }
 {
     let Some(text) = text else {
@@ -221,13 +222,13 @@ fn filter_message(alloc: Global, fault: &FilterFault) -> Result<String, NoMemory
 }
 
 /// Tells why a filter, a sort, a number or a token is refused. Only for the place of a filter's fault it takes memory.
-pub(crate) fn tell_refused<E: Output>(alloc: Global, refused: &Refused, err: &mut E) -> Status
-    ensures { TellsRefusal (over E.state err.old err.new) (reason_of refused.now) result }
+pub(crate) fn report_refused<E: Output>(alloc: Global, refused: &Refused, err: &mut E) -> Status
+    ensures { ReportsRefusal (over E.state err.old err.new) (reason_of refused.now) result }
 {
     match refused {
         Refused::BadFilter(fault) => match filter_message(alloc, fault) {
-            Ok(message) => tell_error(&message, err),
-            Err(_) => tell_no_memory(err),
+            Ok(message) => report_error(&message, err),
+            Err(_) => report_no_memory(err),
         },
         refused => status_of(write_refused(refused, err), Status::Failed),
     }
@@ -238,7 +239,7 @@ pub(crate) fn tell_refused<E: Output>(alloc: Global, refused: &Refused, err: &mu
 fn write_refused<E: Output>(refused: &Refused, err: &mut E) -> Result<(), DeviceFault>
     ensures ok { OnOk result (TakesText (over E.state err.old err.new)
         (error_line (refused_option refused.now ++ refused_words refused.now))) }
-    ensures err { OnErr result (BreaksWithin (over E.state err.old err.new)
+    ensures err { OnErr result (WriteFailsWithin (over E.state err.old err.new)
         (error_line (refused_option refused.now ++ refused_words refused.now))) }
 {
     write_all(err, b"bsonfind: ")?;
@@ -251,7 +252,7 @@ fn write_refused<E: Output>(refused: &Refused, err: &mut E) -> Result<(), Device
 fn write_words<E: Output>(first: &str, second: &str, err: &mut E) -> Result<(), DeviceFault>
     ensures ok { OnOk result (TakesText (over E.state err.old err.new) (first.now ++ second.now)) }
     ensures err { OnErr result
-        (BreaksWithin (over E.state err.old err.new) (first.now ++ second.now)) }
+        (WriteFailsWithin (over E.state err.old err.new) (first.now ++ second.now)) }
 {
     write_all(err, first.as_bytes())?;
     write_all(err, second.as_bytes())

@@ -7,21 +7,21 @@ ghost use Rattle.bd_io_device.specs.Devices.{TakesText, over};
 ghost use Rattle.bd_cursor_model.specs.{Session.OpenCursor, Session.cursor_of, Laws.new_state};
 ghost use Rattle.bd_bson_dump.specs.{Collection.bytes_of, Collection.documents, Collection.documents_at};
 ghost use Rattle.bd_cursor_sort.specs.Selection.{query_of};
-ghost use Rattle.bd_cursor.specs.{Access.way_of, SessionView.dump_of, SessionView.hint_of, SessionView.marked_token, SessionView.state_of};
+ghost use Rattle.bd_cursor.specs.{Access.way_of, SessionView.dump_of, SessionView.hint_of, SessionView.positioned_token, SessionView.state_of};
 ghost use Rattle.bd_cursor_request.specs.declared.results.Refused.TheVariants.{NoMemory as memory};
-ghost use Rattle.bd_cli_files.specs.Output.{PrintsOrStarves, StopsWithin, TellsMessage, error_line, lines, no_memory};
+ghost use Rattle.bd_cli_files.specs.Output.{PrintsOrRunsOut, StopsWithin, ReportsMessage, error_line, lines, no_memory};
 ghost use Rattle.bd_cli_files.specs.declared.output.Status.TheVariants.{Done, Failed};
 ghost use Rattle.bd_cli_find.specs.Asking.{fits_batch, page_request_of};
-ghost use Rattle.bd_cli_find.specs.Find.{AwaitsFirst, IsOpenedOn, IsReady, end_words, find_count_line, index_way, shown_batch};
-ghost use Rattle.bd_cli_find.specs.Find.{shown_of_dump, token_words};
+ghost use Rattle.bd_cli_find.specs.Find.{AwaitsFirst, IsOpenedOn, IsReady, end_words, find_count_line, index_way, batch_output};
+ghost use Rattle.bd_cli_find.specs.Find.{output_of_dump, token_words};
 
-use crate::asking::{Asking, tell_refused};
+use crate::asking::{Asking, report_refused};
 use bd_bson_dump::Dump;
 use bd_cli_files::Status;
-use bd_cli_files::output::{OutputFault, push_number, status_of, tell_no_memory, tell_stop};
+use bd_cli_files::output::{OutputFault, push_number, report_no_memory, report_stop, status_of};
 use bd_cursor::{Choice, Session};
 use bd_cursor_request::{Batch, Refused, Token};
-use bd_extjson_text::LineRoom;
+use bd_extjson_text::TextBuffer;
 use bd_io_device::{Output, write_all};
 use bd_path::Path;
 use bd_value::{GREATEST_COUNT, NoMemory};
@@ -37,23 +37,23 @@ const DOCUMENTS_MORE: &str = " documents, more";
 const TOKEN: &str = ", token ";
 
 /// Shows the first batch of what is asked for of a dump.
-pub(crate) fn show_found<O: Output, E: Output>(
+pub(crate) fn print_found<O: Output, E: Output>(
     alloc: Global,
     dump: Dump,
     asking: Asking,
     out: &mut O,
     err: &mut E,
 ) -> Status
-    requires few { length (documents dump) ≤ greatest_count }
+    requires within_limit { length (documents dump) ≤ greatest_count }
     requires fits { fits_batch asking.size ≡ true }
-    ensures { PrintsOrStarves (over O.state out.old out.new) (over E.state err.old err.new)
-        (shown_of_dump (bytes_of dump) (documents dump) (page_request_of asking)) result }
+    ensures { PrintsOrRunsOut (over O.state out.old out.new) (over E.state err.old err.new)
+        (output_of_dump (bytes_of dump) (documents dump) (page_request_of asking)) result }
 {
     let size = asking.size;
     let mut session = Session::new(alloc, dump);
     match open_first(alloc, &mut session, asking) {
-        Ok(id) => show_batch(alloc, &mut session, id, size, out, err),
-        Err(refused) => tell_refused(alloc, &refused, err),
+        Ok(id) => print_batch(alloc, &mut session, id, size, out, err),
+        Err(refused) => report_refused(alloc, &refused, err),
     }
 }
 
@@ -90,7 +90,7 @@ fn choose(alloc: Global, session: &mut Session, index: Option<Path>) -> Result<C
 }
 
 /// Shows the first batch of a cursor.
-fn show_batch<O: Output, E: Output>(
+fn print_batch<O: Output, E: Output>(
     alloc: Global,
     session: &mut Session,
     id: u64,
@@ -101,15 +101,15 @@ fn show_batch<O: Output, E: Output>(
     requires ready { IsReady (state_of session.now) id (length (documents (dump_of session.now))) }
     requires fits { fits_batch size ≡ true }
     ensures { (cursor : OpenCursor) → cursor_of id (state_of session.old).cursors ≡ Some cursor →
-        PrintsOrStarves (over O.state out.old out.new) (over E.state err.old err.new)
-        (shown_batch size (documents (dump_of session.old)) cursor) result }
+        PrintsOrRunsOut (over O.state out.old out.new) (over E.state err.old err.new)
+        (batch_output size (documents (dump_of session.old)) cursor) result }
 {
     let Ok(batch) = session.next(id, most_of(size)) else {
-        return tell_no_memory(err);
+        return report_no_memory(err);
     };
     match write_documents(alloc, session.dump(), &batch.places, out) {
-        Ok(()) => tell_batch(alloc, &batch, err),
-        Err(fault) => tell_stop(fault, err),
+        Ok(()) => report_batch(alloc, &batch, err),
+        Err(fault) => report_stop(fault, err),
     }
 }
 
@@ -136,31 +136,31 @@ fn write_documents<O: Output>(
     ensures stops { IfErr result (StopsWithin
         (over O.state out.old out.new) (lines (documents_at (documents dump.now) places.now))) }
 {
-    let mut room = LineRoom::new(alloc);
+    let mut buffer = TextBuffer::new(alloc);
     for place in places {
-        let line = room.line(dump.document(*place).value())?;
+        let line = buffer.line(dump.document(*place).value())?;
         write_all(out, line)?;
     }
     Ok(())
 }
 
 /// Tells how many documents a batch has, whether nothing is left, and the token that leads on.
-fn tell_batch<E: Output>(alloc: Global, batch: &Batch, err: &mut E) -> Status
-    ensures { TellsMessage (over E.state err.old err.new)
+fn report_batch<E: Output>(alloc: Global, batch: &Batch, err: &mut E) -> Status
+    ensures { ReportsMessage (over E.state err.old err.new)
         (find_count_line (length batch.now.places.items) batch.now.end
-        (option_map marked_token batch.now.token)) Done result
-        ⊎ TellsMessage (over E.state err.old err.new) (error_line no_memory) Failed result }
+        (option_map positioned_token batch.now.token)) Done result
+        ⊎ ReportsMessage (over E.state err.old err.new) (error_line no_memory) Failed result }
 {
     match count_line(alloc, batch) {
         Ok(line) => status_of(write_all(err, line.as_bytes()), Status::Done),
-        Err(_) => tell_no_memory(err),
+        Err(_) => report_no_memory(err),
     }
 }
 
 /// The line that counts the documents of a batch.
 fn count_line(alloc: Global, batch: &Batch) -> Result<String, NoMemory>
-    ensures { IfOk result (λ s. string_bytes s ≡ find_count_line
-        (length batch.now.places.items) batch.now.end (option_map marked_token batch.now.token)) }
+    ensures { IfOk result (λ s. string_bytes s ≡ find_count_line (length batch.now.places.items)
+        batch.now.end (option_map positioned_token batch.now.token)) }
 {
     let mut line = String::new(alloc);
     push_number(batch.places.len() as u64, &mut line)?;
@@ -180,7 +180,7 @@ fn words_of_end(end: bool) -> &'static str
 /// Appends a token, where there is one.
 fn push_token(alloc: Global, token: Option<Token>, line: &mut String) -> Result<(), NoMemory>
     ensures { OnOk result (string_bytes line.new
-        ≡ string_bytes line.old ++ token_words (option_map marked_token token)) }
+        ≡ string_bytes line.old ++ token_words (option_map positioned_token token)) }
 {
     let Some(token) = token else {
         return Ok(());

@@ -4,18 +4,18 @@
 ghost use Rattle.std.specs.Prelude.{◌≡◌, ◌≤◌, Ok, length, true};
 ghost use Rattle.bd_value.specs.{Limits.longest_input};
 ghost use Rattle.bd_cli_args.specs.FindWords.{find_words_of};
-ghost use Rattle.bd_cli_find.specs.Find.{FindsDocuments, IsShownOfBytes};
-ghost use Rattle.bd_cli_find.specs.Asking.{AsksNothing, PageRequest, fits_batch, page_request_of};
+ghost use Rattle.bd_cli_find.specs.Find.{FindsDocuments, IsOutputOfBytes};
+ghost use Rattle.bd_cli_find.specs.Asking.{RequestsNothing, PageRequest, fits_batch, page_request_of};
 ghost use Rattle.bd_cli_files.specs.Input.{ReadsNoFurther};
-ghost use Rattle.bd_cli_files.specs.{Output.PrintsOrStarves, Output.Transcript};
+ghost use Rattle.bd_cli_files.specs.{Output.PrintsOrRunsOut, Output.Transcript};
 ghost use Rattle.bd_io_device.specs.Devices.{over};
 
-use crate::asking::{Asking, AskingFault, read_asking, tell_refused};
-use crate::batch::show_found;
+use crate::asking::{Asking, AskingFault, read_asking, report_refused};
+use crate::batch::print_found;
 use bd_bson_dump::read_dump;
 use bd_cli_args::FindOptions;
 use bd_cli_files::output::{
-    is_want_of_memory, tell_dump_fault, tell_error, tell_no_memory, tell_read_fault,
+    is_want_of_memory, report_dump_fault, report_error, report_no_memory, report_read_fault,
 };
 use bd_cli_files::{Status, read_input};
 use bd_io_device::{Input, Output};
@@ -32,18 +32,18 @@ pub fn find<R: Input, O: Output, E: Output>(
 ) -> Status
     ensures found { FindsDocuments (find_words_of options.now) (over R.state input.old input.new)
         (over O.state out.old out.new) (over E.state err.old err.new) result }
-    ensures further { ReadsNoFurther R.read_gives input.old input.new }
-    ensures unread { AsksNothing (find_words_of options.now) → input.new ≡ input.old }
+    ensures stops_reading { ReadsNoFurther R.read_gives input.old input.new }
+    ensures unread { RequestsNothing (find_words_of options.now) → input.new ≡ input.old }
 {
     let asking = match read_asking(alloc, options) {
         Ok(asking) => asking,
-        Err(AskingFault::NoMemory) => return tell_no_memory(err),
-        Err(AskingFault::Refused(refused)) => return tell_refused(alloc, &refused, err),
-        Err(AskingFault::Message(message)) => return tell_error(&message, err),
+        Err(AskingFault::NoMemory) => return report_no_memory(err),
+        Err(AskingFault::Refused(refused)) => return report_refused(alloc, &refused, err),
+        Err(AskingFault::Message(message)) => return report_error(&message, err),
     };
     match read_input(alloc, input) {
         Ok(bytes) => find_in(alloc, bytes, asking, out, err),
-        Err(fault) => tell_read_fault(fault, err),
+        Err(fault) => report_read_fault(fault, err),
     }
 }
 
@@ -57,23 +57,23 @@ fn find_in<O: Output, E: Output>(
 ) -> Status
     requires short { length bytes.items ≤ longest_input }
     requires fits { fits_batch asking.size ≡ true }
-    ensures { (shown : Transcript)
-        × IsShownOfBytes (page_request_of asking) bytes.items shown × PrintsOrStarves
-        (over O.state out.old out.new) (over E.state err.old err.new) shown result }
+    ensures { (output : Transcript)
+        × IsOutputOfBytes (page_request_of asking) bytes.items output × PrintsOrRunsOut
+        (over O.state out.old out.new) (over E.state err.old err.new) output result }
 {
-    something_is_shown(&bytes);
+    something_is_output(&bytes);
     match read_dump(alloc, bytes) {
-        Ok(dump) => show_found(alloc, dump, asking, out, err),
+        Ok(dump) => print_found(alloc, dump, asking, out, err),
         Err(fault) => {
             if is_want_of_memory(&fault) {
-                return tell_no_memory(err);
+                return report_no_memory(err);
             }
-            tell_dump_fault(alloc, &fault, err)
+            report_dump_fault(alloc, &fault, err)
         }
     }
 }
 
 /// Of any bytes there is something to be shown, whatever is asked for. It does nothing.
-fn something_is_shown(bytes: &[u8])
-    ensures { (w : PageRequest) → (shown : Transcript) × IsShownOfBytes w bytes.now shown }
+fn something_is_output(bytes: &[u8])
+    ensures { (w : PageRequest) → (output : Transcript) × IsOutputOfBytes w bytes.now output }
 {}

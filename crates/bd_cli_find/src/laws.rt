@@ -4,13 +4,13 @@ ghost use Rattle.std.specs.Prelude.{◌≡◌, ℕ, List, None, Ok};
 ghost use Rattle.std.specs.List.{All, flat_map};
 ghost use Rattle.bd_value.specs.{Tree.Doc};
 ghost use Rattle.bd_cursor_model.specs.Laws.{IsEnough};
-ghost use Rattle.bd_bson_check.specs.Dump.{IsWalk};
+ghost use Rattle.bd_bson_check.specs.Dump.{IsDumpScan};
 ghost use Rattle.bd_query_filter.specs.Filter.{Filter};
 ghost use Rattle.bd_io_lines.specs.Lines.{text_lines};
 ghost use Rattle.bd_path.specs.Sort.{SortPath};
 ghost use Rattle.bd_cli_args.specs.FindWords.{FindWords};
-ghost use Rattle.bd_cli_find.specs.Find.{IsReadBack, IsShownByFind, document_request, documents_shown};
-ghost use Rattle.bd_cli_find.specs.Asking.{AsksInWords, PageRequest};
+ghost use Rattle.bd_cli_find.specs.Find.{IsReadBack, IsOutputOfFind, document_request, documents_output};
+ghost use Rattle.bd_cli_find.specs.Asking.{RequestsInWords, PageRequest};
 ghost use Rattle.bd_cli_files.specs.{Output.Transcript, Output.lines, Pack.PacksLines};
 ghost use Rattle.bd_extjson_pack.specs.Packable.{plain};
 
@@ -18,18 +18,19 @@ ghost use Rattle.bd_extjson_pack.specs.Packable.{plain};
 /// least the skip and the limit together. The lines of the parts, joined and packed, are a dump of which `find` shows the same
 /// lines as of the whole, wherever the text of each document is read back as that document. Without a batch and a token these
 /// lines are what `find` prints.
-pub fn parts_show_the_whole()
-    ensures shown { (f : Filter) (ss : List SortPath) (skip limit most : ℕ)
+pub fn parts_print_the_whole()
+    ensures output { (f : Filter) (ss : List SortPath) (skip limit most : ℕ)
         (parts : List (List Doc)) → IsEnough (document_request f ss skip limit) most →
-        lines (documents_shown f ss skip limit (flat_map (documents_shown f ss 0 most) parts))
-        ≡ lines (documents_shown f ss skip limit (flat_map (λ ds. ds) parts)) }
-    ensures printed { (words : FindWords) (w : PageRequest) (ds : List Doc) (bytes : List ℕ)
-        (shown : Transcript) → words.batch ≡ None → words.after ≡ None → AsksInWords words (Ok w) →
-        IsWalk ds None bytes → IsShownByFind words (Ok bytes) shown → shown.out ≡ lines
-        (documents_shown w.request.filter w.request.sorts w.request.skip w.request.limit ds) }
+        lines (documents_output f ss skip limit (flat_map (documents_output f ss 0 most) parts))
+        ≡ lines (documents_output f ss skip limit (flat_map (λ ds. ds) parts)) }
+    ensures printed { (words : FindWords)
+        (w : PageRequest) (ds : List Doc) (bytes : List ℕ) (output : Transcript) →
+        words.batch ≡ None → words.after ≡ None → RequestsInWords words (Ok w) →
+        IsDumpScan ds None bytes → IsOutputOfFind words (Ok bytes) output → output.out ≡ lines
+        (documents_output w.request.filter w.request.sorts w.request.skip w.request.limit ds) }
     ensures joined { (f : Filter) (ss : List SortPath) (most : ℕ) (parts : List (List Doc)) →
-        flat_map (λ ds. lines (documents_shown f ss 0 most ds)) parts
-        ≡ lines (flat_map (documents_shown f ss 0 most) parts) }
+        flat_map (λ ds. lines (documents_output f ss 0 most ds)) parts
+        ≡ lines (flat_map (documents_output f ss 0 most) parts) }
     ensures packed { (ds : List Doc) → All IsReadBack ds →
-        PacksLines 1 (text_lines (lines ds)) ds None × IsWalk ds None (flat_map plain ds) }
+        PacksLines 1 (text_lines (lines ds)) ds None × IsDumpScan ds None (flat_map plain ds) }
 {}

@@ -15,9 +15,9 @@
 //!     after: None,
 //! };
 //! let mut file = MemoryInput::new(b"\x05\0\0\0\0", 5, None);
-//! let mut room = [0; 100];
+//! let mut buffer = [0; 100];
 //! let mut out = MemoryOutput::new(&mut [], 1, None);
-//! let mut err = MemoryOutput::new(&mut room, 100, None);
+//! let mut err = MemoryOutput::new(&mut buffer, 100, None);
 //! let status = find(alloc, &options, &mut file, &mut out, &mut err);
 //! assert!(rt; status == Status::Done);
 //! assert!(rt; err.bytes() == b"0 documents, end\n".as_slice());
@@ -34,4 +34,4 @@ mod batch;
 pub mod find;
 mod laws;
 
-pub use laws::parts_show_the_whole;
+pub use laws::parts_print_the_whole;

@@ -12,38 +12,38 @@ use Rattle.bd_cli_command.specs.CommandOf.{command_of}
 use Rattle.bd_query_filter.specs.{Fault.Refusal, Filter.Filter, FilterOf.filter_of}
 use Rattle.bd_path.specs.{Sort.SortPath, Path.path_of, declared.path.PathFault.PathFault}
 use Rattle.bd_path.proofs.SortLemmas.{sort_total}
-use Rattle.bd_cursor_request.specs.Refused.{bad_filter, plain, then_part, told_as}
+use Rattle.bd_cursor_request.specs.Refused.{bad_filter, plain, then_part, error_as}
 use Rattle.bd_cursor_request.specs.Request.{Request, named_index, request_with, token_part, sort_of}
-use Rattle.bd_cli_service.specs.Reply.{command_refusal, path_refusal, session_refusal, ToldRefusal}
+use Rattle.bd_cli_service.specs.Reply.{command_refusal, path_refusal, session_refusal, ReportedRefusal}
 use Rattle.bd_cursor_sort.specs.Selection.{query_to}
-use Rattle.bd_cursor.specs.{Explanation.explanation_for, SessionView.make_of, SessionView.marked_token}
+use Rattle.bd_cursor.specs.{Explanation.explanation_for, SessionView.make_of, SessionView.positioned_token}
 use Rattle.bd_cli_service.specs.Talk.{call_of, document_call, hint_path, search_of, way_by}
 use Rattle.bd_cursor_request.specs.declared.results.Refused.TheVariants as reasons
 
 -- a call that asks for documents asks fairly
-abbrev pub AsksFairly : Call → Type 0
-AsksFairly (find_call q hint) = IsFair q
-AsksFairly (resume_call q hint t) = IsFair q
-AsksFairly _ = Unit {0}
+abbrev pub RequestsFairly : Call → Type 0
+RequestsFairly (find_call q hint) = IsFair q
+RequestsFairly (resume_call q hint t) = IsFair q
+RequestsFairly _ = Unit {0}
 
-abbrev IsFairPart : Result Call ToldRefusal → Type 0
-IsFairPart part = IfOk part AsksFairly
+abbrev IsFairPart : Result Call ReportedRefusal → Type 0
+IsFairPart part = IfOk part RequestsFairly
 
 -- whatever a part is, the part after it is fair
-after_any : {A : Type 0} (part : Result A ToldRefusal) (next : A → Result Call ToldRefusal) → ((x : A) → IsFairPart (next x)) → IsFairPart (then_part part next)
+after_any : {A : Type 0} (part : Result A ReportedRefusal) (next : A → Result Call ReportedRefusal) → ((x : A) → IsFairPart (next x)) → IsFairPart (then_part part next)
 after_any (Ok x) next fair = fair x
 after_any (Err why) next fair = tt
 
 -- what asks fairly with a limit that can be counted asks fairly for what is to be found
-after_search : (f : FindCommand) (call : Request → Call) → ((r : Request) → r.limit ≤ most_given → AsksFairly (call r))
+after_search : (f : FindCommand) (call : Request → Call) → ((r : Request) → r.limit ≤ most_given → RequestsFairly (call r))
     → IsFairPart (then_part (search_of f) (λ r. Ok (call r)))
 after_search f call fair =
     go (filter_of f.filter) (sort_of f.sort) (nat_le f.skip greatest_count) (nat_le f.limit greatest_count) refl (named_index (hint_path f.hint))
   where
     go : (g : Result Filter Refusal) (ss : Option (List SortPath)) (a b : Bool) → nat_le f.limit greatest_count ≡ b → (index : Result (Unit {0}) PathFault)
-        → IsFairPart (then_part (then_part (told_as session_refusal (then_part (told_as bad_filter g) (λ h. then_part (ok_or ss (plain reasons.BadSort))
+        → IsFairPart (then_part (then_part (error_as session_refusal (then_part (error_as bad_filter g) (λ h. then_part (ok_or ss (plain reasons.BadSort))
         (λ ps. cond (a && b) (Ok (request_with f.filter f.sort f.skip f.limit h ps)) (Err (plain reasons.Range))))))
-        (λ r. then_part (told_as path_refusal index) (λ _. Ok r))) (λ r. Ok (call r)))
+        (λ r. then_part (error_as path_refusal index) (λ _. Ok r))) (λ r. Ok (call r)))
     go (Ok g) (Some ss) true true is (Ok named) =
         fair (request_with f.filter f.sort f.skip f.limit g ss) (let le = leb-true f.limit greatest_count is in omega (arith, le))
     go g ss a b is index = tt
@@ -54,22 +54,22 @@ module _ (bytes : List ℕ) (ds : List Doc) where
 
   call_fair : (c : Command) → IsFairPart (call_of bytes ds c)
   call_fair (creates_index path sparse) =
-      after_any (told_as path_refusal (path_of path)) (λ _. Ok (make_of ds (record { path = path; is_sparse = sparse }))) (λ _. tt)
-  call_fair (drops_index path) = after_any (told_as path_refusal (path_of path)) (λ _. Ok (drop_call path)) (λ _. tt)
+      after_any (error_as path_refusal (path_of path)) (λ _. Ok (make_of ds (record { path = path; is_sparse = sparse }))) (λ _. tt)
+  call_fair (drops_index path) = after_any (error_as path_refusal (path_of path)) (λ _. Ok (drop_call path)) (λ _. tt)
   call_fair (finds f) = after_search f (λ r. find_call (query_to bytes ds r) (hint_path f.hint)) query_fair
   call_fair (resumes token f) =
-      after_any (told_as session_refusal (token_part token))
-      (λ t. then_part (search_of f) (λ r. Ok (resume_call (query_to bytes ds r) (hint_path f.hint) (marked_token t))))
-      (λ t. after_search f (λ r. resume_call (query_to bytes ds r) (hint_path f.hint) (marked_token t)) query_fair)
+      after_any (error_as session_refusal (token_part token))
+      (λ t. then_part (search_of f) (λ r. Ok (resume_call (query_to bytes ds r) (hint_path f.hint) (positioned_token t))))
+      (λ t. after_search f (λ r. resume_call (query_to bytes ds r) (hint_path f.hint) (positioned_token t)) query_fair)
   call_fair (gets_more id batch) = tt
   call_fair (kills_cursor id) = tt
   call_fair (explains f) = after_search f (λ r. explain_call (hint_path f.hint) (explanation_for ds r (way_by f.hint))) (λ r counted. tt)
 
-  pub line_fair : (o : Option Doc) (call : Call) → option_and_then (λ d. result_ok (document_call bytes ds d)) o ≡ Some call → AsksFairly call
+  pub line_fair : (o : Option Doc) (call : Call) → option_and_then (λ d. result_ok (document_call bytes ds d)) o ≡ Some call → RequestsFairly call
   line_fair (Some d) call e =
-      go (document_call bytes ds d) (after_any (told_as command_refusal (command_of d)) (call_of bytes ds) call_fair) e
+      go (document_call bytes ds d) (after_any (error_as command_refusal (command_of d)) (call_of bytes ds) call_fair) e
     where
-      go : (part : Result Call ToldRefusal) → IsFairPart part → result_ok part ≡ Some call → AsksFairly call
-      go (Ok c) fair is = subst AsksFairly (let same : c ≡ call = cc in same) fair
+      go : (part : Result Call ReportedRefusal) → IsFairPart part → result_ok part ≡ Some call → RequestsFairly call
+      go (Ok c) fair is = subst RequestsFairly (let same : c ≡ call = cc in same) fair
       go (Err why) fair is = absurd (let h : ⊥ = cc in h)
   line_fair None call e = absurd (let h : ⊥ = cc in h)

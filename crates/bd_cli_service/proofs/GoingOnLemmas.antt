@@ -4,7 +4,7 @@ use Rattle.std.proofs.lemmas.Str.{utf8_valid_len_le}
 use Rattle.std.specs.Str.Lossy.{utf8_valid_len}
 use Rattle.bd_value.specs.Tree.{Doc}
 use Rattle.bd_cursor_model.specs.Session.{State}
-use Rattle.bd_extjson_fault.specs.{JsonFault.IsPlaced, JsonFault.TellsBadUtf8, declared.json_fault.JsonFault.JsonFault}
+use Rattle.bd_extjson_fault.specs.{JsonFault.IsPlaced, JsonFault.ReportsBadUtf8, declared.json_fault.JsonFault.JsonFault}
 use Rattle.bd_extjson.specs.Read.{reading}
 use Rattle.bd_io_lines.specs.Serving.{RepliesInTurn}
 use Rattle.bd_io_lines.proofs.ServingLemmas.{replied_then}
@@ -29,7 +29,7 @@ module _ (bytes : List ℕ) (ds : List Doc) where
       go None none =
           let fault : JsonFault = record { kind = kinds.Syntax; at = utf8_valid_len line } in
           let placed : IsPlaced (length line) fault = record { inside = utf8_valid_len_le line; whole = λ e. absurd cc; memory = λ e. absurd cc } in
-          let bytes : TellsBadUtf8 line fault = record { kind = λ _. refl; at = λ _. refl } in
+          let bytes : ReportsBadUtf8 line fault = record { kind = λ _. refl; at = λ _. refl } in
           (Err (json_refusal fault), inr (none, (fault, placed, bytes, (λ e. cc), refl)))
 
   abbrev HasReply : State → List ℕ → Type 0
@@ -39,7 +39,7 @@ module _ (bytes : List ℕ) (ds : List Doc) where
   some_reply s line =
       let w = some_part line in
       let r = reply_to ds s w.0 in
-      (reply_text r, state_then s w.0, (r, record { part = w.0; reads = w.1; tells = refl; moves = refl }, refl))
+      (reply_text r, state_then s w.0, (r, record { part = w.0; reads = w.1; reports = refl; moves = refl }, refl))
 
   -- ---- all lines
 

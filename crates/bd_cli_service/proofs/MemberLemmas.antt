@@ -46,10 +46,10 @@ array_begins ds ps old out is = rw (is, to_come-all 44 (texts_at ds ps)) (append
 -- the document at the next place is written
 pub array_goes_on : (ds : List Doc) (p : ℕ) (rest ps : List ℕ) (later : Bool) (out new total : List ℕ) → ps ≡ p ∷ rest → p < length ds
     → new ≡ out ++ (before later 44 ++ text (document_at ds p)) → out ++ rest_of_array ds later ps ≡ total → new ++ rest_of_array ds true rest ≡ total
-array_goes_on ds p rest ps later out new total cut inside written so_far =
+array_goes_on ds p rest ps later out new total splits inside written so_far =
     let there : slice_get ds p ≡ Some (get_or ds p []) = slice_get-get_or ds p [] inside in
     let texts : texts_at ds ps ≡ text (document_at ds p) ∷ texts_at ds rest =
-    ap (λ (x : List ℕ). texts_at ds x) cut
+    ap (λ (x : List ℕ). texts_at ds x) splits
     ∙ ap (λ (o : Option Doc). items_text (items_of (map (λ (d : Doc). doc (fields_of d)) (cons_option o (documents_at ds rest))))) there in
     rw written (ap (λ (x : List ℕ). x ++ rest_of_array ds true rest) (sym (append_assoc out (before later 44) (text (document_at ds p))))
     ∙ piece_step later 44 (text (document_at ds p)) (texts_at ds ps) (texts_at ds rest) out (93 ∷ []) total texts so_far)
@@ -57,10 +57,10 @@ array_goes_on ds p rest ps later out new total cut inside written so_far =
 -- a place has no document
 pub array_stays : (ds : List Doc) (p : ℕ) (rest ps : List ℕ) (later : Bool) (out total : List ℕ) → ps ≡ p ∷ rest → length ds ≤ p
     → out ++ rest_of_array ds later ps ≡ total → out ++ rest_of_array ds later rest ≡ total
-array_stays ds p rest ps later out total cut outside so_far =
+array_stays ds p rest ps later out total splits outside so_far =
     let none : slice_get ds p ≡ None = slice_get_past ds p outside in
     let same : texts_at ds ps ≡ texts_at ds rest =
-    ap (λ (x : List ℕ). texts_at ds x) cut
+    ap (λ (x : List ℕ). texts_at ds x) splits
     ∙ ap (λ (o : Option Doc). items_text (items_of (map (λ (d : Doc). doc (fields_of d)) (cons_option o (documents_at ds rest))))) none in
     ap (λ (x : List (List ℕ)). out ++ (to_come later 44 x ++ 93 ∷ [])) (sym same) ∙ so_far
 

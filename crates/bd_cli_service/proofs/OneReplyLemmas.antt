@@ -1,14 +1,14 @@
--- A line has one reply, but for the fault that is told of a text that is no document.
+-- A line has one reply, but for the fault that is reported of a text that is no document.
 use Rattle.std.proofs.Common.{◌≡◌, ℕ, Bool, true, false, List, [], ◌∷◌, ◌++◌, None, Result, refl, sym, ap, ap₂, ◌∙◌, subst, inl, inr, true≢false}
 use Rattle.std.proofs.lemmas.Str.{IsUtf8-from_is_utf8, is_utf8-from_IsUtf8}
 use Rattle.std.proofs.lemmas.List.Elements.{All-head, All-tail}
 use Rattle.std.specs.{List.All, Str.IsUtf8, Str.is_utf8}
 use Rattle.bd_value.specs.Tree.{Doc}
 use Rattle.bd_cursor_model.specs.Session.{Call, State}
-use Rattle.bd_extjson_fault.specs.{JsonFault.TellsBadUtf8, declared.json_fault.JsonFault.JsonFault, declared.json_fault.JsonFaultKind.JsonFaultKind}
+use Rattle.bd_extjson_fault.specs.{JsonFault.ReportsBadUtf8, declared.json_fault.JsonFault.JsonFault, declared.json_fault.JsonFaultKind.JsonFaultKind}
 use Rattle.bd_extjson.specs.Read.{ReadsAs, reading}
 use Rattle.bd_io_lines.specs.Serving.{RepliesInTurn}
-use Rattle.bd_cli_service.specs.Reply.{LineReply, ToldRefusal, json_refusal, refuses, reply_text}
+use Rattle.bd_cli_service.specs.Reply.{LineReply, ReportedRefusal, json_refusal, refuses, reply_text}
 use Rattle.bd_cli_service.specs.Talk.{Answers, AreAlike, AreAlikeTexts, IsCallIn, IsReadLine, RepliesInText, document_call, reply_to, state_then}
 
 -- ---- one line
@@ -17,8 +17,8 @@ use Rattle.bd_cli_service.specs.Talk.{Answers, AreAlike, AreAlikeTexts, IsCallIn
 abbrev fault_reply : JsonFaultKind → ℕ → LineReply
 fault_reply kind at = refuses (json_refusal (record { kind = kind; at = at }))
 
--- of a text that is not UTF-8 one fault is told
-faults_alike : (line : List ℕ) (f g : JsonFault) (r s : LineReply) → reading line ≡ None → TellsBadUtf8 line f → TellsBadUtf8 line g
+-- of a text that is not UTF-8 one fault is reported
+faults_alike : (line : List ℕ) (f g : JsonFault) (r s : LineReply) → reading line ≡ None → ReportsBadUtf8 line f → ReportsBadUtf8 line g
     → r ≡ refuses (json_refusal f) → s ≡ refuses (json_refusal g) → AreAlike line r s
 faults_alike line f g r s none p q is was = go (is_utf8 line) refl
   where
@@ -30,7 +30,7 @@ faults_alike line f g r s none p q is was = go (is_utf8 line) refl
 
 module _ (bytes : List ℕ) (ds : List Doc) where
   -- a document is one call
-  calls_once : (line : List ℕ) (d e : Doc) (p q : Result Call ToldRefusal) → ReadsAs line d → ReadsAs line e
+  calls_once : (line : List ℕ) (d e : Doc) (p q : Result Call ReportedRefusal) → ReadsAs line d → ReadsAs line e
       → p ≡ document_call bytes ds d → q ≡ document_call bytes ds e → p ≡ q
   calls_once line d e p q reads read is was =
       let same : d ≡ e = (let both = sym reads ∙ read in cc) in
@@ -40,7 +40,7 @@ module _ (bytes : List ℕ) (ds : List Doc) where
   unread line d reads none = absurd (let both = sym reads ∙ none in let f : ⊥ = cc in f)
 
   -- what a line asks for is one thing, but for such a fault
-  parts_alike : (s : State) (line : List ℕ) (p q : Result Call ToldRefusal) → IsCallIn bytes ds line p → IsCallIn bytes ds line q
+  parts_alike : (s : State) (line : List ℕ) (p q : Result Call ReportedRefusal) → IsCallIn bytes ds line p → IsCallIn bytes ds line q
       → AreAlike line (reply_to ds s p) (reply_to ds s q) × (state_then s p ≡ state_then s q)
   parts_alike s line p q (inl (d, reads, is)) (inl (e, read, was)) =
       let same = calls_once line d e p q reads read is was in
@@ -55,7 +55,7 @@ module _ (bytes : List ℕ) (ds : List Doc) where
   replies_alike : (s t u : State) (line : List ℕ) (r o : LineReply) → Answers bytes ds s line r t → Answers bytes ds s line o u → AreAlike line r o × (t ≡ u)
   replies_alike s t u line r o a b =
       let alike = parts_alike s line a.part b.part a.reads b.reads in
-      (subst (λ x. AreAlike line x o) (sym a.tells) (subst (λ x. AreAlike line (reply_to ds s a.part) x) (sym b.tells) alike.0), a.moves ∙ alike.1 ∙ sym b.moves)
+      (subst (λ x. AreAlike line x o) (sym a.reports) (subst (λ x. AreAlike line (reply_to ds s a.part) x) (sym b.reports) alike.0), a.moves ∙ alike.1 ∙ sym b.moves)
 
   -- ---- all lines
 
@@ -65,8 +65,8 @@ module _ (bytes : List ℕ) (ds : List Doc) where
   pub texts_alike : (s : State) (lines : List (List ℕ)) (text other : List ℕ) (t u : State) → AreReplied s lines text t → AreReplied s lines other u
       → AreAlikeTexts lines text other × (t ≡ u)
   texts_alike s [] text other t u (same, none) (is, bare) = ((none, bare), same ∙ sym is)
-  texts_alike s (line ∷ lines) text other t u (reply, mid, rest, (r, answers, written), more, is) (answer, half, later, (o, tells, wrote), others, was) =
-      let first = replies_alike s mid half line r o answers tells in
+  texts_alike s (line ∷ lines) text other t u (reply, mid, rest, (r, answers, written), more, is) (answer, half, later, (o, reports, wrote), others, was) =
+      let first = replies_alike s mid half line r o answers reports in
       let next = texts_alike mid lines rest later t u more (subst (λ x. AreReplied x lines later u) (sym first.1) others) in
       let text_is : text ≡ reply_text r ++ 10 ∷ rest = is ∙ ap (λ x. x ++ 10 ∷ rest) written in
       let other_is : other ≡ reply_text o ++ 10 ∷ later = was ∙ ap (λ x. x ++ 10 ∷ later) wrote in

@@ -9,7 +9,7 @@ use Rattle.bd_io_lines.specs.Serving.{RepliesInTurn, ServesAll, ServesBefore, St
 use Rattle.bd_io_lines.specs.declared.serving.ServeFault.{ServeFault}
 use Rattle.bd_cli_service.specs.Reply.{LineReply}
 use Rattle.bd_cli_service.specs.ServiceView.{KeepsState, RepliesTo, service_dump, service_state}
-use Rattle.bd_cli_service.specs.Talk.{IsKept, RepliesInText, Talks, reply_lines}
+use Rattle.bd_cli_service.specs.Talk.{IsUnchanged, RepliesInText, Talks, reply_lines}
 use Rattle.bd_cli_service.specs.declared.service.Service.{Service}
 use Rattle.bd_io_lines.specs.Serving as serving
 use Rattle.bd_io_lines.specs.declared.serving.ServeFault.TheVariants as faults
@@ -18,26 +18,26 @@ use Rattle.bd_io_lines.specs.declared.serving.ServeFault.TheVariants as faults
 abbrev pub RepliesOver : Dump → State → List ℕ → List ℕ → State → Type 0
 RepliesOver dump = RepliesInText (bytes_of dump) (documents dump)
 
-pub dump_kept : (s : Service) (lines : List (List ℕ)) (text : List ℕ) (t : Service) → RepliesInTurn RepliesTo s lines text t → service_dump t ≡ service_dump s
-dump_kept s [] text t (same, none) = ap (λ (x : Service). service_dump x) same
-dump_kept s (line ∷ lines) text t (reply, mid, rest, r, more, is) = dump_kept mid lines rest t more ∙ r.kept
+pub dump_unchanged : (s : Service) (lines : List (List ℕ)) (text : List ℕ) (t : Service) → RepliesInTurn RepliesTo s lines text t → service_dump t ≡ service_dump s
+dump_unchanged s [] text t (same, none) = ap (λ (x : Service). service_dump x) same
+dump_unchanged s (line ∷ lines) text t (reply, mid, rest, r, more, is) = dump_unchanged mid lines rest t more ∙ r.unchanged
 
 pub replied : (s : Service) (lines : List (List ℕ)) (text : List ℕ) (t : Service) → RepliesInTurn RepliesTo s lines text t
     → RepliesInTurn (RepliesOver (service_dump s)) (service_state s) lines text (service_state t)
 replied s [] text t (same, none) = (ap (λ (x : Service). service_state x) same, none)
 replied s (line ∷ lines) text t (reply, mid, rest, r, more, is) =
-    let later = subst (λ (d : Dump). RepliesInTurn (RepliesOver d) (service_state mid) lines rest (service_state t)) r.kept (replied mid lines rest t more) in
+    let later = subst (λ (d : Dump). RepliesInTurn (RepliesOver d) (service_state mid) lines rest (service_state t)) r.unchanged (replied mid lines rest t more) in
     (reply, service_state mid, rest, (r.reply, r.answers, r.written), later, is)
 
 pub one_replied : (s mid t : Service) (line text : List ℕ) → service_dump mid ≡ service_dump s → RepliesTo mid line text t
     → RepliesOver (service_dump s) (service_state mid) line text (service_state t)
-one_replied s mid t line text kept r =
-    subst (λ (d : Dump). RepliesOver d (service_state mid) line text (service_state t)) kept (r.reply, r.answers, r.written)
+one_replied s mid t line text unchanged r =
+    subst (λ (d : Dump). RepliesOver d (service_state mid) line text (service_state t)) unchanged (r.reply, r.answers, r.written)
 
-one_starved : (s mid t : Service) (line : List ℕ) → service_dump mid ≡ service_dump s → serving.StarvesAt KeepsState RepliesTo mid line t
-    → serving.StarvesAt IsKept (RepliesOver (service_dump s)) (service_state mid) line (service_state t)
-one_starved s mid t line kept (inl same) = inl same
-one_starved s mid t line kept (inr (text, r)) = inr (text, one_replied s mid t line text kept r)
+one_out_of_memory : (s mid t : Service) (line : List ℕ) → service_dump mid ≡ service_dump s → serving.RunsOutAt KeepsState RepliesTo mid line t
+    → serving.RunsOutAt IsUnchanged (RepliesOver (service_dump s)) (service_state mid) line (service_state t)
+one_out_of_memory s mid t line unchanged (inl same) = inl same
+one_out_of_memory s mid t line unchanged (inr (text, r)) = inr (text, one_replied s mid t line text unchanged r)
 
 -- ---- served to the end
 
@@ -45,7 +45,7 @@ pub served : {R : Type 0} (state : R → Reader) (gives : R → Option (List ℕ
     (s t : Service) → ServesAll state gives RepliesTo limits old new out s t
     → ServesAll state gives (RepliesOver (service_dump s)) limits old new out (service_state s) (service_state t)
 served state gives limits old new out s t all = record {
-  left = all.left;
+  remaining = all.remaining;
   given = all.given;
   text = all.text;
   short = all.short;
@@ -63,7 +63,7 @@ before state gives limits old new s command text t b = record {
   whole = b.whole;
   rest = b.rest;
   after = b.after;
-  left = b.left;
+  remaining = b.remaining;
   ended = b.ended;
   ends = b.ends;
   short = b.short;
@@ -76,7 +76,7 @@ before state gives limits old new s command text t b = record {
 
 pub stopped : {R : Type 0} (state : R → Reader) (gives : R → Option (List ℕ) → R → Type 0) (limits : Limits) (old new : R) (out : Over Writer)
     (s t : Service) (fault : ServeFault) → StopsServing state gives RepliesTo limits old new out s t KeepsState fault
-    → StopsServing state gives (RepliesOver (service_dump s)) limits old new out (service_state s) (service_state t) IsKept fault
+    → StopsServing state gives (RepliesOver (service_dump s)) limits old new out (service_state s) (service_state t) IsUnchanged fault
 stopped state gives limits old new out s t (faults.Unread fault) u = record {
   whole = u.whole;
   rest = u.rest;
@@ -89,12 +89,12 @@ stopped state gives limits old new out s t (faults.Unread fault) u = record {
   replied = replied s _ u.text t u.replied;
   written = u.written;
 }
-stopped state gives limits old new out s t faults.NoMemory (command, text, mid, b, taken, starved) =
-    let kept = dump_kept s _ text mid b.replied in
-    (command, text, service_state mid, before state gives limits old new s command text mid b, taken, one_starved s mid t command kept starved)
-stopped state gives limits old new out s t faults.Unwritten (command, text, reply, mid, b, r, broken) =
-    let kept = dump_kept s _ text mid b.replied in
-    (command, text, reply, service_state mid, before state gives limits old new s command text mid b, one_replied s mid t command reply kept r, broken)
+stopped state gives limits old new out s t faults.NoMemory (command, text, mid, b, taken, out_of_memory) =
+    let unchanged = dump_unchanged s _ text mid b.replied in
+    (command, text, service_state mid, before state gives limits old new s command text mid b, taken, one_out_of_memory s mid t command unchanged out_of_memory)
+stopped state gives limits old new out s t faults.Unwritten (command, text, reply, mid, b, r, write_failed) =
+    let unchanged = dump_unchanged s _ text mid b.replied in
+    (command, text, reply, service_state mid, before state gives limits old new s command text mid b, one_replied s mid t command reply unchanged r, write_failed)
 
 -- ---- a talk
 

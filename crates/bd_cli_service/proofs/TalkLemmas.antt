@@ -4,24 +4,24 @@ use Rattle.std.proofs.lemmas.List.{map-append}
 use Rattle.std.specs.Prelude.{option_and_then, unwrap_or}
 use Rattle.std.specs.{List.cons_option, Result.result_ok}
 use Rattle.bd_value.specs.Tree.{Doc}
-use Rattle.bd_cursor_model.specs.Session.{Call, GivenBatch, MarkedToken, Query, State, find_call, gave, next_call, resume_call, state_after, opened}
+use Rattle.bd_cursor_model.specs.Session.{Call, GivenBatch, PositionedToken, Query, State, find_call, gave, next_call, resume_call, state_after, opened}
 use Rattle.bd_cursor_model.specs.{Answer.answer, Answer.rest, Laws.batch_in, Laws.batch_to, Laws.batches_to, Laws.new_state, Laws.replies, Laws.state_after_all}
 use Rattle.bd_cursor_model.proofs.SessionLemmas.{find_gives, resume_gives}
 use Rattle.bd_extjson.specs.Read.{reading}
-use Rattle.bd_cli_service.specs.Reply.{LineReply, ToldRefusal, opens}
-use Rattle.bd_cli_service.specs.Talk.{document_call, IsCallIn, reply_to, shown_reply, state_then, OpensInTalk, ShowsInTurn, Talks, batch_shown, batches_shown, calls_in, given_in}
+use Rattle.bd_cli_service.specs.Reply.{LineReply, ReportedRefusal, opens}
+use Rattle.bd_cli_service.specs.Talk.{document_call, IsCallIn, reply_to, reply_output, state_then, OpensInTalk, PrintsInTurn, Talks, batch_is_output, batches_output, calls_in, given_in}
 use Rattle.bd_cli_service.specs.Talk.{line_call}
 use Rattle.bd_cli_service.proofs.FairLemmas.{line_fair}
 use Rattle.bd_cursor_model.specs.Session as machine
 
 -- ---- the call of a line
 
-call_is : (bytes : List ℕ) (ds : List Doc) (line : List ℕ) (part : Result Call ToldRefusal) → IsCallIn bytes ds line part
+call_is : (bytes : List ℕ) (ds : List Doc) (line : List ℕ) (part : Result Call ReportedRefusal) → IsCallIn bytes ds line part
     → line_call bytes ds line ≡ result_ok part
 call_is bytes ds line part (inl (d, reads, is)) =
-    ap (λ (o : Option Doc). option_and_then (λ d. result_ok (document_call bytes ds d)) o) reads ∙ ap (λ (p : Result Call ToldRefusal). result_ok p) (sym is)
+    ap (λ (o : Option Doc). option_and_then (λ d. result_ok (document_call bytes ds d)) o) reads ∙ ap (λ (p : Result Call ReportedRefusal). result_ok p) (sym is)
 call_is bytes ds line part (inr (none, (f, placed, utf8, kind, is))) =
-    ap (λ (o : Option Doc). option_and_then (λ d. result_ok (document_call bytes ds d)) o) none ∙ ap (λ (p : Result Call ToldRefusal). result_ok p) (sym is)
+    ap (λ (o : Option Doc). option_and_then (λ d. result_ok (document_call bytes ds d)) o) none ∙ ap (λ (p : Result Call ReportedRefusal). result_ok p) (sym is)
 
 -- ---- one line
 
@@ -35,31 +35,31 @@ abbrev given_by_call : ℕ → State → Option Call → List GivenBatch
 given_by_call id s None = []
 given_by_call id s (Some call) = batch_to id call (machine.reply s call)
 
-abbrev shown_batch_reply : List Doc → GivenBatch → LineReply
-shown_batch_reply ds b = shown_reply ds (gave b)
+abbrev batch_reply_output : List Doc → GivenBatch → LineReply
+batch_reply_output ds b = reply_output ds (gave b)
 
-moved : (s : State) (part : Result Call ToldRefusal) → state_then s part ≡ state_at s (result_ok part)
+moved : (s : State) (part : Result Call ReportedRefusal) → state_then s part ≡ state_at s (result_ok part)
 moved s (Ok call) = refl
 moved s (Err why) = refl
 
-given_shown : (ds : List Doc) (r : machine.Reply) → given_in (shown_reply ds r) ≡ map (shown_batch_reply ds) (batch_in r)
-given_shown ds (machine.gave b) = refl
-given_shown ds r = refl
+given_output : (ds : List Doc) (r : machine.Reply) → given_in (reply_output ds r) ≡ map (batch_reply_output ds) (batch_in r)
+given_output ds (machine.gave b) = refl
+given_output ds r = refl
 
-shown_to : (ds : List Doc) (id : ℕ) (b : Bool) (r : machine.Reply)
-    → cond b (given_in (shown_reply ds r)) [] ≡ map (shown_batch_reply ds) (cond b (batch_in r) [])
-shown_to ds id true r = given_shown ds r
-shown_to ds id false r = refl
+output_to : (ds : List Doc) (id : ℕ) (b : Bool) (r : machine.Reply)
+    → cond b (given_in (reply_output ds r)) [] ≡ map (batch_reply_output ds) (cond b (batch_in r) [])
+output_to ds id true r = given_output ds r
+output_to ds id false r = refl
 
-call_shown : (ds : List Doc) (id : ℕ) (s : State) (call : Call)
-    → batch_shown id (Some call) (shown_reply ds (machine.reply s call)) ≡ map (shown_batch_reply ds) (batch_to id call (machine.reply s call))
-call_shown ds id s (next_call i n) = shown_to ds id (i == id) (machine.reply s (next_call i n))
-call_shown ds id s call = refl
+call_output : (ds : List Doc) (id : ℕ) (s : State) (call : Call)
+    → batch_is_output id (Some call) (reply_output ds (machine.reply s call)) ≡ map (batch_reply_output ds) (batch_to id call (machine.reply s call))
+call_output ds id s (next_call i n) = output_to ds id (i == id) (machine.reply s (next_call i n))
+call_output ds id s call = refl
 
-part_shown : (ds : List Doc) (id : ℕ) (s : State) (part : Result Call ToldRefusal)
-    → batch_shown id (result_ok part) (reply_to ds s part) ≡ map (shown_batch_reply ds) (given_by_call id s (result_ok part))
-part_shown ds id s (Ok call) = call_shown ds id s call
-part_shown ds id s (Err why) = refl
+part_output : (ds : List Doc) (id : ℕ) (s : State) (part : Result Call ReportedRefusal)
+    → batch_is_output id (result_ok part) (reply_to ds s part) ≡ map (batch_reply_output ds) (given_by_call id s (result_ok part))
+part_output ds id s (Ok call) = call_output ds id s call
+part_output ds id s (Err why) = refl
 
 -- ---- all lines
 
@@ -89,7 +89,7 @@ state_after_talk bytes ds s (line ∷ lines) (r ∷ rs) t (mid, a, talks) =
 -- the batches that lines show are those of the calls among them
 pub batches_of_talk : (bytes : List ℕ) (ds : List Doc) (id : ℕ) (s : State) (lines : List (List ℕ)) (rs : List LineReply) (t : State)
     → Talks bytes ds s lines rs t
-    → batches_shown bytes ds id lines rs ≡ map (shown_batch_reply ds) (batches_to id (calls_in bytes ds lines) (replies s (calls_in bytes ds lines)))
+    → batches_output bytes ds id lines rs ≡ map (batch_reply_output ds) (batches_to id (calls_in bytes ds lines) (replies s (calls_in bytes ds lines)))
 batches_of_talk bytes ds id s [] [] t e = refl
 batches_of_talk bytes ds id s [] (r ∷ rs) t h = absurd h
 batches_of_talk bytes ds id s (line ∷ lines) [] t h = absurd h
@@ -98,14 +98,14 @@ batches_of_talk bytes ds id s (line ∷ lines) (r ∷ rs) t (mid, a, talks) =
     let cs = calls_in bytes ds lines in
     let call = call_is bytes ds line a.part a.reads in
     let mid_is : mid ≡ state_at s o = a.moves ∙ moved s a.part ∙ ap (λ (x : Option Call). state_at s x) (sym call) in
-    let first : batch_shown id o r ≡ map (shown_batch_reply ds) (given_by_call id s o) =
-    ap₂ (λ (x : Option Call) (y : LineReply). batch_shown id x y) call a.tells ∙ part_shown ds id s a.part
-    ∙ ap (λ (x : Option Call). map (shown_batch_reply ds) (given_by_call id s x)) (sym call) in
+    let first : batch_is_output id o r ≡ map (batch_reply_output ds) (given_by_call id s o) =
+    ap₂ (λ (x : Option Call) (y : LineReply). batch_is_output id x y) call a.reports ∙ part_output ds id s a.part
+    ∙ ap (λ (x : Option Call). map (batch_reply_output ds) (given_by_call id s x)) (sym call) in
     let later = batches_of_talk bytes ds id mid lines rs t talks
-    ∙ ap (λ (x : State). map (shown_batch_reply ds) (batches_to id cs (replies x cs))) mid_is in
+    ∙ ap (λ (x : State). map (batch_reply_output ds) (batches_to id cs (replies x cs))) mid_is in
     ap₂ (λ (x y : List LineReply). x ++ y) first later
-    ∙ sym (map-append (shown_batch_reply ds) (given_by_call id s o) (batches_to id cs (replies (state_at s o) cs)))
-    ∙ ap (λ (x : List GivenBatch). map (shown_batch_reply ds) x) (sym (given_all bytes ds id s o cs))
+    ∙ sym (map-append (batch_reply_output ds) (given_by_call id s o) (batches_to id cs (replies (state_at s o) cs)))
+    ∙ ap (λ (x : List GivenBatch). map (batch_reply_output ds) x) (sym (given_all bytes ds id s o cs))
 
 -- ---- the laws
 
@@ -114,11 +114,11 @@ opened_id (opens id) = id
 opened_id _ = 0
 
 -- a reply of an opened cursor is the machine's
-opens_only : (ds : List Doc) (r : machine.Reply) (id : ℕ) → opens id ≡ shown_reply ds r → r ≡ opened id
+opens_only : (ds : List Doc) (r : machine.Reply) (id : ℕ) → opens id ≡ reply_output ds r → r ≡ opened id
 opens_only ds (machine.opened i) id e = ap (λ (r : LineReply). opened (opened_id r)) (sym e)
 opens_only ds r id e = absurd (let h : ⊥ = cc in h)
 
-ok_of : (part : Result Call ToldRefusal) (call : Call) → result_ok part ≡ Some call → part ≡ Ok call
+ok_of : (part : Result Call ReportedRefusal) (call : Call) → result_ok part ≡ Some call → part ≡ Ok call
 ok_of (Ok c) call e = ap (λ (o : Option Call). Ok (unwrap_or o c)) e
 ok_of (Err why) call e = absurd (let h : ⊥ = cc in h)
 
@@ -126,7 +126,7 @@ ok_of (Err why) call e = absurd (let h : ⊥ = cc in h)
 pub record Opening (bytes : List ℕ) (ds : List Doc) (call : Call) (id : ℕ) (lines : List (List ℕ)) (rs : List LineReply) : Type 0 where
   pub earlier : List Call
   pub opens_it : machine.reply (state_after_all new_state earlier) call ≡ opened id
-  pub shown : batches_shown bytes ds id lines rs ≡ map (shown_batch_reply ds)
+  pub output : batches_output bytes ds id lines rs ≡ map (batch_reply_output ds)
       (batches_to id (calls_in bytes ds lines) (replies (state_after (state_after_all new_state earlier) call) (calls_in bytes ds lines)))
 
 opening_of : (bytes : List ℕ) (ds : List Doc) (call : Call) (id : ℕ) (lines : List (List ℕ)) (rs : List LineReply)
@@ -134,34 +134,34 @@ opening_of : (bytes : List ℕ) (ds : List Doc) (call : Call) (id : ℕ) (lines 
 opening_of bytes ds call id lines rs o =
     let cs = calls_in bytes ds o.earlier in
     let s_is = state_after_talk bytes ds new_state o.earlier o.replies o.before o.begins in
-    let part_is : result_ok o.opened.part ≡ Some call = sym (call_is bytes ds o.line o.opened.part o.opened.reads) ∙ o.asks in
+    let part_is : result_ok o.opened.part ≡ Some call = sym (call_is bytes ds o.line o.opened.part o.opened.reads) ∙ o.requests in
     let whole : o.opened.part ≡ Ok call = ok_of o.opened.part call part_is in
-    let told : opens id ≡ shown_reply ds (machine.reply o.before call) = o.opened.tells ∙ ap (λ (p : Result Call ToldRefusal). reply_to ds o.before p) whole in
+    let reported : opens id ≡ reply_output ds (machine.reply o.before call) = o.opened.reports ∙ ap (λ (p : Result Call ReportedRefusal). reply_to ds o.before p) whole in
     let after_is : o.after ≡ state_after (state_after_all new_state cs) call =
-    o.opened.moves ∙ ap (λ (p : Result Call ToldRefusal). state_then o.before p) whole ∙ ap (λ (x : State). state_after x call) s_is in
+    o.opened.moves ∙ ap (λ (p : Result Call ReportedRefusal). state_then o.before p) whole ∙ ap (λ (x : State). state_after x call) s_is in
     record {
       earlier = cs;
-      opens_it = ap (λ (x : State). machine.reply x call) (sym s_is) ∙ opens_only ds (machine.reply o.before call) id told;
-      shown = batches_of_talk bytes ds id o.after lines rs o.end o.goes_on
-          ∙ ap (λ (x : State). map (shown_batch_reply ds) (batches_to id (calls_in bytes ds lines) (replies x (calls_in bytes ds lines)))) after_is;
+      opens_it = ap (λ (x : State). machine.reply x call) (sym s_is) ∙ opens_only ds (machine.reply o.before call) id reported;
+      output = batches_of_talk bytes ds id o.after lines rs o.end o.goes_on
+          ∙ ap (λ (x : State). map (batch_reply_output ds) (batches_to id (calls_in bytes ds lines) (replies x (calls_in bytes ds lines)))) after_is;
     }
 
 pub talks_give_the_answer : (bytes : List ℕ) (ds : List Doc) (q : Query) (hint : Option (List ℕ)) (id : ℕ) (lines : List (List ℕ)) (rs : List LineReply)
-    → OpensInTalk bytes ds (find_call q hint) id lines rs → ShowsInTurn bytes ds q id (answer q.selection) lines rs
+    → OpensInTalk bytes ds (find_call q hint) id lines rs → PrintsInTurn bytes ds q id (answer q.selection) lines rs
 talks_give_the_answer bytes ds q hint id lines rs o =
     let opening = opening_of bytes ds (find_call q hint) id lines rs o in
     record {
       given = batches_to id (calls_in bytes ds lines) (replies (state_after (state_after_all new_state opening.earlier) (find_call q hint)) (calls_in bytes ds lines));
-      in_turn = find_gives opening.earlier (calls_in bytes ds lines) q hint id (line_fair bytes ds (reading o.line) (find_call q hint) o.asks) opening.opens_it;
-      shown = opening.shown;
+      in_turn = find_gives opening.earlier (calls_in bytes ds lines) q hint id (line_fair bytes ds (reading o.line) (find_call q hint) o.requests) opening.opens_it;
+      output = opening.output;
     }
 
-pub talks_give_the_rest : (bytes : List ℕ) (ds : List Doc) (q : Query) (hint : Option (List ℕ)) (t : MarkedToken) (id : ℕ) (lines : List (List ℕ)) (rs : List LineReply)
-    → OpensInTalk bytes ds (resume_call q hint t) id lines rs → ShowsInTurn bytes ds q id (rest q.selection t.mark) lines rs
+pub talks_give_the_rest : (bytes : List ℕ) (ds : List Doc) (q : Query) (hint : Option (List ℕ)) (t : PositionedToken) (id : ℕ) (lines : List (List ℕ)) (rs : List LineReply)
+    → OpensInTalk bytes ds (resume_call q hint t) id lines rs → PrintsInTurn bytes ds q id (rest q.selection t.position) lines rs
 talks_give_the_rest bytes ds q hint t id lines rs o =
     let opening = opening_of bytes ds (resume_call q hint t) id lines rs o in
     record {
       given = batches_to id (calls_in bytes ds lines) (replies (state_after (state_after_all new_state opening.earlier) (resume_call q hint t)) (calls_in bytes ds lines));
-      in_turn = resume_gives opening.earlier (calls_in bytes ds lines) q hint t id (line_fair bytes ds (reading o.line) (resume_call q hint t) o.asks) opening.opens_it;
-      shown = opening.shown;
+      in_turn = resume_gives opening.earlier (calls_in bytes ds lines) q hint t id (line_fair bytes ds (reading o.line) (resume_call q hint t) o.requests) opening.opens_it;
+      output = opening.output;
     }

@@ -12,7 +12,7 @@ use Rattle.bd_query_filter.specs.Fault.{Refusal, filter_fault_number, filter_fau
 use Rattle.bd_cursor_request.specs.Refused.{Reason, bad_filter, plain, reason_of, refused_number, refused_words}
 use Rattle.bd_cursor_request.specs.Results.{count_value, made_counts, text_or_null}
 use Rattle.bd_cursor_request.specs.{Token.token_text, declared.results.Batch.Batch}
-use Rattle.bd_cursor.specs.Explanation.{told}
+use Rattle.bd_cursor.specs.Explanation.{explain_doc}
 use Rattle.bd_cli_command.specs.{Command.command_fault_number, Command.command_fault_words}
 use Rattle.bd_cli_command.specs.{declared.command.CommandFault.CommandFault}
 use Rattle.bd_cli_service.specs.declared.{member.Field.Field, reply.LineRefusal.LineRefusal, reply.Reply.Reply}
@@ -24,7 +24,7 @@ use Rattle.bd_cli_service.specs.declared.reply.Reply.TheVariants as replies
 
 -- a refusal as a reply has it: the layer that refuses, the number and the message of the reason,
 -- and the field that says where, if any
-pub record ToldRefusal : Type 0 where
+pub record ReportedRefusal : Type 0 where
   pub layer : List ℕ
   pub number : ℕ
   pub words : List ℕ
@@ -38,7 +38,7 @@ pub data LineReply : Type 0 where
   gives : List Doc → Bool → Option (List ℕ) → LineReply
   makes : IndexCounts → LineReply
   explains : Doc → LineReply
-  refuses : ToldRefusal → LineReply
+  refuses : ReportedRefusal → LineReply
 
 -- documents as a BSON array, in order
 abbrev pub documents_value : List Doc → Tree
@@ -80,7 +80,7 @@ json_fault_byte _ at = count_value at
 
 -- the refusal of a line that is no Extended JSON document:
 -- layer `json`, with the byte offset in the line as `at`
-abbrev pub json_refusal : JsonFault → ToldRefusal
+abbrev pub json_refusal : JsonFault → ReportedRefusal
 json_refusal f = record {
   layer = codes "json";
   number = json_fault_number f.kind;
@@ -89,7 +89,7 @@ json_refusal f = record {
 }
 
 -- the refusal of a document that is no command: layer `command`
-abbrev pub command_refusal : CommandFault → ToldRefusal
+abbrev pub command_refusal : CommandFault → ReportedRefusal
 command_refusal f = record {
   layer = codes "command";
   number = command_fault_number f;
@@ -98,7 +98,7 @@ command_refusal f = record {
 }
 
 -- the refusal of a filter: layer `filter`, with the path to the pair or member, joined by dots, as `place`
-abbrev pub filter_refusal : Refusal → ToldRefusal
+abbrev pub filter_refusal : Refusal → ReportedRefusal
 filter_refusal r = record {
   layer = codes "filter";
   number = filter_fault_number r.kind;
@@ -107,11 +107,11 @@ filter_refusal r = record {
 }
 
 -- the refusal of the path of an index: layer `path`
-abbrev pub path_refusal : PathFault → ToldRefusal
+abbrev pub path_refusal : PathFault → ReportedRefusal
 path_refusal f = record { layer = codes "path"; number = path_fault_number f; words = path_fault_words f; place = [] }
 
 -- the refusal of a request, a token or a call: layer `session`; that of a filter is of layer `filter`
-abbrev pub session_refusal : Reason → ToldRefusal
+abbrev pub session_refusal : Reason → ReportedRefusal
 session_refusal (bad_filter r) = filter_refusal r
 session_refusal (plain r) =
     record { layer = codes "session"; number = refused_number r; words = refused_words r; place = [] }
@@ -119,11 +119,11 @@ session_refusal (plain r) =
 -- ---- one in memory
 
 -- the refusal that one in memory reports
-abbrev pub told_refusal : LineRefusal → ToldRefusal
-told_refusal (refusals.Json fault) = json_refusal fault
-told_refusal (refusals.Command fault) = command_refusal fault
-told_refusal (refusals.Path fault) = path_refusal fault
-told_refusal (refusals.Session refused) = session_refusal (reason_of refused)
+abbrev pub reported_refusal : LineRefusal → ReportedRefusal
+reported_refusal (refusals.Json fault) = json_refusal fault
+reported_refusal (refusals.Command fault) = command_refusal fault
+reported_refusal (refusals.Path fault) = path_refusal fault
+reported_refusal (refusals.Session refused) = session_refusal (reason_of refused)
 
 -- the reply that gives a batch in memory, with its documents
 abbrev pub given_reply : List Doc → Batch → LineReply
@@ -135,8 +135,8 @@ line_reply ds replies.Done = done
 line_reply ds (replies.Opened id) = opens id
 line_reply ds (replies.Gave batch) = given_reply ds batch
 line_reply ds (replies.Made m) = makes (made_counts m)
-line_reply ds (replies.Explained e) = explains (told e)
-line_reply ds (replies.Refused refusal) = refuses (told_refusal refusal)
+line_reply ds (replies.Explained e) = explains (explain_doc e)
+line_reply ds (replies.Refused refusal) = refuses (reported_refusal refusal)
 
 -- the value that a field of a reply in memory stands for
 abbrev pub reply_value : Field → Tree

@@ -4,14 +4,14 @@ use Rattle.std.specs.declared.alloc.AllocError.{AllocError}
 use Rattle.bd_cursor_model.specs.Session.{State, state_after, drop_call, find_call, kill_call, next_call, resume_call}
 use Rattle.bd_bson_dump.specs.{Collection.bytes_of, Collection.documents, declared.collection.Dump.Dump}
 use Rattle.bd_cursor.specs.SessionView.{IsRefused, dump_of, state_of, explain_request, hint_of, make_index}
-use Rattle.bd_cursor.specs.SessionView.{marked_token}
+use Rattle.bd_cursor.specs.SessionView.{positioned_token}
 use Rattle.bd_cursor.specs.declared.session.Session.{Session}
 use Rattle.bd_cli_command.specs.Command.{Command, gets_more, kills_cursor, resumes}
 use Rattle.bd_cursor_request.specs.{Request.token_part, declared.results.Refused.Refused, declared.token.Token.Token}
-use Rattle.bd_cli_service.specs.Reply.{LineReply, ToldRefusal, line_reply, reply_text, told_refusal}
+use Rattle.bd_cli_service.specs.Reply.{LineReply, ReportedRefusal, line_reply, reply_text, reported_refusal}
 use Rattle.bd_cli_service.specs.declared.{call.Call.Call, call.CallFault.CallFault, reply.Reply.Reply}
 use Rattle.bd_cli_service.specs.declared.{service.Service.Service}
-use Rattle.bd_cli_service.specs.Talk.{Answers, shown_reply, IsCallIn}
+use Rattle.bd_cli_service.specs.Talk.{Answers, reply_output, IsCallIn}
 use Rattle.bd_cursor_sort.specs.Selection.{query_of}
 use Rattle.bd_cursor_model.specs.Session as machine
 use Rattle.bd_cursor_request.specs.declared.results.Refused.TheVariants as reasons
@@ -20,10 +20,10 @@ use Rattle.bd_cli_service.specs.declared.call.CallFault.TheVariants as faults
 
 -- The call was made: the reply and the state after it are those of the machine, and the dump is unchanged.
 pub record Performs (call : machine.Call) (old : Session) (r : Reply) (new : Session) : Type 0 where
-  pub tells : line_reply (documents (dump_of old)) r
-      ≡ shown_reply (documents (dump_of old)) (machine.reply (state_of old) call)
+  pub reports : line_reply (documents (dump_of old)) r
+      ≡ reply_output (documents (dump_of old)) (machine.reply (state_of old) call)
   pub moves : state_of new ≡ state_after (state_of old) call
-  pub kept : dump_of new ≡ dump_of old
+  pub unchanged : dump_of new ≡ dump_of old
 
 -- The call was made, or the session refuses it for this reason, and nothing changed.
 abbrev pub IsAnswered : machine.Call → Session → Result Reply Refused → Session → Type 0
@@ -49,7 +49,7 @@ pub record RepliesTo (old : Service) (line text : List ℕ) (new : Service) : Ty
   pub answers : Answers (bytes_of (service_dump old)) (documents (service_dump old))
       (service_state old) line reply (service_state new)
   pub written : text ≡ reply_text reply
-  pub kept : service_dump new ≡ service_dump old
+  pub unchanged : service_dump new ≡ service_dump old
 
 -- The state of the session is unchanged.
 abbrev pub KeepsState : Service → Service → Type 0
@@ -61,24 +61,24 @@ session_call dump (calls.CreateIndex path sparse) = make_index sparse dump path
 session_call dump (calls.DropIndex path) = drop_call (string_bytes path.text)
 session_call dump (calls.Find request choice) = find_call (query_of dump request) (hint_of choice)
 session_call dump (calls.Resume request choice token) =
-    resume_call (query_of dump request) (hint_of choice) (marked_token token)
+    resume_call (query_of dump request) (hint_of choice) (positioned_token token)
 session_call dump (calls.GetMore id batch) = next_call id batch
 session_call dump (calls.KillCursor id) = kill_call id
 session_call dump (calls.Explain request choice) = explain_request dump request choice
 
 -- The part of a command is refused for this reason, or memory ran out.
-abbrev pub RefusesPart : {A : Type 0} → Result A ToldRefusal → CallFault → Type 0
+abbrev pub RefusesPart : {A : Type 0} → Result A ReportedRefusal → CallFault → Type 0
 RefusesPart part faults.NoMemory = Unit {0}
-RefusesPart part (faults.Refused why) = part ≡ Err (told_refusal why)
+RefusesPart part (faults.Refused why) = part ≡ Err (reported_refusal why)
 
 -- Reading the command may need memory: not if it has numbers alone, nor if its token is refused.
-abbrev pub MayStarve : Command → Type 0
-MayStarve (gets_more id batch) = ⊥
-MayStarve (kills_cursor id) = ⊥
-MayStarve (resumes token f) = (t : Token) × (token_part token ≡ Ok t)
-MayStarve _ = Unit {0}
+abbrev pub MayRunOut : Command → Type 0
+MayRunOut (gets_more id batch) = ⊥
+MayRunOut (kills_cursor id) = ⊥
+MayRunOut (resumes token f) = (t : Token) × (token_part token ≡ Ok t)
+MayRunOut _ = Unit {0}
 
 -- The line is no call for this reason, or memory ran out.
 abbrev pub RefusesLine : Dump → List ℕ → CallFault → Type 0
 RefusesLine dump line faults.NoMemory = Unit {0}
-RefusesLine dump line (faults.Refused why) = IsCallIn (bytes_of dump) (documents dump) line (Err (told_refusal why))
+RefusesLine dump line (faults.Refused why) = IsCallIn (bytes_of dump) (documents dump) line (Err (reported_refusal why))

@@ -7,18 +7,18 @@ use Rattle.bd_cursor_model.specs.Laws.{GivesInTurn, new_state}
 use Rattle.bd_cursor_model.specs.Session.{Call, GivenBatch, Query, State, drop_call, explain_call, find_call, gave, kill_call}
 use Rattle.bd_cursor_model.specs.Session.{next_call, resume_call, state_after}
 use Rattle.bd_path.specs.Path.{path_of}
-use Rattle.bd_cursor_request.specs.{Refused.then_part, Refused.told_as, Refused.plain, Results.marked_text}
+use Rattle.bd_cursor_request.specs.{Refused.then_part, Refused.error_as, Refused.plain, Results.positioned_text}
 use Rattle.bd_cursor_request.specs.Request.{Request, named_index, request_of, token_part}
 use Rattle.bd_cursor_sort.specs.Selection.{query_to}
 use Rattle.bd_cursor.specs.Access.{Way, by_any, by_none, by_one}
 use Rattle.bd_cursor.specs.Explanation.{explanation_for}
-use Rattle.bd_cursor.specs.SessionView.{make_of, marked_token, path_named}
+use Rattle.bd_cursor.specs.SessionView.{make_of, positioned_token, path_named}
 use Rattle.bd_cli_command.specs.Command.{Command, FindCommand, Hint, any_way, by_index, by_scan, creates_index, drops_index}
 use Rattle.bd_cli_command.specs.Command.{finds, gets_more, kills_cursor, resumes}
 use Rattle.bd_cli_command.specs.CommandOf.{command_of}
-use Rattle.bd_cli_service.specs.Reply.{LineReply, ToldRefusal, command_refusal, done, explains, gives, json_refusal, makes}
+use Rattle.bd_cli_service.specs.Reply.{LineReply, ReportedRefusal, command_refusal, done, explains, gives, json_refusal, makes}
 use Rattle.bd_cli_service.specs.Reply.{opens, path_refusal, refuses, reply_text, session_refusal}
-use Rattle.bd_extjson_fault.specs.{JsonFault.IsPlaced, JsonFault.TellsBadUtf8, declared.json_fault.JsonFault.JsonFault}
+use Rattle.bd_extjson_fault.specs.{JsonFault.IsPlaced, JsonFault.ReportsBadUtf8, declared.json_fault.JsonFault.JsonFault}
 use Rattle.bd_extjson.specs.Read.{ReadsAs, reading}
 use Rattle.bd_bson_dump.specs.Collection.{documents_at}
 use Rattle.bd_extjson_fault.specs.declared.json_fault.JsonFaultKind.TheVariants as json
@@ -37,61 +37,61 @@ abbrev pub hint_path : Hint → Option (List ℕ)
 hint_path hint = path_named (way_by hint)
 
 -- the request that a command makes, or its first refusal: of the request, then of the path of its index
-abbrev pub search_of : FindCommand → Result Request ToldRefusal
+abbrev pub search_of : FindCommand → Result Request ReportedRefusal
 search_of f =
-    then_part (told_as session_refusal (request_of f.filter f.sort f.skip f.limit)) (λ request.
-    then_part (told_as path_refusal (named_index (hint_path f.hint))) (λ _. Ok request))
+    then_part (error_as session_refusal (request_of f.filter f.sort f.skip f.limit)) (λ request.
+    then_part (error_as path_refusal (named_index (hint_path f.hint))) (λ _. Ok request))
 
 -- Over a dump of these bytes, which are these documents:
 -- the call that a command asks for, or its first refusal; of `resume` the token is looked at first.
-abbrev pub call_of : List ℕ → List Doc → Command → Result Call ToldRefusal
+abbrev pub call_of : List ℕ → List Doc → Command → Result Call ReportedRefusal
 call_of bytes ds (creates_index path sparse) =
-    then_part (told_as path_refusal (path_of path)) (λ _. Ok (make_of ds (record { path = path; is_sparse = sparse })))
-call_of bytes ds (drops_index path) = then_part (told_as path_refusal (path_of path)) (λ _. Ok (drop_call path))
+    then_part (error_as path_refusal (path_of path)) (λ _. Ok (make_of ds (record { path = path; is_sparse = sparse })))
+call_of bytes ds (drops_index path) = then_part (error_as path_refusal (path_of path)) (λ _. Ok (drop_call path))
 call_of bytes ds (finds f) = then_part (search_of f) (λ r. Ok (find_call (query_to bytes ds r) (hint_path f.hint)))
 call_of bytes ds (resumes token f) =
-    then_part (told_as session_refusal (token_part token)) (λ t.
-    then_part (search_of f) (λ r. Ok (resume_call (query_to bytes ds r) (hint_path f.hint) (marked_token t))))
+    then_part (error_as session_refusal (token_part token)) (λ t.
+    then_part (search_of f) (λ r. Ok (resume_call (query_to bytes ds r) (hint_path f.hint) (positioned_token t))))
 call_of bytes ds (gets_more id batch) = Ok (next_call id batch)
 call_of bytes ds (kills_cursor id) = Ok (kill_call id)
 call_of bytes ds (commands.explains f) =
     then_part (search_of f) (λ r. Ok (explain_call (hint_path f.hint) (explanation_for ds r (way_by f.hint))))
 
 -- the call that a document describes, or its first refusal
-abbrev pub document_call : List ℕ → List Doc → Doc → Result Call ToldRefusal
-document_call bytes ds d = then_part (told_as command_refusal (command_of d)) (call_of bytes ds)
+abbrev pub document_call : List ℕ → List Doc → Doc → Result Call ReportedRefusal
+document_call bytes ds d = then_part (error_as command_refusal (command_of d)) (call_of bytes ds)
 
 -- the reply to a line, made of the session's reply: with the documents of a batch instead of their numbers
-abbrev pub shown_reply : List Doc → machine.Reply → LineReply
-shown_reply ds (machine.opened id) = opens id
-shown_reply ds (machine.gave b) = gives (documents_at ds b.places) b.ends (option_map marked_text b.token)
-shown_reply ds machine.killed = done
-shown_reply ds (machine.made counts) = makes counts
-shown_reply ds machine.dropped = done
-shown_reply ds (machine.explained e) = explains e
-shown_reply ds machine.no_index = refuses (session_refusal (plain reasons.NoIndex))
-shown_reply ds machine.index_there = refuses (session_refusal (plain reasons.IndexThere))
-shown_reply ds machine.too_many_indexes = refuses (session_refusal (plain reasons.TooManyIndexes))
-shown_reply ds machine.too_many_cursors = refuses (session_refusal (plain reasons.TooManyCursors))
-shown_reply ds machine.no_cursor = refuses (session_refusal (plain reasons.NoCursor))
-shown_reply ds machine.foreign_token = refuses (session_refusal (plain reasons.ForeignToken))
-shown_reply ds machine.token_place = refuses (session_refusal (plain reasons.TokenPlace))
-shown_reply ds machine.out_of_range = refuses (session_refusal (plain reasons.Range))
+abbrev pub reply_output : List Doc → machine.Reply → LineReply
+reply_output ds (machine.opened id) = opens id
+reply_output ds (machine.gave b) = gives (documents_at ds b.places) b.ends (option_map positioned_text b.token)
+reply_output ds machine.killed = done
+reply_output ds (machine.made counts) = makes counts
+reply_output ds machine.dropped = done
+reply_output ds (machine.explained e) = explains e
+reply_output ds machine.no_index = refuses (session_refusal (plain reasons.NoIndex))
+reply_output ds machine.index_there = refuses (session_refusal (plain reasons.IndexThere))
+reply_output ds machine.too_many_indexes = refuses (session_refusal (plain reasons.TooManyIndexes))
+reply_output ds machine.too_many_cursors = refuses (session_refusal (plain reasons.TooManyCursors))
+reply_output ds machine.no_cursor = refuses (session_refusal (plain reasons.NoCursor))
+reply_output ds machine.foreign_token = refuses (session_refusal (plain reasons.ForeignToken))
+reply_output ds machine.token_place = refuses (session_refusal (plain reasons.TokenPlace))
+reply_output ds machine.out_of_range = refuses (session_refusal (plain reasons.Range))
 
 -- The call in a line, or why there is none. Of a line that is no document a fault is reported;
 -- which one of a line that is UTF-8, no definition says.
-abbrev pub IsCallIn : List ℕ → List Doc → List ℕ → Result Call ToldRefusal → Type 0
+abbrev pub IsCallIn : List ℕ → List Doc → List ℕ → Result Call ReportedRefusal → Type 0
 IsCallIn bytes ds line part = ((d : Doc) × ReadsAs line d × (part ≡ document_call bytes ds d)) ⊎ ((reading line ≡ None)
-    × ((f : JsonFault) × IsPlaced (length line) f × TellsBadUtf8 line f × (f.kind ≢ json.NoMemory)
+    × ((f : JsonFault) × IsPlaced (length line) f × ReportsBadUtf8 line f × (f.kind ≢ json.NoMemory)
     × (part ≡ Err (json_refusal f))))
 
 -- the reply to a line: that of the session to its call, or the refusal of a line that is no call
-abbrev pub reply_to : List Doc → State → Result Call ToldRefusal → LineReply
-reply_to ds s (Ok call) = shown_reply ds (machine.reply s call)
+abbrev pub reply_to : List Doc → State → Result Call ReportedRefusal → LineReply
+reply_to ds s (Ok call) = reply_output ds (machine.reply s call)
 reply_to ds s (Err why) = refuses why
 
 -- the state after a line: that after its call; unchanged if the line is refused
-abbrev pub state_then : State → Result Call ToldRefusal → State
+abbrev pub state_then : State → Result Call ReportedRefusal → State
 state_then s (Ok call) = state_after s call
 state_then s (Err why) = s
 
@@ -99,14 +99,14 @@ state_then s (Err why) = s
 -- and its state becomes t.
 pub record Answers (bytes : List ℕ) (ds : List Doc) (s : State) (line : List ℕ)
     (r : LineReply) (t : State) : Type 0 where
-  pub part : Result Call ToldRefusal
+  pub part : Result Call ReportedRefusal
   pub reads : IsCallIn bytes ds line part
-  pub tells : r ≡ reply_to ds s part
+  pub reports : r ≡ reply_to ds s part
   pub moves : t ≡ state_then s part
 
 -- The state is unchanged.
-abbrev pub IsKept : State → State → Type 0
-IsKept s t = t ≡ s
+abbrev pub IsUnchanged : State → State → Type 0
+IsUnchanged s t = t ≡ s
 
 -- The session may answer the line with this text, and its state becomes t.
 abbrev pub RepliesInText : List ℕ → List Doc → State → List ℕ → List ℕ → State → Type 0
@@ -157,21 +157,21 @@ given_in (gives ds ends token) = gives ds ends token ∷ []
 given_in _ = []
 
 -- the reply to a call, if it asks the cursor of this number for a batch and gets one
-abbrev pub batch_shown : ℕ → Option Call → LineReply → List LineReply
-batch_shown id (Some (next_call i n)) r = if i == id then given_in r else []
-batch_shown id _ r = []
+abbrev pub batch_is_output : ℕ → Option Call → LineReply → List LineReply
+batch_is_output id (Some (next_call i n)) r = if i == id then given_in r else []
+batch_is_output id _ r = []
 
 -- the batches of the cursor of this number among the replies to lines
-abbrev pub batches_shown : List ℕ → List Doc → ℕ → List (List ℕ) → List LineReply → List LineReply
-batches_shown bytes ds id lines rs = flat_map (λ p. batch_shown id (line_call bytes ds p.0) p.1) (zip lines rs)
+abbrev pub batches_output : List ℕ → List Doc → ℕ → List (List ℕ) → List LineReply → List LineReply
+batches_output bytes ds id lines rs = flat_map (λ p. batch_is_output id (line_call bytes ds p.0) p.1) (zip lines rs)
 
 -- The replies show these documents in batches of the sizes that the lines ask for, with tokens that lead on.
-pub record ShowsInTurn (bytes : List ℕ) (ds : List Doc) (q : Query) (id : ℕ) (ps : List ℕ)
+pub record PrintsInTurn (bytes : List ℕ) (ds : List Doc) (q : Query) (id : ℕ) (ps : List ℕ)
     (lines : List (List ℕ)) (rs : List LineReply)
     : Type 0 where
   pub given : List GivenBatch
   pub in_turn : GivesInTurn q id ps (calls_in bytes ds lines) given
-  pub shown : batches_shown bytes ds id lines rs ≡ map (λ b. shown_reply ds (gave b)) given
+  pub output : batches_output bytes ds id lines rs ≡ map (λ b. reply_output ds (gave b)) given
 
 -- A line is this call and opens a cursor; some lines come before it and others after.
 pub record OpensInTalk (bytes : List ℕ) (ds : List Doc) (call : Call) (id : ℕ)
@@ -184,6 +184,6 @@ pub record OpensInTalk (bytes : List ℕ) (ds : List Doc) (call : Call) (id : �
   pub after : State
   pub end : State
   pub begins : Talks bytes ds new_state earlier replies before
-  pub asks : line_call bytes ds line ≡ Some call
+  pub requests : line_call bytes ds line ≡ Some call
   pub opened : Answers bytes ds before line (opens id) after
   pub goes_on : Talks bytes ds after lines rs end

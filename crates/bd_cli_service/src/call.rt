@@ -7,9 +7,9 @@ ghost use Rattle.bd_path.specs.{Path.path_of, PathNames.names_of};
 ghost use Rattle.bd_cli_command.specs.Command.{command_tree, find_tree, hint_tree};
 ghost use Rattle.bd_cursor.specs.Access.{way_of};
 ghost use Rattle.bd_cli_service.specs.Reply.{path_refusal, session_refusal};
-ghost use Rattle.bd_cursor_request.specs.Refused.{told_as};
+ghost use Rattle.bd_cursor_request.specs.Refused.{error_as};
 ghost use Rattle.bd_cursor_request.specs.Request.{named_index, request_view, token_part};
-ghost use Rattle.bd_cli_service.specs.ServiceView.{MayStarve, RefusesPart, session_call};
+ghost use Rattle.bd_cli_service.specs.ServiceView.{MayRunOut, RefusesPart, session_call};
 ghost use Rattle.bd_cli_service.specs.declared.call.CallFault.TheVariants.{NoMemory as no_memory};
 ghost use Rattle.bd_cli_service.specs.Talk.{call_of, hint_path, search_of, way_by};
 
@@ -57,7 +57,7 @@ pub(crate) fn call_of(alloc: Global, command: Command) -> Result<Call, CallFault
         ≡ Ok (session_call dump c)) }
     ensures fault { (dump : Dump) → IfErr result
         (RefusesPart (call_of (bytes_of dump) (documents dump) (command_tree command))) }
-    ensures known { IfErr result (λ fault. fault ≡ no_memory → MayStarve (command_tree command)) }
+    ensures known { IfErr result (λ fault. fault ≡ no_memory → MayRunOut (command_tree command)) }
 {
     match command {
         Command::CreateIndex { path, sparse } => {
@@ -101,9 +101,9 @@ fn read_search(alloc: Global, find: FindCommand) -> Result<(Request, Choice), Ca
 /// How documents are to be found.
 fn read_choice(alloc: Global, hint: Hint) -> Result<Choice, CallFault>
     ensures choice { IfOk result (λ choice. way_of choice ≡ way_by (hint_tree hint)) }
-    ensures there { OnOk result (named_index (hint_path (hint_tree hint)) ≡ Ok tt) }
+    ensures names_index { OnOk result (named_index (hint_path (hint_tree hint)) ≡ Ok tt) }
     ensures fault { IfErr result
-        (RefusesPart (told_as path_refusal (named_index (hint_path (hint_tree hint))))) }
+        (RefusesPart (error_as path_refusal (named_index (hint_path (hint_tree hint))))) }
 {
     match hint {
         Hint::Auto => Ok(Choice::Auto),
@@ -116,7 +116,7 @@ fn read_choice(alloc: Global, hint: Hint) -> Result<Choice, CallFault>
 fn read_path(alloc: Global, text: &str) -> Result<Path, CallFault>
     ensures path { IfOk result (λ path. path_of text.now ≡ Ok (names_of path)) }
     ensures text { IfOk result (λ path. string_bytes path.text ≡ text.now) }
-    ensures fault { IfErr result (RefusesPart (told_as path_refusal (path_of text.now))) }
+    ensures fault { IfErr result (RefusesPart (error_as path_refusal (path_of text.now))) }
 {
     match Path::parse(alloc, text) {
         Ok(path) => Ok(path),
@@ -128,7 +128,7 @@ fn read_path(alloc: Global, text: &str) -> Result<Path, CallFault>
 /// The token of a text. It takes no memory.
 fn read_token(text: &str) -> Result<Token, CallFault>
     ensures token { IfOk result (λ t. token_part text.now ≡ Ok t) }
-    ensures fault { IfErr result (RefusesPart (told_as session_refusal (token_part text.now))) }
+    ensures fault { IfErr result (RefusesPart (error_as session_refusal (token_part text.now))) }
     ensures known { IfErr result (λ fault. fault ≢ no_memory) }
 {
     match Token::parse(text) {

@@ -28,7 +28,7 @@ pub(crate) enum Field<'a, 'b, 'c> {
 }
 
 /// Appends the document of whether there is a result, and these pairs.
-#[tactic(auto, using(bd_value::proofs::FrontLemmas::fronts))]
+#[tactic(auto, using(bd_value::proofs::PrefixLemmas::prefixes))]
 pub(crate) fn write_members(
     ok: bool,
     members: &[(&str, Field<'_, '_, '_>)],
@@ -48,7 +48,7 @@ pub(crate) fn write_members(
 }
 
 /// Appends a comma and a pair.
-#[tactic(auto, using(bd_value::proofs::FrontLemmas::fronts))]
+#[tactic(auto, using(bd_value::proofs::PrefixLemmas::prefixes))]
 fn write_member(name: &str, value: Field<'_, '_, '_>, out: &mut Vec<u8>) -> Result<(), NoMemory>
     ensures ok { OnOk result (out.new.items
         ≡ out.old.items ++ 44 ∷ member name.now (text (reply_value value.entry))) }
@@ -61,7 +61,7 @@ fn write_member(name: &str, value: Field<'_, '_, '_>, out: &mut Vec<u8>) -> Resu
 }
 
 /// Appends a value.
-#[tactic(auto, using(bd_value::proofs::FrontLemmas::fronts), unfolding(bd_extjson_text::specs::Text::scalar_text))]
+#[tactic(auto, using(bd_value::proofs::PrefixLemmas::prefixes), unfolding(bd_extjson_text::specs::Text::scalar_text))]
 fn write_field(value: Field<'_, '_, '_>, out: &mut Vec<u8>) -> Result<(), NoMemory>
     ensures ok { OnOk result (out.new.items ≡ out.old.items ++ text (reply_value value.entry)) }
     ensures err { OnErr result (StartsWith out.new.items out.old.items) }
@@ -78,7 +78,7 @@ fn write_field(value: Field<'_, '_, '_>, out: &mut Vec<u8>) -> Result<(), NoMemo
 }
 
 /// Appends `true` or `false`.
-#[tactic(auto, using(bd_value::proofs::FrontLemmas::fronts), unfolding(bd_extjson_text::specs::Text::scalar_text))]
+#[tactic(auto, using(bd_value::proofs::PrefixLemmas::prefixes), unfolding(bd_extjson_text::specs::Text::scalar_text))]
 fn write_truth(truth: bool, out: &mut Vec<u8>) -> Result<(), NoMemory>
     ensures ok { OnOk result (out.new.items ≡ out.old.items ++ text (leaf (boolean truth))) }
     ensures err { OnErr result (StartsWith out.new.items out.old.items) }
@@ -91,7 +91,7 @@ fn write_truth(truth: bool, out: &mut Vec<u8>) -> Result<(), NoMemory>
 }
 
 /// Appends what leads to a number, and the number as a string.
-#[tactic(auto, using(bd_value::proofs::FrontLemmas::fronts))]
+#[tactic(auto, using(bd_value::proofs::PrefixLemmas::prefixes))]
 fn write_wrapped(lead: &[u8], number: u64, out: &mut Vec<u8>) -> Result<(), NoMemory>
     ensures ok { OnOk result (out.new.items
         ≡ out.old.items ++ (lead.now ++ (quoted (decimal number) ++ 125 ∷ []))) }
@@ -105,7 +105,7 @@ fn write_wrapped(lead: &[u8], number: u64, out: &mut Vec<u8>) -> Result<(), NoMe
 }
 
 /// Appends the documents of a dump with these numbers, as an array. A number after the last document has none.
-#[tactic(auto, using(bd_value::proofs::FrontLemmas::fronts))]
+#[tactic(auto, using(bd_value::proofs::PrefixLemmas::prefixes))]
 fn write_documents(dump: &Dump, places: &[u32], out: &mut Vec<u8>) -> Result<(), NoMemory>
     ensures ok { OnOk result (out.new.items
         ≡ out.old.items ++ text (documents_value (documents_at (documents dump.now) places.now))) }
@@ -124,7 +124,7 @@ fn write_documents(dump: &Dump, places: &[u32], out: &mut Vec<u8>) -> Result<(),
 }
 
 /// Appends a document, and a comma before it where it is a later one.
-#[tactic(auto, using(bd_value::proofs::FrontLemmas::fronts))]
+#[tactic(auto, using(bd_value::proofs::PrefixLemmas::prefixes))]
 fn write_document(dump: &Dump, place: u32, later: bool, out: &mut Vec<u8>) -> Result<(), NoMemory>
     requires { place < length (documents dump.now) }
     ensures ok { OnOk result (out.new.items ≡ out.old.items

@@ -6,9 +6,9 @@ ghost use Rattle.bd_bson_dump.specs.Collection.{documents};
 ghost use Rattle.bd_query_filter.specs.Fault.{refusal_of};
 ghost use Rattle.bd_cursor_request.specs.Token.{token_text};
 ghost use Rattle.bd_cursor_request.specs.Results.{made_counts, text_or_null};
-ghost use Rattle.bd_cursor.specs.Explanation.{plan_name, told};
+ghost use Rattle.bd_cursor.specs.Explanation.{plan_name, explain_doc};
 ghost use Rattle.bd_cli_service.specs.Reply.{explains, filter_refusal, given_reply, json_fault_byte, json_refusal, line_reply, makes, refuses};
-ghost use Rattle.bd_cli_service.specs.Reply.{reply_text, reply_value, told_refusal};
+ghost use Rattle.bd_cli_service.specs.Reply.{reply_text, reply_value, reported_refusal};
 
 use crate::member::{Field, write_members};
 use bd_bson_dump::Dump;
@@ -94,7 +94,7 @@ fn append_reply(
 }
 
 /// Appends the reply of an index that was made.
-#[tactic(auto, using(bd_value::proofs::FrontLemmas::fronts))]
+#[tactic(auto, using(bd_value::proofs::PrefixLemmas::prefixes))]
 fn append_made(made: Made, out: &mut Vec<u8>) -> Result<(), NoMemory>
     ensures ok { OnOk result (out.new.items
         ≡ out.old.items ++ reply_text (makes (made_counts made))) }
@@ -108,7 +108,7 @@ fn append_made(made: Made, out: &mut Vec<u8>) -> Result<(), NoMemory>
 }
 
 /// Appends the reply of a batch.
-#[tactic(auto, using(bd_value::proofs::FrontLemmas::fronts))]
+#[tactic(auto, using(bd_value::proofs::PrefixLemmas::prefixes))]
 fn append_batch(
     alloc: Global,
     dump: &Dump,
@@ -149,10 +149,10 @@ fn text_or_null<'a>(text: Option<&'a str>) -> Field<'a, 'static, 'static>
 }
 
 /// Appends the reply that tells how documents are found.
-#[tactic(auto, using(bd_value::proofs::FrontLemmas::fronts))]
+#[tactic(auto, using(bd_value::proofs::PrefixLemmas::prefixes))]
 fn append_explanation(explanation: &Explain, out: &mut Vec<u8>) -> Result<(), NoMemory>
     ensures ok { OnOk result (out.new.items
-        ≡ out.old.items ++ reply_text (explains (told explanation.now))) }
+        ≡ out.old.items ++ reply_text (explains (explain_doc explanation.now))) }
     ensures err { OnErr result (StartsWith out.new.items out.old.items) }
 {
     let members = [
@@ -178,7 +178,7 @@ fn plan_name(plan: Plan) -> &'static str
 /// Appends the reply of a line that has no result.
 fn append_refusal(refusal: &LineRefusal, out: &mut Vec<u8>) -> Result<(), NoMemory>
     ensures ok { OnOk result (out.new.items
-        ≡ out.old.items ++ reply_text (refuses (told_refusal refusal.now))) }
+        ≡ out.old.items ++ reply_text (refuses (reported_refusal refusal.now))) }
     ensures err { OnErr result (StartsWith out.new.items out.old.items) }
 {
     match refusal {
@@ -193,7 +193,7 @@ fn append_refusal(refusal: &LineRefusal, out: &mut Vec<u8>) -> Result<(), NoMemo
 }
 
 /// Appends the reply of a refusal that has no place.
-#[tactic(auto, using(bd_value::proofs::FrontLemmas::fronts))]
+#[tactic(auto, using(bd_value::proofs::PrefixLemmas::prefixes))]
 fn append_reason(
     layer: &'static str,
     number: u32,
@@ -213,7 +213,7 @@ fn append_reason(
 }
 
 /// Appends the reply of a text that is no document.
-#[tactic(auto, using(bd_value::proofs::FrontLemmas::fronts))]
+#[tactic(auto, using(bd_value::proofs::PrefixLemmas::prefixes))]
 fn append_json_fault(fault: JsonFault, out: &mut Vec<u8>) -> Result<(), NoMemory>
     ensures ok { OnOk result (out.new.items
         ≡ out.old.items ++ reply_text (refuses (json_refusal fault))) }
@@ -239,7 +239,7 @@ fn json_byte(fault: JsonFault) -> Field<'static, 'static, 'static>
 }
 
 /// Appends the reply of a document that is no filter.
-#[tactic(auto, using(bd_value::proofs::FrontLemmas::fronts))]
+#[tactic(auto, using(bd_value::proofs::PrefixLemmas::prefixes))]
 fn append_filter_fault(fault: &FilterFault, out: &mut Vec<u8>) -> Result<(), NoMemory>
     ensures ok { OnOk result (out.new.items
         ≡ out.old.items ++ reply_text (refuses (filter_refusal (refusal_of fault.now)))) }

@@ -6,9 +6,9 @@ ghost use Rattle.bd_cursor_model.specs.{Answer.answer, Laws.new_state};
 ghost use Rattle.bd_bson_dump.specs.Collection.{bytes_of, documents};
 ghost use Rattle.bd_bson_dump.specs.declared.collection.Dump.{Dump};
 ghost use Rattle.bd_extjson.specs.Read.{ReadsAs};
-ghost use Rattle.bd_cursor_request.specs.Refused.{told_as};
+ghost use Rattle.bd_cursor_request.specs.Refused.{error_as};
 ghost use Rattle.bd_cursor.specs.SessionView.{dump_of};
-ghost use Rattle.bd_io_lines.specs.Serving.{StarvesAt};
+ghost use Rattle.bd_io_lines.specs.Serving.{RunsOutAt};
 ghost use Rattle.bd_cli_command.specs.{Command.command_tree, CommandOf.command_of};
 ghost use Rattle.bd_cli_service.specs.Reply.{command_refusal, line_reply};
 ghost use Rattle.bd_cli_service.specs.ServiceView.{IsAnswered, IsPerformed, KeepsState, RefusesLine, RefusesPart, RepliesTo};
@@ -51,7 +51,7 @@ impl Service {
         ensures answers { IfOk result (λ r. Answers (bytes_of (service_dump self.old))
             (documents (service_dump self.old)) (service_state self.old) line.now
             (line_reply (documents (service_dump self.old)) r) (service_state self.new)) }
-        ensures unchanged { OnErr result (service_state self.new ≡ service_state self.old) }
+        ensures err { OnErr result (service_state self.new ≡ service_state self.old) }
         ensures dump { service_dump self.new ≡ service_dump self.old }
     {
         match read_call(self.alloc, line) {
@@ -71,10 +71,10 @@ impl Replier for Service {
     fn reply(&mut self, command: &[u8], text: &mut Vec<u8>) -> Result<(), AllocError>
         ensures replies { OnOk result ((reply : List ℕ) × (text.new.items ≡ text.old.items ++ reply)
             × RepliesTo self.old command.now reply self.new) }
-        ensures kept { OnErr result (text.new.items ≡ text.old.items) }
+        ensures err { OnErr result (text.new.items ≡ text.old.items) }
         // Where memory ran out the session is as it was, or as the call left it whose reply was not made.
-        ensures starved { OnErr result
-            (StarvesAt KeepsState RepliesTo self.old command.now self.new) }
+        ensures out_of_memory { OnErr result
+            (RunsOutAt KeepsState RepliesTo self.old command.now self.new) }
         ensures dump { service_dump self.new ≡ service_dump self.old }
     {
         let reply = self.answer(command)?;
@@ -111,7 +111,7 @@ fn read_line(alloc: Global, line: &[u8]) -> Result<Document, CallFault>
 fn command_in(alloc: Global, document: &Document) -> Result<Command, CallFault>
     ensures command { IfOk result (λ c. command_of (pairs document.now) ≡ Ok (command_tree c)) }
     ensures fault { IfErr result
-        (RefusesPart (told_as command_refusal (command_of (pairs document.now)))) }
+        (RefusesPart (error_as command_refusal (command_of (pairs document.now)))) }
 {
     match read_command(alloc, document) {
         Ok(command) => Ok(command),

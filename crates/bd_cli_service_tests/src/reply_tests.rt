@@ -7,7 +7,7 @@ use std::alloc::Global;
 use std::test::Fail;
 
 /// Whether a reply has this text, after what stood before it.
-fn is_told(alloc: Global, reply: &Reply, wanted: &str) -> Result<bool, Fail> {
+fn is_reported(alloc: Global, reply: &Reply, wanted: &str) -> Result<bool, Fail> {
     let dump = three(alloc)?;
     let mut text = Vec::from_slice(alloc, b"x")?;
     write_reply(alloc, &dump, reply, &mut text)?;
@@ -39,7 +39,7 @@ fn results(rt: HostRuntime) -> Result<(), Fail> {
             r#"{"ok":true,"plan":"scan","index":null,"entries":{"$numberLong":"3"},"documents":{"$numberLong":"2"},"matches":{"$numberLong":"1"}}"#,
         ),
     ] {
-        assert!(rt; is_told(rt.alloc(), &reply, wanted)?, "{wanted}");
+        assert!(rt; is_reported(rt.alloc(), &reply, wanted)?, "{wanted}");
     }
     Ok(())
 }
@@ -53,6 +53,6 @@ fn a_batch_without_a_token(rt: HostRuntime) -> Result<(), Fail> {
         end: true,
     };
     let wanted = r#"{"ok":true,"documents":[{}],"end":true,"token":null}"#;
-    assert!(rt; is_told(rt.alloc(), &Reply::Gave(batch), wanted)?);
+    assert!(rt; is_reported(rt.alloc(), &Reply::Gave(batch), wanted)?);
     Ok(())
 }

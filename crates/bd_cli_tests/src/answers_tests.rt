@@ -21,8 +21,8 @@ fn answers(rt: HostRuntime) -> Result<(), Fail> {
         for word in line.split(',').skip(1) {
             words.push(String::from_str(alloc, word)?)?;
         }
-        let told = format!(in alloc; "{:?}", parse_words(alloc, &words))?;
-        assert!(rt; told.as_str() == wanted, "{line}: {told}");
+        let reported = format!(in alloc; "{:?}", parse_words(alloc, &words))?;
+        assert!(rt; reported.as_str() == wanted, "{line}: {reported}");
     }
     Ok(())
 }

@@ -52,7 +52,7 @@ pub(crate) struct Devices<'a> {
     pub size: usize,
     pub failing_err: Option<FailingWrite>,
     /// How many bytes standard output has room for.
-    pub room: usize,
+    pub buffer: usize,
 }
 
 /// None of them fails.
@@ -60,7 +60,7 @@ pub(crate) const AMPLE: Devices<'static> = Devices {
     input: b"",
     size: 100,
     failing_err: None,
-    room: 400,
+    buffer: 400,
 };
 
 /// How many reads a run makes, and how it ends; none where it shows anything else than this, or reads a command.
@@ -72,18 +72,18 @@ pub(crate) fn reads(
     wanted_err: &str,
 ) -> Option<(u64, Status)> {
     let size = devices.size;
-    if size == 0 || devices.room > 400 {
+    if size == 0 || devices.buffer > 400 {
         return None;
     }
-    let mut out_room = [0; 400];
-    let mut err_room = [0; 400];
+    let mut out_buffer = [0; 400];
+    let mut err_buffer = [0; 400];
     let mut input = MemoryInput::new(devices.input, size, None);
     let mut commands = MemoryInput::new(b"{}", 1, None);
-    let mut out = MemoryOutput::new(&mut out_room[..devices.room], size, None);
-    let mut err = MemoryOutput::new(&mut err_room, size, devices.failing_err);
+    let mut out = MemoryOutput::new(&mut out_buffer[..devices.buffer], size, None);
+    let mut err = MemoryOutput::new(&mut err_buffer, size, devices.failing_err);
     let status = run(alloc, order, &mut input, &mut commands, &mut out, &mut err);
-    let is_shown = out.bytes() == wanted_out && err.bytes() == wanted_err.as_bytes();
-    if is_shown && commands.calls() == 0 {
+    let is_printed = out.bytes() == wanted_out && err.bytes() == wanted_err.as_bytes();
+    if is_printed && commands.calls() == 0 {
         Some((input.calls(), status))
     } else {
         None

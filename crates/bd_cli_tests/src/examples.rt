@@ -10,9 +10,9 @@ use std::test::Fail;
 fn check_a_dump(rt: HostRuntime) {
     let alloc = rt.alloc();
     let mut file = MemoryInput::new(b"\x05\0\0\0\0", 5, None);
-    let mut room = [0; 100];
+    let mut buffer = [0; 100];
     let mut out = MemoryOutput::new(&mut [], 1, None);
-    let mut err = MemoryOutput::new(&mut room, 100, None);
+    let mut err = MemoryOutput::new(&mut buffer, 100, None);
     let status = check(alloc, &mut file, &mut out, &mut err);
     assert!(rt; status == Status::Done);
     assert!(rt; err.bytes() == b"1 documents, 0 faulty\n".as_slice());
@@ -31,9 +31,9 @@ fn find_in_a_dump(rt: HostRuntime) -> Result<(), Fail> {
         after: None,
     };
     let mut file = MemoryInput::new(b"\x05\0\0\0\0", 5, None);
-    let mut room = [0; 100];
+    let mut buffer = [0; 100];
     let mut out = MemoryOutput::new(&mut [], 1, None);
-    let mut err = MemoryOutput::new(&mut room, 100, None);
+    let mut err = MemoryOutput::new(&mut buffer, 100, None);
     let status = find(alloc, &options, &mut file, &mut out, &mut err);
     assert!(rt; status == Status::Done);
     assert!(rt; err.bytes() == b"0 documents, end\n".as_slice());
@@ -48,9 +48,9 @@ fn cli(rt: HostRuntime) -> Result<(), Fail> {
     };
     let mut file = MemoryInput::new(b"\x05\0\0\0\0", 5, None);
     let mut commands = MemoryInput::new(b"", 1, None);
-    let mut room = [0; 100];
+    let mut buffer = [0; 100];
     let mut out = MemoryOutput::new(&mut [], 1, None);
-    let mut err = MemoryOutput::new(&mut room, 100, None);
+    let mut err = MemoryOutput::new(&mut buffer, 100, None);
     let status = run(alloc, &order, &mut file, &mut commands, &mut out, &mut err);
     assert!(rt; status == Status::Done);
     assert!(rt; err.bytes() == b"1 documents, 0 faulty\n".as_slice());

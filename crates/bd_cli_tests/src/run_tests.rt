@@ -21,11 +21,11 @@ fn reads_no_more_than_it_wants(rt: HostRuntime) -> Result<(), Fail> {
         // Of a hundred documents, as of any number, five bytes of each of two are read before the second line does not fit.
         (&many, 1, 3, b"{}\n", UNWRITTEN, 10, Failed),
     ];
-    for (input, size, room, out, err, calls, status) in rows {
+    for (input, size, buffer, out, err, calls, status) in rows {
         let devices = Devices {
             input,
             size,
-            room,
+            buffer,
             ..AMPLE
         };
         let answer = reads(alloc, &order, devices, out, err);

@@ -20,7 +20,7 @@ const UNSERVED: &str = "bsonfind: document 0, byte 7, path \"s\": bad string len
 /// next line is read.
 #[test]
 fn serves_commands_in_pieces(rt: HostRuntime) {
-    for (dump, most, size, shown, wanted, calls) in [
+    for (dump, most, size, printed, wanted, calls) in [
         // Commands in pieces, and replies.
         (ONE, 1, 100, 257, "", 65),
         (ONE, 2, 1, 257, "", 33),
@@ -34,15 +34,15 @@ fn serves_commands_in_pieces(rt: HostRuntime) {
         let order = order_of(rt.alloc(), Command::Serve, None);
         let mut file = MemoryInput::new(dump, 5, None);
         let mut commands = MemoryInput::new(COMMANDS, most, None);
-        let mut out_room = [0; 400];
-        let mut err_room = [0; 100];
-        let mut out = MemoryOutput::new(&mut out_room, size, None);
-        let mut err = MemoryOutput::new(&mut err_room, 100, None);
+        let mut out_buffer = [0; 400];
+        let mut err_buffer = [0; 100];
+        let mut out = MemoryOutput::new(&mut out_buffer, size, None);
+        let mut err = MemoryOutput::new(&mut err_buffer, 100, None);
         let alloc = rt.alloc();
         let status = run(alloc, &order, &mut file, &mut commands, &mut out, &mut err);
         assert!(rt; (status == Status::Done) == wanted.is_empty() && status != Status::Usage);
         assert!(rt;
-            REPLIES.starts_with(out.bytes()) && out.bytes().len() == shown,
+            REPLIES.starts_with(out.bytes()) && out.bytes().len() == printed,
             "{most} a read, {calls} reads"
         );
         assert!(rt;

@@ -19,10 +19,10 @@ fn reports_words(rt: HostRuntime) {
             Status::Failed,
         ),
     ] {
-        let mut out_room = [0; 400];
-        let mut err_room = [0; 400];
-        let mut output = MemoryOutput::new(&mut out_room[..size], 400, None);
-        let mut error = MemoryOutput::new(&mut err_room, 400, None);
+        let mut out_buffer = [0; 400];
+        let mut err_buffer = [0; 400];
+        let mut output = MemoryOutput::new(&mut out_buffer[..size], 400, None);
+        let mut error = MemoryOutput::new(&mut err_buffer, 400, None);
         assert!(rt; report(&fault, &mut output, &mut error) == status);
         assert!(rt; output.bytes() == out.as_bytes() && error.bytes() == err.as_bytes());
     }

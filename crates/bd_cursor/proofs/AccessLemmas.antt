@@ -12,7 +12,7 @@ use Rattle.std.specs.List.{list_any, range_with_len, join_with_byte, position, p
 use Rattle.std.specs.declared.cmp.Ordering.TheVariants.{Less, Equal, Greater}
 use Rattle.std.specs.{Bool.Decides, Cmp.Lexicographic.pointwise, Borrow.Bor, Option.option_copied, List.Sorted.IsStrictlyIncreasing, Ordering.is_lt, Cmp.IsTotalOrder, Str.bytes_eq}
 use Rattle.bd_value.specs.Tree.{Doc, Tree, doc, fields_of, leaf}
-use Rattle.bd_cursor_model.specs.Session.{IndexMark, is_on}
+use Rattle.bd_cursor_model.specs.Session.{IndexKey, is_on}
 use Rattle.bd_cursor_model.specs.{Answer.before, Answer.Selection, Answer.matching, Laws.IsAscending, Source.IsSource, Source.passes}
 use Rattle.bd_bson_dump.specs.{Collection.documents, declared.collection.Dump.Dump, Collection.document_at}
 use Rattle.bd_path.specs.Key.{indexed_keys, keys, sparse_keys}
@@ -20,13 +20,13 @@ use Rattle.bd_path.specs.{Sort.SortPath, Reach.Names, Path.components_of, PathNa
 use Rattle.bd_path.proofs.SortLemmas.{has_a_key, sort_total}
 use Rattle.bd_query_filter.specs.{Filter.Filter, FilterMatch.matches, Filter.filter_tree}
 use Rattle.bd_cursor_request.specs.declared.request.Request.{Request}
-use Rattle.bd_cursor_sort.specs.Selection.{hits_of, order_of_keys, selection_of}
-use Rattle.bd_index_bounds.specs.{Bounds.KeyBounds, Bounds.bounds, Bounds.is_among, BoundsView.seen_bounds, declared.bounds.Bounds.Bounds}
+use Rattle.bd_cursor_sort.specs.Selection.{matches_at_of, order_of_keys, selection_of}
+use Rattle.bd_index_bounds.specs.{Bounds.KeyBounds, Bounds.bounds, Bounds.is_among, BoundsView.bounds_view, declared.bounds.Bounds.Bounds}
 use Rattle.bd_index_bounds.proofs.SoundLemmas.{is_fit, loses_no_match, sparse_loses_no_match}
 use Rattle.bd_index.specs.Entries.{KeyAt, entries_from, has_two_keys, is_multikey, keys_at, entries_of}
 use Rattle.bd_index.specs.{Places.AreWithin, Places.lent_bounds, declared.index.Index.Index, IndexView.IsIndexOf}
 use Rattle.bd_index.proofs.WalkLemmas.{any_in}
-use Rattle.bd_cursor.specs.Access.{bounded_or, HasMatchesWithin, ServesFilter, mark_names, index_mark, HasSortOrder, walk_dir, bounded, mark_bounds, named_access, scanned, serving_bounds, walk_or}
+use Rattle.bd_cursor.specs.Access.{bounded_or, HasMatchesWithin, ServesFilter, index_key_names, index_key, HasSortOrder, walk_dir, bounded, index_key_bounds, named_access, scanned, serving_bounds, walk_or}
 use Rattle.bd_cursor.specs.Access.{access_on}
 use Rattle.bd_cursor.specs.Explanation.{entries_within, index_counts, places_within}
 use Rattle.bd_cursor_model.proofs.{OrderLemmas.filter_all, AnswerLemmas.in_contains, SourceLemmas.batch_in_order, SourceLemmas.all_places, SourceLemmas.unsorted_ordered}
@@ -124,22 +124,22 @@ has_key_at sparse path ds b p = list_any (is_among b) (indexed_keys sparse (docu
 
 -- a test, and no order
 abbrev plainly : List Doc → (ℕ → Bool) → Selection
-plainly ds hits = record { count = length ds; hits = hits; by = order_of_keys ds []; skip = 0; limit = 0 }
+plainly ds matches_at = record { count = length ds; matches_at = matches_at; by = order_of_keys ds []; skip = 0; limit = 0 }
 
 plain_total : (ds : List Doc) → IsTotalOrder (order_of_keys ds [])
 plain_total ds = on_total (document_at ds) (sort_total [])
 
 -- what passes of a source that ascends is what passes of all
-source_passes : (ds : List Doc) (hits : ℕ → Bool) (ps : List ℕ) → IsSource (length ds) hits ps → IsStrictlyIncreasing ps → filter hits ps ≡ filter hits (range_with_len 0 (length ds))
-source_passes ds hits ps s up =
-    let a = plainly ds hits in
-    filter_agree hits (passes hits (order_of_keys ds []) None) (λ x. sym (and-true (hits x))) ps
+source_passes : (ds : List Doc) (matches_at : ℕ → Bool) (ps : List ℕ) → IsSource (length ds) matches_at ps → IsStrictlyIncreasing ps → filter matches_at ps ≡ filter matches_at (range_with_len 0 (length ds))
+source_passes ds matches_at ps s up =
+    let a = plainly ds matches_at in
+    filter_agree matches_at (passes matches_at (order_of_keys ds []) None) (λ x. sym (and-true (matches_at x))) ps
     ∙ batch_in_order a (plain_total ds) ps s (unsorted_ascends ds ps up) None
     ∙ all_places a
     ∙ unsorted_ordered a (plain_total ds) (λ p q. refl)
 
-pub as_many : (ds : List Doc) (hits : ℕ → Bool) (ps : List ℕ) → IsSource (length ds) hits ps → IsStrictlyIncreasing ps → count_by hits ps ≡ length (filter hits (range_with_len 0 (length ds)))
-as_many ds hits ps s up = sym (length-filter hits ps) ∙ ap (λ (l : List ℕ). length l) (source_passes ds hits ps s up)
+pub as_many : (ds : List Doc) (matches_at : ℕ → Bool) (ps : List ℕ) → IsSource (length ds) matches_at ps → IsStrictlyIncreasing ps → count_by matches_at ps ≡ length (filter matches_at (range_with_len 0 (length ds)))
+as_many ds matches_at ps s up = sym (length-filter matches_at ps) ∙ ap (λ (l : List ℕ). length l) (source_passes ds matches_at ps s up)
 
 module _ {sparse : Bool} {path : Names} {ds : List Doc} {b : KeyBounds} {ps : List ℕ} {entries : ℕ} (w : AreWithin sparse path ds b ps entries) where
   among_places : (p : ℕ) → list_any (λ q. q == p) ps ≡ (nat_lt p (length ds) && has_key_at sparse path ds b p)
@@ -151,8 +151,8 @@ module _ {sparse : Bool} {path : Names} {ds : List Doc} {b : KeyBounds} {ps : Li
       (sym (among_places (get_or ps k d)) ∙ list_any_at (λ m. m == get_or ps k d) ps k d lt (eq-eqb (get_or ps k d) (get_or ps k d) refl))
 
   -- they are a source for each test that is passed only with a key inside
-  within_source : (hits : ℕ → Bool) → ((p : ℕ) → p < length ds → hits p ≡ true → has_key_at sparse path ds b p ≡ true) → IsSource (length ds) hits ps
-  within_source hits inside = record {
+  within_source : (matches_at : ℕ → Bool) → ((p : ℕ) → p < length ds → matches_at p ≡ true → has_key_at sparse path ds b p ≡ true) → IsSource (length ds) matches_at ps
+  within_source matches_at inside = record {
     below = λ k d lt. ltb-true (get_or ps k d) (length ds) (places_inside k d lt).0;
     distinct = λ i j d low high same. let l = AllPairs-from_increasing ps w.ascend i j d low high in absurd (omega arith);
     complete = λ p lt hit. contained ps p (among_places p ∙ ap₂ (λ (x y : Bool). x && y) (lt-ltb p (length ds) lt) (inside p lt hit));
@@ -169,10 +169,10 @@ module _ {sparse : Bool} {path : Names} {ds : List Doc} {b : KeyBounds} {ps : Li
 
 -- the documents with an entry inside the bounds of an index are a source: each match is among them, once
 pub index_source : {dump : Dump} {r : Request} {i : Index} {b : KeyBounds} {ps : List ℕ} {entries : ℕ} → HasMatchesWithin dump r i b
-    → AreWithin i.sparse (names_of i.path) (documents dump) b ps entries → IsSource (length (documents dump)) (hits_of (documents dump) (filter_tree r.filter)) ps
+    → AreWithin i.sparse (names_of i.path) (documents dump) b ps entries → IsSource (length (documents dump)) (matches_at_of (documents dump) (filter_tree r.filter)) ps
 index_source {dump} {r} {i} {b} h w =
     let f = filter_tree r.filter in
-    within_source w (hits_of (documents dump) f) (λ p lt hit. has_key f (names_of i.path) i.multikey i.sparse b (document_at (documents dump) p)
+    within_source w (matches_at_of (documents dump) f) (λ p lt hit. has_key f (names_of i.path) i.multikey i.sparse b (document_at (documents dump) p)
     h.serves (fits (names_of i.path) (documents dump) p i.multikey lt h.of_dump.many) hit)
 
 -- ---- what a call was given
@@ -181,35 +181,35 @@ pub not_sorted : (sort : List (Path × Dir)) → length sort ≡ 0 → sort_path
 not_sorted [] h = refl
 not_sorted (s ∷ ss) h = absurd (omega arith)
 
-lent_as : (r : Option (Bor Bounds)) → lent_bounds r ≡ seen_bounds (option_copied r)
+lent_as : (r : Option (Bor Bounds)) → lent_bounds r ≡ bounds_view (option_copied r)
 lent_as None = refl
 lent_as (Some b) = refl
 
 -- what is within bounds that are borrowed is within the same bounds that are not
 pub lent_within : {sparse : Bool} {path : Names} {ds : List Doc} {b : Option Bounds} {ps : List ℕ} {entries : ℕ} (r : Option (Bor Bounds)) → option_copied r ≡ b
-    → AreWithin sparse path ds (lent_bounds r) ps entries → AreWithin sparse path ds (seen_bounds b) ps entries
-lent_within {sparse} {path} {ds} {b} {ps} {entries} r e w = subst (λ k. AreWithin sparse path ds k ps entries) (lent_as r ∙ ap seen_bounds e) w
+    → AreWithin sparse path ds (lent_bounds r) ps entries → AreWithin sparse path ds (bounds_view b) ps entries
+lent_within {sparse} {path} {ds} {b} {ps} {entries} r e w = subst (λ k. AreWithin sparse path ds k ps entries) (lent_as r ∙ ap bounds_view e) w
 
 -- ---- what is read on an access path
 
-pub count_more : (hits : ℕ → Bool) (n : ℕ) → count_by hits (range_with_len 0 (n + 1)) ≡ count_by hits (range_with_len 0 n) + cond (hits n) 1 0
-count_more hits n = simp map-id at (sum_by-map-range_with_len_more (λ (y : ℕ). cond (hits y) 1 0) (λ (y : ℕ). y) 0 n n (omega arith))
+pub count_more : (matches_at : ℕ → Bool) (n : ℕ) → count_by matches_at (range_with_len 0 (n + 1)) ≡ count_by matches_at (range_with_len 0 n) + cond (matches_at n) 1 0
+count_more matches_at n = simp map-id at (sum_by-map-range_with_len_more (λ (y : ℕ). cond (matches_at y) 1 0) (λ (y : ℕ). y) 0 n n (omega arith))
 
-pub matches_of_all : (ds : List Doc) (r : Request) (n : ℕ) → n ≡ count_by (hits_of ds (filter_tree r.filter)) (range_with_len 0 (length ds)) → n ≡ length (matching (selection_of ds r))
-matches_of_all ds r n h = h ∙ sym (length-filter (hits_of ds (filter_tree r.filter)) (range_with_len 0 (length ds)))
+pub matches_of_all : (ds : List Doc) (r : Request) (n : ℕ) → n ≡ count_by (matches_at_of ds (filter_tree r.filter)) (range_with_len 0 (length ds)) → n ≡ length (matching (selection_of ds r))
+matches_of_all ds r n h = h ∙ sym (length-filter (matches_at_of ds (filter_tree r.filter)) (range_with_len 0 (length ds)))
 
 module _ (i : Index) {ds : List Doc} {b : KeyBounds} {ps : List ℕ} {entries : ℕ} (w : AreWithin i.sparse (names_of i.path) ds b ps entries) where
-  named : AreWithin i.sparse (mark_names (index_mark i)) ds b ps entries
-  named = subst (λ (n : Names). AreWithin i.sparse n ds b ps entries) i.path.cut w
+  named : AreWithin i.sparse (index_key_names (index_key i)) ds b ps entries
+  named = subst (λ (n : Names). AreWithin i.sparse n ds b ps entries) i.path.split_path w
 
-  pub entries_read : entries ≡ entries_within ds (index_mark i) b
+  pub entries_read : entries ≡ entries_within ds (index_key i) b
   entries_read = named.counted
 
-  pub places_read : length ps ≡ length (places_within ds (index_mark i) b)
+  pub places_read : length ps ≡ length (places_within ds (index_key i) b)
   places_read = ap (λ (l : List ℕ). length l) (all_within named)
 
-pub entries_walked : (i : Index) (ds : List Doc) (n : ℕ) → n ≡ length (entries_of i.sparse (names_of i.path) ds) → n ≡ (index_counts ds (index_mark i)).entries
-entries_walked i ds n h = h ∙ ap (λ (p : Names). length (entries_of i.sparse p ds)) i.path.cut
+pub entries_walked : (i : Index) (ds : List Doc) (n : ℕ) → n ≡ length (entries_of i.sparse (names_of i.path) ds) → n ≡ (index_counts ds (index_key i)).entries
+entries_walked i ds n h = h ∙ ap (λ (p : Names). length (entries_of i.sparse p ds)) i.path.split_path
 
 -- ---- the same path
 
@@ -231,53 +231,53 @@ same_text a b = same_from_decides {P = a ≡ b} (pointwise bytes_eq (components_
 abbrev pub dir_if : Bool → Dir → Option Dir
 dir_if b dir = cond b (Some dir) None
 
-walk_of_one : (i : Index) (s : Path × Dir) → walk_dir (index_mark i) (sort_paths (s ∷ [])) ≡ dir_if (not i.sparse && bytes_eq (string_bytes s.0.text) (string_bytes i.path.text)) s.1
+walk_of_one : (i : Index) (s : Path × Dir) → walk_dir (index_key i) (sort_paths (s ∷ [])) ≡ dir_if (not i.sparse && bytes_eq (string_bytes s.0.text) (string_bytes i.path.text)) s.1
 walk_of_one i s =
-    let names : names_of s.0 ≡ components_of (string_bytes s.0.text) = s.0.cut in
+    let names : names_of s.0 ≡ components_of (string_bytes s.0.text) = s.0.split_path in
     ap (λ (b : Bool). dir_if (not i.sparse && b) s.1)
     (ap (λ (n : Names). pointwise bytes_eq n (components_of (string_bytes i.path.text))) names ∙ same_text (string_bytes s.0.text) (string_bytes i.path.text))
 
 -- by the first pair, and whether there are others
 pub walk_of : (i : Index) (sort : List (Path × Dir)) (s : Path × Dir) (others : List (Path × Dir)) → sort ≡ s ∷ others
-    → walk_dir (index_mark i) (sort_paths sort) ≡ dir_if ((length others == 0) && (not i.sparse && bytes_eq (string_bytes s.0.text) (string_bytes i.path.text))) s.1
-walk_of i sort s others e = ap (λ (l : List (Path × Dir)). walk_dir (index_mark i) (sort_paths l)) e ∙ go others
+    → walk_dir (index_key i) (sort_paths sort) ≡ dir_if ((length others == 0) && (not i.sparse && bytes_eq (string_bytes s.0.text) (string_bytes i.path.text))) s.1
+walk_of i sort s others e = ap (λ (l : List (Path × Dir)). walk_dir (index_key i) (sort_paths l)) e ∙ go others
   where
-    go : (others : List (Path × Dir)) → walk_dir (index_mark i) (sort_paths (s ∷ others))
+    go : (others : List (Path × Dir)) → walk_dir (index_key i) (sort_paths (s ∷ others))
         ≡ dir_if ((length others == 0) && (not i.sparse && bytes_eq (string_bytes s.0.text) (string_bytes i.path.text))) s.1
     go [] = walk_of_one i s
     go (t ∷ ts) = ap (λ (b : Bool). dir_if (b && (not i.sparse && bytes_eq (string_bytes s.0.text) (string_bytes i.path.text))) s.1) (sym (ne_eqb (suc (length ts)) 0 (λ e. absurd (omega arith))))
 
-pub walk_is : (i : Index) (ss : List SortPath) (dir : Dir) → Some dir ≡ walk_dir (index_mark i) ss
+pub walk_is : (i : Index) (ss : List SortPath) (dir : Dir) → Some dir ≡ walk_dir (index_key i) ss
     → (i.sparse ≡ false) × (ss ≡ record { path = names_of i.path; dir = dir } ∷ [])
 walk_is i (s ∷ []) dir e =
-    let own = components_of (string_bytes i.path.text) in
-    let one = cond_some (not i.sparse && pointwise bytes_eq s.path own) s.dir dir (sym e) in
-    let both = and_parts (not i.sparse) (pointwise bytes_eq s.path own) one.0 in
-    (not-true i.sparse both.0, ap₂ (λ (n : Names) (d : Dir). record { path = n; dir = d } ∷ []) ((names_equal s.path own).0 both.1 ∙ sym i.path.cut) one.1)
+    let components = components_of (string_bytes i.path.text) in
+    let one = cond_some (not i.sparse && pointwise bytes_eq s.path components) s.dir dir (sym e) in
+    let both = and_parts (not i.sparse) (pointwise bytes_eq s.path components) one.0 in
+    (not-true i.sparse both.0, ap₂ (λ (n : Names) (d : Dir). record { path = n; dir = d } ∷ []) ((names_equal s.path components).0 both.1 ∙ sym i.path.split_path) one.1)
 walk_is i _ dir e = absurd (let z : Some dir ≡ None = e in cc)
 
 -- ---- the index that is named, and the first in order
 
 -- an index that serves a sort in a direction has the order of the sort in it
-pub walk_leads : (dump : Dump) (r : Request) (i : Index) (dir : Dir) → IsIndexOf dump i → Some dir ≡ walk_dir (index_mark i) (sort_paths r.sort.items) → HasSortOrder dump r i dir
+pub walk_leads : (dump : Dump) (r : Request) (i : Index) (dir : Dir) → IsIndexOf dump i → Some dir ≡ walk_dir (index_key i) (sort_paths r.sort.items) → HasSortOrder dump r i dir
 walk_leads dump r i dir h e = let w = walk_is i (sort_paths r.sort.items) dir e in record { of_dump = h; whole = w.0; order = w.1 }
 
-pub named_other : (ds : List Doc) (f : Filter) (ss : List SortPath) (m : IndexMark) → None ≡ serving_bounds m (mark_bounds ds f m)
+pub named_other : (ds : List Doc) (f : Filter) (ss : List SortPath) (m : IndexKey) → None ≡ serving_bounds m (index_key_bounds ds f m)
     → named_access ds f ss m ≡ cond m.is_sparse scanned (walk_or m (walk_dir m ss) (bounded m None))
 named_other ds f ss m h = ap (λ b. bounded_or m b (cond m.is_sparse scanned (walk_or m (walk_dir m ss) (bounded m None)))) (sym h)
 
 -- its bounds are those of the filter, and it has what matches
-own_bounds : (dump : Dump) (i : Index) (f : Filter) → IsIndexOf dump i → mark_bounds (documents dump) f (index_mark i) ≡ bounds f (names_of i.path) i.multikey
-own_bounds dump i f h =
-    let names : mark_names (index_mark i) ≡ names_of i.path = sym i.path.cut in
+bounds_of_index : (dump : Dump) (i : Index) (f : Filter) → IsIndexOf dump i → index_key_bounds (documents dump) f (index_key i) ≡ bounds f (names_of i.path) i.multikey
+bounds_of_index dump i f h =
+    let names : index_key_names (index_key i) ≡ names_of i.path = sym i.path.split_path in
     ap (λ (n : Names). bounds f n (is_multikey n (documents dump))) names ∙ ap (bounds f (names_of i.path)) (sym h.many)
 
 -- an index whose bounds serve a filter has each match within them
 pub bounds_lead : (dump : Dump) (r : Request) (i : Index) (keys : Tree → Bool) → IsIndexOf dump i
-    → Some keys ≡ serving_bounds (index_mark i) (mark_bounds (documents dump) (filter_tree r.filter) (index_mark i)) → HasMatchesWithin dump r i (Some keys)
+    → Some keys ≡ serving_bounds (index_key i) (index_key_bounds (documents dump) (filter_tree r.filter) (index_key i)) → HasMatchesWithin dump r i (Some keys)
 bounds_lead dump r i keys h e =
-    let s = serves (mark_bounds (documents dump) (filter_tree r.filter) (index_mark i)) e in
-    record { of_dump = h; serves = (sym (own_bounds dump i (filter_tree r.filter) h) ∙ s.0, s.1) }
+    let s = serves (index_key_bounds (documents dump) (filter_tree r.filter) (index_key i)) e in
+    record { of_dump = h; serves = (sym (bounds_of_index dump i (filter_tree r.filter) h) ∙ s.0, s.1) }
   where
     by_test : (t : Bool) (set : Tree → Bool) → (i.sparse && set (leaf trees.null)) ≡ t → Some keys ≡ cond t None (Some set)
         → (Some set ≡ Some keys) × ((i.sparse && keys (leaf trees.null)) ≡ false)
@@ -286,18 +286,18 @@ bounds_lead dump r i keys h e =
         let same : set ≡ keys = cc in
         (ap Some same, ap (λ (k : Tree → Bool). i.sparse && k (leaf trees.null)) (sym same) ∙ is)
 
-    serves : (b : KeyBounds) → Some keys ≡ serving_bounds (index_mark i) b → (b ≡ Some keys) × ((i.sparse && keys (leaf trees.null)) ≡ false)
+    serves : (b : KeyBounds) → Some keys ≡ serving_bounds (index_key i) b → (b ≡ Some keys) × ((i.sparse && keys (leaf trees.null)) ≡ false)
     serves None e = absurd (let z : Some keys ≡ None = e in cc)
     serves (Some set) e = by_test (i.sparse && set (leaf trees.null)) set refl e
 
 -- ---- the first index on a path
 
-prefix_seen : {A B : Type 0} (p : B → Bool) (f : A → B) (xs : List A) → prefix_len p (map f xs) ≡ prefix_len (λ x. p (f x)) xs
-prefix_seen p f [] = refl
-prefix_seen p f (x ∷ xs) = ap (λ n. cond (p (f x)) (1 + n) 0) (prefix_seen p f xs)
+prefix_found : {A B : Type 0} (p : B → Bool) (f : A → B) (xs : List A) → prefix_len p (map f xs) ≡ prefix_len (λ x. p (f x)) xs
+prefix_found p f [] = refl
+prefix_found p f (x ∷ xs) = ap (λ n. cond (p (f x)) (1 + n) 0) (prefix_found p f xs)
 
-pub position_seen : {A B : Type 0} (p : B → Bool) (f : A → B) (xs : List A) → position p (map f xs) ≡ position (λ x. p (f x)) xs
-position_seen p f xs = ap₂ (λ (n m : ℕ). cond (nat_lt n m) (Some n) None) (prefix_seen (λ x. not (p x)) f xs) (length-map xs f)
+pub position_found : {A B : Type 0} (p : B → Bool) (f : A → B) (xs : List A) → position p (map f xs) ≡ position (λ x. p (f x)) xs
+position_found p f xs = ap₂ (λ (n m : ℕ). cond (nat_lt n m) (Some n) None) (prefix_found (λ x. not (p x)) f xs) (length-map xs f)
 
 later_lt : (n m : ℕ) (b : Bool) → nat_lt n m ≡ b → nat_lt (1 + n) (suc m) ≡ b
 later_lt n m b h = grind arith
@@ -315,7 +315,7 @@ found_if_there p xs =
 
 -- ---- the access path that the first index on a path has
 
-pub access_at : (ds : List Doc) (f : Filter) (ss : List SortPath) (path : List ℕ) (is : List IndexMark) (i : ℕ) (d : IndexMark)
+pub access_at : (ds : List Doc) (f : Filter) (ss : List SortPath) (path : List ℕ) (is : List IndexKey) (i : ℕ) (d : IndexKey)
     → i < length is → is_on path (get_or is i d) ≡ true → ((k : ℕ) → k < i → is_on path (get_or is k d) ≡ false)
     → access_on ds f ss path is ≡ named_access ds f ss (get_or is i d)
 access_at ds f ss path [] i d lt on before = absurd (omega arith)
@@ -324,24 +324,24 @@ access_at ds f ss path (m ∷ ms) (suc i) d lt on before =
     ap (λ b. cond b (named_access ds f ss m) (access_on ds f ss path ms)) (before 0 (omega arith))
     ∙ access_at ds f ss path ms i d (omega arith) on (λ k l. before (suc k) (omega arith))
 
-pub access_elsewhere : (ds : List Doc) (f : Filter) (ss : List SortPath) (path : List ℕ) (is : List IndexMark) → list_any (is_on path) is ≡ false
+pub access_elsewhere : (ds : List Doc) (f : Filter) (ss : List SortPath) (path : List ℕ) (is : List IndexKey) → list_any (is_on path) is ≡ false
     → access_on ds f ss path is ≡ scanned
 access_elsewhere ds f ss path [] none = refl
 access_elsewhere ds f ss path (m ∷ ms) none =
     let none = or_parts (is_on path m) (list_any (is_on path) ms) none in
     ap (λ b. cond b (named_access ds f ss m) (access_on ds f ss path ms)) none.0 ∙ access_elsewhere ds f ss path ms none.1
 
-pub found_below : (path : List ℕ) (is : List Index) (k : ℕ) (i : Index) → Some k ≡ position (is_on path) (map index_mark is) → k < length is
+pub found_below : (path : List ℕ) (is : List Index) (k : ℕ) (i : Index) → Some k ≡ position (is_on path) (map index_key is) → k < length is
 found_below path is k i found =
-    let first = position-Some (is_on path) (map index_mark is) k (index_mark i) (cc) in
-    omega (arith, first.0, length-map is index_mark)
+    let first = position-Some (is_on path) (map index_key is) k (index_key i) (cc) in
+    omega (arith, first.0, length-map is index_key)
 
-pub access_named : (ds : List Doc) (f : Filter) (ss : List SortPath) (path : List ℕ) (is : List Index) (k : ℕ) (i : Index) → Some k ≡ position (is_on path) (map index_mark is) → i ≡ get_or is k i
-    → named_access ds f ss (index_mark i) ≡ access_on ds f ss path (map index_mark is)
+pub access_named : (ds : List Doc) (f : Filter) (ss : List SortPath) (path : List ℕ) (is : List Index) (k : ℕ) (i : Index) → Some k ≡ position (is_on path) (map index_key is) → i ≡ get_or is k i
+    → named_access ds f ss (index_key i) ≡ access_on ds f ss path (map index_key is)
 access_named ds f ss path is k i found at =
-    let marks = map index_mark is in
-    let m = index_mark i in
-    let first = position-Some (is_on path) marks k m (sym found) in
-    let lt : k < length is = omega (arith, first.0, length-map is index_mark) in
-    let there : get_or marks k m ≡ m = get_or-map index_mark is k i m lt ∙ ap index_mark (sym at) in
-    sym (access_at ds f ss path marks k m first.0 first.1 (λ j l. first.2 j l) ∙ ap (named_access ds f ss) there)
+    let index_keys = map index_key is in
+    let m = index_key i in
+    let first = position-Some (is_on path) index_keys k m (sym found) in
+    let lt : k < length is = omega (arith, first.0, length-map is index_key) in
+    let there : get_or index_keys k m ≡ m = get_or-map index_key is k i m lt ∙ ap index_key (sym at) in
+    sym (access_at ds f ss path index_keys k m first.0 first.1 (λ j l. first.2 j l) ∙ ap (named_access ds f ss) there)

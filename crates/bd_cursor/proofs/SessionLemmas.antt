@@ -3,15 +3,15 @@ use Rattle.std.proofs.Common.{◌≡◌, ℕ, Bool, true, false, cond, List, [],
 use Rattle.std.proofs.Common.{Some, None, slice_get, slice_set}
 use Rattle.std.proofs.{lemmas.Bool.eq-eqb, lemmas.Bool.ne_eqb, lemmas.Bool.le-ltb, lemmas.Bool.cond_both, lemmas.Option.slice_get-map, lemmas.Option.slice_get_read}
 use Rattle.bd_value.specs.Limits.{greatest_count}
-use Rattle.bd_cursor_model.specs.Session.{Call, IndexMark, Reply, State, reply, state_after, OpenCursor, batch_of, cursor_of, gave, moved, next_reply, with_moved, without}
+use Rattle.bd_cursor_model.specs.Session.{Call, IndexKey, Reply, State, reply, state_after, OpenCursor, batch_of, cursor_of, gave, moved, next_reply, with_moved, without}
 use Rattle.bd_cursor_request.specs.declared.results.Refused.{Refused}
 use Rattle.bd_cursor.specs.SessionView.{IsRefusedCall, Steps, dump_of, state_of, open_cursor}
 use Rattle.bd_cursor.specs.{declared.session.Session.Session, declared.cursor.Cursor.Cursor}
 use Rattle.bd_bson_dump.specs.declared.collection.Dump.{Dump}
 use Rattle.std.specs.Prelude.{option_map}
 
-pub with_marks : (s : State) (is js : List IndexMark) → is ≡ js → record s { indexes = is } ≡ record s { indexes = js }
-with_marks s is js e = ap (λ (xs : List IndexMark). (let t : State = record s { indexes = xs } in t)) e
+pub with_index_keys : (s : State) (is js : List IndexKey) → is ≡ js → record s { indexes = is } ≡ record s { indexes = js }
+with_index_keys s is js e = ap (λ (xs : List IndexKey). (let t : State = record s { indexes = xs } in t)) e
 
 -- what is seen of those that are kept
 pub map_kept : {A B : Type 0} (f : A → B) (test : B → Bool) (xs : List A) → map f (filter (λ x. test (f x)) xs) ≡ filter test (map f xs)
@@ -24,14 +24,14 @@ map_kept f test (x ∷ xs) =
     ]
 
 -- a step from one session is one from another, over the same dump in the same state
-pub steps_from : {A : Type 0} (told : A → Reply) (call : Call) (a b : Session) (result : Result A Refused) (new : Session) → state_of a ≡ state_of b → dump_of a ≡ dump_of b
-    → Steps told call a result new → Steps told call b result new
-steps_from told call a b (Ok v) new same dump step = record {
+pub steps_from : {A : Type 0} (as_reply : A → Reply) (call : Call) (a b : Session) (result : Result A Refused) (new : Session) → state_of a ≡ state_of b → dump_of a ≡ dump_of b
+    → Steps as_reply call a result new → Steps as_reply call b result new
+steps_from as_reply call a b (Ok v) new same dump step = record {
   replies = ap (λ s. reply s call) (sym same) ∙ step.replies;
   moves = step.moves ∙ ap (λ s. state_after s call) same;
   dump = step.dump ∙ dump;
 }
-steps_from told call a b (Err why) new same dump step = record {
+steps_from as_reply call a b (Err why) new same dump step = record {
   because = subst (λ s. IsRefusedCall (reply s call) why) same step.because;
   stays = step.stays ∙ same;
   dump = step.dump ∙ dump;

@@ -4,11 +4,11 @@ use Rattle.std.specs.Prelude.{ℕ, Bool, false, ◌&&◌, not, List, [], ◌∷�
 use Rattle.std.specs.Prelude.{◌≡◌}
 use Rattle.std.specs.{Str.bytes_eq, Cmp.Lexicographic.pointwise}
 use Rattle.bd_value.specs.Tree.{Doc, leaf}
-use Rattle.bd_cursor_model.specs.Session.{IndexMark, is_on}
+use Rattle.bd_cursor_model.specs.Session.{IndexKey, is_on}
 use Rattle.bd_path.specs.{Sort.SortPath, Reach.Names, Path.components_of, declared.sort.Dir.Dir, PathNames.names_of, PathNames.path_text}
 use Rattle.bd_path.specs.{Sort.sort_paths}
 use Rattle.bd_query_filter.specs.{Filter.Filter, Filter.filter_tree}
-use Rattle.bd_index_bounds.specs.{Bounds.KeyBounds, Bounds.bounds, BoundsView.seen_bounds}
+use Rattle.bd_index_bounds.specs.{Bounds.KeyBounds, Bounds.bounds, BoundsView.bounds_view}
 use Rattle.bd_index.specs.{Entries.is_multikey, IndexView.IsIndexOf, declared.index.Index.Index}
 use Rattle.bd_cursor.specs.{declared.access.Choice.Choice, declared.access.Access.Access}
 use Rattle.bd_bson_dump.specs.declared.collection.Dump.{Dump}
@@ -33,68 +33,68 @@ way_of (choices.Index path) = by_one (path_text path)
 -- or all in the order of an index
 pub data AccessPath : Type 0 where
   scanned : AccessPath
-  bounded : IndexMark → KeyBounds → AccessPath
-  walked : IndexMark → Dir → AccessPath
+  bounded : IndexKey → KeyBounds → AccessPath
+  walked : IndexKey → Dir → AccessPath
 
 -- the path of an index in memory, and whether it is sparse
-abbrev pub index_mark : Index → IndexMark
-index_mark i = record { path = path_text i.path; is_sparse = i.sparse }
+abbrev pub index_key : Index → IndexKey
+index_key i = record { path = path_text i.path; is_sparse = i.sparse }
 
 -- the names of the path that an index is on
-abbrev pub mark_names : IndexMark → Names
-mark_names i = components_of i.path
+abbrev pub index_key_names : IndexKey → Names
+index_key_names i = components_of i.path
 
 -- the bounds that a filter gives to an index of these documents
-abbrev pub mark_bounds : List Doc → Filter → IndexMark → KeyBounds
-mark_bounds ds f i = bounds f (mark_names i) (is_multikey (mark_names i) ds)
+abbrev pub index_key_bounds : List Doc → Filter → IndexKey → KeyBounds
+index_key_bounds ds f i = bounds f (index_key_names i) (is_multikey (index_key_names i) ds)
 
 -- the bounds by which an index serves a filter;
 -- a sparse one, which has no entry for a missing field, only if null is outside
-abbrev pub serving_bounds : IndexMark → KeyBounds → KeyBounds
+abbrev pub serving_bounds : IndexKey → KeyBounds → KeyBounds
 serving_bounds i None = None
 serving_bounds i (Some keys) = if i.is_sparse && keys (leaf trees.null) then None else Some keys
 
 -- the direction in which an index has the order of a sort:
 -- if that is by its path alone, and the index is not sparse
-abbrev pub walk_dir : IndexMark → List SortPath → Option Dir
+abbrev pub walk_dir : IndexKey → List SortPath → Option Dir
 walk_dir i [] = None
-walk_dir i (s ∷ []) = if not i.is_sparse && pointwise bytes_eq s.path (mark_names i) then Some s.dir else None
+walk_dir i (s ∷ []) = if not i.is_sparse && pointwise bytes_eq s.path (index_key_names i) then Some s.dir else None
 walk_dir i (s ∷ t ∷ ss) = None
 
 -- by the bounds of an index, or without bounds another way
-abbrev pub bounded_or : IndexMark → KeyBounds → AccessPath → AccessPath
+abbrev pub bounded_or : IndexKey → KeyBounds → AccessPath → AccessPath
 bounded_or i None other = other
 bounded_or i (Some keys) other = bounded i (Some keys)
 
 -- by a walk of an index, if it has the order of the sort in some direction, else another way
-abbrev pub walk_or : IndexMark → Option Dir → AccessPath → AccessPath
+abbrev pub walk_or : IndexKey → Option Dir → AccessPath → AccessPath
 walk_or i None other = other
 walk_or i (Some dir) other = walked i dir
 
 -- the first index, in the order in which they were made, that serves by its bounds; without one another way
-abbrev pub first_bounded : List Doc → Filter → List IndexMark → AccessPath → AccessPath
+abbrev pub first_bounded : List Doc → Filter → List IndexKey → AccessPath → AccessPath
 first_bounded ds f [] other = other
-first_bounded ds f (i ∷ is) other = bounded_or i (serving_bounds i (mark_bounds ds f i)) (first_bounded ds f is other)
+first_bounded ds f (i ∷ is) other = bounded_or i (serving_bounds i (index_key_bounds ds f i)) (first_bounded ds f is other)
 
 -- the first index, in the order in which they were made, that has the order of the sort;
 -- without one another way
-abbrev pub first_walked : List SortPath → List IndexMark → AccessPath → AccessPath
+abbrev pub first_walked : List SortPath → List IndexKey → AccessPath → AccessPath
 first_walked ss [] other = other
 first_walked ss (i ∷ is) other = walk_or i (walk_dir i ss) (first_walked ss is other)
 
 -- the access path by a named index: by its bounds, else in its order, else by all of its entries;
 -- by a scan if it is sparse and its bounds do not serve
-abbrev pub named_access : List Doc → Filter → List SortPath → IndexMark → AccessPath
-named_access ds f ss i = bounded_or i (serving_bounds i (mark_bounds ds f i))
+abbrev pub named_access : List Doc → Filter → List SortPath → IndexKey → AccessPath
+named_access ds f ss i = bounded_or i (serving_bounds i (index_key_bounds ds f i))
     (if i.is_sparse then scanned else walk_or i (walk_dir i ss) (bounded i None))
 
 -- by the index on that path; by a scan if there is none
-abbrev pub access_on : List Doc → Filter → List SortPath → List ℕ → List IndexMark → AccessPath
+abbrev pub access_on : List Doc → Filter → List SortPath → List ℕ → List IndexKey → AccessPath
 access_on ds f ss path [] = scanned
 access_on ds f ss path (i ∷ is) = if is_on path i then named_access ds f ss i else access_on ds f ss path is
 
 -- the access path for what is asked for; indexes are tried in the order in which they were made
-abbrev pub access_of : List Doc → Filter → List SortPath → Way → List IndexMark → AccessPath
+abbrev pub access_of : List Doc → Filter → List SortPath → Way → List IndexKey → AccessPath
 access_of ds f ss by_none is = scanned
 access_of ds f ss by_any is = first_bounded ds f is (first_walked ss is scanned)
 access_of ds f ss (by_one path) is = access_on ds f ss path is
@@ -104,8 +104,8 @@ access_of ds f ss (by_one path) is = access_on ds f ss path is
 -- the access path that an `Access` in memory stands for
 abbrev pub access_path : Access → AccessPath
 access_path ways.Scan = scanned
-access_path (ways.Bounded index bounds) = bounded (index_mark index.now) (seen_bounds bounds)
-access_path (ways.Walk index dir) = walked (index_mark index.now) dir
+access_path (ways.Bounded index bounds) = bounded (index_key index.now) (bounds_view bounds)
+access_path (ways.Walk index dir) = walked (index_key index.now) dir
 
 -- The bounds are those that the filter gives to the index, with null outside if it is sparse;
 -- or there are none, and it is not sparse.
@@ -128,7 +128,7 @@ pub record HasSortOrder (dump : Dump) (r : Request) (index : Index) (dir : Dir) 
 -- The access path in memory leads to all documents that match the request.
 abbrev pub IsAccessOf : Dump → Request → Access → Type 0
 IsAccessOf dump r ways.Scan = Unit {0}
-IsAccessOf dump r (ways.Bounded index keys) = HasMatchesWithin dump r index.now (seen_bounds keys)
+IsAccessOf dump r (ways.Bounded index keys) = HasMatchesWithin dump r index.now (bounds_view keys)
 IsAccessOf dump r (ways.Walk index dir) = HasSortOrder dump r index.now dir
 
 -- The access path in memory is this one, and leads to all documents that match the request.

@@ -3,14 +3,14 @@ use Rattle.std.specs.Prelude.{ℕ, List, [], ◌∷◌, codes, count_by, length,
 use Rattle.std.specs.List.{filter, list_any, range_with_len}
 use Rattle.bd_value.specs.Tree.{Doc, leaf}
 use Rattle.bd_cursor_model.specs.Answer.{matching}
-use Rattle.bd_cursor_model.specs.Session.{IndexCounts, IndexMark}
+use Rattle.bd_cursor_model.specs.Session.{IndexCounts, IndexKey}
 use Rattle.bd_path.specs.Key.{indexed_keys}
 use Rattle.bd_cursor_request.specs.{Request.Request, Request.request_view, Results.count_value, Results.text_or_null}
 use Rattle.bd_bson_dump.specs.Collection.{document_at}
 use Rattle.bd_cursor_sort.specs.Selection.{selection_for}
 use Rattle.bd_index_bounds.specs.Bounds.{KeyBounds, is_among}
 use Rattle.bd_index.specs.{Entries.entries_of, Entries.is_multikey, Places.has_key_in}
-use Rattle.bd_cursor.specs.Access.{AccessPath, Way, access_of, bounded, mark_names, scanned, walked, way_of}
+use Rattle.bd_cursor.specs.Access.{AccessPath, Way, access_of, bounded, index_key_names, scanned, walked, way_of}
 use Rattle.bd_cursor.specs.{declared.access.Choice.Choice, declared.explaining.Explain.Explain}
 use Rattle.bd_cursor.specs.{declared.explaining.Plan.Plan}
 use Rattle.bd_value.specs.Tree as trees
@@ -18,17 +18,17 @@ use Rattle.bd_cursor.specs.declared.explaining.Plan.TheVariants as plans
 use Rattle.bd_cursor_request.specs.declared.request.Request as declared
 
 -- how many entries the index of these documents has, and whether one of them has two keys
-abbrev pub index_counts : List Doc → IndexMark → IndexCounts
+abbrev pub index_counts : List Doc → IndexKey → IndexCounts
 index_counts ds i =
-    record { entries = length (entries_of i.is_sparse (mark_names i) ds); is_multikey = is_multikey (mark_names i) ds }
+    record { entries = length (entries_of i.is_sparse (index_key_names i) ds); is_multikey = is_multikey (index_key_names i) ds }
 
 -- how many entries of an index are inside bounds
-abbrev pub entries_within : List Doc → IndexMark → KeyBounds → ℕ
-entries_within ds i b = count_by (has_key_in b) (entries_of i.is_sparse (mark_names i) ds)
+abbrev pub entries_within : List Doc → IndexKey → KeyBounds → ℕ
+entries_within ds i b = count_by (has_key_in b) (entries_of i.is_sparse (index_key_names i) ds)
 
 -- the numbers of the documents with an entry inside the bounds, ascending
-abbrev pub places_within : List Doc → IndexMark → KeyBounds → List ℕ
-places_within ds i b = filter (λ p. list_any (is_among b) (indexed_keys i.is_sparse (document_at ds p) (mark_names i)))
+abbrev pub places_within : List Doc → IndexKey → KeyBounds → List ℕ
+places_within ds i b = filter (λ p. list_any (is_among b) (indexed_keys i.is_sparse (document_at ds p) (index_key_names i)))
     (range_with_len 0 (length ds))
 
 -- the name of a plan in the reply to `explain`
@@ -46,8 +46,8 @@ explanation plan index entries documents matches =
     ∷ (codes "documents", count_value documents) ∷ (codes "matches", count_value matches) ∷ []
 
 -- the fields that an `Explain` in memory stands for
-abbrev pub told : Explain → Doc
-told e = explanation e.plan (option_map string_bytes e.index) e.entries e.documents e.matches
+abbrev pub explain_doc : Explain → Doc
+explain_doc e = explanation e.plan (option_map string_bytes e.index) e.entries e.documents e.matches
 
 -- what `explain` replies for an access path on which n documents match
 abbrev pub explained_access : List Doc → ℕ → AccessPath → Doc
@@ -57,11 +57,11 @@ explained_access ds n (bounded i b) =
 explained_access ds n (walked i dir) = explanation plans.Walk (Some i.path) (index_counts ds i).entries (length ds) n
 
 -- what `explain` replies for a request to these documents, with these indexes
-abbrev pub explanation_for : List Doc → Request → Way → List IndexMark → Doc
+abbrev pub explanation_for : List Doc → Request → Way → List IndexKey → Doc
 explanation_for ds r way indexes =
     explained_access ds (length (matching (selection_for ds r.filter r.sorts r.skip r.limit)))
     (access_of ds r.filter r.sorts way indexes)
 
 -- what `explain` reports of a request in memory to these documents, with these indexes
-abbrev pub explanation_of : List Doc → declared.Request → Choice → List IndexMark → Doc
+abbrev pub explanation_of : List Doc → declared.Request → Choice → List IndexKey → Doc
 explanation_of ds r choice = explanation_for ds (request_view r) (way_of choice)

@@ -3,16 +3,16 @@ use Rattle.std.specs.Prelude.{◌≡◌, ◌-◌, ℕ, Bool, List, drop, length,
 use Rattle.std.specs.Prelude.{Result, Ok, Err}
 use Rattle.std.specs.List.{cons_option, filter, range_with_len}
 use Rattle.bd_value.specs.Tree.{Doc}
-use Rattle.bd_cursor_model.specs.Answer.{Selection, Mark, at_most}
-use Rattle.bd_cursor_model.specs.Session.{left_after, open_reply, Query, Call, GivenBatch, IndexMark, MarkedToken, OpenCursor}
+use Rattle.bd_cursor_model.specs.Answer.{Selection, Position, at_most}
+use Rattle.bd_cursor_model.specs.Session.{remaining_after, open_reply, Query, Call, GivenBatch, IndexKey, PositionedToken, OpenCursor}
 use Rattle.bd_cursor_model.specs.Session.{Reply, State, changed_by, explain_call, make_call, reply, state_after, with_open}
 use Rattle.bd_cursor_model.specs.Session.{explained, foreign_token, gave, index_there, made, no_cursor, no_index, opened}
 use Rattle.bd_cursor_model.specs.Session.{out_of_range, token_place, too_many_cursors, too_many_indexes}
 use Rattle.bd_bson_dump.specs.{declared.collection.Dump.Dump, Collection.documents}
 use Rattle.bd_query_filter.specs.{Filter.filter_tree, declared.filter.Filter.Filter}
-use Rattle.bd_cursor_sort.specs.Selection.{hits_of, query_of}
+use Rattle.bd_cursor_sort.specs.Selection.{matches_at_of, query_of}
 use Rattle.bd_cursor.specs.{declared.cursor.ScanPosition.ScanPosition, Access.Way, Access.by_one, Access.way_of}
-use Rattle.bd_cursor.specs.{Access.index_mark, Explanation.explanation_of, Explanation.index_counts}
+use Rattle.bd_cursor.specs.{Access.index_key, Explanation.explanation_of, Explanation.index_counts}
 use Rattle.bd_cursor.specs.{declared.access.Choice.Choice, declared.cursor.Cursor.Cursor}
 use Rattle.bd_cursor.specs.{declared.cursor.Remainder.Remainder, declared.session.Session.Session}
 use Rattle.bd_path.specs.{PathNames.path_text, declared.path.Path.Path}
@@ -22,41 +22,41 @@ use Rattle.bd_cursor.specs.declared.cursor.Remainder.TheVariants as remainders
 use Rattle.bd_cursor_request.specs.declared.results.Refused.TheVariants as reasons
 
 -- the position in an answer that a token in memory has
-abbrev pub mark_of : Token → Mark
-mark_of t = record { given = t.given; last = t.last }
+abbrev pub position_of : Token → Position
+position_of t = record { given = t.given; last = t.last }
 
 -- the token that one in memory stands for
-abbrev pub marked_token : Token → MarkedToken
-marked_token t = record { mark = mark_of t; digest = t.digest }
+abbrev pub positioned_token : Token → PositionedToken
+positioned_token t = record { position = position_of t; digest = t.digest }
 
 -- what a scanning cursor has left: the match that it found,
 -- and after those to be skipped the matches among the documents that it did not look at
-abbrev pub scan_left : ℕ → (ℕ → Bool) → ScanPosition → List ℕ
-scan_left count hits a =
-    at_most a.most (cons_option a.found (drop a.skip (filter hits (range_with_len a.next (count - a.next)))))
+abbrev pub scan_remaining : ℕ → (ℕ → Bool) → ScanPosition → List ℕ
+scan_remaining count matches_at a =
+    at_most a.most (cons_option a.found (drop a.skip (filter matches_at (range_with_len a.next (count - a.next)))))
 
 -- the matches of a filter in a dump that a scanning cursor has yet to give
-abbrev pub scan_left_in : Dump → Filter → ScanPosition → List ℕ
-scan_left_in dump filter a = scan_left (length (documents dump)) (hits_of (documents dump) (filter_tree filter)) a
+abbrev pub scan_remaining_in : Dump → Filter → ScanPosition → List ℕ
+scan_remaining_in dump filter a = scan_remaining (length (documents dump)) (matches_at_of (documents dump) (filter_tree filter)) a
 
 -- the document numbers that a cursor in memory has left
-abbrev pub places_left : Selection → Remainder → List ℕ
-places_left a (remainders.Scanned position) = scan_left a.count a.hits position
-places_left a (remainders.Listed ps) = ps
+abbrev pub places_remaining : Selection → Remainder → List ℕ
+places_remaining a (remainders.Scanned position) = scan_remaining a.count a.matches_at position
+places_remaining a (remainders.Listed ps) = ps
 
 -- the cursor of the machine that one in memory stands for
 abbrev pub open_cursor : Dump → Cursor → OpenCursor
 open_cursor dump c = record {
   id = c.id;
   digest = (query_of dump c.request).digest;
-  token = option_map marked_token c.token;
-  left = places_left (query_of dump c.request).selection c.left;
+  token = option_map positioned_token c.token;
+  remaining = places_remaining (query_of dump c.request).selection c.remaining;
 }
 
 -- the state of the machine that a session in memory is in
 abbrev pub state_of : Session → State
 state_of s = record {
-  indexes = map index_mark s.indexes.items;
+  indexes = map index_key s.indexes.items;
   next_id = s.next_id;
   cursors = map (open_cursor s.documents.dump) s.cursors.items;
 }
@@ -73,16 +73,16 @@ abbrev pub hint_of : Choice → Option (List ℕ)
 hint_of choice = path_named (way_of choice)
 
 -- the index on this path, sparse or not
-abbrev pub path_mark : Bool → Path → IndexMark
-path_mark sparse path = record { path = path_text path; is_sparse = sparse }
+abbrev pub path_index_key : Bool → Path → IndexKey
+path_index_key sparse path = record { path = path_text path; is_sparse = sparse }
 
 -- the call that makes this index of these documents
-abbrev pub make_of : List Doc → IndexMark → Call
+abbrev pub make_of : List Doc → IndexKey → Call
 make_of ds i = make_call i (index_counts ds i)
 
 -- the call that makes an index of a dump on this path, sparse or not
 abbrev pub make_index : Bool → Dump → Path → Call
-make_index sparse dump path = make_of (documents dump) (path_mark sparse path)
+make_index sparse dump path = make_of (documents dump) (path_index_key sparse path)
 
 -- the call that explains a request to a dump
 abbrev pub explain_request : Dump → Request → Choice → Call
@@ -111,7 +111,7 @@ IsRefusedCall reply _ = ⊥
 
 -- the batch that one in memory stands for
 abbrev pub given_batch : Batch → GivenBatch
-given_batch b = record { places = b.places.items; token = option_map marked_token b.token; ends = b.end }
+given_batch b = record { places = b.places.items; token = option_map positioned_token b.token; ends = b.end }
 
 -- the dump that a session answers from
 abbrev pub dump_of : Session → Dump
@@ -134,16 +134,16 @@ pub record IsRefused (why : Refused) (call : Call) (old new : Session) : Type 0 
 -- A call on a session: if it has a value, it is a step of the machine with that reply;
 -- if it is refused, nothing changed.
 abbrev pub Steps : {A : Type 0} → (A → Reply) → Call → Session → Result A Refused → Session → Type 0
-Steps told call old (Ok v) new = IsStep (told v) call old new
-Steps told call old (Err why) new = IsRefused why call old new
+Steps as_reply call old (Ok v) new = IsStep (as_reply v) call old new
+Steps as_reply call old (Err why) new = IsRefused why call old new
 
 -- The machine grants that this index is made.
-abbrev pub IsGranted : Session → IndexMark → Type 0
+abbrev pub IsGranted : Session → IndexKey → Type 0
 IsGranted s i = reply (state_of s) (make_of (documents (dump_of s)) i) ≡ made (index_counts (documents (dump_of s)) i)
 
 -- The call opens a cursor on what a request has left after a token,
 -- if the index that it names is there and one more cursor may be open.
 pub record IsOpening (call : Call) (s : State) (q : Query) (hint : Option (List ℕ))
-    (t : Option MarkedToken) : Type 0 where
+    (t : Option PositionedToken) : Type 0 where
   pub replies : reply s call ≡ open_reply s hint
-  pub opens : changed_by (opened s.next_id) call s ≡ with_open s q.digest t (left_after q.selection t)
+  pub opens : changed_by (opened s.next_id) call s ≡ with_open s q.digest t (remaining_after q.selection t)

@@ -5,15 +5,15 @@ ghost use Rattle.std.specs.List.Sorted.{IsStrictlyIncreasing};
 ghost use Rattle.bd_cursor_model.specs.Answer.{at_most, is_empty};
 ghost use Rattle.bd_cursor_model.specs.Session.{has_index, is_on};
 ghost use Rattle.bd_cursor_model.specs.Source.{IsSource, places_after};
-ghost use Rattle.bd_index_bounds.specs.BoundsView.{seen_bounds};
+ghost use Rattle.bd_index_bounds.specs.BoundsView.{bounds_view};
 ghost use Rattle.bd_bson_dump.specs.Collection.{documents};
 ghost use Rattle.bd_bson_dump.specs.declared.collection.Dump.{Dump};
 ghost use Rattle.bd_query_filter.specs.Filter.{filter_tree};
 ghost use Rattle.bd_index.specs.IndexView.{AreIndexesOf, IsIndexOf};
 ghost use Rattle.bd_path.specs.{PathNames.path_text, Sort.sort_paths};
-ghost use Rattle.bd_cursor_sort.specs.Selection.{hits_of, selection_of};
-ghost use Rattle.bd_cursor.specs.Access.{IsAccessOf, Reaches, access_of, access_path, first_bounded, first_walked, index_mark};
-ghost use Rattle.bd_cursor.specs.Access.{mark_bounds, named_access, scanned, serving_bounds, walk_dir, way_of};
+ghost use Rattle.bd_cursor_sort.specs.Selection.{matches_at_of, selection_of};
+ghost use Rattle.bd_cursor.specs.Access.{IsAccessOf, Reaches, access_of, access_path, first_bounded, first_walked, index_key};
+ghost use Rattle.bd_cursor.specs.Access.{index_key_bounds, named_access, scanned, serving_bounds, walk_dir, way_of};
 
 use bd_bson_dump::Dump;
 use bd_cursor_model::{PlaceSource, Scan};
@@ -69,7 +69,7 @@ impl<'a> Access<'a> {
         requires { AreIndexesOf dump.now indexes.now }
         ensures path { IfOk result (λ a.
             access_path a ≡ access_of (documents dump.now) (filter_tree request.now.filter)
-            (sort_paths request.now.sort.items) (way_of choice.now) (map index_mark indexes.now)) }
+            (sort_paths request.now.sort.items) (way_of choice.now) (map index_key indexes.now)) }
         ensures leads { IfOk result (IsAccessOf dump.now request.now) }
     {
         match choice {
@@ -101,7 +101,7 @@ impl<'a> Access<'a> {
         most: Option<u64>,
     ) -> Result<Vec<u32>, NoMemory>
         requires leads { IsAccessOf dump.now request.now self.now }
-        requires there { IfSome last (λ p. p < length (documents dump.now)) }
+        requires in_range { IfSome last (λ p. p < length (documents dump.now)) }
         ensures { IfOk result (λ v. v.items
             ≡ at_most most (places_after (selection_of (documents dump.now) request.now) last)) }
     {
@@ -133,7 +133,7 @@ fn named_access<'a>(
 ) -> Result<Access<'a>, NoMemory>
     ensures { IfOk result (λ a. (dump : Dump) → IsIndexOf dump index.now →
         Reaches dump request.now (named_access (documents dump) (filter_tree request.now.filter)
-        (sort_paths request.now.sort.items) (index_mark index.now)) a) }
+        (sort_paths request.now.sort.items) (index_key index.now)) a) }
 {
     if let Some(bounds) = serving_bounds(alloc, index, &request.filter)? {
         let bounds = Some(bounds);
@@ -156,10 +156,10 @@ fn serving_access<'a>(
     request: &'a Request,
 ) -> Result<Access<'a>, NoMemory>
     ensures { IfOk result (λ a. (dump : Dump) → AreIndexesOf dump indexes.now →
-        let marks = map index_mark indexes.now in
+        let index_keys = map index_key indexes.now in
         Reaches dump request.now
-        (first_bounded (documents dump) (filter_tree request.now.filter) marks
-        (first_walked (sort_paths request.now.sort.items) marks scanned)) a) }
+        (first_bounded (documents dump) (filter_tree request.now.filter) index_keys
+        (first_walked (sort_paths request.now.sort.items) index_keys scanned)) a) }
 {
     for index in indexes {
         if let Some(bounds) = serving_bounds(alloc, index, &request.filter)? {
@@ -173,7 +173,7 @@ fn serving_access<'a>(
 /// In the order of the first index that has that of the sort, or without one.
 fn walk_or_scan<'a>(indexes: &'a [Index], request: &Request) -> Access<'a>
     ensures { (dump : Dump) → AreIndexesOf dump indexes.now → Reaches dump request.now (first_walked
-        (sort_paths request.now.sort.items) (map index_mark indexes.now) scanned) result }
+        (sort_paths request.now.sort.items) (map index_key indexes.now) scanned) result }
 {
     for index in indexes {
         if let Some(dir) = walk_dir(index, &request.sort) {
@@ -186,9 +186,9 @@ fn walk_or_scan<'a>(indexes: &'a [Index], request: &Request) -> Access<'a>
 /// Which index is on a path: the first of them, where there is one. It takes no memory.
 pub(crate) fn index_on(indexes: &[Index], path: &Path) -> Option<usize>
     ensures found { result
-        ≡ position (is_on (path_text path.now)) (map index_mark indexes.now) }
-    ensures there { is_some result
-        ≡ has_index (map index_mark indexes.now) (Some (path_text path.now)) }
+        ≡ position (is_on (path_text path.now)) (map index_key indexes.now) }
+    ensures has_index { is_some result
+        ≡ has_index (map index_key indexes.now) (Some (path_text path.now)) }
 {
     indexes
         .iter()
@@ -202,8 +202,8 @@ fn serving_bounds<'a>(
     filter: &'a Filter,
 ) -> Result<Option<Bounds<'a>>, NoMemory>
     ensures { IfOk result (λ b. (dump : Dump) →
-        IsIndexOf dump index.now → seen_bounds b ≡ serving_bounds (index_mark index.now)
-        (mark_bounds (documents dump) (filter_tree filter.now) (index_mark index.now))) }
+        IsIndexOf dump index.now → bounds_view b ≡ serving_bounds (index_key index.now)
+        (index_key_bounds (documents dump) (filter_tree filter.now) (index_key index.now))) }
 {
     let Some(bounds) = Bounds::of(alloc, filter, index.path(), index.multikey())? else {
         return Ok(None);
@@ -216,7 +216,7 @@ fn serving_bounds<'a>(
 
 /// The direction in which an index has the order of a sort, where it has. It takes no memory.
 fn walk_dir(index: &Index, sort: &[(Path, Dir)]) -> Option<Dir>
-    ensures { result ≡ walk_dir (index_mark index.now) (sort_paths sort.now) }
+    ensures { result ≡ walk_dir (index_key index.now) (sort_paths sort.now) }
 {
     let ((path, dir), others) = sort.split_first()?;
     if others.is_empty() && !index.sparse() && path.as_str() == index.path().as_str() {
@@ -236,9 +236,9 @@ fn ascending_places<P: PlaceSource + Drop>(
     most: Option<u64>,
 ) -> Result<Vec<u32>, NoMemory>
     requires serves { P.serves source (length (documents dump.now))
-        (hits_of (documents dump.now) (filter_tree request.now.filter)) }
-    requires ascends { IsStrictlyIncreasing (P.left source) }
-    requires there { IfSome last (λ p. p < length (documents dump.now)) }
+        (matches_at_of (documents dump.now) (filter_tree request.now.filter)) }
+    requires ascends { IsStrictlyIncreasing (P.remaining source) }
+    requires in_range { IfSome last (λ p. p < length (documents dump.now)) }
     ensures { IfOk result (λ v. v.items
         ≡ at_most most (places_after (selection_of (documents dump.now) request.now) last)) }
 {
@@ -277,7 +277,7 @@ impl PlaceList {
     /// Takes the next places, as many as the number, as long as there are any left.
     pub(crate) fn take(&mut self, alloc: Global, n: u64) -> Result<Vec<u32>, NoMemory>
         ensures given { IfOk result (λ given. given.items ≡ take n self.old) }
-        ensures left { IfOk result (λ given. self.new ≡ drop n self.old) }
+        ensures remaining { IfOk result (λ given. self.new ≡ drop n self.old) }
         ensures err { OnErr result (self.new ≡ self.old) }
     {
         let end = self.at + (n as usize).min(self.places.len() - self.at);
@@ -296,9 +296,9 @@ impl PlaceList {
 }
 
 impl PlaceSource for PlaceList {
-    ghost left = { λ s. s };
+    ghost remaining = { λ s. s };
 
-    ghost serves = { λ s n hits. IsSource n hits s };
+    ghost serves = { λ s n matches_at. IsSource n matches_at s };
 
     fn next_place(&mut self) -> Option<u32> {
         let place = *self.places.get(self.at)?;
@@ -306,5 +306,5 @@ impl PlaceSource for PlaceList {
         Some(place)
     }
 
-    ghost law = { λ s n hits is. is };
+    ghost law = { λ s n matches_at is. is };
 }

@@ -1,16 +1,16 @@
 //! An open cursor, the batches that it gives, and the places that it has left.
 
 ghost use Rattle.std.specs.Prelude.{◌≡◌, ◌<◌, ℕ, IfNone, IfOk, IfSome, List, None, OnErr, OnOk, Some, [], drop, if◌then◌else◌, length, map, option_map, slice_get, slice_set, take};
-ghost use Rattle.bd_cursor_model.specs.Answer.{at_most, cut, is_empty};
-ghost use Rattle.bd_cursor_model.specs.Session.{OpenCursor, batch_of, cursor_of, digest_after, given_by, left_after, moved, token_after, with_moved, without};
+ghost use Rattle.bd_cursor_model.specs.Answer.{at_most, limited, is_empty};
+ghost use Rattle.bd_cursor_model.specs.Session.{OpenCursor, batch_of, cursor_of, digest_after, given_by, remaining_after, moved, token_after, with_moved, without};
 ghost use Rattle.bd_cursor_model.specs.Source.{HandsOut};
 ghost use Rattle.bd_bson_dump.specs.Collection.{documents};
 ghost use Rattle.bd_bson_dump.specs.declared.collection.Dump.{Dump};
 ghost use Rattle.bd_query_filter.specs.Filter.{filter_tree};
 ghost use Rattle.bd_index.specs.IndexView.{AreIndexesOf};
-ghost use Rattle.bd_cursor_sort.specs.Selection.{hits_of, query_of, selection_of};
+ghost use Rattle.bd_cursor_sort.specs.Selection.{matches_at_of, query_of, selection_of};
 ghost use Rattle.bd_value.specs.Tree.{Doc};
-ghost use Rattle.bd_cursor.specs.SessionView.{given_batch, marked_token, open_cursor, places_left, scan_left, scan_left_in};
+ghost use Rattle.bd_cursor.specs.SessionView.{given_batch, positioned_token, open_cursor, places_remaining, scan_remaining, scan_remaining_in};
 
 use crate::access::{Access, Choice, PlaceList};
 use crate::session::DigestedDump;
@@ -29,7 +29,7 @@ pub(crate) struct Cursor {
     pub request: Request,
     /// After what it gave last, or the one that it was opened with.
     pub token: Option<Token>,
-    pub left: Remainder,
+    pub remaining: Remainder,
 }
 
 impl Cursor {
@@ -47,7 +47,9 @@ impl Cursor {
         ensures dump { documents.new.dump ≡ documents.old.dump }
         ensures err { OnErr result (self.new ≡ self.old) }
     {
-        let (places, end) = self.left.take(alloc, &documents.dump, &self.request, n)?;
+        let (places, end) = self
+            .remaining
+            .take(alloc, &documents.dump, &self.request, n)?;
         let token = token_after(documents, &self.request, self.token, &places);
         self.token = token;
         Ok(Batch { places, token, end })
@@ -61,9 +63,9 @@ fn token_after(
     token: Option<Token>,
     places: &[u32],
 ) -> Option<Token>
-    ensures token { option_map marked_token result
+    ensures token { option_map positioned_token result
         ≡ token_after (query_of documents.old.dump request.now).digest
-        (option_map marked_token token) places.now }
+        (option_map positioned_token token) places.now }
     ensures dump { documents.new.dump ≡ documents.old.dump }
 {
     let Some(last) = places.last() else {
@@ -84,9 +86,9 @@ fn given_before(
     request: &Request,
     token: Option<Token>,
 ) -> (u64, [u8; 32])
-    ensures given { result.0 ≡ given_by (option_map marked_token token) }
+    ensures given { result.0 ≡ given_by (option_map positioned_token token) }
     ensures digest { result.1 ≡ digest_after
-        (query_of documents.old.dump request.now).digest (option_map marked_token token) }
+        (query_of documents.old.dump request.now).digest (option_map positioned_token token) }
     ensures dump { documents.new.dump ≡ documents.old.dump }
 {
     match token {
@@ -163,17 +165,17 @@ impl Remainder {
         token: Option<Token>,
     ) -> Result<Remainder, NoMemory>
         requires indexes { AreIndexesOf dump.now indexes.now }
-        requires there { IfSome token (λ t. t.last < length (documents dump.now)) }
-        ensures { IfOk result (λ left.
-            places_left (selection_of (documents dump.now) request.now) left ≡ left_after
-            (selection_of (documents dump.now) request.now) (option_map marked_token token)) }
+        requires in_range { IfSome token (λ t. t.last < length (documents dump.now)) }
+        ensures { IfOk result (λ remaining. places_remaining
+            (selection_of (documents dump.now) request.now) remaining ≡ remaining_after
+            (selection_of (documents dump.now) request.now) (option_map positioned_token token)) }
     {
         let access = Access::of(alloc, dump, indexes, request, choice)?;
         if access.is_scan() && request.sort.is_empty() {
             return Ok(Remainder::Scanned(ScanPosition::of(request, token)));
         }
         if let Some(token) = token {
-            let most = most_left(request.limit, token.given);
+            let most = most_remaining(request.limit, token.given);
             let places = access.places(alloc, dump, request, Some(token.last), most)?;
             return Ok(Remainder::Listed(PlaceList::new(places, 0)));
         }
@@ -191,11 +193,11 @@ impl Remainder {
         n: u64,
     ) -> Result<(Vec<u32>, bool), NoMemory>
         ensures places { let a = selection_of (documents dump.now) request.now in IfOk result (λ r.
-            r.0.items ≡ take n (places_left a self.old)) }
+            r.0.items ≡ take n (places_remaining a self.old)) }
         ensures end { let a = selection_of (documents dump.now) request.now in IfOk result (λ r.
-            r.1 ≡ is_empty (drop n (places_left a self.old))) }
-        ensures left { let a = selection_of (documents dump.now) request.now in
-            IfOk result (λ r. places_left a self.new ≡ drop n (places_left a self.old)) }
+            r.1 ≡ is_empty (drop n (places_remaining a self.old))) }
+        ensures remaining { let a = selection_of (documents dump.now) request.now in
+            IfOk result (λ r. places_remaining a self.new ≡ drop n (places_remaining a self.old)) }
         ensures err { OnErr result (self.new ≡ self.old) }
     {
         match self {
@@ -215,8 +217,8 @@ impl Remainder {
 }
 
 /// How many places may still be given where so many were; without a limit all.
-fn most_left(limit: u64, given: u64) -> Option<u64>
-    ensures { (ps : List ℕ) → at_most result ps ≡ cut limit given ps }
+fn most_remaining(limit: u64, given: u64) -> Option<u64>
+    ensures { (ps : List ℕ) → at_most result ps ≡ limited limit given ps }
 {
     if limit == 0 {
         None
@@ -229,7 +231,7 @@ fn most_left(limit: u64, given: u64) -> Option<u64>
 fn most_needed(request: &Request) -> Option<u64>
     ensures { let skip = request.now.skip in (ps : List ℕ) →
         length (at_most result ps) < 18446744073709551615 →
-        drop skip (at_most result ps) ≡ cut request.now.limit 0 (drop skip ps) }
+        drop skip (at_most result ps) ≡ limited request.now.limit 0 (drop skip ps) }
 {
     if request.limit == 0 {
         None
@@ -256,8 +258,8 @@ impl ScanPosition {
     fn of(request: &Request, token: Option<Token>) -> ScanPosition
         requires { IfSome token (λ t. t.last < 4294967295) }
         ensures { (ds : List Doc) → request.now.sort.items ≡ [] →
-            scan_left (length ds) (hits_of ds (filter_tree request.now.filter)) result
-            ≡ left_after (selection_of ds request.now) (option_map marked_token token) }
+            scan_remaining (length ds) (matches_at_of ds (filter_tree request.now.filter)) result
+            ≡ remaining_after (selection_of ds request.now) (option_map positioned_token token) }
     {
         let (next, skip, given) = match token {
             Some(token) => (token.last + 1, 0, token.given),
@@ -267,13 +269,13 @@ impl ScanPosition {
             found: None,
             next,
             skip,
-            most: most_left(request.limit, given),
+            most: most_remaining(request.limit, given),
         }
     }
 
     /// Takes the next places, as many as the number, as long as there are any left. Where memory runs out, where it stands
     /// says nothing.
-    #[tactic(auto, using(std::proofs::lemmas::List::drop_at, crate::proofs::CursorLemmas::drop_past))]
+    #[tactic(auto, using(std::proofs::lemmas::List::drop_at, crate::proofs::CursorLemmas::drop_beyond))]
     fn take(
         &mut self,
         alloc: Global,
@@ -282,9 +284,9 @@ impl ScanPosition {
         n: u64,
     ) -> Result<Vec<u32>, NoMemory>
         ensures places { IfOk result (λ v.
-            v.items ≡ take n (scan_left_in dump.now filter.now self.old)) }
-        ensures left { OnOk result (scan_left_in dump.now filter.now self.new
-            ≡ drop n (scan_left_in dump.now filter.now self.old)) }
+            v.items ≡ take n (scan_remaining_in dump.now filter.now self.old)) }
+        ensures remaining { OnOk result (scan_remaining_in dump.now filter.now self.new
+            ≡ drop n (scan_remaining_in dump.now filter.now self.old)) }
     {
         let mut places = Vec::new(alloc);
         while (places.len() as u64) < n {
@@ -298,9 +300,9 @@ impl ScanPosition {
 
     /// Whether nothing is left.
     fn is_empty(&mut self, dump: &Dump, filter: &Filter) -> bool
-        ensures empty { result ≡ is_empty (scan_left_in dump.now filter.now self.old) }
-        ensures left { scan_left_in dump.now filter.now self.new
-            ≡ scan_left_in dump.now filter.now self.old }
+        ensures empty { result ≡ is_empty (scan_remaining_in dump.now filter.now self.old) }
+        ensures remaining { scan_remaining_in dump.now filter.now self.new
+            ≡ scan_remaining_in dump.now filter.now self.old }
     {
         if self.most == Some(0) {
             return true;
@@ -311,8 +313,8 @@ impl ScanPosition {
 
     /// Gives the next place, where one is left.
     fn next_match(&mut self, dump: &Dump, filter: &Filter) -> Option<u32>
-        ensures { HandsOut result (scan_left_in dump.now filter.now self.old)
-            (scan_left_in dump.now filter.now self.new) }
+        ensures { HandsOut result (scan_remaining_in dump.now filter.now self.old)
+            (scan_remaining_in dump.now filter.now self.new) }
     {
         if self.most == Some(0) {
             return None;
@@ -326,10 +328,10 @@ impl ScanPosition {
 
     /// Looks for the next match, unless one was found.
     fn look(&mut self, dump: &Dump, filter: &Filter)
-        ensures left { scan_left_in dump.now filter.now self.new
-            ≡ scan_left_in dump.now filter.now self.old }
+        ensures remaining { scan_remaining_in dump.now filter.now self.new
+            ≡ scan_remaining_in dump.now filter.now self.old }
         ensures most { self.new.most ≡ self.old.most }
-        ensures none { self.new.found ≡ None → scan_left_in dump.now filter.now self.new ≡ [] }
+        ensures none { self.new.found ≡ None → scan_remaining_in dump.now filter.now self.new ≡ [] }
     {
         while self.found.is_none() && self.next < dump.len() {
             let place = self.next;

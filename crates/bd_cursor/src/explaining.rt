@@ -5,10 +5,10 @@ ghost use Rattle.std.specs.List.{range_with_len};
 ghost use Rattle.bd_cursor_model.specs.Answer.{matching};
 ghost use Rattle.bd_bson_dump.specs.Collection.{documents};
 ghost use Rattle.bd_query_filter.specs.Filter.{filter_tree};
-ghost use Rattle.bd_cursor_sort.specs.Selection.{selection_of, hits_of};
+ghost use Rattle.bd_cursor_sort.specs.Selection.{selection_of, matches_at_of};
 ghost use Rattle.bd_index.specs.IndexView.{AreIndexesOf};
-ghost use Rattle.bd_cursor.specs.Access.{IsAccessOf, access_path, index_mark};
-ghost use Rattle.bd_cursor.specs.Explanation.{explained_access, explanation_of, told};
+ghost use Rattle.bd_cursor.specs.Access.{IsAccessOf, access_path, index_key};
+ghost use Rattle.bd_cursor.specs.Explanation.{explained_access, explanation_of, explain_doc};
 
 use crate::access::{Access, Choice};
 use bd_bson_dump::Dump;
@@ -53,8 +53,8 @@ pub(crate) fn explanation_of(
     choice: &Choice,
 ) -> Result<Explain, NoMemory>
     requires { AreIndexesOf dump.now indexes.now }
-    ensures { IfOk result (λ e. told e
-        ≡ explanation_of (documents dump.now) request.now choice.now (map index_mark indexes.now)) }
+    ensures { IfOk result (λ e. explain_doc e
+        ≡ explanation_of (documents dump.now) request.now choice.now (map index_key indexes.now)) }
 {
     let access = Access::of(alloc, dump, indexes, request, choice)?;
     explain_access(alloc, dump, request, &access)
@@ -68,7 +68,7 @@ fn explain_access(
     access: &Access<'_>,
 ) -> Result<Explain, NoMemory>
     requires { IsAccessOf dump.now request.now access.now }
-    ensures { IfOk result (λ e. told e ≡ explained_access (documents dump.now) (length
+    ensures { IfOk result (λ e. explain_doc e ≡ explained_access (documents dump.now) (length
         (matching (selection_of (documents dump.now) request.now))) (access_path access.now)) }
 {
     match access {
@@ -102,7 +102,7 @@ fn explain_access(
 /// How many documents match.
 #[tactic(auto, using(crate::proofs::AccessLemmas::count_more))]
 fn count_matches(dump: &Dump, filter: &Filter) -> u64
-    ensures { result ≡ count_by (hits_of (documents dump.now) (filter_tree filter.now))
+    ensures { result ≡ count_by (matches_at_of (documents dump.now) (filter_tree filter.now))
         (range_with_len 0 (length (documents dump.now))) }
 {
     let mut count = 0;
@@ -117,7 +117,8 @@ fn count_matches(dump: &Dump, filter: &Filter) -> u64
 /// How many of the documents at these places match.
 fn count_among(dump: &Dump, filter: &Filter, places: &[u32]) -> u64
     requires { All (λ p. p < length (documents dump.now)) places.now }
-    ensures { result ≡ count_by (hits_of (documents dump.now) (filter_tree filter.now)) places.now }
+    ensures { result
+        ≡ count_by (matches_at_of (documents dump.now) (filter_tree filter.now)) places.now }
 {
     let mut count = 0;
     for place in places {

@@ -41,10 +41,10 @@ impl Session {
     ghost use Rattle.bd_cursor_model.specs.Session.{open_reply, opened, reply, resume_call};
     ghost use Rattle.bd_bson_dump.specs.Collection.{documents};
     ghost use Rattle.bd_index.specs.IndexView.{IsIndexOf};
-    ghost use Rattle.bd_cursor.specs.Access.{index_mark};
-    ghost use Rattle.bd_cursor.specs.SessionView.{IsGranted, IsOpening, IsRefusedCall, Steps, dump_of, given_batch, marked_token, path_mark};
+    ghost use Rattle.bd_cursor.specs.Access.{index_key};
+    ghost use Rattle.bd_cursor.specs.SessionView.{IsGranted, IsOpening, IsRefusedCall, Steps, dump_of, given_batch, positioned_token, path_index_key};
     ghost use Rattle.bd_cursor.specs.SessionView.{explain_request, hint_of, make_index, make_of, state_of};
-    ghost use Rattle.bd_cursor.specs.Explanation.{told};
+    ghost use Rattle.bd_cursor.specs.Explanation.{explain_doc};
     ghost use Rattle.bd_cursor_request.specs.Results.{made_counts};
 
     /// A session with no index and no cursor. It takes no memory.
@@ -117,7 +117,7 @@ impl Session {
     ///
     /// `NoIndex` where an index is asked for that is not there. `NoMemory` where no memory was given.
     pub fn explain(&self, request: &Request, choice: &Choice) -> Result<Explain, Refused>
-        ensures steps { Steps (λ e. explained (told e))
+        ensures steps { Steps (λ e. explained (explain_doc e))
             (explain_request (dump_of self.now) request.now choice.now) self.now result self.now }
     {
         self.has_choice(choice)?;
@@ -155,7 +155,7 @@ impl Session {
     ) -> Result<u64, Refused>
         ensures steps { Steps opened
             (resume_call (query_of (dump_of self.old) request) (hint_of choice)
-            (marked_token token.now)) self.old result self.new }
+            (positioned_token token.now)) self.old result self.new }
     {
         let token = *token;
         if let Err(why) = self.may_resume(&request, token) {
@@ -205,7 +205,7 @@ impl Session {
 
     /// Whether the index that is asked for is there.
     fn has_choice(&self, choice: &Choice) -> Result<(), Refused>
-        ensures there { OnOk result
+        ensures has_index { OnOk result
             (IsTrue (has_index (state_of self.now).indexes (hint_of choice.now))) }
         ensures refused { IfErr result (λ r. (r ≡ Refused.NoIndex)
             × IsFalse (has_index (state_of self.now).indexes (hint_of choice.now))) }
@@ -232,7 +232,7 @@ impl Session {
     /// An index of the dump, sparse or not.
     fn build(&self, path: Path, sparse: bool) -> Result<Index, NoMemory>
         ensures index { IfOk result (IsIndexOf (dump_of self.now)) }
-        ensures mark { IfOk result (λ index. index_mark index ≡ path_mark sparse path) }
+        ensures index_key_is { IfOk result (λ index. index_key index ≡ path_index_key sparse path) }
     {
         if sparse {
             Index::build_sparse(self.alloc, &self.documents.dump, path)
@@ -243,7 +243,7 @@ impl Session {
 
     /// Whether an index may be made, and why not.
     fn may_make(&self, path: &Path, sparse: bool) -> Result<(), Refused>
-        ensures granted { OnOk result (IsGranted self.now (path_mark sparse path.now)) }
+        ensures granted { OnOk result (IsGranted self.now (path_index_key sparse path.now)) }
         ensures refused { IfErr result (IsRefusedCall
             (reply (state_of self.now) (make_index sparse (dump_of self.now) path.now))) }
     {
@@ -259,9 +259,9 @@ impl Session {
     /// Puts in an index of the dump that may be made, and tells what it has.
     fn add(&mut self, index: Index) -> Result<Made, Refused>
         requires index { IsIndexOf (dump_of self.old) index }
-        requires granted { IsGranted self.old (index_mark index) }
+        requires granted { IsGranted self.old (index_key index) }
         ensures steps { Steps (λ m. made (made_counts m))
-            (make_of (documents (dump_of self.old)) (index_mark index)) self.old result self.new }
+            (make_of (documents (dump_of self.old)) (index_key index)) self.old result self.new }
     {
         let entries = index.entries();
         let multikey = index.multikey();
@@ -271,13 +271,14 @@ impl Session {
 
     /// Whether a token is one of the request to this dump, and its document is there.
     fn may_resume(&mut self, request: &Request, token: Token) -> Result<(), Refused>
-        ensures there { OnOk result (token.last < length (documents (dump_of self.new))) }
-        ensures opens { OnOk result ((hint : Option (List ℕ)) → IsOpening (resume_call
-            (query_of (dump_of self.old) request.now) hint (marked_token token)) (state_of self.new)
-            (query_of (dump_of self.new) request.now) hint (Some (marked_token token))) }
+        ensures in_range { OnOk result (token.last < length (documents (dump_of self.new))) }
+        ensures opens { OnOk result ((hint : Option (List ℕ)) →
+            IsOpening (resume_call (query_of (dump_of self.old) request.now) hint
+            (positioned_token token)) (state_of self.new)
+            (query_of (dump_of self.new) request.now) hint (Some (positioned_token token))) }
         ensures refused { IfErr result (λ why. (hint : Option (List ℕ)) →
             IsRefusedCall (reply (state_of self.old) (resume_call
-            (query_of (dump_of self.old) request.now) hint (marked_token token))) why) }
+            (query_of (dump_of self.old) request.now) hint (positioned_token token))) why) }
         ensures same { state_of self.new ≡ state_of self.old }
         ensures dump { dump_of self.new ≡ dump_of self.old }
     {
@@ -310,19 +311,20 @@ impl Session {
     /// Opens a cursor on what a request has left.
     fn open(&mut self, request: Request, by: &Choice, token: Option<Token>) -> Result<u64, Refused>
         requires { IfSome token (λ t. t.last < length (documents (dump_of self.old))) }
-        ensures steps { (call : Call) → IsOpening call (state_of self.old)
-            (query_of (dump_of self.old) request) (hint_of by.now) (option_map marked_token token) →
+        ensures steps { (call : Call) →
+            IsOpening call (state_of self.old) (query_of (dump_of self.old) request)
+            (hint_of by.now) (option_map positioned_token token) →
             Steps opened call self.old result self.new }
     {
         self.may_open(by)?;
         let data = &self.documents;
-        let left = Remainder::of(self.alloc, &data.dump, &self.indexes, &request, by, token)?;
+        let remaining = Remainder::of(self.alloc, &data.dump, &self.indexes, &request, by, token)?;
         let id = self.next_id;
         self.cursors.push(Cursor {
             id,
             request,
             token,
-            left,
+            remaining,
         })?;
         self.next_id += 1;
         Ok(id)
@@ -361,7 +363,7 @@ impl DigestedDump {
 
 /// A request puts the documents of a dump into one order, up to ties, and its limit can be counted. So the laws of sessions hold of
 /// it: a cursor gives the answer of its request in batches, and each token leads on to the rest.
-#[tactic(auto, using(crate::proofs::CursorLemmas::asked_total))]
+#[tactic(auto, using(crate::proofs::CursorLemmas::requested_total))]
 pub fn requests_are_fair(dump: &Dump, request: &Request)
     ensures { IsFair (query_of dump.now request.now) }
 {

@@ -6,8 +6,8 @@ use Rattle.std.proofs.{lemmas.Bool.cases_lt, lemmas.Bool.cond_both, lemmas.Bool.
 use Rattle.std.proofs.{Math.Seq.take-add}
 use Rattle.std.specs.{Ordering.ordering_then, Ordering.ordering_reverse, Ordering.is_lt, declared.cmp.Ordering.TheVariants.Less, declared.cmp.Ordering.TheVariants.Equal, Cmp.IsTotalOrder}
 use Rattle.std.specs.{List.range_with_len, List.Contains, List.concat}
-use Rattle.bd_cursor_model.specs.Answer.{before, Selection, matching, ordered, cut, answer, Mark, batches, is_empty, rest}
-use Rattle.bd_cursor_model.specs.{Session.MarkedToken, Session.given_by, Session.left_after, Laws.IsStrictOrder, Laws.IsAscending, Laws.IsMarkAfter}
+use Rattle.bd_cursor_model.specs.Answer.{before, Selection, matching, ordered, limited, answer, Position, batches, is_empty, rest}
+use Rattle.bd_cursor_model.specs.{Session.PositionedToken, Session.given_by, Session.remaining_after, Laws.IsStrictOrder, Laws.IsAscending, Laws.IsPositionAfter}
 use Rattle.bd_cursor_model.proofs.OrderLemmas.{In, Rises, in_filter, filter_in, filter_apart, in_range, range_in, range_apart, in_insert_all, insert_all_in, insert_all_rises, in_at, filter_twice}
 use Rattle.bd_cursor_model.proofs.OrderLemmas.{filter_rises, after_member}
 
@@ -35,26 +35,26 @@ before_strict by o =
     }
 
 -- the matches
-pub in_matching : (a : Selection) (p : ℕ) → p < a.count → a.hits p ≡ true → In p (matching a)
-in_matching a p h e = in_filter a.hits (range_with_len 0 a.count) p (in_range 0 a.count p (omega arith) (omega arith)) e
+pub in_matching : (a : Selection) (p : ℕ) → p < a.count → a.matches_at p ≡ true → In p (matching a)
+in_matching a p h e = in_filter a.matches_at (range_with_len 0 a.count) p (in_range 0 a.count p (omega arith) (omega arith)) e
 
-pub matching_in : (a : Selection) (p : ℕ) → In p (matching a) → (p < a.count) × (a.hits p ≡ true)
+pub matching_in : (a : Selection) (p : ℕ) → In p (matching a) → (p < a.count) × (a.matches_at p ≡ true)
 matching_in a p h =
-    let r = filter_in a.hits (range_with_len 0 a.count) p h in
+    let r = filter_in a.matches_at (range_with_len 0 a.count) p h in
     let s = range_in 0 a.count p r.0 in
     (omega arith, r.1)
 
 -- each document that matches is among the ordered ones
-pub in_ordered : (a : Selection) (p : ℕ) → p < a.count → a.hits p ≡ true → In p (ordered a)
+pub in_ordered : (a : Selection) (p : ℕ) → p < a.count → a.matches_at p ≡ true → In p (ordered a)
 in_ordered a p h e = in_insert_all (before a.by) [] (matching a) p (inr (in_matching a p h e))
 
 -- each of the ordered documents is one of the dump, and matches
-pub ordered_in : (a : Selection) (p : ℕ) → In p (ordered a) → (p < a.count) × (a.hits p ≡ true)
+pub ordered_in : (a : Selection) (p : ℕ) → In p (ordered a) → (p < a.count) × (a.matches_at p ≡ true)
 ordered_in a p h = elim (insert_all_in (before a.by) [] (matching a) p h) [ inl b ↦ absurd b | inr b ↦ matching_in a p b ]
 
 -- each of the ordered documents comes before all later ones
 pub ordered_rises : (a : Selection) → IsTotalOrder a.by → Rises (before a.by) (ordered a)
-ordered_rises a o = insert_all_rises (before_strict a.by o) [] (matching a) (filter_apart a.hits (range_with_len 0 a.count) (range_apart 0 a.count)) (λ x h g. h) tt
+ordered_rises a o = insert_all_rises (before_strict a.by o) [] (matching a) (filter_apart a.matches_at (range_with_len 0 a.count) (range_apart 0 a.count)) (λ x h g. h) tt
 
 -- by places in a list
 pub contains_in : (xs : List ℕ) (x : ℕ) → Contains xs x → In x xs
@@ -90,11 +90,11 @@ take_rises lt zero xs h = tt
 take_rises lt (suc n) [] h = tt
 take_rises lt (suc n) (x ∷ xs) h = (λ y e. h.0 y (take_in n xs y e), take_rises lt n xs h.1)
 
-pub cut_rises : (lt : ℕ → ℕ → Bool) (limit old : ℕ) (xs : List ℕ) → Rises lt xs → Rises lt (cut limit old xs)
-cut_rises lt limit old xs h = cond_both (limit == 0) xs (take (limit - old) xs) (Rises lt) (λ e. h) (λ e. take_rises lt (limit - old) xs h)
+pub limited_rises : (lt : ℕ → ℕ → Bool) (limit old : ℕ) (xs : List ℕ) → Rises lt xs → Rises lt (limited limit old xs)
+limited_rises lt limit old xs h = cond_both (limit == 0) xs (take (limit - old) xs) (Rises lt) (λ e. h) (λ e. take_rises lt (limit - old) xs h)
 
 pub answer_rises : (a : Selection) → IsTotalOrder a.by → Rises (before a.by) (answer a)
-answer_rises a o = cut_rises (before a.by) a.limit 0 (drop a.skip (ordered a)) (drop_rises (before a.by) a.skip (ordered a) (ordered_rises a o))
+answer_rises a o = limited_rises (before a.by) a.limit 0 (drop a.skip (ordered a)) (drop_rises (before a.by) a.skip (ordered a) (ordered_rises a o))
 
 sum-cons : (n : ℕ) (ns : List ℕ) → sum (n ∷ ns) ≡ n + sum ns
 sum-cons n ns = sum_by-cons (λ x. x) n ns
@@ -103,26 +103,26 @@ no_length : (xs : List ℕ) → is_empty xs ≡ true → length xs ≡ 0
 no_length [] e = refl
 no_length (x ∷ xs) e = let g : ⊥ = cc in absurd g
 
-pub nothing_left : (n : ℕ) (xs : List ℕ) → is_empty (drop n xs) ≡ true → length xs ≤ n
-nothing_left n xs e = let h = no_length (drop n xs) e in omega (arith, length-drop n xs)
+pub nothing_remaining : (n : ℕ) (xs : List ℕ) → is_empty (drop n xs) ≡ true → length xs ≤ n
+nothing_remaining n xs e = let h = no_length (drop n xs) e in omega (arith, length-drop n xs)
 
 pub batches_joined : (ps sizes : List ℕ) → concat (batches ps sizes) ≡ take (sum sizes) ps
 batches_joined ps [] = refl
 batches_joined ps (n ∷ ns) = rw (sum-cons n ns) (cond_both (is_empty (drop n ps)) [] (batches (drop n ps) ns) (λ zs. take n ps ++ concat zs ≡ take (n + sum ns) ps)
-    (λ e. let h = nothing_left n ps e in append-nil (take n ps) ∙ take_all n ps (omega arith) ∙ sym (take_all (n + sum ns) ps (omega arith)))
+    (λ e. let h = nothing_remaining n ps e in append-nil (take n ps) ∙ take_all n ps (omega arith) ∙ sym (take_all (n + sum ns) ps (omega arith)))
     (λ e. ap (λ zs. take n ps ++ zs) (batches_joined (drop n ps) ns) ∙ sym (take-add n (sum ns) ps)))
 
 -- a limit that passes over what was given
-pub cut_length : (limit old : ℕ) (xs : List ℕ) (k : ℕ) → k ≤ length (cut limit old xs) → k ≤ length xs
-cut_length limit old xs k h = cond_both (limit == 0) xs (take (limit - old) xs) (λ ys. k ≤ length ys → k ≤ length xs)
+pub limited_length : (limit old : ℕ) (xs : List ℕ) (k : ℕ) → k ≤ length (limited limit old xs) → k ≤ length xs
+limited_length limit old xs k h = cond_both (limit == 0) xs (take (limit - old) xs) (λ ys. k ≤ length ys → k ≤ length xs)
     (λ e h. h) (λ e h. omega (arith, length-take (limit - old) xs)) h
 
-pub cut_get : (limit old : ℕ) (xs : List ℕ) (i d : ℕ) → i < length (cut limit old xs) → get_or (cut limit old xs) i d ≡ get_or xs i d
-cut_get limit old xs i d h = cond_both (limit == 0) xs (take (limit - old) xs) (λ ys. i < length ys → get_or ys i d ≡ get_or xs i d)
+pub limited_get : (limit old : ℕ) (xs : List ℕ) (i d : ℕ) → i < length (limited limit old xs) → get_or (limited limit old xs) i d ≡ get_or xs i d
+limited_get limit old xs i d h = cond_both (limit == 0) xs (take (limit - old) xs) (λ ys. i < length ys → get_or ys i d ≡ get_or xs i d)
     (λ e h. refl) (λ e h. get_or-take (limit - old) xs i d (omega (arith, length-take (limit - old) xs))) h
 
-pub cut_drop : (limit most old k : ℕ) (xs : List ℕ) → limit ≤ most → k ≤ length (cut limit old xs) → cut limit (min most (old + k)) (drop k xs) ≡ drop k (cut limit old xs)
-cut_drop limit most old k xs l h = go (limit == 0) refl h
+pub limited_drop : (limit most old k : ℕ) (xs : List ℕ) → limit ≤ most → k ≤ length (limited limit old xs) → limited limit (min most (old + k)) (drop k xs) ≡ drop k (limited limit old xs)
+limited_drop limit most old k xs l h = go (limit == 0) refl h
   where
     go : (b : Bool) → (limit == 0) ≡ b → k ≤ length (cond b xs (take (limit - old) xs))
         → cond b (drop k xs) (take (limit - min most (old + k)) (drop k xs)) ≡ drop k (cond b xs (take (limit - old) xs))
@@ -150,21 +150,21 @@ after_filtered {lt = lt} o xs up p i d l =
     sym (filter_twice (lt p) (lt q) xs (λ x h. o.transitive p q x later h)) ∙ after_member o ys (filter_rises lt (lt p) xs up) i d l ∙ ap (λ k. drop k ys) (let e : suc i ≡ i + 1 = omega arith in e)
 
 -- a list that goes on, seen from a mark in it
-from_mark : (a : Selection) → (xs : List ℕ) → ((i d : ℕ) → i < length xs → filter (before a.by (get_or xs i d)) (ordered a) ≡ drop (i + 1) xs)
-    → (most old k : ℕ) (t : Mark) → a.limit ≤ most → IsMarkAfter most old k (cut a.limit old xs) t → rest a t ≡ drop k (cut a.limit old xs)
-from_mark a xs after most old k t l m =
+from_position : (a : Selection) → (xs : List ℕ) → ((i d : ℕ) → i < length xs → filter (before a.by (get_or xs i d)) (ordered a) ≡ drop (i + 1) xs)
+    → (most old k : ℕ) (t : Position) → a.limit ≤ most → IsPositionAfter most old k (limited a.limit old xs) t → rest a t ≡ drop k (limited a.limit old xs)
+from_position a xs after most old k t l m =
     let some : 0 < k = m.0 in
-    let few : k ≤ length (cut a.limit old xs) = m.1 in
+    let few : k ≤ length (limited a.limit old xs) = m.1 in
     let one : k - 1 + 1 ≡ k = omega arith in
-    let last : t.last ≡ get_or xs (k - 1) 0 = m.3 0 ∙ cut_get a.limit old xs (k - 1) 0 (omega arith) in
-    let inside : k - 1 < length xs = let n = cut_length a.limit old xs k few in omega arith in
+    let last : t.last ≡ get_or xs (k - 1) 0 = m.3 0 ∙ limited_get a.limit old xs (k - 1) 0 (omega arith) in
+    let inside : k - 1 < length xs = let n = limited_length a.limit old xs k few in omega arith in
     let on : filter (before a.by t.last) (ordered a) ≡ drop k xs = ap (λ p. filter (before a.by p) (ordered a)) last ∙ after (k - 1) 0 inside ∙ ap (λ n. drop n xs) one in
-    ap (λ n. cut a.limit n (filter (before a.by t.last) (ordered a))) m.2 ∙ ap (λ ys. cut a.limit (min most (old + k)) ys) on ∙ cut_drop a.limit most old k xs l few
+    ap (λ n. limited a.limit n (filter (before a.by t.last) (ordered a))) m.2 ∙ ap (λ ys. limited a.limit (min most (old + k)) ys) on ∙ limited_drop a.limit most old k xs l few
 
 -- the rest after a mark is what remains after the documents up to it
-pub rest_follows : (a : Selection) → IsTotalOrder a.by → (most : ℕ) → a.limit ≤ most → (t : Option MarkedToken) (k : ℕ) (m : Mark)
-    → IsMarkAfter most (given_by t) k (left_after a t) m → rest a m ≡ drop k (left_after a t)
+pub rest_follows : (a : Selection) → IsTotalOrder a.by → (most : ℕ) → a.limit ≤ most → (t : Option PositionedToken) (k : ℕ) (m : Position)
+    → IsPositionAfter most (given_by t) k (remaining_after a t) m → rest a m ≡ drop k (remaining_after a t)
 rest_follows a o most l None k m =
-    from_mark a (drop a.skip (ordered a)) (λ i d h. after_dropped (before_strict a.by o) (ordered a) (ordered_rises a o) a.skip i d h) most 0 k m l
-rest_follows a o most l (Some t) k m = from_mark a (filter (before a.by t.mark.last) (ordered a))
-    (λ i d h. after_filtered (before_strict a.by o) (ordered a) (ordered_rises a o) t.mark.last i d h) most t.mark.given k m l
+    from_position a (drop a.skip (ordered a)) (λ i d h. after_dropped (before_strict a.by o) (ordered a) (ordered_rises a o) a.skip i d h) most 0 k m l
+rest_follows a o most l (Some t) k m = from_position a (filter (before a.by t.position.last) (ordered a))
+    (λ i d h. after_filtered (before_strict a.by o) (ordered a) (ordered_rises a o) t.position.last i d h) most t.position.given k m l

@@ -7,7 +7,7 @@ use Rattle.std.proofs.{lemmas.Option.slice_get_cases}
 use Rattle.std.specs.{Prelude.slice_get, Cmp.IsTotalOrder, List.All, List.cons_option, List.filter_map, List.flat_map, List.range_with_len, Option.option_cmp, Ordering.ordering_then}
 use Rattle.std.specs.{Ordering.is_lt, declared.cmp.Ordering.TheVariants.Less, declared.cmp.Ordering.TheVariants.Equal, declared.cmp.Ordering.TheVariants.Greater}
 use Rattle.bd_cursor_model.specs.Laws.{DocumentRequest, IsEnough, found_in, matches_some, part_request, selection_over, IsSelectionOf}
-use Rattle.bd_cursor_model.specs.Answer.{insert, insert_all, before, ordered, answer, cut, Selection, matching}
+use Rattle.bd_cursor_model.specs.Answer.{insert, insert_all, before, ordered, answer, limited, Selection, matching}
 use Rattle.bd_cursor_model.proofs.OrderLemmas.{In, insert_in, filter_in, range_in}
 use Rattle.bd_cursor_model.proofs.{StableLemmas.stable, StableLemmas.stretch_all, StableLemmas.stretch_take, SourceLemmas.filter_same}
 
@@ -88,8 +88,8 @@ map_ordered r ds =
     ∙ put_all_somes r.by [] (filter r.matches ds)
 
 -- skip and limit, of places and of documents
-map_cut : {B : Type 0} (at : ℕ → B) (limit skip : ℕ) (ps : List ℕ) → map at (cut limit 0 (drop skip ps)) ≡ window limit skip (map at ps)
-map_cut at limit skip ps = rw (drop-map at skip ps, take-map at (limit - 0) (drop skip ps))
+map_limited : {B : Type 0} (at : ℕ → B) (limit skip : ℕ) (ps : List ℕ) → map at (limited limit 0 (drop skip ps)) ≡ window limit skip (map at ps)
+map_limited at limit skip ps = rw (drop-map at skip ps, take-map at (limit - 0) (drop skip ps))
     (elim (limit == 0) as (λ b. map at (cond b (drop skip ps) (take (limit - 0) (drop skip ps))) ≡ cond b (map at (drop skip ps)) (map at (take (limit - 0) (drop skip ps))))
     [ true ↦ refl | false ↦ refl ])
 
@@ -110,7 +110,7 @@ found_is : {A : Type 0} (r : DocumentRequest A) (ds : List A) → found_in r ds 
 found_is r ds =
     let xs = stable (earlier r.by) (filter r.matches ds) in
     filter_map_maps (slice_get ds) (answer (selection_over r ds))
-    ∙ ap (filter_map (λ o. o)) (map_cut (slice_get ds) r.limit r.skip (ordered (selection_over r ds)) ∙ ap (window r.limit r.skip) (map_ordered r ds) ∙ window_map (λ d. Some d) r.limit r.skip xs)
+    ∙ ap (filter_map (λ o. o)) (map_limited (slice_get ds) r.limit r.skip (ordered (selection_over r ds)) ∙ ap (window r.limit r.skip) (map_ordered r ds) ∙ window_map (λ d. Some d) r.limit r.skip xs)
     ∙ filter_map_somes (window r.limit r.skip xs)
 
 -- ---- parts
@@ -191,15 +191,15 @@ stretch_gives r o (suc k) enough xs ys zs =
     (window_same r.limit r.skip (suc k) _ _ n.0 n.1 (stretch_take w (suc k) (filter r.matches xs) bs (filter r.matches zs)))
     ∙ ap (λ ws. found_in r (xs ++ (ws ++ zs))) (sym (of_part_some r k ys))
 
-parts_after : {A : Type 0} (r : DocumentRequest A) → IsTotalOrder r.by → (limit : ℕ) → IsEnough r limit → (front : List A) (parts : List (List A))
-    → found_in r (front ++ flat_map (λ ds. ds) parts) ≡ found_in r (front ++ flat_map (found_in (part_request r limit)) parts)
-parts_after r o limit enough front [] = refl
-parts_after r o limit enough front (p ∷ ps) =
+parts_after : {A : Type 0} (r : DocumentRequest A) → IsTotalOrder r.by → (limit : ℕ) → IsEnough r limit → (prefix : List A) (parts : List (List A))
+    → found_in r (prefix ++ flat_map (λ ds. ds) parts) ≡ found_in r (prefix ++ flat_map (found_in (part_request r limit)) parts)
+parts_after r o limit enough prefix [] = refl
+parts_after r o limit enough prefix (p ∷ ps) =
     let given = found_in (part_request r limit) p in
-    stretch_gives r o limit enough front p (flat_map (λ ds. ds) ps)
-    ∙ ap (found_in r) (sym (append_assoc front given (flat_map (λ ds. ds) ps)))
-    ∙ parts_after r o limit enough (front ++ given) ps
-    ∙ ap (found_in r) (append_assoc front given (flat_map (found_in (part_request r limit)) ps))
+    stretch_gives r o limit enough prefix p (flat_map (λ ds. ds) ps)
+    ∙ ap (found_in r) (sym (append_assoc prefix given (flat_map (λ ds. ds) ps)))
+    ∙ parts_after r o limit enough (prefix ++ given) ps
+    ∙ ap (found_in r) (append_assoc prefix given (flat_map (found_in (part_request r limit)) ps))
 
 -- a request over the results of parts gives the answer of the whole
 pub parts_give : {A : Type 0} (r : DocumentRequest A) → IsTotalOrder r.by → (limit : ℕ) → IsEnough r limit → (parts : List (List A))
@@ -227,17 +227,17 @@ insert_all_alike n lt less same kept (p ∷ ps) h g =
     (λ z i. elim (insert_in lt p kept z i) [ inl e ↦ subst (λ y. y < n) (sym e) l | inr e ↦ h z e ]) (λ z i. g z (inr i))
     ∙ ap (λ zs. insert_all less zs ps) (insert_alike n lt less same p kept l h)
 
-pub ordered_alike : (a b : Selection) → a.count ≡ b.count → ((p : ℕ) → p < b.count → a.hits p ≡ b.hits p) → ((p q : ℕ) → p < b.count → q < b.count → a.by p q ≡ b.by p q) → ordered a ≡ ordered b
-ordered_alike a b count hits by =
-    let there : filter a.hits (range_with_len 0 a.count) ≡ matching b =
-    ap (λ n. filter a.hits (range_with_len 0 n)) count
-    ∙ filter_same a.hits b.hits (range_with_len 0 b.count) (λ p i. let r = range_in 0 b.count p i in hits p (omega arith)) in
+pub ordered_alike : (a b : Selection) → a.count ≡ b.count → ((p : ℕ) → p < b.count → a.matches_at p ≡ b.matches_at p) → ((p q : ℕ) → p < b.count → q < b.count → a.by p q ≡ b.by p q) → ordered a ≡ ordered b
+ordered_alike a b count matches_at by =
+    let there : filter a.matches_at (range_with_len 0 a.count) ≡ matching b =
+    ap (λ n. filter a.matches_at (range_with_len 0 n)) count
+    ∙ filter_same a.matches_at b.matches_at (range_with_len 0 b.count) (λ p i. let r = range_in 0 b.count p i in matches_at p (omega arith)) in
     ap (insert_all (before a.by) []) there
     ∙ insert_all_alike b.count (before a.by) (before b.by) (λ p q l m. ap (λ o. is_lt (ordering_then o (nat_cmp p q))) (by p q l m)) [] (matching b) (λ p i. absurd i)
-    (λ p i. let r = range_in 0 b.count p (filter_in b.hits (range_with_len 0 b.count) p i).0 in omega arith)
+    (λ p i. let r = range_in 0 b.count p (filter_in b.matches_at (range_with_len 0 b.count) p i).0 in omega arith)
 
 document_at : {A : Type 0} (ds : List A) (i : ℕ) → i < length ds → (d : A) × (slice_get ds i ≡ Some d)
-document_at ds i l = elim (slice_get_cases ds i).1 [ inl x ↦ (x.0, x.2) | inr past ↦ absurd (omega (arith, past.0)) ]
+document_at ds i l = elim (slice_get_cases ds i).1 [ inl x ↦ (x.0, x.2) | inr beyond ↦ absurd (omega (arith, beyond.0)) ]
 
 answer_alike : (a b : Selection) → ordered a ≡ ordered b → a.skip ≡ b.skip → a.limit ≡ b.limit → answer a ≡ answer b
 answer_alike a b e s l = rw (e, s, l) refl
@@ -247,7 +247,7 @@ answer_gives r ds a h =
     ap (filter_map (slice_get ds))
     (answer_alike a (selection_over r ds)
     (ordered_alike a (selection_over r ds) h.count
-    (λ p l. let x = document_at ds p l in h.hits p x.0 x.1 ∙ ap (matches_some r.matches) (sym x.1))
+    (λ p l. let x = document_at ds p l in h.matches_at p x.0 x.1 ∙ ap (matches_some r.matches) (sym x.1))
     (λ p q l m. let x = document_at ds p l in let y = document_at ds q m in h.by p q x.0 y.0 x.1 y.1
     ∙ ap (λ o. option_cmp r.by o (Some y.0)) (sym x.1) ∙ ap (option_cmp r.by (slice_get ds p)) (sym y.1)))
     h.skip h.limit)

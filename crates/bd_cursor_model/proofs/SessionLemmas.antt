@@ -5,10 +5,10 @@ use Rattle.std.proofs.lemmas.Bool.{cases_eq, cond_both, eqb-true, eqb-false, eq-
 use Rattle.std.proofs.{lemmas.Slice.Eq.bytes_eq-Decides, lemmas.List.drop_min, lemmas.List.length-take, lemmas.List.get_or-take, lemmas.List.get_or_default, lemmas.List.take-append-drop}
 use Rattle.std.specs.{Option.IfSome, Option.is_some, Option.option_or, Str.bytes_eq, List.cons_option, List.filter_map}
 use Rattle.bd_value.specs.Limits.{greatest_count, most_indexes}
-use Rattle.bd_cursor_model.specs.Session.{left_after, given_by, Call, GivenBatch, MarkedToken, OpenCursor, Query, Reply, State, batch_of, changed_by, cursor_of, digest_after, drop_call}
+use Rattle.bd_cursor_model.specs.Session.{remaining_after, given_by, Call, GivenBatch, PositionedToken, OpenCursor, Query, Reply, State, batch_of, changed_by, cursor_of, digest_after, drop_call}
 use Rattle.bd_cursor_model.specs.Session.{explain_call, find_call, foreign_token, gave, has_index, is_full, kill_call, no_cursor, killed, make_call, most_given, moved, next_call}
 use Rattle.bd_cursor_model.specs.Session.{next_reply, open_reply, opened, out_of_range, reply, resume_call, state_after, token_after, token_place, with_moved, with_open, without}
-use Rattle.bd_cursor_model.specs.Laws.{GivesInTurn, IsFair, IsMarkAfter, TokensFollow, answered_calls, attempt_replies, batch_in, batch_to, batches_to, new_state, replies, sizes_to, state_after_all, state_after_attempts}
+use Rattle.bd_cursor_model.specs.Laws.{GivesInTurn, IsFair, IsPositionAfter, TokensFollow, answered_calls, attempt_replies, batch_in, batch_to, batches_to, new_state, replies, sizes_to, state_after_all, state_after_attempts}
 use Rattle.bd_cursor_model.specs.Answer.{answer, batches, is_empty, rest}
 use Rattle.bd_cursor_model.proofs.AnswerLemmas.{rest_follows}
 
@@ -59,14 +59,14 @@ opened_in (opened id) = Some id
 opened_in _ = None
 
 -- no size of a batch is asked of a cursor that is there
-abbrev AsksNone : State → Call → Type 0
-AsksNone s call = (id : ℕ) (c : OpenCursor) → cursor_of id s.cursors ≡ Some c → (cs : List Call) → sizes_to id (call ∷ cs) ≡ sizes_to id cs
+abbrev RequestsNone : State → Call → Type 0
+RequestsNone s call = (id : ℕ) (c : OpenCursor) → cursor_of id s.cursors ≡ Some c → (cs : List Call) → sizes_to id (call ∷ cs) ≡ sizes_to id cs
 
 -- a call that is refused, or has to do with indexes, keeps the cursors
 pub data Step (s : State) : Call → Reply → State → Type 0 where
-  keeps : {call : Call} {r : Reply} {t : State} → batch_in r ≡ [] → opened_in r ≡ None → t.cursors ≡ s.cursors → t.next_id ≡ s.next_id → AsksNone s call → Step s call r t
+  keeps : {call : Call} {r : Reply} {t : State} → batch_in r ≡ [] → opened_in r ≡ None → t.cursors ≡ s.cursors → t.next_id ≡ s.next_id → RequestsNone s call → Step s call r t
   finds : {q : Query} {hint : Option (List ℕ)} → Step s (find_call q hint) (opened s.next_id) (with_open s q.digest None (answer q.selection))
-  resumes : {q : Query} {hint : Option (List ℕ)} {t : MarkedToken} → t.digest ≡ q.digest → Step s (resume_call q hint t) (opened s.next_id) (with_open s q.digest (Some t) (rest q.selection t.mark))
+  resumes : {q : Query} {hint : Option (List ℕ)} {t : PositionedToken} → t.digest ≡ q.digest → Step s (resume_call q hint t) (opened s.next_id) (with_open s q.digest (Some t) (rest q.selection t.position))
   gives : {id n : ℕ} {c : OpenCursor} → cursor_of id s.cursors ≡ Some c → nat_lt greatest_count n ≡ false
       → Step s (next_call id n) (gave (batch_of c n)) (changed_by (gave (batch_of c n)) (next_call id n) s)
   kills : {id : ℕ} {c : OpenCursor} → cursor_of id s.cursors ≡ Some c → Step s (kill_call id) killed (changed_by killed (kill_call id) s)
@@ -78,7 +78,7 @@ either : {s : State} {call : Call} {x y : Reply} → StepBy s call x → StepBy 
 either h k true = h
 either h k false = k
 
-open_step : (s : State) (call : Call) (hint : Option (List ℕ)) → AsksNone s call → StepBy s call (opened s.next_id) → StepBy s call (open_reply s hint)
+open_step : (s : State) (call : Call) (hint : Option (List ℕ)) → RequestsNone s call → StepBy s call (opened s.next_id) → StepBy s call (open_reply s hint)
 open_step s call hint none granted = either (either (keeps refl refl refl refl none) granted (is_full s)) (keeps refl refl refl refl none) (has_index s.indexes hint)
 
 is_other : (id i : ℕ) (cs : List OpenCursor) (c : OpenCursor) → cursor_of i cs ≡ None → cursor_of id cs ≡ Some c → (i == id) ≡ false
@@ -98,18 +98,18 @@ step : (s : State) (call : Call) → StepBy s call (reply s call)
 step s (find_call q hint) = open_step s (find_call q hint) hint (λ id c h cs. refl) finds
 step s (resume_call q hint t) = go (bytes_eq t.digest q.digest) refl
   where
-    none : AsksNone s (resume_call q hint t)
+    none : RequestsNone s (resume_call q hint t)
     none id c h cs = refl
 
-    go : (b : Bool) → bytes_eq t.digest q.digest ≡ b → StepBy s (resume_call q hint t) (cond b (cond (nat_lt t.mark.last q.selection.count) (open_reply s hint) token_place) foreign_token)
-    go true e = either (open_step s (resume_call q hint t) hint none (resumes ((bytes_eq-Decides t.digest q.digest).0 e))) (keeps refl refl refl refl none) (nat_lt t.mark.last q.selection.count)
+    go : (b : Bool) → bytes_eq t.digest q.digest ≡ b → StepBy s (resume_call q hint t) (cond b (cond (nat_lt t.position.last q.selection.count) (open_reply s hint) token_place) foreign_token)
+    go true e = either (open_step s (resume_call q hint t) hint none (resumes ((bytes_eq-Decides t.digest q.digest).0 e))) (keeps refl refl refl refl none) (nat_lt t.position.last q.selection.count)
     go false e = keeps refl refl refl refl none
 step s (next_call i n) = next_step s i n (cursor_of i s.cursors) refl (nat_lt greatest_count n) refl
 step s (kill_call i) = kill_step s i (cursor_of i s.cursors) refl
 step s (make_call i counts) = either (keeps refl refl refl refl none)
     (either (keeps refl refl refl refl none) (keeps refl refl refl refl none) (nat_lt (length s.indexes) most_indexes)) (has_index s.indexes (Some i.path))
   where
-    none : AsksNone s (make_call i counts)
+    none : RequestsNone s (make_call i counts)
     none id c h cs = refl
 step s (drop_call path) = either (keeps refl refl refl refl (λ id c h cs. refl)) (keeps refl refl refl refl (λ id c h cs. refl)) (has_index s.indexes (Some path))
 step s (explain_call hint explanation) = either (keeps refl refl refl refl (λ id c h cs. refl)) (keeps refl refl refl refl (λ id c h cs. refl)) (has_index s.indexes hint)
@@ -125,7 +125,7 @@ pub data Effect (id : ℕ) (call : Call) (r : Reply) (t : State) : Option OpenCu
   kept : {o : Option OpenCursor} → batch_to id call r ≡ [] → cursor_of id t.cursors ≡ o
       → ((c : OpenCursor) → o ≡ Some c → (cs : List Call) → sizes_to id (call ∷ cs) ≡ sizes_to id cs) → Effect id call r t o
   took : {c : OpenCursor} (n : ℕ) → batch_to id call r ≡ batch_of c n ∷ []
-      → cursor_of id t.cursors ≡ cond (is_empty (drop n c.left)) None (Some (moved c n))
+      → cursor_of id t.cursors ≡ cond (is_empty (drop n c.remaining)) None (Some (moved c n))
       → ((cs : List Call) → sizes_to id (call ∷ cs) ≡ n ∷ sizes_to id cs) → Effect id call r t (Some c)
   ended : {c : OpenCursor} → batch_to id call r ≡ [] → cursor_of id t.cursors ≡ None → ((cs : List Call) → sizes_to id (call ∷ cs) ≡ []) → Effect id call r t (Some c)
 
@@ -136,7 +136,7 @@ none_to id call r e = refl
 next_same : (id n : ℕ) (s : State) (c : OpenCursor) → cursor_of id s.cursors ≡ Some c → nat_lt greatest_count n ≡ false
     → let r = gave (batch_of c n) in Effect id (next_call id n) r (changed_by r (next_call id n) s) (cursor_of id s.cursors)
 next_same id n s c h few = let r = gave (batch_of c n) in
-    subst (λ o. Effect id (next_call id n) r (changed_by r (next_call id n) s) o) (sym h) (took n (rw self refl) (split (is_empty (drop n c.left))) (λ cs. rw (self, few) refl))
+    subst (λ o. Effect id (next_call id n) r (changed_by r (next_call id n) s) o) (sym h) (took n (rw self refl) (split (is_empty (drop n c.remaining))) (λ cs. rw (self, few) refl))
   where
     self : (id == id) ≡ true
     self = eq-eqb id id refl
@@ -147,7 +147,7 @@ next_same id n s c h few = let r = gave (batch_of c n) in
 
 next_other : (id i n : ℕ) (s : State) (c : OpenCursor) → (i == id) ≡ false
     → let r = gave (batch_of c n) in Effect id (next_call i n) r (changed_by r (next_call i n) s) (cursor_of id s.cursors)
-next_other id i n s c ne = kept (rw ne refl) (cond_both (is_empty (drop n c.left)) (without i s.cursors) (with_moved i n s.cursors) (λ ds. cursor_of id ds ≡ cursor_of id s.cursors)
+next_other id i n s c ne = kept (rw ne refl) (cond_both (is_empty (drop n c.remaining)) (without i s.cursors) (with_moved i n s.cursors) (λ ds. cursor_of id ds ≡ cursor_of id s.cursors)
     (λ _. without_other id i (eqb-false i id ne) s.cursors) (λ _. moved_other id i (eqb-false i id ne) n s.cursors)) (λ d h cs. rw ne refl)
 
 kill_same : (id : ℕ) (s : State) (c : OpenCursor) → cursor_of id s.cursors ≡ Some c → Effect id (kill_call id) killed (changed_by killed (kill_call id) s) (cursor_of id s.cursors)
@@ -190,9 +190,9 @@ drop_taken n ps = ap (λ k. drop k ps) (length-take n ps) ∙ drop_min n ps
 none_taken : (n : ℕ) (ps : List ℕ) → take n ps ≡ [] → drop n ps ≡ ps
 none_taken n ps e = ap (λ zs. zs ++ drop n ps) (sym e) ∙ take-append-drop n ps
 
-mark_taken : (most old n : ℕ) (ps : List ℕ) (z : ℕ) (zs : List ℕ) → take n ps ≡ z ∷ zs
-    → IsMarkAfter most old (length (z ∷ zs)) ps (record { given = min most (old + length (z ∷ zs)); last = get_or (z ∷ zs) (length zs) 0 })
-mark_taken most old n ps z zs e =
+position_taken : (most old n : ℕ) (ps : List ℕ) (z : ℕ) (zs : List ℕ) → take n ps ≡ z ∷ zs
+    → IsPositionAfter most old (length (z ∷ zs)) ps (record { given = min most (old + length (z ∷ zs)); last = get_or (z ∷ zs) (length zs) 0 })
+position_taken most old n ps z zs e =
     let l = length-take n ps in
     let k : length (take n ps) ≡ length (z ∷ zs) = ap (λ (ys : List ℕ). length ys) e in
     let within : length (z ∷ zs) ≤ length ps = omega arith in
@@ -204,43 +204,43 @@ mark_taken most old n ps z zs e =
           ∙ get_or_default ps (length zs) 0 d (omega arith) ∙ ap (λ i. get_or ps i d) (sym one),
     )
 
-left_moves : (q : Query) → IsFair q → (digest : List ℕ) (t : Option MarkedToken) (n : ℕ)
-    → left_after q.selection (token_after digest t (take n (left_after q.selection t))) ≡ drop n (left_after q.selection t)
-left_moves q fair digest t n = go (take n ps) refl
+remaining_moves : (q : Query) → IsFair q → (digest : List ℕ) (t : Option PositionedToken) (n : ℕ)
+    → remaining_after q.selection (token_after digest t (take n (remaining_after q.selection t))) ≡ drop n (remaining_after q.selection t)
+remaining_moves q fair digest t n = go (take n ps) refl
   where
     ps : List ℕ
-    ps = left_after q.selection t
+    ps = remaining_after q.selection t
 
-    go : (zs : List ℕ) → take n ps ≡ zs → left_after q.selection (token_after digest t zs) ≡ drop n ps
+    go : (zs : List ℕ) → take n ps ≡ zs → remaining_after q.selection (token_after digest t zs) ≡ drop n ps
     go [] f = sym (none_taken n ps f)
     go (z ∷ zs) f =
-        rest_follows q.selection fair.0 most_given fair.1 t (length (z ∷ zs)) _ (mark_taken most_given (given_by t) n ps z zs f)
+        rest_follows q.selection fair.0 most_given fair.1 t (length (z ∷ zs)) _ (position_taken most_given (given_by t) n ps z zs f)
         ∙ ap (λ (ys : List ℕ). drop (length ys) ps) (sym f) ∙ drop_taken n ps
 
 -- and keeps its request's digest
-token_digest : (digest : List ℕ) (t : Option MarkedToken) (ps : List ℕ) → digest_after digest (token_after digest t ps) ≡ digest_after digest t
+token_digest : (digest : List ℕ) (t : Option PositionedToken) (ps : List ℕ) → digest_after digest (token_after digest t ps) ≡ digest_after digest t
 token_digest digest t [] = refl
 token_digest digest t (p ∷ ps) = refl
 
-leaves : (q : Query) (digest : List ℕ) (t : Option MarkedToken) (ps : List ℕ) → digest_after digest t ≡ q.digest → left_after q.selection t ≡ ps
-    → IfSome t (λ t. (t.digest ≡ q.digest) × (rest q.selection t.mark ≡ ps))
+leaves : (q : Query) (digest : List ℕ) (t : Option PositionedToken) (ps : List ℕ) → digest_after digest t ≡ q.digest → remaining_after q.selection t ≡ ps
+    → IfSome t (λ t. (t.digest ≡ q.digest) × (rest q.selection t.position ≡ ps))
 leaves q digest None ps h e = tt
 leaves q digest (Some t) ps h e = (h, e)
 
 -- a cursor of a request, with what its token leaves
 record IsAtWork (q : Query) (c : OpenCursor) : Type 0 where
-  left : c.left ≡ left_after q.selection c.token
+  remaining : c.remaining ≡ remaining_after q.selection c.token
   digest : digest_after c.digest c.token ≡ q.digest
 
 goes_on : (q : Query) (c : OpenCursor) (n : ℕ) → IsFair q → IsAtWork q c → IsAtWork q (moved c n)
 goes_on q c n fair i = record {
-  left = subst (λ ps. drop n ps ≡ left_after q.selection (token_after c.digest c.token (take n ps))) (sym i.left) (sym (left_moves q fair c.digest c.token n));
-  digest = token_digest c.digest c.token (take n c.left) ∙ i.digest;
+  remaining = subst (λ ps. drop n ps ≡ remaining_after q.selection (token_after c.digest c.token (take n ps))) (sym i.remaining) (sym (remaining_moves q fair c.digest c.token n));
+  digest = token_digest c.digest c.token (take n c.remaining) ∙ i.digest;
 }
 
 -- what it gives over any calls
 gives_in_turn : (q : Query) (id : ℕ) (s : State) (c : OpenCursor) (calls : List Call) → IsFair q → id < s.next_id → cursor_of id s.cursors ≡ Some c → IsAtWork q c
-    → GivesInTurn q id c.left calls (batches_to id calls (replies s calls))
+    → GivesInTurn q id c.remaining calls (batches_to id calls (replies s calls))
 gives_in_turn q id s c [] fair l h i = (refl, tt)
 gives_in_turn q id s c (k ∷ ks) fair l h i = go (λ d e j. gives_in_turn q id (state_after s k) d ks fair l' e j) (at_call id s k (Some c) l h)
   where
@@ -250,20 +250,20 @@ gives_in_turn q id s c (k ∷ ks) fair l h i = go (λ d e j. gives_in_turn q id 
     bs : List GivenBatch
     bs = batches_to id ks (replies (state_after s k) ks)
 
-    go : ((d : OpenCursor) → cursor_of id (state_after s k).cursors ≡ Some d → IsAtWork q d → GivesInTurn q id d.left ks bs) → Effect id k (reply s k) (state_after s k) (Some c)
-        → GivesInTurn q id c.left (k ∷ ks) (batch_to id k (reply s k) ++ bs)
+    go : ((d : OpenCursor) → cursor_of id (state_after s k).cursors ≡ Some d → IsAtWork q d → GivesInTurn q id d.remaining ks bs) → Effect id k (reply s k) (state_after s k) (Some c)
+        → GivesInTurn q id c.remaining (k ∷ ks) (batch_to id k (reply s k) ++ bs)
     go more (kept a e z) = rw (a, z c refl ks) (more c e i)
-    go more (took n a e z) = rw (a, z ks, drop_taken n c.left) (let t = split (is_empty (drop n c.left)) e in
-        (ap (λ zs. take n c.left ∷ zs) t.0, (leaves q c.digest (moved c n).token (drop n c.left) next.digest (sym next.left), t.1)))
+    go more (took n a e z) = rw (a, z ks, drop_taken n c.remaining) (let t = split (is_empty (drop n c.remaining)) e in
+        (ap (λ zs. take n c.remaining ∷ zs) t.0, (leaves q c.digest (moved c n).token (drop n c.remaining) next.digest (sym next.remaining), t.1)))
       where
         next : IsAtWork q (moved c n)
         next = goes_on q c n fair i
 
         split : (b : Bool) → cursor_of id (state_after s k).cursors ≡ cond b None (Some (moved c n))
-            → (map (λ (b : GivenBatch). b.places) bs ≡ cond b [] (batches (drop n c.left) (sizes_to id ks))) × TokensFollow q (drop n c.left) bs
-        split true f = let none = absent_run id (state_after s k) ks l' f in (ap (map (λ (b : GivenBatch). b.places)) none, subst (λ zs. TokensFollow q (drop n c.left) zs) (sym none) tt)
+            → (map (λ (b : GivenBatch). b.places) bs ≡ cond b [] (batches (drop n c.remaining) (sizes_to id ks))) × TokensFollow q (drop n c.remaining) bs
+        split true f = let none = absent_run id (state_after s k) ks l' f in (ap (map (λ (b : GivenBatch). b.places)) none, subst (λ zs. TokensFollow q (drop n c.remaining) zs) (sym none) tt)
         split false f = more (moved c n) f next
-    go more (ended a e z) = rw (a, z ks) (let none = absent_run id (state_after s k) ks l' e in (ap (map (λ (b : GivenBatch). b.places)) none, subst (λ zs. TokensFollow q c.left zs) (sym none) tt))
+    go more (ended a e z) = rw (a, z ks) (let none = absent_run id (state_after s k) ks l' e in (ap (map (λ (b : GivenBatch). b.places)) none, subst (λ zs. TokensFollow q c.remaining zs) (sym none) tt))
 
 -- ---- what is opened
 
@@ -284,14 +284,14 @@ below_run s [] h = h
 below_run s (k ∷ ks) h = below_run (state_after s k) ks (below_after s k h)
 
 -- a cursor more, and what it gives
-begins : (q : Query) (t : Option MarkedToken) (earlier later : List Call) (id : ℕ) → IsFair q → digest_after q.digest t ≡ q.digest →
+begins : (q : Query) (t : Option PositionedToken) (earlier later : List Call) (id : ℕ) → IsFair q → digest_after q.digest t ≡ q.digest →
     let s = state_after_all new_state earlier in
-    s.next_id ≡ id → GivesInTurn q id (left_after q.selection t) later (batches_to id later (replies (with_open s q.digest t (left_after q.selection t)) later))
+    s.next_id ≡ id → GivesInTurn q id (remaining_after q.selection t) later (batches_to id later (replies (with_open s q.digest t (remaining_after q.selection t)) later))
 begins q t earlier later id fair of e =
     let s = state_after_all new_state earlier in
-    let c : OpenCursor = record { id = s.next_id; digest = q.digest; token = t; left = left_after q.selection t } in
-    gives_in_turn q id (with_open s q.digest t (left_after q.selection t)) c later fair (omega (arith, e))
-    (last_is id s.cursors c (below_run new_state earlier (λ i l. refl) id (omega (arith, e))) e) (record { left = refl; digest = of })
+    let c : OpenCursor = record { id = s.next_id; digest = q.digest; token = t; remaining = remaining_after q.selection t } in
+    gives_in_turn q id (with_open s q.digest t (remaining_after q.selection t)) c later fair (omega (arith, e))
+    (last_is id s.cursors c (below_run new_state earlier (λ i l. refl) id (omega (arith, e))) e) (record { remaining = refl; digest = of })
 
 -- the batches of a cursor that `find` opened are its answer in turn, whatever calls come before and between
 pub find_gives : (earlier later : List Call) (q : Query) (hint : Option (List ℕ)) (id : ℕ) → IsFair q → let s = state_after_all new_state earlier in
@@ -306,14 +306,14 @@ find_gives earlier later q hint id fair =
 
 -- the batches of a cursor that `resume` opened are the rest after the token in turn,
 -- whatever calls come before and between
-pub resume_gives : (earlier later : List Call) (q : Query) (hint : Option (List ℕ)) (m : MarkedToken) (id : ℕ) → IsFair q → let s = state_after_all new_state earlier in
-    reply s (resume_call q hint m) ≡ opened id → GivesInTurn q id (rest q.selection m.mark) later (batches_to id later (replies (state_after s (resume_call q hint m)) later))
+pub resume_gives : (earlier later : List Call) (q : Query) (hint : Option (List ℕ)) (m : PositionedToken) (id : ℕ) → IsFair q → let s = state_after_all new_state earlier in
+    reply s (resume_call q hint m) ≡ opened id → GivesInTurn q id (rest q.selection m.position) later (batches_to id later (replies (state_after s (resume_call q hint m)) later))
 resume_gives earlier later q hint m id fair =
     let s = state_after_all new_state earlier in
     go (reply s (resume_call q hint m)) (state_after s (resume_call q hint m)) (step s (resume_call q hint m))
   where
     go : (r : Reply) (t : State) → Step (state_after_all new_state earlier) (resume_call q hint m) r t → r ≡ opened id
-        → GivesInTurn q id (rest q.selection m.mark) later (batches_to id later (replies t later))
+        → GivesInTurn q id (rest q.selection m.position) later (batches_to id later (replies t later))
     go r t (keeps b o e n z) is = absurd (let f : ⊥ = (let g = ap opened_in is in cc) in f)
     go r t (resumes same) is = begins q (Some m) earlier later id fair same cc
 

@@ -13,11 +13,11 @@ use Rattle.bd_cursor_model.proofs.OrderLemmas.{in_at, In, Rises, Apart, in_filte
 use Rattle.bd_cursor_model.proofs.AnswerLemmas.{before_strict, in_ordered, ordered_in, ordered_rises, contains_in, in_contains, rises_ascending}
 
 pub taken_more : (test : ℕ → Bool) (found old new all : List ℕ) (p : ℕ) → old ≡ p ∷ new → found ++ filter test old ≡ all → test p ≡ true → (found ++ p ∷ []) ++ filter test new ≡ all
-taken_more test found old new all p e told h = append_assoc found (p ∷ []) (filter test new)
-    ∙ ap (λ b. found ++ cond b (p ∷ filter test new) (filter test new)) (sym h) ∙ ap (λ ps. found ++ filter test ps) (sym e) ∙ told
+taken_more test found old new all p e fact h = append_assoc found (p ∷ []) (filter test new)
+    ∙ ap (λ b. found ++ cond b (p ∷ filter test new) (filter test new)) (sym h) ∙ ap (λ ps. found ++ filter test ps) (sym e) ∙ fact
 
-pub left_out_more : (test : ℕ → Bool) (found old new all : List ℕ) (p : ℕ) → old ≡ p ∷ new → found ++ filter test old ≡ all → test p ≡ false → found ++ filter test new ≡ all
-left_out_more test found old new all p e told h = ap (λ b. found ++ cond b (p ∷ filter test new) (filter test new)) (sym h) ∙ ap (λ ps. found ++ filter test ps) (sym e) ∙ told
+pub omitted_more : (test : ℕ → Bool) (found old new all : List ℕ) (p : ℕ) → old ≡ p ∷ new → found ++ filter test old ≡ all → test p ≡ false → found ++ filter test new ≡ all
+omitted_more test found old new all p e fact h = ap (λ b. found ++ cond b (p ∷ filter test new) (filter test new)) (sym h) ∙ ap (λ ps. found ++ filter test ps) (sym e) ∙ fact
 
 -- if all document numbers are below n, so are those after the first
 pub below_more : (n : ℕ) (old new : List ℕ) (p : ℕ) → old ≡ p ∷ new → All (λ x. x < n) old → All (λ x. x < n) new
@@ -78,32 +78,32 @@ before_weak by o =
 after_rises : (a : Selection) → IsTotalOrder a.by → (after : Option ℕ) → Rises (before a.by) (places_after a after)
 after_rises a o after = filter_rises (before a.by) (is_after (before a.by) after) (ordered a) (ordered_rises a o)
 
-to_definition : (a : Selection) (ps : List ℕ) → IsSource a.count a.hits ps → (after : Option ℕ) (p : ℕ) → In p (filter (passes a.hits a.by after) ps) → In p (places_after a after)
+to_definition : (a : Selection) (ps : List ℕ) → IsSource a.count a.matches_at ps → (after : Option ℕ) (p : ℕ) → In p (filter (passes a.matches_at a.by after) ps) → In p (places_after a after)
 to_definition a ps s after p h =
-    let r = filter_in (passes a.hits a.by after) ps p h in
-    let t = and_parts (a.hits p) (is_after (before a.by) after p) r.1 in
+    let r = filter_in (passes a.matches_at a.by after) ps p h in
+    let t = and_parts (a.matches_at p) (is_after (before a.by) after p) r.1 in
     let c = in_contains ps p r.0 in
     let below : p < a.count = subst (λ z. z < a.count) c.2 (s.below c.0 p c.1) in
     in_filter (is_after (before a.by) after) (ordered a) p (in_ordered a p below t.0) t.1
 
-from_definition : (a : Selection) (ps : List ℕ) → IsSource a.count a.hits ps → (after : Option ℕ) (p : ℕ) → In p (places_after a after) → In p (filter (passes a.hits a.by after) ps)
+from_definition : (a : Selection) (ps : List ℕ) → IsSource a.count a.matches_at ps → (after : Option ℕ) (p : ℕ) → In p (places_after a after) → In p (filter (passes a.matches_at a.by after) ps)
 from_definition a ps s after p h =
     let r = filter_in (is_after (before a.by) after) (ordered a) p h in
     let t = ordered_in a p r.0 in
-    in_filter (passes a.hits a.by after) ps p (contains_in ps p (s.complete p t.0 t.1)) (and_from (a.hits p) (is_after (before a.by) after p) t.1 r.1)
+    in_filter (passes a.matches_at a.by after) ps p (contains_in ps p (s.complete p t.0 t.1)) (and_from (a.matches_at p) (is_after (before a.by) after p) t.1 r.1)
 
 -- the matches of a source that is in order, from a document number on, are the answer from there on
-pub batch_in_order : (a : Selection) → IsTotalOrder a.by → (ps : List ℕ) → IsSource a.count a.hits ps → IsAscending (before a.by) ps
-    → (after : Option ℕ) → filter (passes a.hits a.by after) ps ≡ places_after a after
+pub batch_in_order : (a : Selection) → IsTotalOrder a.by → (ps : List ℕ) → IsSource a.count a.matches_at ps → IsAscending (before a.by) ps
+    → (after : Option ℕ) → filter (passes a.matches_at a.by after) ps ≡ places_after a after
 batch_in_order a o ps s up after =
-    same_rising (before_strict a.by o) _ _ (filter_rises (before a.by) (passes a.hits a.by after) ps (ascending_rises (before a.by) ps up))
+    same_rising (before_strict a.by o) _ _ (filter_rises (before a.by) (passes a.matches_at a.by after) ps (ascending_rises (before a.by) ps up))
     (after_rises a o after) (to_definition a ps s after) (from_definition a ps s after)
 
-pub batch_sorted : (a : Selection) → IsTotalOrder a.by → (ps : List ℕ) → IsSource a.count a.hits ps → (after : Option ℕ) (xs : List ℕ)
-    → IsPermutation (filter (passes a.hits a.by after) ps) xs → IsSortedBy (before a.by) xs → xs ≡ places_after a after
+pub batch_sorted : (a : Selection) → IsTotalOrder a.by → (ps : List ℕ) → IsSource a.count a.matches_at ps → (after : Option ℕ) (xs : List ℕ)
+    → IsPermutation (filter (passes a.matches_at a.by after) ps) xs → IsSortedBy (before a.by) xs → xs ≡ places_after a after
 batch_sorted a o ps s after xs moved up =
-    let fs = filter (passes a.hits a.by after) ps in
-    let apart = permuted_apart fs xs moved (filter_apart (passes a.hits a.by after) ps (pairs_apart ps s.distinct)) in
+    let fs = filter (passes a.matches_at a.by after) ps in
+    let apart = permuted_apart fs xs moved (filter_apart (passes a.matches_at a.by after) ps (pairs_apart ps s.distinct)) in
     same_rising (before_strict a.by o) _ _ (sorted_rises (before a.by) (before_strict a.by o) (before_weak a.by o) xs up apart) (after_rises a o after)
     (λ p h. to_definition a ps s after p (permuted_in xs fs (IsPermutation-sym fs xs moved) p h))
     (λ p h. permuted_in fs xs moved p (from_definition a ps s after p h))
@@ -122,10 +122,10 @@ range_rises : (a : Selection) → IsUnsorted a → (k n : ℕ) → Rises (before
 range_rises a u k zero = tt
 range_rises a u k (suc n) = (λ y h. let r = range_in (k + 1) n y h in before_lower a u k y (omega arith), range_rises a u (k + 1) n)
 
-range_is_source : (a : Selection) → IsSource a.count a.hits (range_with_len 0 a.count)
-range_is_source a = let e : a.count - 0 ≡ a.count = omega arith in let s = scan_law 0 a.count a.count a.hits refl refl in rw e at s
+range_is_source : (a : Selection) → IsSource a.count a.matches_at (range_with_len 0 a.count)
+range_is_source a = let e : a.count - 0 ≡ a.count = omega arith in let s = scan_law 0 a.count a.count a.matches_at refl refl in rw e at s
 
-of_range : (a : Selection) → IsTotalOrder a.by → IsUnsorted a → (last : Option ℕ) → filter (passes a.hits a.by last) (range_with_len 0 a.count) ≡ places_after a last
+of_range : (a : Selection) → IsTotalOrder a.by → IsUnsorted a → (last : Option ℕ) → filter (passes a.matches_at a.by last) (range_with_len 0 a.count) ≡ places_after a last
 of_range a o u last = batch_in_order a o (range_with_len 0 a.count) (range_is_source a) (rises_ascending (before a.by) (range_with_len 0 a.count) (range_rises a u 0 a.count)) last
 
 -- tests that say the same
@@ -138,31 +138,31 @@ pub all_places : (a : Selection) → places_after a None ≡ ordered a
 all_places a = filter_all (λ p. true) (ordered a) (λ x h. refl)
 
 -- without a sort the answer is the matches in file order
-pub unsorted_ordered : (a : Selection) → IsTotalOrder a.by → IsUnsorted a → ordered a ≡ filter a.hits (range_with_len 0 a.count)
+pub unsorted_ordered : (a : Selection) → IsTotalOrder a.by → IsUnsorted a → ordered a ≡ filter a.matches_at (range_with_len 0 a.count)
 unsorted_ordered a o u =
-    sym (all_places a) ∙ sym (of_range a o u None) ∙ filter_same (passes a.hits a.by None) a.hits (range_with_len 0 a.count) (λ x h. and-true (a.hits x))
+    sym (all_places a) ∙ sym (of_range a o u None) ∙ filter_same (passes a.matches_at a.by None) a.matches_at (range_with_len 0 a.count) (λ x h. and-true (a.matches_at x))
 
 -- those after a place
-later : (a : Selection) → IsUnsorted a → (last k n : ℕ) → last < k → filter (passes a.hits a.by (Some last)) (range_with_len k n) ≡ filter a.hits (range_with_len k n)
+later : (a : Selection) → IsUnsorted a → (last k n : ℕ) → last < k → filter (passes a.matches_at a.by (Some last)) (range_with_len k n) ≡ filter a.matches_at (range_with_len k n)
 later a u last k n l =
-    filter_same (passes a.hits a.by (Some last)) a.hits (range_with_len k n)
-    (λ x h. let r = range_in k n x h in let b = before_lower a u last x (omega arith) in rw b (and-true (a.hits x)))
+    filter_same (passes a.matches_at a.by (Some last)) a.matches_at (range_with_len k n)
+    (λ x h. let r = range_in k n x h in let b = before_lower a u last x (omega arith) in rw b (and-true (a.matches_at x)))
 
 after_last : (a : Selection) → IsUnsorted a → (last k n : ℕ) → k ≤ last + 1
-    → filter (passes a.hits a.by (Some last)) (range_with_len k n) ≡ filter a.hits (range_with_len (last + 1) (k + n - (last + 1)))
+    → filter (passes a.matches_at a.by (Some last)) (range_with_len k n) ≡ filter a.matches_at (range_with_len (last + 1) (k + n - (last + 1)))
 after_last a u last k zero l = let e : k + 0 - (last + 1) ≡ 0 = omega arith in rw e refl
 after_last a u last k (suc n) l = elim (cases_lt last k) [
   | inl h ↦
       let e : k ≡ last + 1 = omega arith in
       let m : suc n ≡ k + suc n - (last + 1) = omega arith in
-      later a u last k (suc n) h ∙ ap (λ i. filter a.hits (range_with_len i (suc n))) e ∙ ap (λ i. filter a.hits (range_with_len (last + 1) i)) m
+      later a u last k (suc n) h ∙ ap (λ i. filter a.matches_at (range_with_len i (suc n))) e ∙ ap (λ i. filter a.matches_at (range_with_len (last + 1) i)) m
   | inr h ↦
-      let b : (a.hits k && before a.by last k) ≡ false = and_right (a.hits k) (before a.by last k) (not_before a u last k h) in
+      let b : (a.matches_at k && before a.by last k) ≡ false = and_right (a.matches_at k) (before a.by last k) (not_before a u last k h) in
       let e : (k + 1) + n - (last + 1) ≡ k + suc n - (last + 1) = omega arith in
-      ap (λ c. cond c (k ∷ filter (passes a.hits a.by (Some last)) (range_with_len (k + 1) n)) (filter (passes a.hits a.by (Some last)) (range_with_len (k + 1) n))) b
-      ∙ after_last a u last (k + 1) n (omega arith) ∙ ap (λ m. filter a.hits (range_with_len (last + 1) m)) e
+      ap (λ c. cond c (k ∷ filter (passes a.matches_at a.by (Some last)) (range_with_len (k + 1) n)) (filter (passes a.matches_at a.by (Some last)) (range_with_len (k + 1) n))) b
+      ∙ after_last a u last (k + 1) n (omega arith) ∙ ap (λ m. filter a.matches_at (range_with_len (last + 1) m)) e
 ]
 
-pub unsorted_after : (a : Selection) → IsTotalOrder a.by → IsUnsorted a → (last : ℕ) → filter (before a.by last) (ordered a) ≡ filter a.hits (range_with_len (last + 1) (a.count - (last + 1)))
+pub unsorted_after : (a : Selection) → IsTotalOrder a.by → IsUnsorted a → (last : ℕ) → filter (before a.by last) (ordered a) ≡ filter a.matches_at (range_with_len (last + 1) (a.count - (last + 1)))
 unsorted_after a o u last = sym (of_range a o u (Some last)) ∙ after_last a u last 0 a.count (omega arith)
-    ∙ ap (λ m. filter a.hits (range_with_len (last + 1) m)) (let e : 0 + a.count - (last + 1) ≡ a.count - (last + 1) = omega arith in e)
+    ∙ ap (λ m. filter a.matches_at (range_with_len (last + 1) m)) (let e : 0 + a.count - (last + 1) ≡ a.count - (last + 1) = omega arith in e)

@@ -41,13 +41,13 @@ exchange {lt = lt} o x y (z ∷ zs) = go (exchange o x y zs) (lt z x) refl (lt y
     go rest false ea true eb false ed = rw (ea, ed, eb, ed) refl
     go rest false ea false eb false ed = rw (ea, ed, eb, ea) refl
 
-back_past : {A : Type 0} {lt : A → A → Bool} → IsStrictWeakOrder lt → (xs : List A) (y : A) (zs : List A) → insert lt y (put_back (up_to lt) xs zs) ≡ put_back (up_to lt) xs (insert lt y zs)
-back_past o [] y zs = refl
-back_past {lt = lt} o (x ∷ xs) y zs = exchange o x y (put_back (up_to lt) xs zs) ∙ ap (insert (up_to lt) x) (back_past o xs y zs)
+back_beyond : {A : Type 0} {lt : A → A → Bool} → IsStrictWeakOrder lt → (xs : List A) (y : A) (zs : List A) → insert lt y (put_back (up_to lt) xs zs) ≡ put_back (up_to lt) xs (insert lt y zs)
+back_beyond o [] y zs = refl
+back_beyond {lt = lt} o (x ∷ xs) y zs = exchange o x y (put_back (up_to lt) xs zs) ∙ ap (insert (up_to lt) x) (back_beyond o xs y zs)
 
 back_all : {A : Type 0} {lt : A → A → Bool} → IsStrictWeakOrder lt → (xs zs ys : List A) → insert_all lt (put_back (up_to lt) xs zs) ys ≡ put_back (up_to lt) xs (insert_all lt zs ys)
 back_all o xs zs [] = refl
-back_all {lt = lt} o xs zs (y ∷ ys) = ap (λ ws. insert_all lt ws ys) (back_past o xs y zs) ∙ back_all o xs (insert lt y zs) ys
+back_all {lt = lt} o xs zs (y ∷ ys) = ap (λ ws. insert_all lt ws ys) (back_beyond o xs y zs) ∙ back_all o xs (insert lt y zs) ys
 
 stable_back : {A : Type 0} {lt : A → A → Bool} → IsStrictWeakOrder lt → (xs : List A) → stable lt xs ≡ put_back (up_to lt) xs []
 stable_back o [] = refl
@@ -58,38 +58,38 @@ stable_before : {A : Type 0} {lt : A → A → Bool} → IsStrictWeakOrder lt �
 stable_before {lt = lt} o xs ys = ap (λ ws. insert_all lt ws ys) (stable_back o xs) ∙ back_all o xs [] ys
 
 -- lists in order
-abbrev StandsFirst : {A : Type 0} → (A → A → Bool) → A → List A → Type 0
-StandsFirst lt x [] = Unit {0}
-StandsFirst lt x (y ∷ ys) = lt y x ≡ false
+abbrev IsFirst : {A : Type 0} → (A → A → Bool) → A → List A → Type 0
+IsFirst lt x [] = Unit {0}
+IsFirst lt x (y ∷ ys) = lt y x ≡ false
 
 abbrev Ascends : {A : Type 0} → (A → A → Bool) → List A → Type 0
 Ascends lt [] = Unit {0}
-Ascends lt (x ∷ xs) = StandsFirst lt x xs × Ascends lt xs
+Ascends lt (x ∷ xs) = IsFirst lt x xs × Ascends lt xs
 
-put_stands : {A : Type 0} (lt : A → A → Bool) (z x : A) (ys : List A) → lt x z ≡ false → StandsFirst lt z ys → StandsFirst lt z (insert (up_to lt) x ys)
-put_stands lt z x [] e h = e
-put_stands lt z x (y ∷ ys) e h = cond_both (up_to lt x y) (x ∷ y ∷ ys) (y ∷ insert (up_to lt) x ys) (StandsFirst lt z) (λ f. e) (λ f. h)
+put_is_first : {A : Type 0} (lt : A → A → Bool) (z x : A) (ys : List A) → lt x z ≡ false → IsFirst lt z ys → IsFirst lt z (insert (up_to lt) x ys)
+put_is_first lt z x [] e h = e
+put_is_first lt z x (y ∷ ys) e h = cond_both (up_to lt x y) (x ∷ y ∷ ys) (y ∷ insert (up_to lt) x ys) (IsFirst lt z) (λ f. e) (λ f. h)
 
 put_ascends : {A : Type 0} {lt : A → A → Bool} → IsStrictWeakOrder lt → (x : A) (ys : List A) → Ascends lt ys → Ascends lt (insert (up_to lt) x ys)
 put_ascends o x [] h = (tt, tt)
 put_ascends {lt = lt} o x (y ∷ ys) h = cond_both (up_to lt x y) (x ∷ y ∷ ys) (y ∷ insert (up_to lt) x ys) (Ascends lt) (λ f. (not-true (lt y x) f, h))
-    (λ f. (put_stands lt y x ys (o.one_way y x (not-false (lt y x) f)) h.0, put_ascends o x ys h.1))
+    (λ f. (put_is_first lt y x ys (o.one_way y x (not-false (lt y x) f)) h.0, put_ascends o x ys h.1))
 
 back_ascends : {A : Type 0} {lt : A → A → Bool} → IsStrictWeakOrder lt → (xs : List A) → Ascends lt (put_back (up_to lt) xs [])
 back_ascends o [] = tt
 back_ascends {lt = lt} o (x ∷ xs) = put_ascends o x (put_back (up_to lt) xs []) (back_ascends o xs)
 
-stands_take : {A : Type 0} (lt : A → A → Bool) (k : ℕ) (x : A) (xs : List A) → StandsFirst lt x xs → StandsFirst lt x (take k xs)
-stands_take lt zero x xs h = tt
-stands_take lt (suc k) x [] h = tt
-stands_take lt (suc k) x (y ∷ ys) h = h
+first_take : {A : Type 0} (lt : A → A → Bool) (k : ℕ) (x : A) (xs : List A) → IsFirst lt x xs → IsFirst lt x (take k xs)
+first_take lt zero x xs h = tt
+first_take lt (suc k) x [] h = tt
+first_take lt (suc k) x (y ∷ ys) h = h
 
 take_ascends : {A : Type 0} (lt : A → A → Bool) (k : ℕ) (xs : List A) → Ascends lt xs → Ascends lt (take k xs)
 take_ascends lt zero xs h = tt
 take_ascends lt (suc k) [] h = tt
-take_ascends lt (suc k) (x ∷ xs) h = (stands_take lt k x xs h.0, take_ascends lt k xs h.1)
+take_ascends lt (suc k) (x ∷ xs) h = (first_take lt k x xs h.0, take_ascends lt k xs h.1)
 
-put_first : {A : Type 0} (lt : A → A → Bool) (x : A) (xs : List A) → StandsFirst lt x xs → insert (up_to lt) x xs ≡ x ∷ xs
+put_first : {A : Type 0} (lt : A → A → Bool) (x : A) (xs : List A) → IsFirst lt x xs → insert (up_to lt) x xs ≡ x ∷ xs
 put_first lt x [] h = refl
 put_first lt x (y ∷ ys) h = rw h refl
 
@@ -148,13 +148,13 @@ pub stretch_take : {A : Type 0} {lt : A → A → Bool} → IsStrictWeakOrder lt
     → take k (stable lt (xs ++ (ys ++ zs))) ≡ take k (stable lt (xs ++ (take k (stable lt ys) ++ zs)))
 stretch_take {lt = lt} o k xs ys zs =
     let first = take k (stable lt ys) in
-    let front : take k (insert_all lt (stable lt xs) ys) ≡ take k (insert_all lt (stable lt xs) first) =
+    let prefix : take k (insert_all lt (stable lt xs) ys) ≡ take k (insert_all lt (stable lt xs) first) =
     ap (take k) (stable_before o xs ys)
     ∙ same_back (up_to lt) k xs (stable lt ys) first (sym (take-take k k (stable lt ys) (omega arith)))
     ∙ ap (λ ws. take k (put_back (up_to lt) xs ws)) (sym (stable_take o k ys))
     ∙ ap (take k) (sym (stable_before o xs first)) in
     ap (take k) (three lt xs ys zs)
-    ∙ same_firsts lt k (insert_all lt (stable lt xs) ys) (insert_all lt (stable lt xs) first) zs front
+    ∙ same_firsts lt k (insert_all lt (stable lt xs) ys) (insert_all lt (stable lt xs) first) zs prefix
     ∙ ap (take k) (sym (three lt xs first zs))
 
 -- what rises is told by its members
@@ -202,8 +202,8 @@ pub firsts_on : {lt : ℕ → ℕ → Bool} → IsStrictOrder lt → IsStrictWea
 firsts_on {lt = lt} o w k kept moved rest p up h =
     let apart : Apart kept = apart_left kept rest h in
     let rises : Rises lt moved = sorted_rises lt o w moved up (permuted_apart kept moved p apart) in
-    let front : Apart (take k moved) = apart_left (take k moved) rest (apart_on k kept moved rest p h) in
-    let itself : insert_all lt [] (take k moved) ≡ take k moved = rising_is_inserted o (take k moved) (take k moved) front (take_rises lt k moved rises) (λ x i. i) (λ x i. i) in
+    let prefix : Apart (take k moved) = apart_left (take k moved) rest (apart_on k kept moved rest p h) in
+    let itself : insert_all lt [] (take k moved) ≡ take k moved = rising_is_inserted o (take k moved) (take k moved) prefix (take_rises lt k moved rises) (λ x i. i) (λ x i. i) in
     let whole : insert_all lt [] kept ≡ moved = sorted_is_inserted o w kept moved apart p up in
     ap (take k) (insert_all_append lt [] (take k moved) rest)
     ∙ ap (λ xs. take k (insert_all lt xs rest)) itself

@@ -4,7 +4,7 @@ use Rattle.std.specs.Prelude.{List, [], ◌∷◌, drop, length, map, slice_get,
 use Rattle.std.specs.{declared.cmp.Ordering.Ordering, Cmp.IsTotalOrder, Option.option_cmp}
 use Rattle.std.specs.List.{AllPairs, filter_map, flat_map, zip}
 use Rattle.bd_value.specs.Limits.{greatest_count}
-use Rattle.bd_cursor_model.specs.Answer.{Selection, Mark, answer, batches, rest}
+use Rattle.bd_cursor_model.specs.Answer.{Selection, Position, answer, batches, rest}
 use Rattle.bd_cursor_model.specs.Session.{Call, GivenBatch, Query, Reply, State, gave, kill_call, most_given}
 use Rattle.bd_cursor_model.specs.Session.{next_call, reply, state_after}
 
@@ -21,8 +21,8 @@ IsAscending lt = AllPairs (λ x y. lt x y ≡ true)
 
 -- The position after the first k of some documents, of which `old` were given before;
 -- the count given stays at `most`.
-abbrev pub IsMarkAfter : ℕ → ℕ → ℕ → List ℕ → Mark → Type 0
-IsMarkAfter most old k ps m =
+abbrev pub IsPositionAfter : ℕ → ℕ → ℕ → List ℕ → Position → Type 0
+IsPositionAfter most old k ps m =
     (0 < k) × (k ≤ length ps) × (m.given ≡ min most (old + k)) × ((d : ℕ) → m.last ≡ slice_index_or ps (k - 1) d)
 
 -- ---- parts
@@ -44,7 +44,7 @@ matches_some test (Some d) = test d
 abbrev pub selection_over : {A : Type 0} → DocumentRequest A → List A → Selection
 selection_over r ds = record {
   count = length ds;
-  hits = λ i. matches_some r.matches (slice_get ds i);
+  matches_at = λ i. matches_some r.matches (slice_get ds i);
   by = λ i j. option_cmp r.by (slice_get ds i) (slice_get ds j);
   skip = r.skip;
   limit = r.limit;
@@ -66,7 +66,7 @@ IsEnough r limit = limit ≢ 0 → (r.limit ≢ 0) × (r.skip + r.limit ≤ limi
 -- The selection says of document numbers what the request says of the documents.
 pub record IsSelectionOf {A : Type 0} (r : DocumentRequest A) (ds : List A) (a : Selection) : Type 0 where
   pub count : a.count ≡ length ds
-  pub hits : (i : ℕ) (d : A) → slice_get ds i ≡ Some d → a.hits i ≡ r.matches d
+  pub matches_at : (i : ℕ) (d : A) → slice_get ds i ≡ Some d → a.matches_at i ≡ r.matches d
   pub by : (i j : ℕ) (d e : A) → slice_get ds i ≡ Some d → slice_get ds j ≡ Some e → a.by i j ≡ r.by d e
   pub skip : a.skip ≡ r.skip
   pub limit : a.limit ≡ r.limit
@@ -112,9 +112,9 @@ batches_to id calls rs = flat_map (λ p. batch_to id p.0 p.1) (zip calls rs)
 
 -- Each batch's token is of this request, and what remains after it is what remains after the batch.
 abbrev pub TokensFollow : Query → List ℕ → List GivenBatch → Type 0
-TokensFollow q left [] = Unit {0}
-TokensFollow q left (b ∷ bs) = let later = drop (length b.places) left in
-    IfSome b.token (λ t. (t.digest ≡ q.digest) × (rest q.selection t.mark ≡ later)) × TokensFollow q later bs
+TokensFollow q remaining [] = Unit {0}
+TokensFollow q remaining (b ∷ bs) = let later = drop (length b.places) remaining in
+    IfSome b.token (λ t. (t.digest ≡ q.digest) × (rest q.selection t.position ≡ later)) × TokensFollow q later bs
 
 -- The batches are those of this list, by the sizes that the calls ask for,
 -- and each token leads on to what remains.

@@ -3,7 +3,7 @@ use Rattle.std.specs.Prelude.{ℕ, ◌+◌, ◌^◌, ◌-◌, ◌==◌, nat_lt, 
 use Rattle.std.specs.Prelude.{length, Option, Some, None, is_some, ◌||◌, slice_index_or, if◌then◌else◌}
 use Rattle.std.specs.{List.filter, List.list_any, Str.bytes_eq}
 use Rattle.bd_value.specs.{Limits.greatest_count, Limits.most_cursors, Limits.most_indexes, Tree.Doc}
-use Rattle.bd_cursor_model.specs.Answer.{Selection, Mark, answer, is_empty, rest}
+use Rattle.bd_cursor_model.specs.Answer.{Selection, Position, answer, is_empty, rest}
 
 -- a request to a dump: what it selects, and the digest that ties its tokens to both
 pub record Query : Type 0 where
@@ -12,8 +12,8 @@ pub record Query : Type 0 where
 
 -- a token: how many documents were given up to it and the number of the last one,
 -- and the digest that ties it to a dump and a request
-pub record MarkedToken : Type 0 where
-  pub mark : Mark
+pub record PositionedToken : Type 0 where
+  pub position : Position
   pub digest : List ℕ
 
 -- an open cursor: its number, its request's digest, the token after what it gave last,
@@ -21,16 +21,16 @@ pub record MarkedToken : Type 0 where
 pub record OpenCursor : Type 0 where
   pub id : ℕ
   pub digest : List ℕ
-  pub token : Option MarkedToken
-  pub left : List ℕ
+  pub token : Option PositionedToken
+  pub remaining : List ℕ
 
 -- what remains of an answer after a token; without one, all of it
-abbrev pub left_after : Selection → Option MarkedToken → List ℕ
-left_after a None = answer a
-left_after a (Some t) = rest a t.mark
+abbrev pub remaining_after : Selection → Option PositionedToken → List ℕ
+remaining_after a None = answer a
+remaining_after a (Some t) = rest a t.position
 
 -- an index of a session, by its path; a sparse one has no entry for a missing field
-pub record IndexMark : Type 0 where
+pub record IndexKey : Type 0 where
   pub path : List ℕ
   pub is_sparse : Bool
 
@@ -42,7 +42,7 @@ pub record IndexCounts : Type 0 where
 -- the state of a session: its indexes in the order in which they were made,
 -- the number of the next cursor, the open cursors
 pub record State : Type 0 where
-  pub indexes : List IndexMark
+  pub indexes : List IndexKey
   pub next_id : ℕ
   pub cursors : List OpenCursor
 
@@ -51,18 +51,18 @@ pub record State : Type 0 where
 -- indexes that are there.
 pub data Call : Type 0 where
   find_call : Query → Option (List ℕ) → Call
-  resume_call : Query → Option (List ℕ) → MarkedToken → Call
+  resume_call : Query → Option (List ℕ) → PositionedToken → Call
   next_call : ℕ → ℕ → Call
   kill_call : ℕ → Call
-  make_call : IndexMark → IndexCounts → Call
+  make_call : IndexKey → IndexCounts → Call
   drop_call : List ℕ → Call
-  explain_call : Option (List ℕ) → (List IndexMark → Doc) → Call
+  explain_call : Option (List ℕ) → (List IndexKey → Doc) → Call
 
 -- a batch of a cursor: the document numbers, the token after them (None if no document was ever given),
 -- and whether nothing remains
 pub record GivenBatch : Type 0 where
   pub places : List ℕ
-  pub token : Option MarkedToken
+  pub token : Option PositionedToken
   pub ends : Bool
 
 -- the reply to a call: what was opened, given, made or explained, or why it is refused, which changes nothing
@@ -96,29 +96,29 @@ abbrev pub without : ℕ → List OpenCursor → List OpenCursor
 without id cs = filter (λ (c : OpenCursor). not (c.id == id)) cs
 
 -- how many documents were given up to a token; 0 without one
-abbrev pub given_by : Option MarkedToken → ℕ
+abbrev pub given_by : Option PositionedToken → ℕ
 given_by None = 0
-given_by (Some t) = t.mark.given
+given_by (Some t) = t.position.given
 
 -- the digest of a cursor's next token: that of its last one, or without one that of its request
-abbrev pub digest_after : List ℕ → Option MarkedToken → List ℕ
+abbrev pub digest_after : List ℕ → Option PositionedToken → List ℕ
 digest_after digest None = digest
 digest_after digest (Some t) = t.digest
 
 -- the token of a cursor after some more documents; after none it is the same as before
-abbrev pub token_after : List ℕ → Option MarkedToken → List ℕ → Option MarkedToken
+abbrev pub token_after : List ℕ → Option PositionedToken → List ℕ → Option PositionedToken
 token_after digest t [] = t
 token_after digest t (p ∷ ps) = Some (record {
-  mark = record { given = min most_given (given_by t + length (p ∷ ps)); last = slice_index_or (p ∷ ps) (length ps) 0 };
+  position = record { given = min most_given (given_by t + length (p ∷ ps)); last = slice_index_or (p ∷ ps) (length ps) 0 };
   digest = digest_after digest t;
 })
 
 -- whether an index is on the path of that text
-abbrev pub is_on : List ℕ → IndexMark → Bool
+abbrev pub is_on : List ℕ → IndexKey → Bool
 is_on path i = bytes_eq path i.path
 
 -- whether the index that is named is there; true if none is named
-abbrev pub has_index : List IndexMark → Option (List ℕ) → Bool
+abbrev pub has_index : List IndexKey → Option (List ℕ) → Bool
 has_index indexes None = true
 has_index indexes (Some path) = list_any (is_on path) indexes
 
@@ -134,24 +134,24 @@ open_reply s hint =
 
 -- the state with one more cursor, which has these document numbers to give;
 -- the next cursor gets the next number
-abbrev pub with_open : State → List ℕ → Option MarkedToken → List ℕ → State
+abbrev pub with_open : State → List ℕ → Option PositionedToken → List ℕ → State
 with_open s digest t ps = record s {
   next_id = s.next_id + 1;
-  cursors = s.cursors ++ record { id = s.next_id; digest = digest; token = t; left = ps } ∷ [];
+  cursors = s.cursors ++ record { id = s.next_id; digest = digest; token = t; remaining = ps } ∷ [];
 }
 
 -- the batch that a cursor gives for n documents
 abbrev pub batch_of : OpenCursor → ℕ → GivenBatch
 batch_of c n =
     record {
-      places = take n c.left;
-      token = token_after c.digest c.token (take n c.left);
-      ends = is_empty (drop n c.left);
+      places = take n c.remaining;
+      token = token_after c.digest c.token (take n c.remaining);
+      ends = is_empty (drop n c.remaining);
     }
 
 -- a cursor once it has given n more documents
 abbrev pub moved : OpenCursor → ℕ → OpenCursor
-moved c n = record c { token = token_after c.digest c.token (take n c.left); left = drop n c.left }
+moved c n = record c { token = token_after c.digest c.token (take n c.remaining); remaining = drop n c.remaining }
 
 -- the open cursors after the one of that number gave n more documents
 abbrev pub with_moved : ℕ → ℕ → List OpenCursor → List OpenCursor
@@ -168,7 +168,7 @@ next_reply (Some c) n = if nat_lt greatest_count n then out_of_range else gave (
 abbrev pub reply : State → Call → Reply
 reply s (find_call q hint) = open_reply s hint
 reply s (resume_call q hint t) = if bytes_eq t.digest q.digest
-    then (if nat_lt t.mark.last q.selection.count then open_reply s hint else token_place) else foreign_token
+    then (if nat_lt t.position.last q.selection.count then open_reply s hint else token_place) else foreign_token
 reply s (next_call id n) = next_reply (cursor_of id s.cursors) n
 reply s (kill_call id) = if is_some (cursor_of id s.cursors) then killed else no_cursor
 reply s (make_call i counts) = if has_index s.indexes (Some i.path) then index_there
@@ -180,12 +180,12 @@ reply s (explain_call hint pairs) = if has_index s.indexes hint then explained (
 -- no cursor knows an index, and a call that is refused changes nothing.
 abbrev pub changed_by : Reply → Call → State → State
 changed_by (opened id) (find_call q hint) s = with_open s q.digest None (answer q.selection)
-changed_by (opened id) (resume_call q hint t) s = with_open s q.digest (Some t) (rest q.selection t.mark)
+changed_by (opened id) (resume_call q hint t) s = with_open s q.digest (Some t) (rest q.selection t.position)
 changed_by (gave batch) (next_call id n) s =
     record s { cursors = if batch.ends then without id s.cursors else with_moved id n s.cursors }
 changed_by killed (kill_call id) s = record s { cursors = without id s.cursors }
 changed_by (made counts) (make_call i _) s = record s { indexes = s.indexes ++ i ∷ [] }
-changed_by dropped (drop_call path) s = record s { indexes = filter (λ (i : IndexMark). not (is_on path i)) s.indexes }
+changed_by dropped (drop_call path) s = record s { indexes = filter (λ (i : IndexKey). not (is_on path i)) s.indexes }
 changed_by reply call s = s
 
 -- the state of a session after one call

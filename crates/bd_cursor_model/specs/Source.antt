@@ -6,10 +6,10 @@ use Rattle.std.proofs.{lemmas.List.FromFn.length-range_with_len}
 use Rattle.bd_cursor_model.specs.Answer.{Selection, before, ordered}
 
 -- a list of numbers of n documents in which no match is missing and none comes twice
-pub record IsSource (n : ℕ) (hits : ℕ → Bool) (ps : List ℕ) : Type 0 where
+pub record IsSource (n : ℕ) (matches_at : ℕ → Bool) (ps : List ℕ) : Type 0 where
   pub below : All (λ p. p < n) ps
   pub distinct : AllPairs (λ x y. x ≢ y) ps
-  pub complete : (p : ℕ) → p < n → hits p ≡ true → Contains ps p
+  pub complete : (p : ℕ) → p < n → matches_at p ≡ true → Contains ps p
 
 -- The next document number is handed out; None says that there is none, then or later.
 abbrev pub HandsOut : Option ℕ → List ℕ → List ℕ → Type 0
@@ -23,16 +23,16 @@ is_after lt (Some q) p = lt q p
 
 -- whether p matches, and comes after another document number, if there is one
 abbrev pub passes : (ℕ → Bool) → (ℕ → ℕ → Ordering) → Option ℕ → ℕ → Bool
-passes hits by last p = hits p && is_after (before by) last p
+passes matches_at by last p = matches_at p && is_after (before by) last p
 
 -- the numbers of the matches that come after a document, in order; of all without one
 abbrev pub places_after : Selection → Option ℕ → List ℕ
 places_after a last = filter (is_after (before a.by) last) (ordered a)
 
 -- the numbers of all documents in file order are a source: no match is missing, and none comes twice
-pub scan_law : (next count n : ℕ) (hits : ℕ → Bool) → next ≡ 0 → count ≡ n →
-    IsSource n hits (range_with_len next (count - next))
-scan_law next count n hits e f = rw (e, f) (let z : n - 0 ≡ n = omega arith in rw z (record {
+pub scan_law : (next count n : ℕ) (matches_at : ℕ → Bool) → next ≡ 0 → count ≡ n →
+    IsSource n matches_at (range_with_len next (count - next))
+scan_law next count n matches_at e f = rw (e, f) (let z : n - 0 ≡ n = omega arith in rw z (record {
   below = λ k d l. let m : k < n = omega (arith, length-range_with_len 0 n) in
       rw (get_or-range_with_len 0 n k d m) (omega arith);
   distinct = λ i j d a b e. let m : j < n = omega (arith, length-range_with_len 0 n) in let x =

@@ -3,11 +3,11 @@
 ghost use Rattle.std.specs.Prelude.{◌≡◌, ◌<◌, ◌≤◌, ◌++◌, ◌↔◌, Bool, Contains, List, Option, drop, slice_get, sum, take, true, ℕ};
 ghost use Rattle.std.specs.List.{concat, filter_map, flat_map};
 ghost use Rattle.std.specs.{Cmp.IsTotalOrder, declared.cmp.Ordering.Ordering};
-ghost use Rattle.bd_cursor_model.specs.Answer.{Mark, Selection, answer, batches, before, ordered, rest};
-ghost use Rattle.bd_cursor_model.specs.Laws.{DocumentRequest, GivesInTurn, IsAscending, IsEnough, IsFair, IsMarkAfter, IsSelectionOf, IsStrictOrder};
+ghost use Rattle.bd_cursor_model.specs.Answer.{Position, Selection, answer, batches, before, ordered, rest};
+ghost use Rattle.bd_cursor_model.specs.Laws.{DocumentRequest, GivesInTurn, IsAscending, IsEnough, IsFair, IsPositionAfter, IsSelectionOf, IsStrictOrder};
 ghost use Rattle.bd_cursor_model.specs.Laws.{answered_calls, attempt_replies, batches_to, found_in, new_state, part_request, replies};
 ghost use Rattle.bd_cursor_model.specs.Laws.{state_after_all, state_after_attempts};
-ghost use Rattle.bd_cursor_model.specs.Session.{Call, MarkedToken, Query, State, find_call, given_by, left_after, opened, reply, resume_call, state_after};
+ghost use Rattle.bd_cursor_model.specs.Session.{Call, PositionedToken, Query, State, find_call, given_by, remaining_after, opened, reply, resume_call, state_after};
 
 /// Of two places one comes before the other.
 #[tactic(auto, using(crate::proofs::AnswerLemmas::before_strict))]
@@ -19,7 +19,7 @@ pub fn places_are_ordered()
 pub fn answers_are_ordered()
     ensures ascends { (a : Selection) → IsTotalOrder a.by → IsAscending (before a.by) (ordered a) }
     ensures matches { (a : Selection) (p : ℕ) →
-        Contains (ordered a) p ↔ ((p < a.count) × (a.hits p ≡ true)) }
+        Contains (ordered a) p ↔ ((p < a.count) × (a.matches_at p ≡ true)) }
     ensures answer { (a : Selection) → IsTotalOrder a.by → IsAscending (before a.by) (answer a) }
 {}
 
@@ -33,8 +33,9 @@ pub fn batches_are_the_first()
 #[tactic(auto, using(crate::proofs::AnswerLemmas::rest_follows))]
 pub fn rests_follow()
     ensures { (a : Selection) → IsTotalOrder a.by →
-        (most : ℕ) → a.limit ≤ most → (t : Option MarkedToken) (k : ℕ) (m : Mark) →
-        IsMarkAfter most (given_by t) k (left_after a t) m → rest a m ≡ drop k (left_after a t) }
+        (most : ℕ) → a.limit ≤ most → (t : Option PositionedToken) (k : ℕ) (m : Position) →
+        IsPositionAfter most (given_by t) k (remaining_after a t) m →
+        rest a m ≡ drop k (remaining_after a t) }
 {}
 
 /// After any calls on a session, a cursor gives its answer in batches, as many documents as the sizes ask for, and each token
@@ -47,11 +48,11 @@ pub fn sessions_keep_to_the_answer()
         GivesInTurn q id (answer q.selection) later
         (batches_to id later (replies (state_after s (find_call q hint)) later)) }
     ensures resume { (earlier later : List Call)
-        (q : Query) (hint : Option (List ℕ)) (t : MarkedToken) (id : ℕ) → IsFair q →
+        (q : Query) (hint : Option (List ℕ)) (t : PositionedToken) (id : ℕ) → IsFair q →
         let s = state_after_all new_state earlier in reply s (resume_call q hint t) ≡ opened id →
-        GivesInTurn q id (rest q.selection t.mark) later
+        GivesInTurn q id (rest q.selection t.position) later
         (batches_to id later (replies (state_after s (resume_call q hint t)) later)) }
-    ensures starved { (s : State) (attempts : List (Call × Bool)) →
+    ensures out_of_memory { (s : State) (attempts : List (Call × Bool)) →
         (state_after_attempts s attempts ≡ state_after_all s (answered_calls attempts))
         × (filter_map (λ r. r) (attempt_replies s attempts) ≡ replies s (answered_calls attempts)) }
 {}
@@ -65,8 +66,8 @@ pub fn parts_give_the_whole<T>()
         IsEnough r limit → (parts : List (List T)) → found_in r (flat_map (λ ds. ds) parts)
         ≡ found_in r (flat_map (found_in (part_request r limit)) parts) }
     ensures stretch { (r : DocumentRequest T) → IsTotalOrder r.by → (limit : ℕ) →
-        IsEnough r limit → (front stretch back : List T) → found_in r (front ++ (stretch ++ back))
-        ≡ found_in r (front ++ (found_in (part_request r limit) stretch ++ back)) }
+        IsEnough r limit → (prefix stretch back : List T) → found_in r (prefix ++ (stretch ++ back))
+        ≡ found_in r (prefix ++ (found_in (part_request r limit) stretch ++ back)) }
     ensures places { (r : DocumentRequest T) (ds : List T) (a : Selection) → IsSelectionOf r ds a →
         filter_map (slice_get ds) (answer a) ≡ found_in r ds }
 {}

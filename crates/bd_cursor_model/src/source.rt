@@ -6,18 +6,18 @@ ghost use Rattle.bd_cursor_model.specs.Source.{HandsOut, IsSource, scan_law};
 /// What hands out places, among which those of all documents that match are.
 pub trait PlaceSource {
     /// The places that it has left to hand out.
-    ghost left: { Self → List ℕ };
+    ghost remaining: { Self → List ℕ };
 
     /// What makes it a source for so many documents and a test.
     ghost serves: { Self → ℕ → (ℕ → Bool) → Type 0 };
 
     /// The next place, as long as there is one. It takes no memory.
     fn next_place(&mut self) -> Option<u32>
-        ensures { HandsOut result (left self.old) (left self.new) };
+        ensures { HandsOut result (remaining self.old) (remaining self.new) };
 
     /// No match is missing, and none comes twice.
-    ghost law: { (s : Self) (n : ℕ) (hits : ℕ → Bool) →
-        serves s n hits → IsSource n hits (left s) };
+    ghost law: { (s : Self) (n : ℕ) (matches_at : ℕ → Bool) →
+        serves s n matches_at → IsSource n matches_at (remaining s) };
 }
 
 /// Every place, ascending.
@@ -37,9 +37,9 @@ impl Scan {
 }
 
 impl PlaceSource for Scan {
-    ghost left = { λ s. range_with_len s.next (s.count - s.next) };
+    ghost remaining = { λ s. range_with_len s.next (s.count - s.next) };
 
-    ghost serves = { λ s n hits. (s.next ≡ 0) × (s.count ≡ n) };
+    ghost serves = { λ s n matches_at. (s.next ≡ 0) × (s.count ≡ n) };
 
     fn next_place(&mut self) -> Option<u32> {
         if self.next < self.count {
@@ -51,5 +51,5 @@ impl PlaceSource for Scan {
         }
     }
 
-    ghost law = { λ s n hits e. scan_law s.next s.count n hits e.0 e.1 };
+    ghost law = { λ s n matches_at e. scan_law s.next s.count n matches_at e.0 e.1 };
 }

@@ -10,20 +10,20 @@ use Rattle.std.proofs.lemmas.Bool.{le-leb}
 use Rattle.bd_path.specs.Sort.{SortPath}
 
 abbrev with_pair : Doc → List ℕ → Tree → Doc
-with_pair front name t = front ++ (name, t) ∷ []
+with_pair prefix name t = prefix ++ (name, t) ∷ []
 
 -- one pair more is written
-pub written_on : (front left after whole pushed : Doc) (name copy : List ℕ) (t v : Tree) → front ++ sort_written left ≡ whole → left ≡ (name, t) ∷ after
-    → pushed ≡ front ++ (copy, v) ∷ [] → copy ≡ name → v ≡ leaf (trees.int32 (direction_number (direction_of t))) → pushed ++ sort_written after ≡ whole
-written_on front left after whole pushed name copy t v so_far is push same number =
-    ap (λ (d : Doc). d ++ sort_written after) (push ∙ ap₂ (with_pair front) same number)
-    ∙ append_assoc front ((name, leaf (trees.int32 (direction_number (direction_of t)))) ∷ []) (sort_written after)
-    ∙ ap (λ (d : Doc). front ++ sort_written d) (sym is) ∙ so_far
+pub written_on : (prefix remaining after whole pushed : Doc) (name copy : List ℕ) (t v : Tree) → prefix ++ sort_written remaining ≡ whole → remaining ≡ (name, t) ∷ after
+    → pushed ≡ prefix ++ (copy, v) ∷ [] → copy ≡ name → v ≡ leaf (trees.int32 (direction_number (direction_of t))) → pushed ++ sort_written after ≡ whole
+written_on prefix remaining after whole pushed name copy t v so_far is push same number =
+    ap (λ (d : Doc). d ++ sort_written after) (push ∙ ap₂ (with_pair prefix) same number)
+    ∙ append_assoc prefix ((name, leaf (trees.int32 (direction_number (direction_of t)))) ∷ []) (sort_written after)
+    ∙ ap (λ (d : Doc). prefix ++ sort_written d) (sym is) ∙ so_far
 
 -- what was read, and what is left
 abbrev pub joined : List SortPath → Option (List SortPath) → Option (List SortPath)
-joined front (Some ss) = Some (front ++ ss)
-joined front None = None
+joined prefix (Some ss) = Some (prefix ++ ss)
+joined prefix None = None
 
 -- the pairs of a document in hand
 pub parts_are : (d ps : Doc) → AreParts (doc (fields_of d)) ps → ps ≡ d
@@ -42,5 +42,5 @@ few_and_distinct d le is = rw (le-leb (length d) 4 le, is) refl
 
 -- where a part is refused, the whole is
 pub refused_alike : (refused reason : Refused) (X Y : Type 0) → (X → Y) → IsRefusedAs refused reason X → IsRefusedAs refused reason Y
-refused_alike refused reason X Y gives (inl starved) = inl starved
+refused_alike refused reason X Y gives (inl out_of_memory) = inl out_of_memory
 refused_alike refused reason X Y gives (inr (is, x)) = inr (is, gives x)

@@ -12,9 +12,9 @@ use Rattle.bd_cursor_request.specs.Token.{token_after_version, token_bytes, toke
 use Rattle.bd_cursor_request.specs.declared.token.Token.{Token}
 
 -- one part, and what is left after it
-pub record IsCut (n : ℕ) (bytes front after : List ℕ) : Type 0 where
-  pub part : front ≡ take n bytes
-  pub left : after ≡ drop n bytes
+pub record IsSplit (n : ℕ) (bytes prefix after : List ℕ) : Type 0 where
+  pub part : prefix ≡ take n bytes
+  pub remaining : after ≡ drop n bytes
   pub size : length after + n ≡ length bytes
 
 abbrev token_with : ℕ → ℕ → List ℕ → Option Token
@@ -25,14 +25,14 @@ read_whole rest is = rw is refl
 
 -- a token of its parts, one after the other
 pub token_parted : (bytes rest rest2 rest3 given last digest : List ℕ) (version n m : ℕ) → bytes ≡ version ∷ rest → version ≡ 1
-    → IsCut 8 rest given rest2 → IsCut 4 rest2 last rest3 → digest ≡ take 32 rest3 → length bytes ≡ 45
+    → IsSplit 8 rest given rest2 → IsSplit 4 rest2 last rest3 → digest ≡ take 32 rest3 → length bytes ≡ 45
     → n ≡ from_le_bytes w64 given → m ≡ from_le_bytes w32 last → Some (record { given = n; last = m; digest = digest }) ≡ token_in bytes
 token_parted bytes rest rest2 rest3 given last digest version n m is one a b c whole_size x y =
     let all = ap (λ (xs : List ℕ). length xs) (sym is) ∙ whole_size in
     let size : length rest ≡ 44 = omega (arith, all) in
     let short : length rest3 ≡ 32 = (let p = a.size in let q = b.size in omega (arith, p, q, size)) in
-    let whole = c ∙ take_all 32 rest3 (omega (arith, short)) ∙ b.left ∙ ap (drop 4) a.left in
-    ap₂ (λ (k j : ℕ). token_with k j digest) (x ∙ ap (from_le_bytes w64) a.part) (y ∙ ap (from_le_bytes w32) (b.part ∙ ap (take 4) a.left))
+    let whole = c ∙ take_all 32 rest3 (omega (arith, short)) ∙ b.remaining ∙ ap (drop 4) a.remaining in
+    ap₂ (λ (k j : ℕ). token_with k j digest) (x ∙ ap (from_le_bytes w64) a.part) (y ∙ ap (from_le_bytes w32) (b.part ∙ ap (take 4) a.remaining))
     ∙ ap (token_with (from_le_bytes w64 (take 8 rest)) (from_le_bytes w32 (take 4 (drop 8 rest)))) whole
     ∙ read_whole rest size ∙ ap token_in (sym (is ∙ ap (λ v. v ∷ rest) one))
 

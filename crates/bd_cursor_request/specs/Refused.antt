@@ -51,8 +51,8 @@ then_part (Ok x) next = next x
 then_part (Err why) next = Err why
 
 -- the part, with the reason of its refusal in another form
-abbrev pub told_as : {A Why Told : Type 0} → (Why → Told) → Result A Why → Result A Told
-told_as told part = result_map_both (λ x. x) told part
+abbrev pub error_as : {A Why Explained : Type 0} → (Why → Explained) → Result A Why → Result A Explained
+error_as explain part = result_map_both (λ x. x) explain part
 
 -- It is refused for this reason, and `Holds`; or memory ran out.
 abbrev pub IsRefusedAs : Refused → Refused → Type 0 → Type 0

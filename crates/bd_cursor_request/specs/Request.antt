@@ -10,7 +10,7 @@ use Rattle.bd_path.specs.{declared.path.PathFault.PathFault, Sort.sort_paths}
 use Rattle.bd_value.specs.Limits.{greatest_count}
 use Rattle.bd_extjson_text.specs.Text.{text}
 use Rattle.bd_query_filter.specs.{Filter.Filter, Filter.filter_tree, FilterOf.filter_of}
-use Rattle.bd_cursor_request.specs.Refused.{Reason, bad_filter, plain, then_part, told_as}
+use Rattle.bd_cursor_request.specs.Refused.{Reason, bad_filter, plain, then_part, error_as}
 use Rattle.bd_cursor_request.specs.{Token.token_of, declared.token.Token.Token}
 use Rattle.bd_cursor_request.specs.declared.results.Refused.TheVariants as reasons
 use Rattle.bd_cursor_request.specs.declared.request.Request as declared
@@ -86,7 +86,7 @@ request_with filter sort skip limit f ss =
 -- the filter is looked at first, then the sort, then the counts.
 abbrev pub request_of : Doc → Doc → ℕ → ℕ → Result Request Reason
 request_of filter sort skip limit =
-    then_part (told_as bad_filter (filter_of filter)) (λ f.
+    then_part (error_as bad_filter (filter_of filter)) (λ f.
     then_part (ok_or (sort_of sort) (plain reasons.BadSort)) (λ ss.
     if nat_le skip greatest_count && nat_le limit greatest_count
     then Ok (request_with filter sort skip limit f ss) else Err (plain reasons.Range)))

@@ -1,12 +1,12 @@
 -- What the results of a session's calls stand for, and the values that report them.
 use Rattle.std.specs.Prelude.{ℕ, pos, List, Option, Some, None}
 use Rattle.bd_value.specs.Tree.{Tree, leaf, null, text, int64}
-use Rattle.bd_cursor_model.specs.Session.{IndexCounts, MarkedToken}
+use Rattle.bd_cursor_model.specs.Session.{IndexCounts, PositionedToken}
 use Rattle.bd_cursor_request.specs.{Token.token_text, declared.results.Made.Made}
 
 -- the text of a token: 60 characters
-abbrev pub marked_text : MarkedToken → List ℕ
-marked_text t = token_text (record { given = t.mark.given; last = t.mark.last; digest = t.digest })
+abbrev pub positioned_text : PositionedToken → List ℕ
+positioned_text t = token_text (record { given = t.position.given; last = t.position.last; digest = t.digest })
 
 -- the counts that `Made` in memory reports of a new index
 abbrev pub made_counts : Made → IndexCounts

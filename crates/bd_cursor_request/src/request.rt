@@ -8,7 +8,7 @@ ghost use Rattle.bd_value.specs.View.{pairs, tree_of};
 ghost use Rattle.bd_path.specs.Sort.{sort_paths};
 ghost use Rattle.bd_query_filter.specs.Filter.{filter_tree};
 ghost use Rattle.bd_query_filter.specs.FilterOf.{filter_of};
-ghost use Rattle.bd_cursor_request.specs.Refused.{IsRefusedAs, IsRefusedPart, bad_filter, told_as};
+ghost use Rattle.bd_cursor_request.specs.Refused.{IsRefusedAs, IsRefusedPart, bad_filter, error_as};
 ghost use Rattle.bd_cursor_request.specs.Request.{are_distinct, direction_number, direction_of, pair_names, request_of, request_text, request_view};
 ghost use Rattle.bd_cursor_request.specs.Request.{sort_of, sort_pairs, sort_written};
 ghost use Rattle.bd_cursor_request.specs.declared.results.Refused.TheVariants.{BadSort};
@@ -74,7 +74,7 @@ impl Request {
 fn read_filter(alloc: Global, document: &Document) -> Result<Filter, Refused>
     ensures filter { IfOk result (λ f. filter_of (pairs document.now) ≡ Ok (filter_tree f)) }
     ensures fault { IfErr result
-        (IsRefusedPart (told_as bad_filter (filter_of (pairs document.now)))) }
+        (IsRefusedPart (error_as bad_filter (filter_of (pairs document.now)))) }
 {
     match parse(alloc, document) {
         Ok(filter) => Ok(filter),
@@ -123,11 +123,11 @@ fn written_sort(alloc: Global, sort: &Document) -> Result<Document, NoMemory>
     ensures { IfOk result (λ d. pairs d ≡ sort_written (pairs sort.now)) }
 {
     let mut written = Document::new(alloc);
-    let mut left = Tree::Doc(sort).parts();
-    while let Some(next) = Tree::next(&left) {
+    let mut remaining = Tree::Doc(sort).parts();
+    while let Some(next) = Tree::next(&remaining) {
         let name = String::from_str(alloc, next.0)?;
         written.push(name, written_direction(next.1))?;
-        left = next.2;
+        remaining = next.2;
     }
     Ok(written)
 }
@@ -164,38 +164,39 @@ fn read_sort(alloc: Global, document: &Document) -> Result<Vec<(Path, Dir)>, Ref
 
 /// Whether no name stands twice.
 fn are_distinct<N: Reading>(pairs: N::Rest) -> bool
-    ensures { result ≡ are_distinct (pair_names (N.left pairs)) }
+    ensures { result ≡ are_distinct (pair_names (N.remaining pairs)) }
 {
-    let mut left = pairs;
-    while let Some(next) = N::next(&left) {
+    let mut remaining = pairs;
+    while let Some(next) = N::next(&remaining) {
         if has_name::<N>(next.2, next.0) {
             return false;
         }
-        left = next.2;
+        remaining = next.2;
     }
     true
 }
 
 fn has_name<N: Reading>(pairs: N::Rest, name: &str) -> bool
-    ensures { result ≡ list_any (bytes_eq name.now) (pair_names (N.left pairs)) }
+    ensures { result ≡ list_any (bytes_eq name.now) (pair_names (N.remaining pairs)) }
 {
-    let mut left = pairs;
-    while let Some(next) = N::next(&left) {
+    let mut remaining = pairs;
+    while let Some(next) = N::next(&remaining) {
         if name == next.0 {
             return true;
         }
-        left = next.2;
+        remaining = next.2;
     }
     false
 }
 
 fn read_pairs<N: Reading>(alloc: Global, pairs: N::Rest) -> Result<Vec<(Path, Dir)>, Refused>
-    ensures sort { IfOk result (λ v. sort_pairs (N.left pairs) ≡ Some (sort_paths v.items)) }
-    ensures fault { IfErr result (λ r. IsRefusedAs r BadSort (sort_pairs (N.left pairs) ≡ None)) }
+    ensures sort { IfOk result (λ v. sort_pairs (N.remaining pairs) ≡ Some (sort_paths v.items)) }
+    ensures fault { IfErr result (λ r.
+        IsRefusedAs r BadSort (sort_pairs (N.remaining pairs) ≡ None)) }
 {
     let mut sort = Vec::new(alloc);
-    let mut left = pairs;
-    while let Some(next) = N::next(&left) {
+    let mut remaining = pairs;
+    while let Some(next) = N::next(&remaining) {
         let Some(dir) = direction_of(next.1) else {
             return Err(Refused::BadSort);
         };
@@ -204,7 +205,7 @@ fn read_pairs<N: Reading>(alloc: Global, pairs: N::Rest) -> Result<Vec<(Path, Di
             Err(PathFault::NoMemory) => return Err(Refused::NoMemory),
             Err(_) => return Err(Refused::BadSort),
         }
-        left = next.2;
+        remaining = next.2;
     }
     Ok(sort)
 }

@@ -1,4 +1,4 @@
-pub mod MarkLemmas
+pub mod PivotLemmas
 pub mod RankingLemmas
 pub mod SortKeyLemmas
 pub mod SortingLemmas

@@ -13,7 +13,7 @@ use Rattle.bd_cursor_model.specs.Answer.{before}
 use Rattle.bd_bson_dump.specs.Collection.{document_at}
 use Rattle.bd_cursor_sort.specs.Ranking.{AreRanked, Keyed, keyed, keyed_cmp, keyed_row, next_rank, place_of, ranks_from, rows_cmp}
 use Rattle.bd_cursor_sort.specs.{Sorting.AreFirst, Selection.order_of_keys, declared.ranking.Ranked.Ranked, declared.ranking.Row.Row}
-use Rattle.bd_cursor_sort.proofs.MarkLemmas.{keys_total}
+use Rattle.bd_cursor_sort.proofs.PivotLemmas.{keys_total}
 use Rattle.bd_value.specs.Tree as trees
 
 -- the ranks of two documents stand as these do, and the first one's is no higher
@@ -25,9 +25,9 @@ abbrev Each : (ℕ → ℕ → Ordering) → Ranked → List Ranked → Type 0
 Each by a [] = Unit {0}
 Each by a (b ∷ rs) = Agree by a b × Each by a rs
 
-abbrev Stand : (ℕ → ℕ → Ordering) → List Ranked → Type 0
-Stand by [] = Unit {0}
-Stand by (a ∷ rs) = Each by a rs × Stand by rs
+abbrev InOrder : (ℕ → ℕ → Ordering) → List Ranked → Type 0
+InOrder by [] = Unit {0}
+InOrder by (a ∷ rs) = Each by a rs × InOrder by rs
 
 agree_on : {by : ℕ → ℕ → Ordering} → IsTotalOrder by → (a b c : Ranked) → Agree by a b → Agree by b c → nat_cmp a.rank c.rank ≡ by a.place c.place
 agree_on o a b c ab bc = grind (arith, nat_tests, o.trans a.place b.place c.place, o.congr a.place b.place c.place, alike_right o b.place c.place a.place)
@@ -44,14 +44,14 @@ each_at by a [] h j d l = absurd (omega arith)
 each_at by a (b ∷ rs) h zero d l = h.0.0
 each_at by a (b ∷ rs) h (suc j) d l = each_at by a rs h.1 j d (omega arith)
 
-stand_at : {by : ℕ → ℕ → Ordering} → IsTotalOrder by → (rs : List Ranked) → Stand by rs → (i j : ℕ) (d : Ranked) → i < length rs → j < length rs
+in_order_at : {by : ℕ → ℕ → Ordering} → IsTotalOrder by → (rs : List Ranked) → InOrder by rs → (i j : ℕ) (d : Ranked) → i < length rs → j < length rs
     → nat_cmp (get_or rs i d).rank (get_or rs j d).rank ≡ by (get_or rs i d).place (get_or rs j d).place
-stand_at o [] h i j d a b = absurd (omega arith)
-stand_at o (r ∷ rs) h zero zero d a b = tied_itself nat_cmp_total r.rank ∙ sym (tied_itself o r.place)
-stand_at {by = by} o (r ∷ rs) h zero (suc j) d a b = each_at by r rs h.0 j d (omega arith)
-stand_at {by = by} o (r ∷ rs) h (suc i) zero d a b =
+in_order_at o [] h i j d a b = absurd (omega arith)
+in_order_at o (r ∷ rs) h zero zero d a b = tied_itself nat_cmp_total r.rank ∙ sym (tied_itself o r.place)
+in_order_at {by = by} o (r ∷ rs) h zero (suc j) d a b = each_at by r rs h.0 j d (omega arith)
+in_order_at {by = by} o (r ∷ rs) h (suc i) zero d a b =
     nat_cmp_total.antisymm (get_or rs i d).rank r.rank ∙ ap ordering_reverse (each_at by r rs h.0 i d (omega arith)) ∙ sym (o.antisymm (get_or rs i d).place r.place)
-stand_at o (r ∷ rs) h (suc i) (suc j) d a b = stand_at o rs h.1 i j d (omega arith) (omega arith)
+in_order_at o (r ∷ rs) h (suc i) (suc j) d a b = in_order_at o rs h.1 i j d (omega arith) (omega arith)
 
 all_places : (dir : Dir) (rank : ℕ) (last : Option Keyed) (ys : List Keyed) → map place_of (ranks_from dir rank last ys) ≡ map (λ (k : Keyed). k.place) ys
 all_places dir rank last [] = refl
@@ -73,9 +73,9 @@ order_append ds (r ∷ ss) s p q =
     ap (ordering_then one) (order_append ds ss s p q)
     ∙ then_assoc one (order_of_keys ds ss p q) (dir_cmp s.dir (sort_key s.dir (document_at ds p) s.path) (sort_key s.dir (document_at ds q) s.path))
 
-keyed_stand : (ds : List Doc) (ss : List SortPath) (s : SortPath) (a b : Ranked) → nat_cmp a.rank b.rank ≡ order_of_keys ds ss a.place b.place
+keyed_in_order : (ds : List Doc) (ss : List SortPath) (s : SortPath) (a b : Ranked) → nat_cmp a.rank b.rank ≡ order_of_keys ds ss a.place b.place
     → keyed_cmp s.dir (keyed ds s a) (keyed ds s b) ≡ order_of_keys ds (ss ++ s ∷ []) a.place b.place
-keyed_stand ds ss s a b e =
+keyed_in_order ds ss s a b e =
     ap (λ o. ordering_then o (dir_cmp s.dir (sort_key s.dir (document_at ds a.place) s.path) (sort_key s.dir (document_at ds b.place) s.path))) e
     ∙ sym (order_append ds ss s a.place b.place)
 
@@ -92,42 +92,42 @@ of_some ds s rs rows moved i d l =
     (c.0, m, sym (get_or-map (keyed ds s) rs c.0 no_one x m) ∙ c.2)
 
 -- the keys stand as the documents do; each row comes after none of those before it
-abbrev KeysStand : (ℕ → ℕ → Ordering) → Dir → List Keyed → Type 0
-KeysStand by dir ys = (i j : ℕ) (d : Keyed) → i < length ys → j < length ys → keyed_cmp dir (get_or ys i d) (get_or ys j d) ≡ by (get_or ys i d).place (get_or ys j d).place
+abbrev KeysInOrder : (ℕ → ℕ → Ordering) → Dir → List Keyed → Type 0
+KeysInOrder by dir ys = (i j : ℕ) (d : Keyed) → i < length ys → j < length ys → keyed_cmp dir (get_or ys i d) (get_or ys j d) ≡ by (get_or ys i d).place (get_or ys j d).place
 
 abbrev RowsRise : Dir → List Keyed → Type 0
 RowsRise dir ys = (k : ℕ) (d : Keyed) → k + 1 < length ys → is_lt (rows_cmp dir (get_or ys (suc k) d) (get_or ys k d)) ≡ false
 
-rows_stand : (ds : List Doc) (ss : List SortPath) (s : SortPath) (ps : List ℕ) (rs : List Ranked) (rows : List Keyed) → AreRanked ds ss ps rs → IsPermutation (map (keyed ds s) rs) rows
-    → KeysStand (order_of_keys ds (ss ++ s ∷ [])) s.dir rows
-rows_stand ds ss s ps rs rows are moved i j d a b =
+rows_in_order : (ds : List Doc) (ss : List SortPath) (s : SortPath) (ps : List ℕ) (rs : List Ranked) (rows : List Keyed) → AreRanked ds ss ps rs → IsPermutation (map (keyed ds s) rs) rows
+    → KeysInOrder (order_of_keys ds (ss ++ s ∷ [])) s.dir rows
+rows_in_order ds ss s ps rs rows are moved i j d a b =
     let k = of_some ds s rs rows moved i d a in
     let m = of_some ds s rs rows moved j d b in
     let by = order_of_keys ds (ss ++ s ∷ []) in
     let x = keyed ds s (get_or rs k.0 no_one) in
     let y = keyed ds s (get_or rs m.0 no_one) in
-    let e : keyed_cmp s.dir x y ≡ by x.place y.place = keyed_stand ds ss s (get_or rs k.0 no_one) (get_or rs m.0 no_one) (are.stand k.0 m.0 no_one k.1 m.1) in
+    let e : keyed_cmp s.dir x y ≡ by x.place y.place = keyed_in_order ds ss s (get_or rs k.0 no_one) (get_or rs m.0 no_one) (are.in_order k.0 m.0 no_one k.1 m.1) in
     subst (λ z. keyed_cmp s.dir (get_or rows i d) z ≡ by (get_or rows i d).place z.place) m.2 (subst (λ z. keyed_cmp s.dir z y ≡ by z.place y.place) k.2 e)
 
 less_stays : (o p : Ordering) → is_lt (ordering_then o p) ≡ false → is_lt o ≡ false
 less_stays o p e = grind arith
 
-stands : {by : ℕ → ℕ → Ordering} → IsTotalOrder by → (dir : Dir) (rank : ℕ) (x : Keyed) (ys : List Keyed) → KeysStand by dir (x ∷ ys) → RowsRise dir (x ∷ ys)
-    → Stand by (record { rank = rank; place = x.place } ∷ ranks_from dir rank (Some x) ys)
-stands o dir rank x [] stand up = (tt, tt)
-stands {by = by} o dir rank x (y ∷ ys) stand up =
+meaning : {by : ℕ → ℕ → Ordering} → IsTotalOrder by → (dir : Dir) (rank : ℕ) (x : Keyed) (ys : List Keyed) → KeysInOrder by dir (x ∷ ys) → RowsRise dir (x ∷ ys)
+    → InOrder by (record { rank = rank; place = x.place } ∷ ranks_from dir rank (Some x) ys)
+meaning o dir rank x [] in_order up = (tt, tt)
+meaning {by = by} o dir rank x (y ∷ ys) in_order up =
     let a : Ranked = record { rank = rank; place = x.place } in
     let b : Ranked = record { rank = next_rank dir rank (Some x) y; place = y.place } in
-    let rest = stands o dir b.rank y ys (λ i j d k l. stand (suc i) (suc j) d (omega arith) (omega arith)) (λ k d l. up (suc k) d (omega arith)) in
-    let back : is_lt (by y.place x.place) ≡ false = ap is_lt (sym (stand (suc zero) zero x (omega arith) (omega arith)))
+    let rest = meaning o dir b.rank y ys (λ i j d k l. in_order (suc i) (suc j) d (omega arith) (omega arith)) (λ k d l. up (suc k) d (omega arith)) in
+    let back : is_lt (by y.place x.place) ≡ false = ap is_lt (sym (in_order (suc zero) zero x (omega arith) (omega arith)))
     ∙ less_stays (keyed_cmp dir y x) (nat_cmp y.place x.place) (up zero x (omega arith)) in
     let low : rank ≤ b.rank = cond_both (is_lt (keyed_cmp dir x y)) (rank + 1) rank (λ n. rank ≤ n) (λ e. omega arith) (λ e. omega arith) in
-    let agree : Agree by a b = (step_agrees o rank x.place y.place (keyed_cmp dir x y) (stand zero (suc zero) x (omega arith) (omega arith)) back, low) in
+    let agree : Agree by a b = (step_agrees o rank x.place y.place (keyed_cmp dir x y) (in_order zero (suc zero) x (omega arith) (omega arith)) back, low) in
     ((agree, each_on o a b (ranks_from dir b.rank (Some y) ys) agree rest.0), rest)
 
-stand_all : {by : ℕ → ℕ → Ordering} → IsTotalOrder by → (dir : Dir) (ys : List Keyed) → KeysStand by dir ys → RowsRise dir ys → Stand by (ranks_from dir 0 None ys)
-stand_all o dir [] stand up = tt
-stand_all o dir (y ∷ ys) stand up = stands o dir 0 y ys stand up
+in_order_all : {by : ℕ → ℕ → Ordering} → IsTotalOrder by → (dir : Dir) (ys : List Keyed) → KeysInOrder by dir ys → RowsRise dir ys → InOrder by (ranks_from dir 0 None ys)
+in_order_all o dir [] in_order up = tt
+in_order_all o dir (y ∷ ys) in_order up = meaning o dir 0 y ys in_order up
 
 pub ranked_more : (ds : List Doc) (ss : List SortPath) (s : SortPath) (ps : List ℕ) (rs : List Ranked) (rows : List Keyed) → AreRanked ds ss ps rs
     → IsPermutation (map (keyed ds s) rs) rows → IsSortedBy (λ a b. is_lt (rows_cmp s.dir a b)) rows
@@ -135,22 +135,22 @@ pub ranked_more : (ds : List Doc) (ss : List SortPath) (s : SortPath) (ps : List
 ranked_more ds ss s ps rs rows are moved up =
     let dir = s.dir in
     let by = order_of_keys ds (ss ++ s ∷ []) in
-    let stand = rows_stand ds ss s ps rs rows are moved in
+    let in_order = rows_in_order ds ss s ps rs rows are moved in
     let next : RowsRise dir rows = λ k d a. rw add-one at (up k d (omega arith) a) in
     record {
       same = rw (all_places dir 0 None rows) (IsPermutation-trans ps (map place_of rs) (map (λ (k : Keyed). k.place) rows) are.same
           (rw map-map at (IsPermutation-map (λ (k : Keyed). k.place) (map (keyed ds s) rs) rows moved)));
-      rises = rw (all_places dir 0 None rows) (sorted_places by dir rows stand next);
-      stand = stand_at (keys_total ds (ss ++ s ∷ [])) (ranks_from dir 0 None rows) (stand_all (keys_total ds (ss ++ s ∷ [])) dir rows stand next);
+      rises = rw (all_places dir 0 None rows) (sorted_places by dir rows in_order next);
+      in_order = in_order_at (keys_total ds (ss ++ s ∷ [])) (ranks_from dir 0 None rows) (in_order_all (keys_total ds (ss ++ s ∷ [])) dir rows in_order next);
     }
   where
-    sorted_places : (by : ℕ → ℕ → Ordering) (dir : Dir) (rows : List Keyed) → KeysStand by dir rows → RowsRise dir rows → IsSortedBy (before by) (map (λ (k : Keyed). k.place) rows)
-    sorted_places by dir rows stand next k d a b =
+    sorted_places : (by : ℕ → ℕ → Ordering) (dir : Dir) (rows : List Keyed) → KeysInOrder by dir rows → RowsRise dir rows → IsSortedBy (before by) (map (λ (k : Keyed). k.place) rows)
+    sorted_places by dir rows in_order next k d a b =
         let none : Keyed = record { rank = 0; place = 0; key = leaf trees.null } in
         let long : length (map (λ (k : Keyed). k.place) rows) ≡ length rows = length-map rows (λ (k : Keyed). k.place) in
         let one : k < length rows = omega arith in
         let two : suc k < length rows = omega arith in
-        rw (add-one, get_or-map (λ (k : Keyed). k.place) rows (suc k) none d two, get_or-map (λ (k : Keyed). k.place) rows k none d one, ← stand (suc k) k none two one)
+        rw (add-one, get_or-map (λ (k : Keyed). k.place) rows (suc k) none d two, get_or-map (λ (k : Keyed). k.place) rows k none d one, ← in_order (suc k) k none two one)
         (next k none (omega arith))
 
 -- before the first path
@@ -161,7 +161,7 @@ pub none_ranked : (ds : List Doc) (ps sorted : List ℕ) (rs : List Ranked) → 
 none_ranked ds ps sorted rs moved up e = rw e (record {
   same = rw (places sorted) moved;
   rises = rw (places sorted) up;
-  stand = λ i j d a b. ap₂ (λ (x y : Ranked). nat_cmp x.rank y.rank) (at sorted i d a) (at sorted j d b);
+  in_order = λ i j d a b. ap₂ (λ (x y : Ranked). nat_cmp x.rank y.rank) (at sorted i d a) (at sorted j d b);
 })
   where
     places : (xs : List ℕ) → map place_of (map of_rank_0 xs) ≡ xs
@@ -216,9 +216,9 @@ ranked_in_hand ds ss s ps rs rows new are e moved up =
 pub rank_more : (dir : Dir) (ranked new : List Ranked) (rank q : ℕ) (last : Option Keyed) (x : Row) (rows : List Row) (i : ℕ) (all : List Ranked)
     → i < length rows → x ≡ get_or rows i x → q ≡ next_rank dir rank last (keyed_row x) → new ≡ ranked ++ record { rank = q; place = x.place } ∷ []
     → ranked ++ ranks_from dir rank last (map keyed_row (drop i rows)) ≡ all → new ++ ranks_from dir q (Some (keyed_row x)) (map keyed_row (drop (i + 1) rows)) ≡ all
-rank_more dir ranked new rank q last x rows i all l is next e told =
+rank_more dir ranked new rank q last x rows i all l is next e fact =
     let step : drop i rows ≡ x ∷ drop (suc i) rows = drop-cons rows i x l ∙ ap (λ (y : Row). y ∷ drop (suc i) rows) (sym is) in
-    rw (add-one, e, append_assoc, next) (rw step at told)
+    rw (add-one, e, append_assoc, next) (rw step at fact)
 
 pub next_low : (dir : Dir) (rank : ℕ) (last : Option Keyed) (y : Keyed) → next_rank dir rank last y ≤ rank + 1
 next_low dir rank None y = omega arith

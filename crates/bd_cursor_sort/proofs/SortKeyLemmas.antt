@@ -3,7 +3,7 @@ use Rattle.std.proofs.Common.{◌≡◌, ◌≢◌, ◌+◌, ℕ, false, List, [
 use Rattle.std.specs.Prelude.{slice_get}
 use Rattle.bd_value.specs.{View.kind_of, Tree.first_of, Tree.Tree, Tree.array, Tree.doc, Tree.leaf, Tree.pairs_in}
 use Rattle.bd_path.specs.{Key.all_keys, Key.key_gathering, Key.missing_key, Reach.Names, Reach.Gathering, Reach.gathering}
-use Rattle.bd_path.proofs.WalkLemmas.{drop_at}
+use Rattle.bd_path.proofs.PathWalkLemmas.{drop_at}
 use Rattle.bd_value.specs.Tree as trees
 use Rattle.bd_value.specs.declared.node.Kind.TheVariants as kinds
 use Rattle.bd_path.proofs.ReachLemmas as down

@@ -13,12 +13,12 @@ use Rattle.bd_cursor_model.proofs.StableLemmas.{apart_left, insert_all_append, r
 use Rattle.bd_cursor_model.proofs.OrderLemmas.{Apart, In, Rises, in_at, not_both, filter_apart}
 use Rattle.bd_cursor_model.proofs.SourceLemmas.{permuted_apart, sorted_rises, batch_sorted, below_more, pairs_apart, batch_in_order}
 use Rattle.bd_path.proofs.SortLemmas.{sort_total}
-use Rattle.bd_cursor_sort.specs.{Sorting.AreFirst, Sorting.IsEnd, Sorting.is_before_mark, Sorting.has_enough, Sorting.IsMark, Sorting.mark_place, Selection.hits_of, Selection.order_of_keys}
-use Rattle.bd_cursor_sort.specs.{Selection.selection_for, Selection.selection_of, declared.mark.Mark.Mark}
+use Rattle.bd_cursor_sort.specs.{Sorting.AreFirst, Sorting.IsEnd, Sorting.is_before_pivot, Sorting.has_enough, Sorting.IsPivot, Sorting.pivot_place, Selection.matches_at_of, Selection.order_of_keys}
+use Rattle.bd_cursor_sort.specs.{Selection.selection_for, Selection.selection_of, declared.pivot.Pivot.Pivot}
 use Rattle.bd_path.specs.{Sort.SortPath, Sort.sort_paths}
 use Rattle.bd_value.specs.Tree.{Doc}
 use Rattle.bd_query_filter.specs.{Filter.Filter, Filter.filter_tree}
-use Rattle.bd_cursor_sort.proofs.MarkLemmas.{keys_strict, keys_total, keys_weak}
+use Rattle.bd_cursor_sort.proofs.PivotLemmas.{keys_strict, keys_total, keys_weak}
 use Rattle.bd_cursor_request.specs.declared.request.Request.{Request}
 use Rattle.bd_bson_dump.specs.Collection.{document_at}
 
@@ -33,14 +33,14 @@ stays_less lt zero e xs h = tt
 stays_less lt (suc k) e [] h = absurd h
 stays_less lt (suc k) e (x ∷ xs) h = (h.0, stays_less lt k e xs h.1)
 
-not_past : {lt : ℕ → ℕ → Bool} → IsStrictOrder lt → (e q x : ℕ) → lt q x ≡ true → lt e x ≡ false → lt e q ≡ false
-not_past {lt = lt} o e q x a b = false_from_ne_true (lt e q) (λ f. cc (o.transitive e q x f a, b))
+not_after : {lt : ℕ → ℕ → Bool} → IsStrictOrder lt → (e q x : ℕ) → lt q x ≡ true → lt e x ≡ false → lt e q ≡ false
+not_after {lt = lt} o e q x a b = false_from_ne_true (lt e q) (λ f. cc (o.transitive e q x f a, b))
 
 stays_insert : {lt : ℕ → ℕ → Bool} → IsStrictOrder lt → (k e q : ℕ) (xs : List ℕ) → Stays lt k e xs → Stays lt k e (insert lt q xs)
 stays_insert o zero e q xs h = tt
 stays_insert o (suc k) e q [] h = absurd h
 stays_insert {lt = lt} o (suc k) e q (x ∷ xs) h = cond_both (lt q x) (q ∷ x ∷ xs) (x ∷ insert lt q xs) (λ ys. Stays lt (suc k) e ys)
-    (λ f. (not_past o e q x f h.0, stays_less lt k e (x ∷ xs) h)) (λ f. (h.0, stays_insert o k e q xs h.1))
+    (λ f. (not_after o e q x f h.0, stays_less lt k e (x ∷ xs) h)) (λ f. (h.0, stays_insert o k e q xs h.1))
 
 -- what does not come before e is put in after them
 refused_insert : {lt : ℕ → ℕ → Bool} → IsStrictWeakOrder lt → (k e p : ℕ) (xs : List ℕ) → Stays lt k e xs → lt p e ≡ false → take k (insert lt p xs) ≡ take k xs
@@ -118,12 +118,12 @@ kept_end {lt = lt} o w most kept first all are h =
     are.is ∙ firsts_end o w most kept are.sorted are.same are.rises h.apart ∙ h.firsts
 
 -- a place is left out that does not match, or that is not before the end of the first ones
-pub left_out : {lt : ℕ → ℕ → Bool} → IsStrictWeakOrder lt → (most : ℕ) (pass : ℕ → Bool) (end : Option ℕ) (kept old new all : List ℕ) (p : ℕ)
-    → old ≡ p ∷ new → IfSome end (EndsAt lt most kept) → (pass p && is_before_mark lt end p) ≡ false
+pub omitted : {lt : ℕ → ℕ → Bool} → IsStrictWeakOrder lt → (most : ℕ) (pass : ℕ → Bool) (end : Option ℕ) (kept old new all : List ℕ) (p : ℕ)
+    → old ≡ p ∷ new → IfSome end (EndsAt lt most kept) → (pass p && is_before_pivot lt end p) ≡ false
     → AreKept lt most kept (filter pass old) all → AreKept lt most kept (filter pass new) all
-left_out {lt = lt} w most pass end kept old new all p e ends late h = go (pass p) end ends late (rw e at h)
+omitted {lt = lt} w most pass end kept old new all p e ends late h = go (pass p) end ends late (rw e at h)
   where
-    go : (b : Bool) (end : Option ℕ) → IfSome end (EndsAt lt most kept) → (b && is_before_mark lt end p) ≡ false
+    go : (b : Bool) (end : Option ℕ) → IfSome end (EndsAt lt most kept) → (b && is_before_pivot lt end p) ≡ false
         → AreKept lt most kept (cond b (p ∷ filter pass new) (filter pass new)) all → AreKept lt most kept (filter pass new) all
     go false end ends late h = h
     go true None ends late h = absurd cc
@@ -134,64 +134,64 @@ pub first_below : {lt : ℕ → ℕ → Bool} {most : ℕ} {old new : List ℕ} 
 first_below {most = most} {old = old} n are h = rw are.is (All-take (λ x. x < n) most are.sorted (All-permutation (λ x. x < n) old are.sorted are.same h))
 
 -- where a loop over a source stands: the places that are kept, and the mark of the end of the first ones
-pub record IsState (ds : List Doc) (ss : List SortPath) (most : ℕ) (pass : ℕ → Bool) (rest all : List ℕ) (places : List ℕ) (end : Option Mark) : Type 0 where
+pub record IsState (ds : List Doc) (ss : List SortPath) (most : ℕ) (pass : ℕ → Bool) (rest all : List ℕ) (places : List ℕ) (end : Option Pivot) : Type 0 where
   pub kept : AreKept (before (order_of_keys ds ss)) most places (filter pass rest) (filter pass all)
   pub below : All (λ p. p < length ds) places
-  pub left : All (λ p. p < length ds) rest
-  pub mark : IfSome end (IsMark ds ss)
-  pub ends : IfSome (mark_place end) (EndsAt (before (order_of_keys ds ss)) most places)
+  pub remaining : All (λ p. p < length ds) rest
+  pub pivot : IfSome end (IsPivot ds ss)
+  pub ends : IfSome (pivot_place end) (EndsAt (before (order_of_keys ds ss)) most places)
 
 module _ {ds : List Doc} {ss : List SortPath} {most : ℕ} {pass : ℕ → Bool} {all : List ℕ} where
-  pub state_none : {hits : ℕ → Bool} → IsSource (length ds) hits all → IsState ds ss most pass all all [] None
+  pub state_none : {matches_at : ℕ → Bool} → IsSource (length ds) matches_at all → IsState ds ss most pass all all [] None
   state_none source = record {
     kept = kept_none (before (order_of_keys ds ss)) most (filter pass all) (filter_apart pass all (pairs_apart all source.distinct));
     below = All-nil (λ p. p < length ds);
-    left = source.below;
-    mark = tt;
+    remaining = source.below;
+    pivot = tt;
     ends = tt;
   }
 
-  pub state_left_out : {old new kept : List ℕ} {end : Option Mark} {p : ℕ} → old ≡ p ∷ new → (pass p && is_before_mark (before (order_of_keys ds ss)) (mark_place end) p) ≡ false
+  pub state_omitted : {old new kept : List ℕ} {end : Option Pivot} {p : ℕ} → old ≡ p ∷ new → (pass p && is_before_pivot (before (order_of_keys ds ss)) (pivot_place end) p) ≡ false
       → IsState ds ss most pass old all kept end → IsState ds ss most pass new all kept end
-  state_left_out {old = old} {new = new} {kept = kept} {end = end} {p = p} e late h = record {
-    kept = left_out (keys_weak ds ss) most pass (mark_place end) kept old new (filter pass all) p e h.ends late h.kept;
+  state_omitted {old = old} {new = new} {kept = kept} {end = end} {p = p} e late h = record {
+    kept = omitted (keys_weak ds ss) most pass (pivot_place end) kept old new (filter pass all) p e h.ends late h.kept;
     below = h.below;
-    left = below_more (length ds) old new p e h.left;
-    mark = h.mark;
+    remaining = below_more (length ds) old new p e h.remaining;
+    pivot = h.pivot;
     ends = h.ends;
   }
 
-  pub state_taken : {old new kept : List ℕ} {end : Option Mark} {p : ℕ} → old ≡ p ∷ new → pass p ≡ true
+  pub state_taken : {old new kept : List ℕ} {end : Option Pivot} {p : ℕ} → old ≡ p ∷ new → pass p ≡ true
       → IsState ds ss most pass old all kept end → IsState ds ss most pass new all (kept ++ p ∷ []) end
   state_taken {old = old} {new = new} {kept = kept} {end = end} {p = p} e is h = record {
     kept = kept_taken (before (order_of_keys ds ss)) most p kept (filter pass new) (filter pass all) (rw (e, is) at h.kept);
-    below = All-push (λ x. x < length ds) kept p h.below (All-head (λ x. x < length ds) p new (rw e at h.left));
-    left = below_more (length ds) old new p e h.left;
-    mark = h.mark;
-    ends = IfSome_then (mark_place end) h.ends (λ q f. ends_on (keys_strict ds ss) most p q kept f);
+    below = All-push (λ x. x < length ds) kept p h.below (All-head (λ x. x < length ds) p new (rw e at h.remaining));
+    remaining = below_more (length ds) old new p e h.remaining;
+    pivot = h.pivot;
+    ends = IfSome_then (pivot_place end) h.ends (λ q f. ends_on (keys_strict ds ss) most p q kept f);
   }
 
-  pub state_cut : {left kept first : List ℕ} {old end : Option Mark} → 0 < most → AreFirst (before (order_of_keys ds ss)) most kept first
-      → IfSome end (IsMark ds ss) → IsEnd most first (mark_place end) → IsState ds ss most pass left all kept old → IsState ds ss most pass left all first end
-  state_cut {left = left} {kept = kept} {first = first} {end = end} some are mark is h = record {
-    kept = kept_first (keys_strict ds ss) (keys_weak ds ss) most kept first (filter pass left) (filter pass all) are h.kept;
+  pub state_limited : {remaining kept first : List ℕ} {old end : Option Pivot} → 0 < most → AreFirst (before (order_of_keys ds ss)) most kept first
+      → IfSome end (IsPivot ds ss) → IsEnd most first (pivot_place end) → IsState ds ss most pass remaining all kept old → IsState ds ss most pass remaining all first end
+  state_limited {remaining = remaining} {kept = kept} {first = first} {end = end} some are pivot is h = record {
+    kept = kept_first (keys_strict ds ss) (keys_weak ds ss) most kept first (filter pass remaining) (filter pass all) are h.kept;
     below = first_below (length ds) are h.below;
-    left = h.left;
-    mark = mark;
-    ends = go (mark_place end) is;
+    remaining = h.remaining;
+    pivot = pivot;
+    ends = go (pivot_place end) is;
   }
     where
       go : (q : Option ℕ) → IsEnd most first q → IfSome q (EndsAt (before (order_of_keys ds ss)) most first)
       go None f = tt
-      go (Some q) f = rw f.1 (ends_first (keys_strict ds ss) (keys_weak ds ss) most kept first (filter pass left) are h.kept.apart some f.0)
+      go (Some q) f = rw f.1 (ends_first (keys_strict ds ss) (keys_weak ds ss) most kept first (filter pass remaining) are h.kept.apart some f.0)
 
 -- all that come after a place, in order
-pub all_in_order : (a : Selection) → IsTotalOrder a.by → (left : List ℕ) → IsSource a.count a.hits left → (last : Option ℕ)
-    → insert_all (before a.by) [] (filter (passes a.hits a.by last) left) ≡ places_after a last
-all_in_order a o left source last =
-    let ws = filter (passes a.hits a.by last) left in
-    batch_sorted a o left source last (insert_all (before a.by) [] ws) (inserted_permutes (before a.by) ws)
-    (inserted_sorted (before_strict a.by o) ws (filter_apart (passes a.hits a.by last) left (pairs_apart left source.distinct)))
+pub all_in_order : (a : Selection) → IsTotalOrder a.by → (remaining : List ℕ) → IsSource a.count a.matches_at remaining → (last : Option ℕ)
+    → insert_all (before a.by) [] (filter (passes a.matches_at a.by last) remaining) ≡ places_after a last
+all_in_order a o remaining source last =
+    let ws = filter (passes a.matches_at a.by last) remaining in
+    batch_sorted a o remaining source last (insert_all (before a.by) [] ws) (inserted_permutes (before a.by) ws)
+    (inserted_sorted (before_strict a.by o) ws (filter_apart (passes a.matches_at a.by last) remaining (pairs_apart remaining source.distinct)))
 
 filter_fewer : (g : ℕ → Bool) (xs : List ℕ) → length (filter g xs) ≤ length xs
 filter_fewer g xs = omega (arith, length-filter_both g (λ x. not (g x)) (λ x. refl) xs)
@@ -201,33 +201,33 @@ pub places_few : (a : Selection) (last : Option ℕ) → length (places_after a 
 places_few a last =
     let fewer : length (places_after a last) ≤ length (ordered a) = filter_fewer (is_after (before a.by) last) (ordered a) in
     let moved : length (ordered a) ≡ length (matching a) = length_permutation (matching a) (ordered a) (inserted_permutes (before a.by) (matching a)) in
-    let hits : length (matching a) ≤ length (range_with_len 0 a.count) = filter_fewer a.hits (range_with_len 0 a.count) in
+    let matches_at : length (matching a) ≤ length (range_with_len 0 a.count) = filter_fewer a.matches_at (range_with_len 0 a.count) in
     omega (arith, length-range_with_len 0 a.count)
 
 -- once nothing is left
-pub state_end : {ds : List Doc} {ss : List SortPath} {most : ℕ} {left all kept first : List ℕ} {end : Option Mark} (f : Filter) (skip limit : ℕ) (last : Option ℕ)
-    → IsSource (length ds) (hits_of ds f) all → left ≡ [] → AreFirst (before (order_of_keys ds ss)) most kept first
-    → IsState ds ss most (passes (hits_of ds f) (order_of_keys ds ss) last) left all kept end → first ≡ take most (places_after (selection_for ds f ss skip limit) last)
+pub state_end : {ds : List Doc} {ss : List SortPath} {most : ℕ} {remaining all kept first : List ℕ} {end : Option Pivot} (f : Filter) (skip limit : ℕ) (last : Option ℕ)
+    → IsSource (length ds) (matches_at_of ds f) all → remaining ≡ [] → AreFirst (before (order_of_keys ds ss)) most kept first
+    → IsState ds ss most (passes (matches_at_of ds f) (order_of_keys ds ss) last) remaining all kept end → first ≡ take most (places_after (selection_for ds f ss skip limit) last)
 state_end {ds = ds} {ss = ss} {most = most} {all = all} {kept = kept} {first = first} f skip limit last source none are h =
-    kept_end (keys_strict ds ss) (keys_weak ds ss) most kept first (filter (passes (hits_of ds f) (order_of_keys ds ss) last) all) are (rw none at h.kept)
+    kept_end (keys_strict ds ss) (keys_weak ds ss) most kept first (filter (passes (matches_at_of ds f) (order_of_keys ds ss) last) all) are (rw none at h.kept)
     ∙ ap (take most) (all_in_order (selection_for ds f ss skip limit) (keys_total ds ss) all source last)
 
-pub wanted_in_order : (ds : List Doc) (r : Request) (left : List ℕ) (last : Option ℕ) → IsSource (length ds) (hits_of ds (filter_tree r.filter)) left
-    → IsAscending (before (order_of_keys ds (sort_paths r.sort.items))) left
-    → filter (passes (hits_of ds (filter_tree r.filter)) (order_of_keys ds (sort_paths r.sort.items)) last) left ≡ places_after (selection_of ds r) last
-wanted_in_order ds r left last source up = batch_in_order (selection_of ds r) (on_total (document_at ds) (sort_total (sort_paths r.sort.items))) left source up last
+pub wanted_in_order : (ds : List Doc) (r : Request) (remaining : List ℕ) (last : Option ℕ) → IsSource (length ds) (matches_at_of ds (filter_tree r.filter)) remaining
+    → IsAscending (before (order_of_keys ds (sort_paths r.sort.items))) remaining
+    → filter (passes (matches_at_of ds (filter_tree r.filter)) (order_of_keys ds (sort_paths r.sort.items)) last) remaining ≡ places_after (selection_of ds r) last
+wanted_in_order ds r remaining last source up = batch_in_order (selection_of ds r) (on_total (document_at ds) (sort_total (sort_paths r.sort.items))) remaining source up last
 
 -- where nothing is left, all was taken
-pub all_taken : (test : ℕ → Bool) (most : Option ℕ) (ps left all : List ℕ) → ps ++ filter test left ≡ all → left ≡ [] → IfSome most (λ n. length ps ≤ n) → ps ≡ at_most most all
-all_taken test None ps left all told none few = sym (append-nil ps) ∙ rw none at told
-all_taken test (Some n) ps left all told none few = sym (take_all n ps few) ∙ ap (take n) (sym (append-nil ps) ∙ rw none at told)
+pub all_taken : (test : ℕ → Bool) (most : Option ℕ) (ps remaining all : List ℕ) → ps ++ filter test remaining ≡ all → remaining ≡ [] → IfSome most (λ n. length ps ≤ n) → ps ≡ at_most most all
+all_taken test None ps remaining all fact none few = sym (append-nil ps) ∙ rw none at fact
+all_taken test (Some n) ps remaining all fact none few = sym (take_all n ps few) ∙ ap (take n) (sym (append-nil ps) ∙ rw none at fact)
 
 -- where as many were taken as are wanted, they are the first
 pub first_taken : (most : Option ℕ) (ps xs all : List ℕ) (count : ℕ) → count ≡ length ps → ps ++ xs ≡ all → has_enough most count ≡ true → IfSome most (λ n. length ps ≤ n) → ps ≡ at_most most all
-first_taken None ps xs all count long told full few = absurd cc
-first_taken (Some n) ps xs all count long told full few =
+first_taken None ps xs all count long fact full few = absurd cc
+first_taken (Some n) ps xs all count long fact full few =
     let e : length ps ≡ n = omega (arith, few, ltb-false count n (not-true _ full)) in
-    rw (← e, ← told) (sym (take-append_seam ps xs))
+    rw (← e, ← fact) (sym (take-append_seam ps xs))
 
 -- where fewer were taken than are wanted, there is room for one more
 pub few_more : (most : Option ℕ) (ps qs : List ℕ) (p count : ℕ) → count ≡ length ps → qs ≡ ps ++ p ∷ [] → has_enough most count ≡ false → IfSome most (λ n. length qs ≤ n)

@@ -8,7 +8,7 @@ use Rattle.bd_value.specs.Tree.{Doc, Tree}
 use Rattle.bd_path.specs.{Sort.SortPath, Sort.dir_cmp, Sort.sort_key, declared.sort.Dir.Dir}
 use Rattle.bd_cursor_model.specs.Answer.{before}
 use Rattle.bd_bson_dump.specs.Collection.{document_at}
-use Rattle.bd_index_prefix.specs.Front.{kept_key}
+use Rattle.bd_index_prefix.specs.Prefix.{stored_key}
 use Rattle.bd_cursor_sort.specs.{Selection.order_of_keys, declared.ranking.Ranked.Ranked, declared.ranking.Row.Row}
 
 -- a document by its rank on the paths so far, its number, and its key on the next path
@@ -19,7 +19,7 @@ pub record Keyed : Type 0 where
 
 -- the document, rank and key that a row in memory stands for
 abbrev pub keyed_row : Row → Keyed
-keyed_row r = record { rank = r.rank; place = r.place; key = kept_key r.key.key }
+keyed_row r = record { rank = r.rank; place = r.place; key = stored_key r.key.key }
 
 -- a ranked document with its sort key on the next path
 abbrev pub keyed : List Doc → SortPath → Ranked → Keyed
@@ -54,6 +54,6 @@ place_of r = r.place
 pub record AreRanked (ds : List Doc) (ss : List SortPath) (ps : List ℕ) (rs : List Ranked) : Type 0 where
   pub same : IsPermutation ps (map place_of rs)
   pub rises : IsSortedBy (before (order_of_keys ds ss)) (map place_of rs)
-  pub stand : (i j : ℕ) (d : Ranked) → i < length rs → j < length rs →
+  pub in_order : (i j : ℕ) (d : Ranked) → i < length rs → j < length rs →
       nat_cmp (slice_index_or rs i d).rank (slice_index_or rs j d).rank
       ≡ order_of_keys ds ss (slice_index_or rs i d).place (slice_index_or rs j d).place

@@ -10,8 +10,8 @@ use Rattle.bd_cursor_request.specs.{Token.token_digest, Request.Request, Request
 use Rattle.bd_cursor_request.specs.declared.request.Request as declared
 
 -- whether the document with that number matches the filter
-abbrev pub hits_of : List Doc → Filter → ℕ → Bool
-hits_of ds f p = matches f (document_at ds p)
+abbrev pub matches_at_of : List Doc → Filter → ℕ → Bool
+matches_at_of ds f p = matches f (document_at ds p)
 
 -- the order of two documents, by their numbers, in a sort by these paths
 abbrev pub order_of_keys : List Doc → List SortPath → ℕ → ℕ → Ordering
@@ -20,7 +20,7 @@ order_of_keys ds ss p q = sort_cmp ss (document_at ds p) (document_at ds q)
 -- what a filter, a sort, a skip and a limit select of these documents
 abbrev pub selection_for : List Doc → Filter → List SortPath → ℕ → ℕ → Selection
 selection_for ds f ss skip limit =
-    record { count = length ds; hits = hits_of ds f; by = order_of_keys ds ss; skip = skip; limit = limit }
+    record { count = length ds; matches_at = matches_at_of ds f; by = order_of_keys ds ss; skip = skip; limit = limit }
 
 -- what a request in memory selects of these documents
 abbrev pub selection_of : List Doc → declared.Request → Selection

@@ -8,8 +8,8 @@ use Rattle.std.specs.{declared.cmp.Ordering.TheVariants.Equal}
 use Rattle.bd_value.specs.Tree.{Doc, Tree}
 use Rattle.bd_path.specs.{Sort.SortPath, Sort.dir_cmp, Sort.sort_key, PathNames.names_of}
 use Rattle.bd_bson_dump.specs.Collection.{document_at}
-use Rattle.bd_index_prefix.specs.Front.{kept_key}
-use Rattle.bd_cursor_sort.specs.{declared.mark.Mark.Mark, declared.mark.MarkKey.MarkKey}
+use Rattle.bd_index_prefix.specs.Prefix.{stored_key}
+use Rattle.bd_cursor_sort.specs.{declared.pivot.Pivot.Pivot, declared.pivot.PivotKey.PivotKey}
 
 -- The list is the first `most` of the other one, sorted.
 pub record AreFirst (lt : ℕ → ℕ → Bool) (most : ℕ) (old new : List ℕ) : Type 0 where
@@ -24,9 +24,9 @@ IsEnd most ps None = Unit {0}
 IsEnd most ps (Some p) = (most ≤ length ps) × (p ≡ slice_index_or ps (most - 1) 0)
 
 -- whether p comes before another document number; true without one
-abbrev pub is_before_mark : (ℕ → ℕ → Bool) → Option ℕ → ℕ → Bool
-is_before_mark lt None p = true
-is_before_mark lt (Some q) p = lt p q
+abbrev pub is_before_pivot : (ℕ → ℕ → Bool) → Option ℕ → ℕ → Bool
+is_before_pivot lt None p = true
+is_before_pivot lt (Some q) p = lt p q
 
 -- whether as many were found as are needed; without such a number never
 abbrev pub has_enough : Option ℕ → ℕ → Bool
@@ -36,22 +36,22 @@ has_enough (Some most) count = not (nat_lt count most)
 -- ---- marks
 
 -- the paths of a sort, each with a key in memory
-abbrev pub marks_in : List MarkKey → List (SortPath × Tree)
-marks_in ks = map (λ (k : MarkKey). (record { path = names_of k.path.now; dir = k.dir }, kept_key k.key.key)) ks
+abbrev pub pivots_in : List PivotKey → List (SortPath × Tree)
+pivots_in ks = map (λ (k : PivotKey). (record { path = names_of k.path.now; dir = k.dir }, stored_key k.key.key)) ks
 
 -- the paths of a sort, each with the key of the document with that number
-abbrev pub marked_keys : List Doc → ℕ → List SortPath → List (SortPath × Tree)
-marked_keys ds p ss = map (λ s. (s, sort_key s.dir (document_at ds p) s.path)) ss
+abbrev pub pivot_keys : List Doc → ℕ → List SortPath → List (SortPath × Tree)
+pivot_keys ds p ss = map (λ s. (s, sort_key s.dir (document_at ds p) s.path)) ss
 
 -- the order of a document to one with these keys: the first path on which they differ decides
-abbrev pub marked_cmp : List (SortPath × Tree) → Tree → Ordering
-marked_cmp [] t = Equal
-marked_cmp (m ∷ ms) t = ordering_then (dir_cmp m.0.dir (sort_key m.0.dir t m.0.path) m.1) (marked_cmp ms t)
+abbrev pub pivot_cmp : List (SortPath × Tree) → Tree → Ordering
+pivot_cmp [] t = Equal
+pivot_cmp (m ∷ ms) t = ordering_then (dir_cmp m.0.dir (sort_key m.0.dir t m.0.path) m.1) (pivot_cmp ms t)
 
 -- The keys in memory are those of the document with its number.
-abbrev pub IsMark : List Doc → List SortPath → Mark → Type 0
-IsMark ds ss m = marks_in m.keys.items ≡ marked_keys ds m.place ss
+abbrev pub IsPivot : List Doc → List SortPath → Pivot → Type 0
+IsPivot ds ss m = pivots_in m.keys.items ≡ pivot_keys ds m.place ss
 
 -- the document number of a mark, if there is one
-abbrev pub mark_place : Option Mark → Option ℕ
-mark_place = option_map (λ m. m.place)
+abbrev pub pivot_place : Option Pivot → Option ℕ
+pivot_place = option_map (λ m. m.place)

@@ -15,11 +15,11 @@
 //! - `sorting`: which documents match, and the places of any source, put in order: `specs/Selection.antt`, what a request selects
 //!   of a dump, and `specs/Sorting.antt`.
 //! - `ranking`: documents put in order by one path after the other: `specs/Ranking.antt`.
-//! - `mark`: a document that others are compared with: `specs/Sorting.antt`.
+//! - `pivot`: a document that others are compared with: `specs/Sorting.antt`.
 //! - `sort_key`: the key of a document on a path, compared by its front first (`bd_index_prefix`).
 #![tactic(auto)]
 
-mod mark;
+mod pivot;
 mod ranking;
 mod sort_key;
 mod sorting;

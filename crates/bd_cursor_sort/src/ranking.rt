@@ -49,7 +49,7 @@ pub(crate) struct Ranked {
 /// 32 bits.
 fn unranked(alloc: Global, places: &[u32]) -> Result<Vec<Ranked>, NoMemory>
     ensures ranked { IfOk result (λ v. (ds : List Doc) → AreRanked ds [] places.now v.items) }
-    ensures few { IfOk result (λ v. length places.now ≤ 4294967295) }
+    ensures fits_u32 { IfOk result (λ v. length places.now ≤ 4294967295) }
 {
     if places.len() > u32::MAX as usize {
         return Err(AllocError);
@@ -76,7 +76,7 @@ fn ranked_by(
     ranked: &[Ranked],
 ) -> Result<Vec<Ranked>, NoMemory>
     requires below { All (λ r. r.place < length (documents dump.now)) ranked.now }
-    requires few { length ranked.now ≤ 4294967295 }
+    requires fits_u32 { length ranked.now ≤ 4294967295 }
     ensures { IfOk result (λ v. (ss : List SortPath) (ps : List ℕ) →
         AreRanked (documents dump.now) ss ps ranked.now → AreRanked (documents dump.now) (ss
         ++ record { path = names_of path.now; dir = dir } ∷ []) ps v.items) }

@@ -5,16 +5,16 @@ ghost use Rattle.bd_value.specs.View.{kind_of};
 ghost use Rattle.bd_value.specs.declared.node.Kind.TheVariants as kinds;
 ghost use Rattle.bd_value.specs.Order.{cmp};
 ghost use Rattle.bd_value.specs.Tree.{Tree};
-ghost use Rattle.bd_bson_view.specs.Sound.{stands};
+ghost use Rattle.bd_bson_view.specs.Sound.{meaning};
 ghost use Rattle.bd_bson_dump.specs.Collection.{documents, document_at};
-ghost use Rattle.bd_index_prefix.specs.Front.{front_of, kept_key};
+ghost use Rattle.bd_index_prefix.specs.Prefix.{prefix_of, stored_key};
 ghost use Rattle.bd_path.specs.Sort.{dir_cmp, sort_key};
 ghost use Rattle.bd_path.specs.Key.{all_keys};
 ghost use Rattle.bd_path.specs.PathNames.{names_of};
 
 use bd_bson_dump::Dump;
 use bd_bson_view::RawValue;
-use bd_index_prefix::{Front, compare_fronts};
+use bd_index_prefix::{Prefix, compare_prefixes};
 use bd_path::{Dir, Key, Path, compare_in, sort_key_node};
 use bd_value::{Kind, Reading};
 use std::cmp::Ordering;
@@ -23,29 +23,29 @@ use std::cmp::Ordering;
 #[derive(Clone, Copy)]
 pub(crate) struct SortKey<'d> {
     pub key: Key<RawValue<'d>>,
-    front: Front,
-    ghost fronted: { front ≡ front_of (kept_key key) },
+    prefix: Prefix,
+    ghost prefixed: { prefix ≡ prefix_of (stored_key key) },
 }
 
 impl<'d> SortKey<'d> {
     /// That of the document at a place.
     pub(crate) fn of(dump: &'d Dump, place: u32, path: &Path, dir: Dir) -> SortKey<'d>
         requires { place < length (documents dump.now) }
-        ensures { kept_key result.key
+        ensures { stored_key result.key
             ≡ sort_key dir (document_at (documents dump.now) place) (names_of path.now) }
     {
         let key = key_of(dump.document(place).value(), path, dir);
         SortKey {
             key,
-            front: Front::of(key),
+            prefix: Prefix::of(key),
         }
     }
 
     /// The order of two keys in a direction, by their prefixes if these decide it.
     pub(crate) fn compare(&self, other: &SortKey<'_>, dir: Dir) -> Ordering
-        ensures { result ≡ dir_cmp dir (kept_key self.now.key) (kept_key other.now.key) }
+        ensures { result ≡ dir_cmp dir (stored_key self.now.key) (stored_key other.now.key) }
     {
-        match compare_fronts(self.front, other.front) {
+        match compare_prefixes(self.prefix, other.prefix) {
             Some(order) => in_direction(dir, order),
             None => compare_in(dir, self.key, other.key),
         }
@@ -53,7 +53,7 @@ impl<'d> SortKey<'d> {
 }
 
 fn key_of<'d>(document: RawValue<'d>, path: &Path, dir: Dir) -> Key<RawValue<'d>>
-    ensures { kept_key result ≡ sort_key dir (stands document.entry.sound) (names_of path.now) }
+    ensures { stored_key result ≡ sort_key dir (meaning document.entry.sound) (names_of path.now) }
 {
     match plain_key(document, path) {
         Some(key) => key,
@@ -64,7 +64,7 @@ fn key_of<'d>(document: RawValue<'d>, path: &Path, dir: Dir) -> Key<RawValue<'d>
 /// The key on a path that meets no array: the one value that it leads to, or null.
 fn plain_key<'d>(document: RawValue<'d>, path: &Path) -> Option<Key<RawValue<'d>>>
     ensures { IfSome result (λ k.
-        all_keys false (stands document.entry.sound) (names_of path.now) ≡ kept_key k ∷ []) }
+        all_keys false (meaning document.entry.sound) (names_of path.now) ≡ stored_key k ∷ []) }
 {
     let mut value = document;
     for i in 0..path.len() {
@@ -79,7 +79,7 @@ fn plain_key<'d>(document: RawValue<'d>, path: &Path) -> Option<Key<RawValue<'d>
 /// A key, unless a value is an array.
 fn unless_array<'d>(value: RawValue<'d>, key: Key<RawValue<'d>>) -> Option<Key<RawValue<'d>>>
     ensures { IfSome result (λ k. (k ≡ key.entry)
-        × (kind_of (stands value.entry.sound) ≢ kinds.Array)) }
+        × (kind_of (meaning value.entry.sound) ≢ kinds.Array)) }
 {
     match value.kind() {
         Kind::Array => None,

@@ -7,10 +7,10 @@ ghost use Rattle.bd_cursor_model.specs.Source.{is_after, passes, places_after};
 ghost use Rattle.bd_bson_dump.specs.Collection.{documents};
 ghost use Rattle.bd_query_filter.specs.Filter.{filter_tree};
 ghost use Rattle.bd_path.specs.Sort.{SortPath, sort_paths};
-ghost use Rattle.bd_cursor_sort.specs.Selection.{hits_of, order_of_keys, selection_of};
-ghost use Rattle.bd_cursor_sort.specs.Sorting.{AreFirst, IsEnd, IsMark, has_enough, is_before_mark, mark_place};
+ghost use Rattle.bd_cursor_sort.specs.Selection.{matches_at_of, order_of_keys, selection_of};
+ghost use Rattle.bd_cursor_sort.specs.Sorting.{AreFirst, IsEnd, IsPivot, has_enough, is_before_pivot, pivot_place};
 
-use crate::mark::Mark;
+use crate::pivot::Pivot;
 use crate::ranking::first_in_order;
 use bd_bson_dump::Dump;
 use bd_cursor_model::PlaceSource;
@@ -38,8 +38,8 @@ pub fn sorted_places<P: PlaceSource + Drop>(
     most: Option<u64>,
 ) -> Result<Vec<u32>, NoMemory>
     requires serves { P.serves source (length (documents dump.now))
-        (hits_of (documents dump.now) (filter_tree request.now.filter)) }
-    requires there { IfSome last (λ p. p < length (documents dump.now)) }
+        (matches_at_of (documents dump.now) (filter_tree request.now.filter)) }
+    requires in_range { IfSome last (λ p. p < length (documents dump.now)) }
     ensures { IfOk result (λ v. v.items
         ≡ at_most most (places_after (selection_of (documents dump.now) request.now) last)) }
 {
@@ -47,7 +47,7 @@ pub fn sorted_places<P: PlaceSource + Drop>(
     if limit == 0 {
         return Ok(Vec::new(alloc));
     }
-    let last = last_mark(alloc, dump, &request.sort, last)?;
+    let last = last_pivot(alloc, dump, &request.sort, last)?;
     first_places(alloc, dump, request, source, &last, limit)
 }
 
@@ -62,15 +62,16 @@ pub fn places_in_order<P: PlaceSource + Drop>(
     most: Option<u64>,
 ) -> Result<Vec<u32>, NoMemory>
     requires serves { P.serves source (length (documents dump.now))
-        (hits_of (documents dump.now) (filter_tree request.now.filter)) }
-    requires order { IsAscending (before
-        (order_of_keys (documents dump.now) (sort_paths request.now.sort.items))) (P.left source) }
-    requires there { IfSome last (λ p. p < length (documents dump.now)) }
+        (matches_at_of (documents dump.now) (filter_tree request.now.filter)) }
+    requires order { IsAscending
+        (before (order_of_keys (documents dump.now) (sort_paths request.now.sort.items)))
+        (P.remaining source) }
+    requires in_range { IfSome last (λ p. p < length (documents dump.now)) }
     ensures { IfOk result (λ v. v.items
         ≡ at_most most (places_after (selection_of (documents dump.now) request.now) last)) }
 {
-    let mark = last_mark(alloc, dump, &request.sort, last)?;
-    let last = &mark;
+    let pivot = last_pivot(alloc, dump, &request.sort, last)?;
+    let last = &pivot;
     let mut found = Vec::new(alloc);
     while !is_full(most, found.len()) {
         let Some(place) = source.next_place() else {
@@ -86,7 +87,7 @@ pub fn places_in_order<P: PlaceSource + Drop>(
 /// Whether the document at a place matches.
 pub fn is_match(dump: &Dump, filter: &Filter, place: u32) -> bool
     requires { place < length (documents dump.now) }
-    ensures { result ≡ hits_of (documents dump.now) (filter_tree filter.now) place }
+    ensures { result ≡ matches_at_of (documents dump.now) (filter_tree filter.now) place }
 {
     matches(filter, dump.document(place).value())
 }
@@ -112,18 +113,19 @@ fn is_full(most: Option<u64>, count: usize) -> bool
 }
 
 /// The mark of the last document given, where there is one.
-fn last_mark<'d>(
+fn last_pivot<'d>(
     alloc: Global,
     dump: &'d Dump,
     sort: &'d [(Path, Dir)],
     last: Option<u32>,
-) -> Result<Option<Mark<'d>>, NoMemory>
+) -> Result<Option<Pivot<'d>>, NoMemory>
     requires { IfSome last (λ p. p < length (documents dump.now)) }
-    ensures place { IfOk result (λ m. mark_place m ≡ last) }
-    ensures keys { IfOk result (λ m. IfSome m (IsMark (documents dump.now) (sort_paths sort.now))) }
+    ensures place { IfOk result (λ m. pivot_place m ≡ last) }
+    ensures keys { IfOk result (λ m.
+        IfSome m (IsPivot (documents dump.now) (sort_paths sort.now))) }
 {
     match last {
-        Some(place) => Ok(Some(Mark::new(alloc, dump, sort, place)?)),
+        Some(place) => Ok(Some(Pivot::new(alloc, dump, sort, place)?)),
         None => Ok(None),
     }
 }
@@ -135,23 +137,23 @@ fn first_places<P: PlaceSource + Drop>(
     dump: &Dump,
     request: &Request,
     mut source: P,
-    last: &Option<Mark<'_>>,
+    last: &Option<Pivot<'_>>,
     most: usize,
 ) -> Result<Vec<u32>, NoMemory>
     requires serves { P.serves source (length (documents dump.now))
-        (hits_of (documents dump.now) (filter_tree request.now.filter)) }
+        (matches_at_of (documents dump.now) (filter_tree request.now.filter)) }
     requires last { IfSome last.now
-        (IsMark (documents dump.now) (sort_paths request.now.sort.items)) }
+        (IsPivot (documents dump.now) (sort_paths request.now.sort.items)) }
     requires some { 0 < most }
     ensures { IfOk result (λ v. v.items ≡ take most
-        (places_after (selection_of (documents dump.now) request.now) (mark_place last.now))) }
+        (places_after (selection_of (documents dump.now) request.now) (pivot_place last.now))) }
 {
-    let room = most.saturating_mul(TIMES).max(FEWEST);
+    let capacity = most.saturating_mul(TIMES).max(FEWEST);
     let mut places = Vec::new(alloc);
     let mut end = None;
     while let Some(place) = source.next_place() {
         if may_be_first(dump, request, last, &end, place) {
-            if places.len() >= room {
+            if places.len() >= capacity {
                 end = keep_first(alloc, dump, &request.sort, &mut places, most)?;
             }
             places.push(place)?;
@@ -168,76 +170,77 @@ fn keep_first<'d>(
     sort: &'d [(Path, Dir)],
     places: &mut Vec<u32>,
     most: usize,
-) -> Result<Option<Mark<'d>>, NoMemory>
+) -> Result<Option<Pivot<'d>>, NoMemory>
     requires below { All (λ p. p < length (documents dump.now)) places.old.items }
     requires some { 0 < most }
     ensures first { OnOk result (AreFirst (before (order_of_keys
         (documents dump.now) (sort_paths sort.now))) most places.old.items places.new.items) }
-    ensures mark { IfOk result (λ m. IfSome m (IsMark (documents dump.now) (sort_paths sort.now))) }
-    ensures end { IfOk result (λ m. IsEnd most places.new.items (mark_place m)) }
+    ensures pivot { IfOk result (λ m.
+        IfSome m (IsPivot (documents dump.now) (sort_paths sort.now))) }
+    ensures end { IfOk result (λ m. IsEnd most places.new.items (pivot_place m)) }
 {
     let first = first_in_order(alloc, dump, sort, places, most)?;
     *places = first;
     if places.len() < most {
         return Ok(None);
     }
-    let mark = Mark::new(alloc, dump, sort, places[most - 1])?;
-    Ok(Some(mark))
+    let pivot = Pivot::new(alloc, dump, sort, places[most - 1])?;
+    Ok(Some(pivot))
 }
 
 /// Whether the document at a place is wanted, and comes before the end of the first ones.
 fn may_be_first(
     dump: &Dump,
     request: &Request,
-    last: &Option<Mark<'_>>,
-    end: &Option<Mark<'_>>,
+    last: &Option<Pivot<'_>>,
+    end: &Option<Pivot<'_>>,
     place: u32,
 ) -> bool
     requires last { IfSome last.now
-        (IsMark (documents dump.now) (sort_paths request.now.sort.items)) }
+        (IsPivot (documents dump.now) (sort_paths request.now.sort.items)) }
     requires end { IfSome end.now
-        (IsMark (documents dump.now) (sort_paths request.now.sort.items)) }
+        (IsPivot (documents dump.now) (sort_paths request.now.sort.items)) }
     requires below { place < length (documents dump.now) }
     ensures { let by = order_of_keys (documents dump.now) (sort_paths request.now.sort.items)
-        in result ≡ (passes (hits_of (documents dump.now) (filter_tree request.now.filter)) by
-        (mark_place last.now) place && is_before_mark (before by) (mark_place end.now) place) }
+        in result ≡ (passes (matches_at_of (documents dump.now) (filter_tree request.now.filter)) by
+        (pivot_place last.now) place && is_before_pivot (before by) (pivot_place end.now) place) }
 {
     is_wanted(dump, request, last, place) && is_ahead(dump, end, place)
 }
 
 /// Whether the document at a place matches and comes after the last one given.
-fn is_wanted(dump: &Dump, request: &Request, last: &Option<Mark<'_>>, place: u32) -> bool
+fn is_wanted(dump: &Dump, request: &Request, last: &Option<Pivot<'_>>, place: u32) -> bool
     requires last { IfSome last.now
-        (IsMark (documents dump.now) (sort_paths request.now.sort.items)) }
+        (IsPivot (documents dump.now) (sort_paths request.now.sort.items)) }
     requires below { place < length (documents dump.now) }
-    ensures { result ≡ passes (hits_of (documents dump.now) (filter_tree request.now.filter))
+    ensures { result ≡ passes (matches_at_of (documents dump.now) (filter_tree request.now.filter))
         (order_of_keys (documents dump.now) (sort_paths request.now.sort.items))
-        (mark_place last.now) place }
+        (pivot_place last.now) place }
 {
-    is_match(dump, &request.filter, place) && is_past(dump, last, place)
+    is_match(dump, &request.filter, place) && is_after_pivot(dump, last, place)
 }
 
 /// Whether the document at a place comes after that of a mark.
-fn is_past(dump: &Dump, mark: &Option<Mark<'_>>, place: u32) -> bool
+fn is_after_pivot(dump: &Dump, pivot: &Option<Pivot<'_>>, place: u32) -> bool
     requires { place < length (documents dump.now) }
-    ensures { (ss : List SortPath) → IfSome mark.now (IsMark (documents dump.now) ss) → result
-        ≡ is_after (before (order_of_keys (documents dump.now) ss)) (mark_place mark.now) place }
+    ensures { (ss : List SortPath) → IfSome pivot.now (IsPivot (documents dump.now) ss) → result
+        ≡ is_after (before (order_of_keys (documents dump.now) ss)) (pivot_place pivot.now) place }
 {
-    match mark {
-        Some(mark) => mark.compare(dump, place).is_gt(),
+    match pivot {
+        Some(pivot) => pivot.compare(dump, place).is_gt(),
         None => true,
     }
 }
 
 /// Whether it comes before that of a mark.
-fn is_ahead(dump: &Dump, mark: &Option<Mark<'_>>, place: u32) -> bool
+fn is_ahead(dump: &Dump, pivot: &Option<Pivot<'_>>, place: u32) -> bool
     requires { place < length (documents dump.now) }
     ensures { (ss : List SortPath) →
-        IfSome mark.now (IsMark (documents dump.now) ss) → result ≡ is_before_mark
-        (before (order_of_keys (documents dump.now) ss)) (mark_place mark.now) place }
+        IfSome pivot.now (IsPivot (documents dump.now) ss) → result ≡ is_before_pivot
+        (before (order_of_keys (documents dump.now) ss)) (pivot_place pivot.now) place }
 {
-    match mark {
-        Some(mark) => mark.compare(dump, place).is_lt(),
+    match pivot {
+        Some(pivot) => pivot.compare(dump, place).is_lt(),
         None => true,
     }
 }

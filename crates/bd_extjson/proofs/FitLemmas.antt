@@ -108,15 +108,15 @@ module _ (dec : List ℕ) (small : (x : ℕ) → (slice_index dec x ≡ 255) ⊎
 
   last_bytes : (pad at : ℕ) (bs : List ℕ) (st : Leftover) (i : ℕ) → IsLeftover st i → ((k : ℕ) → slice_index bs k < 256) → AreBelow 256 (scan_bytes (scan_steps dec pad at (Ok st) i bs))
   unfolding scan_steps
-  last_bytes pad at [] st i held bytes =
+  last_bytes pad at [] st i leftover bytes =
       below_take (st.morsels_count * 6 / 8) (decode_group (slice_index st.morsels 0) (slice_index st.morsels 1) (slice_index st.morsels 2) (slice_index st.morsels 3))
-      (group_of (slice_index st.morsels 0) (slice_index st.morsels 1) (slice_index st.morsels 2) (slice_index st.morsels 3) (held.3 0) (held.3 1) (held.3 2) (held.3 3))
-  last_bytes pad at (b ∷ bs) st i held bytes = go (last_bytes pad at bs) (push_leftover dec pad at st i b) refl
+      (group_of (slice_index st.morsels 0) (slice_index st.morsels 1) (slice_index st.morsels 2) (slice_index st.morsels 3) (leftover.3 0) (leftover.3 1) (leftover.3 2) (leftover.3 3))
+  last_bytes pad at (b ∷ bs) st i leftover bytes = go (last_bytes pad at bs) (push_leftover dec pad at st i b) refl
     where
       go : ((next : Leftover) (k : ℕ) → IsLeftover next k → ((j : ℕ) → slice_index bs j < 256) → AreBelow 256 (scan_bytes (scan_steps dec pad at (Ok next) k bs)))
           → (r : Result Leftover DecodeError) → push_leftover dec pad at st i b ≡ r → AreBelow 256 (scan_bytes (scan_steps dec pad at r (i + 1) bs))
       go more (Err e) is = tt
-      go more (Ok next) is = more next (i + 1) (IsLeftover_next dec pad at st i b next (λ x lt. small x) held (bytes 0) is) (λ k. bytes (suc k))
+      go more (Ok next) is = more next (i + 1) (IsLeftover_next dec pad at st i b next (λ x lt. small x) leftover (bytes 0) is) (λ k. bytes (suc k))
 
   whole_bytes : (pad : ℕ) (s : List ℕ) → ((k : ℕ) → slice_index s k < 256) → groups_error dec s (groups_before_last (length s)) ≡ None → AreBelow 256 (decoded_bytes dec pad s)
   whole_bytes pad s bytes none =
@@ -130,7 +130,7 @@ module _ (dec : List ℕ) (small : (x : ℕ) → (slice_index dec x ≡ 255) ⊎
 value_small : (x : ℕ) → (slice_index standard.decode_table x ≡ 255) ⊎ (slice_index standard.decode_table x < 64)
 value_small x = elim (cases_lt x 256) [
   | inl lt ↦ IsDecodeTable_from standard.encode_table standard.decode_table (are_tables_inverse standard.encode_table standard.decode_table standard.padding.value standard.tables) x lt
-  | inr past ↦ inr (let none = get_or_past standard.decode_table x 0 past in omega (arith, none))
+  | inr beyond ↦ inr (let none = get_or_past standard.decode_table x 0 beyond in omega (arith, none))
 ]
 
 ok_is : (a b : List ℕ) → decode_outcome None a ≡ Ok b → a ≡ b
@@ -304,9 +304,9 @@ single_fits _ j is = tt
 
 -- ---- trees
 
-nest : {A : Type 0} (P : A → Type 0) (room : ℕ) (o : Option A) → Holds P o → Holds P (nested room o)
+nest : {A : Type 0} (P : A → Type 0) (depth_left : ℕ) (o : Option A) → Holds P o → Holds P (nested depth_left o)
 nest P zero o p = tt
-nest P (suc room) o p = p
+nest P (suc depth_left) o p = p
 
 number_sound : (o : Option ℤ) → Holds (FitsSigned w64) o → Holds Fits (bare_number o)
 number_sound None p = tt
@@ -336,35 +336,35 @@ either_sound None f d p q = q
 either_sound (Some w) f d p q = p w
 
 mutual
-  wrap_sound : (room : ℕ) (j : Json) → IsTextJson j → Holds Fits (wrap room j)
-  wrap_sound room json.null is = tt
-  wrap_sound room (json.boolean b) is = tt
-  wrap_sound room (json.number s) is = number_sound (whole_64 s) (whole_64_fits s)
-  wrap_sound room (json.string s) is = is
-  wrap_sound room (json.array js) is = nest Fits room (option_map array (wrap_items (room - 1) js))
-      (mapped Fits array (wrap_items (room - 1) js) (λ ts h. h) (items_sound (room - 1) js is))
-  wrap_sound room (json.object ms) is = object_sound room ms is
+  wrap_sound : (depth_left : ℕ) (j : Json) → IsTextJson j → Holds Fits (wrap depth_left j)
+  wrap_sound depth_left json.null is = tt
+  wrap_sound depth_left (json.boolean b) is = tt
+  wrap_sound depth_left (json.number s) is = number_sound (whole_64 s) (whole_64_fits s)
+  wrap_sound depth_left (json.string s) is = is
+  wrap_sound depth_left (json.array js) is = nest Fits depth_left (option_map array (wrap_items (depth_left - 1) js))
+      (mapped Fits array (wrap_items (depth_left - 1) js) (λ ts h. h) (items_sound (depth_left - 1) js is))
+  wrap_sound depth_left (json.object ms) is = object_sound depth_left ms is
 
-  items_sound : (room : ℕ) (js : json.Items) → AreTextItems js → Holds (ItemsFit IsUtf8) (wrap_items room js)
-  items_sound room json.no_items is = tt
-  items_sound room (json.item j js) is = item_sound (wrap room j) (wrap_items room js) (wrap_sound room j is.0) (items_sound room js is.1)
+  items_sound : (depth_left : ℕ) (js : json.Items) → AreTextItems js → Holds (ItemsFit IsUtf8) (wrap_items depth_left js)
+  items_sound depth_left json.no_items is = tt
+  items_sound depth_left (json.item j js) is = item_sound (wrap depth_left j) (wrap_items depth_left js) (wrap_sound depth_left j is.0) (items_sound depth_left js is.1)
 
-  object_sound : (room : ℕ) (ms : json.Members) → AreTextMembers ms → Holds Fits (wrap_object room ms)
-  object_sound room json.no_members is = nest Fits room (Some (doc no_fields)) tt
-  object_sound room (json.member name j ms) is =
-      let fields = add_field name (wrap (room - 1) j) (wrap_fields (room - 1) ms) in
-      either_sound (wrapper_of name) (λ w. wrapped room w j (wrap (room - 1) j) ms) (nested room (option_map doc fields))
-      (λ w. wrapped_sound room w j (wrap (room - 1) j) ms is.1.0 (wrap_sound (room - 1) j is.1.0) is.1.1)
-      (nest Fits room (option_map doc fields) (mapped Fits doc fields (λ fs h. h)
-      (field_sound name (wrap (room - 1) j) (wrap_fields (room - 1) ms) is.0 (wrap_sound (room - 1) j is.1.0) (fields_sound (room - 1) ms is.1.1))))
+  object_sound : (depth_left : ℕ) (ms : json.Members) → AreTextMembers ms → Holds Fits (wrap_object depth_left ms)
+  object_sound depth_left json.no_members is = nest Fits depth_left (Some (doc no_fields)) tt
+  object_sound depth_left (json.member name j ms) is =
+      let fields = add_field name (wrap (depth_left - 1) j) (wrap_fields (depth_left - 1) ms) in
+      either_sound (wrapper_of name) (λ w. wrapped depth_left w j (wrap (depth_left - 1) j) ms) (nested depth_left (option_map doc fields))
+      (λ w. wrapped_sound depth_left w j (wrap (depth_left - 1) j) ms is.1.0 (wrap_sound (depth_left - 1) j is.1.0) is.1.1)
+      (nest Fits depth_left (option_map doc fields) (mapped Fits doc fields (λ fs h. h)
+      (field_sound name (wrap (depth_left - 1) j) (wrap_fields (depth_left - 1) ms) is.0 (wrap_sound (depth_left - 1) j is.1.0) (fields_sound (depth_left - 1) ms is.1.1))))
 
-  wrapped_sound : (room : ℕ) (w : Wrapper) (j : Json) (t : Option Tree) (ms : json.Members) → IsTextJson j → Holds Fits t → AreTextMembers ms → Holds Fits (wrapped room w j t ms)
-  wrapped_sound room w j t json.no_members is p are = mapped Fits leaf (single w j) (λ s h. h) (single_fits w j is)
-  wrapped_sound room w j t (json.member name i ms) is p are = nest Fits room _ (two_sound w j t (wrapper_of name) i (wrap (room - 1) i) ms is p are.1.0 (wrap_sound (room - 1) i are.1.0))
+  wrapped_sound : (depth_left : ℕ) (w : Wrapper) (j : Json) (t : Option Tree) (ms : json.Members) → IsTextJson j → Holds Fits t → AreTextMembers ms → Holds Fits (wrapped depth_left w j t ms)
+  wrapped_sound depth_left w j t json.no_members is p are = mapped Fits leaf (single w j) (λ s h. h) (single_fits w j is)
+  wrapped_sound depth_left w j t (json.member name i ms) is p are = nest Fits depth_left _ (two_sound w j t (wrapper_of name) i (wrap (depth_left - 1) i) ms is p are.1.0 (wrap_sound (depth_left - 1) i are.1.0))
 
-  fields_sound : (room : ℕ) (ms : json.Members) → AreTextMembers ms → Holds (FieldsFit IsUtf8) (wrap_fields room ms)
-  fields_sound room json.no_members is = tt
-  fields_sound room (json.member name j ms) is = field_sound name (wrap room j) (wrap_fields room ms) is.0 (wrap_sound room j is.1.0) (fields_sound room ms is.1.1)
+  fields_sound : (depth_left : ℕ) (ms : json.Members) → AreTextMembers ms → Holds (FieldsFit IsUtf8) (wrap_fields depth_left ms)
+  fields_sound depth_left json.no_members is = tt
+  fields_sound depth_left (json.member name j ms) is = field_sound name (wrap depth_left j) (wrap_fields depth_left ms) is.0 (wrap_sound depth_left j is.1.0) (fields_sound depth_left ms is.1.1)
 
 -- ---- documents
 

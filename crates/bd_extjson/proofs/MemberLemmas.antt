@@ -83,15 +83,15 @@ unread f g k depth n ts e h = turn (value depth ts) e
 
 -- ---- wrappers of one name
 
-pub first_part : (w : Wrapper) (k : List ℕ) (room depth n : ℕ) (ts s : List Token) (j : Json) → wrapper_of k ≡ Some w → value depth ts ≡ Some (j, s)
-    → through (wrap_object room) (after_key depth n (Some k) ts) ≡ through (wrapped room w j (wrap (room - 1) j)) (members (value depth) n s)
-first_part w k room depth n ts s j e f =
-    member_is (wrap_object room) k depth n ts s j f
-    ∙ through_same (λ ms. wrap_object room (json.member k j ms)) (wrapped room w j (wrap (room - 1) j)) (λ ms. rw e refl) (members (value depth) n s)
+pub first_part : (w : Wrapper) (k : List ℕ) (depth_left depth n : ℕ) (ts s : List Token) (j : Json) → wrapper_of k ≡ Some w → value depth ts ≡ Some (j, s)
+    → through (wrap_object depth_left) (after_key depth n (Some k) ts) ≡ through (wrapped depth_left w j (wrap (depth_left - 1) j)) (members (value depth) n s)
+first_part w k depth_left depth n ts s j e f =
+    member_is (wrap_object depth_left) k depth n ts s j f
+    ∙ through_same (λ ms. wrap_object depth_left (json.member k j ms)) (wrapped depth_left w j (wrap (depth_left - 1) j)) (λ ms. rw e refl) (members (value depth) n s)
 
-nested_none : {A : Type 0} (room : ℕ) (o : Option A) → o ≡ None → nested room o ≡ None
+nested_none : {A : Type 0} (depth_left : ℕ) (o : Option A) → o ≡ None → nested depth_left o ≡ None
 nested_none zero o e = refl
-nested_none (suc room) o e = e
+nested_none (suc depth_left) o e = e
 
 -- two names only where these are `$code` and `$scope`
 no_two : (w : Wrapper) (v : Option Wrapper) (j i : Json) (t u : Option Tree) (ms : json.Members) → is_code_name (Some w) ≡ false → is_scope_name (Some w) ≡ false → two w j t v i u ms ≡ None
@@ -99,9 +99,9 @@ no_two kinds.Code v j i t u ms e f = absurd cc
 no_two kinds.Scope v j i t u ms e f = absurd cc
 no_two _ v j i t u ms e f = refl
 
-pub one_name_alone : (w : Wrapper) (room : ℕ) (j : Json) (t : Option Tree) (k : List ℕ) (i : Json) (ms : json.Members) → is_code_name (Some w) ≡ false
-    → is_scope_name (Some w) ≡ false → wrapped room w j t (json.member k i ms) ≡ None
-one_name_alone w room j t k i ms e f = nested_none room _ (no_two w (wrapper_of k) j i t (wrap (room - 1) i) ms e f)
+pub one_name_alone : (w : Wrapper) (depth_left : ℕ) (j : Json) (t : Option Tree) (k : List ℕ) (i : Json) (ms : json.Members) → is_code_name (Some w) ≡ false
+    → is_scope_name (Some w) ≡ false → wrapped depth_left w j t (json.member k i ms) ≡ None
+one_name_alone w depth_left j t k i ms e f = nested_none depth_left _ (no_two w (wrapper_of k) j i t (wrap (depth_left - 1) i) ms e f)
 
 -- ---- `$code`, then `$scope`
 
@@ -117,92 +117,92 @@ is_scope_is : (v : Option Wrapper) → is_scope_name v ≡ true → v ≡ Some k
 is_scope_is (Some kinds.Scope) e = refl
 is_scope_is _ e = absurd cc
 
-pub no_room_second : (w : Wrapper) (k : List ℕ) (room depth n : ℕ) (ts : List Token) (j : Json) (t : Option Tree) → room ≡ 0 → through (wrapped room w j t) (after_key depth n (Some k) ts) ≡ None
-no_room_second w k room depth n ts j t e = ap (λ r. through (wrapped r w j t) (after_key depth n (Some k) ts)) e ∙ refused_member (wrapped 0 w j t) k depth n ts (λ i ms. refl)
+pub no_depth_left_second : (w : Wrapper) (k : List ℕ) (depth_left depth n : ℕ) (ts : List Token) (j : Json) (t : Option Tree) → depth_left ≡ 0 → through (wrapped depth_left w j t) (after_key depth n (Some k) ts) ≡ None
+no_depth_left_second w k depth_left depth n ts j t e = ap (λ r. through (wrapped r w j t) (after_key depth n (Some k) ts)) e ∙ refused_member (wrapped 0 w j t) k depth n ts (λ i ms. refl)
 
-pub code_without_scope : (k : List ℕ) (room depth n : ℕ) (ts : List Token) (j : Json) (t : Option Tree) → is_scope_name (wrapper_of k) ≡ false
-    → through (wrapped room kinds.Code j t) (after_key depth n (Some k) ts) ≡ None
-code_without_scope k room depth n ts j t e = refused_member (wrapped room kinds.Code j t) k depth n ts (λ i ms. nested_none room _ (code_with (wrapper_of k) j i t (wrap (room - 1) i) ms e))
+pub code_without_scope : (k : List ℕ) (depth_left depth n : ℕ) (ts : List Token) (j : Json) (t : Option Tree) → is_scope_name (wrapper_of k) ≡ false
+    → through (wrapped depth_left kinds.Code j t) (after_key depth n (Some k) ts) ≡ None
+code_without_scope k depth_left depth n ts j t e = refused_member (wrapped depth_left kinds.Code j t) k depth n ts (λ i ms. nested_none depth_left _ (code_with (wrapper_of k) j i t (wrap (depth_left - 1) i) ms e))
 
-code_after : (k : List ℕ) (room : ℕ) (j i : Json) (t u : Option Tree) (ms : json.Members) → is_scope_name (wrapper_of k) ≡ true → wrap (room - 1) i ≡ u
-    → wrapped room kinds.Code j t (json.member k i ms) ≡ nested room (two kinds.Code j t (Some kinds.Scope) i u ms)
-code_after k room j i t u ms e f = rw (is_scope_is (wrapper_of k) e, f) refl
+code_after : (k : List ℕ) (depth_left : ℕ) (j i : Json) (t u : Option Tree) (ms : json.Members) → is_scope_name (wrapper_of k) ≡ true → wrap (depth_left - 1) i ≡ u
+    → wrapped depth_left kinds.Code j t (json.member k i ms) ≡ nested depth_left (two kinds.Code j t (Some kinds.Scope) i u ms)
+code_after k depth_left j i t u ms e f = rw (is_scope_is (wrapper_of k) e, f) refl
 
-scope_fails : (room : ℕ) (j i : Json) (t : Option Tree) (ms : json.Members) → nested room (two kinds.Code j t (Some kinds.Scope) i None ms) ≡ None
-scope_fails room j i t json.no_members = nested_none room _ (no_scope (as_str j))
-scope_fails room j i t (json.member l h ms) = nested_none room _ refl
+scope_fails : (depth_left : ℕ) (j i : Json) (t : Option Tree) (ms : json.Members) → nested depth_left (two kinds.Code j t (Some kinds.Scope) i None ms) ≡ None
+scope_fails depth_left j i t json.no_members = nested_none depth_left _ (no_scope (as_str j))
+scope_fails depth_left j i t (json.member l h ms) = nested_none depth_left _ refl
 
-pub scope_unread : (k : List ℕ) (room depth n : ℕ) (ts : List Token) (j : Json) (t : Option Tree) → is_scope_name (wrapper_of k) ≡ true → through (wrap (room - 1)) (value depth ts) ≡ None
-    → through (wrapped room kinds.Code j t) (after_key depth n (Some k) ts) ≡ None
-scope_unread k room depth n ts j t e f =
-    unread (wrapped room kinds.Code j t) (wrap (room - 1)) k depth n ts f (λ i ms none. code_after k room j i t None ms e none ∙ scope_fails room j i t ms)
+pub scope_unread : (k : List ℕ) (depth_left depth n : ℕ) (ts : List Token) (j : Json) (t : Option Tree) → is_scope_name (wrapper_of k) ≡ true → through (wrap (depth_left - 1)) (value depth ts) ≡ None
+    → through (wrapped depth_left kinds.Code j t) (after_key depth n (Some k) ts) ≡ None
+scope_unread k depth_left depth n ts j t e f =
+    unread (wrapped depth_left kinds.Code j t) (wrap (depth_left - 1)) k depth n ts f (λ i ms none. code_after k depth_left j i t None ms e none ∙ scope_fails depth_left j i t ms)
 
 -- what follows a scope
-pub scope_read : (k : List ℕ) (room depth n : ℕ) (ts r : List Token) (j : Json) (t : Option Tree) (u : Tree) → is_scope_name (wrapper_of k) ≡ true
-    → through (wrap (room - 1)) (value depth ts) ≡ Some (u, r)
-    → (i : Json) × (through (wrapped room kinds.Code j t) (after_key depth n (Some k) ts)
-    ≡ through (λ ms. nested room (two kinds.Code j t (Some kinds.Scope) i (Some u) ms)) (members (value depth) n r))
-scope_read k room depth n ts r j t u e f =
-    let p = was_read (wrap (room - 1)) (value depth ts) u r f in (
+pub scope_read : (k : List ℕ) (depth_left depth n : ℕ) (ts r : List Token) (j : Json) (t : Option Tree) (u : Tree) → is_scope_name (wrapper_of k) ≡ true
+    → through (wrap (depth_left - 1)) (value depth ts) ≡ Some (u, r)
+    → (i : Json) × (through (wrapped depth_left kinds.Code j t) (after_key depth n (Some k) ts)
+    ≡ through (λ ms. nested depth_left (two kinds.Code j t (Some kinds.Scope) i (Some u) ms)) (members (value depth) n r))
+scope_read k depth_left depth n ts r j t u e f =
+    let p = was_read (wrap (depth_left - 1)) (value depth ts) u r f in (
       p.0,
-      member_is (wrapped room kinds.Code j t) k depth n ts r p.0 p.1
-          ∙ through_same (λ ms. wrapped room kinds.Code j t (json.member k p.0 ms)) _ (λ ms. code_after k room j p.0 t (Some u) ms e p.2) (members (value depth) n r),
+      member_is (wrapped depth_left kinds.Code j t) k depth n ts r p.0 p.1
+          ∙ through_same (λ ms. wrapped depth_left kinds.Code j t (json.member k p.0 ms)) _ (λ ms. code_after k depth_left j p.0 t (Some u) ms e p.2) (members (value depth) n r),
     )
 
-pub scope_unended : (k : List ℕ) (room depth n : ℕ) (ts r : List Token) (j : Json) (t : Option Tree) (u : Tree) → is_scope_name (wrapper_of k) ≡ true
-    → through (wrap (room - 1)) (value depth ts) ≡ Some (u, r)
-    → length r ≤ n → ((q : List Token) → read_key r ≢ Some (None, q)) → through (wrapped room kinds.Code j t) (after_key depth n (Some k) ts) ≡ None
-scope_unended k room depth n ts r j t u e f le g =
-    let p = scope_read k room depth n ts r j t u e f in
-    p.1 ∙ not_ended _ depth n r le g (λ l h ms. nested_none room _ refl)
+pub scope_unended : (k : List ℕ) (depth_left depth n : ℕ) (ts r : List Token) (j : Json) (t : Option Tree) (u : Tree) → is_scope_name (wrapper_of k) ≡ true
+    → through (wrap (depth_left - 1)) (value depth ts) ≡ Some (u, r)
+    → length r ≤ n → ((q : List Token) → read_key r ≢ Some (None, q)) → through (wrapped depth_left kinds.Code j t) (after_key depth n (Some k) ts) ≡ None
+scope_unended k depth_left depth n ts r j t u e f le g =
+    let p = scope_read k depth_left depth n ts r j t u e f in
+    p.1 ∙ not_ended _ depth n r le g (λ l h ms. nested_none depth_left _ refl)
 
-pub scope_ended : (k : List ℕ) (room depth n : ℕ) (ts r s : List Token) (j : Json) (t : Option Tree) (u : Tree) → is_scope_name (wrapper_of k) ≡ true
-    → through (wrap (room - 1)) (value depth ts) ≡ Some (u, r)
-    → length r ≤ n → read_key r ≡ Some (None, s) → 0 < room → through (wrapped room kinds.Code j t) (after_key depth n (Some k) ts) ≡ option_map (λ (a : Tree). (a, s)) (with_scope (as_str j) (Some u))
-scope_ended k room depth n ts r s j t u e f le g h =
-    let p = scope_read k room depth n ts r j t u e f in
-    p.1 ∙ ended _ depth n r s le g ∙ ap (option_map (λ (a : Tree). (a, s))) (nested_is room (with_scope (as_str j) (Some u)) h)
+pub scope_ended : (k : List ℕ) (depth_left depth n : ℕ) (ts r s : List Token) (j : Json) (t : Option Tree) (u : Tree) → is_scope_name (wrapper_of k) ≡ true
+    → through (wrap (depth_left - 1)) (value depth ts) ≡ Some (u, r)
+    → length r ≤ n → read_key r ≡ Some (None, s) → 0 < depth_left → through (wrapped depth_left kinds.Code j t) (after_key depth n (Some k) ts) ≡ option_map (λ (a : Tree). (a, s)) (with_scope (as_str j) (Some u))
+scope_ended k depth_left depth n ts r s j t u e f le g h =
+    let p = scope_read k depth_left depth n ts r j t u e f in
+    p.1 ∙ ended _ depth n r s le g ∙ ap (option_map (λ (a : Tree). (a, s))) (nested_is depth_left (with_scope (as_str j) (Some u)) h)
 
 -- ---- `$scope`, then `$code`
 
-scope_first_fails : (room : ℕ) (j : Json) (ms : json.Members) → wrapped room kinds.Scope j None ms ≡ None
-scope_first_fails room j json.no_members = refl
-scope_first_fails room j (json.member k i ms) = nested_none room _ (go (wrapper_of k) ms)
+scope_first_fails : (depth_left : ℕ) (j : Json) (ms : json.Members) → wrapped depth_left kinds.Scope j None ms ≡ None
+scope_first_fails depth_left j json.no_members = refl
+scope_first_fails depth_left j (json.member k i ms) = nested_none depth_left _ (go (wrapper_of k) ms)
   where
-    go : (v : Option Wrapper) (ms : json.Members) → two kinds.Scope j None v i (wrap (room - 1) i) ms ≡ None
+    go : (v : Option Wrapper) (ms : json.Members) → two kinds.Scope j None v i (wrap (depth_left - 1) i) ms ≡ None
     go (Some kinds.Code) json.no_members = no_scope (as_str i)
     go _ _ = refl
 
-no_room : (j : Json) (t : Option Tree) (ms : json.Members) → wrapped 0 kinds.Scope j t ms ≡ None
-no_room j t json.no_members = refl
-no_room j t (json.member k i ms) = refl
+no_depth_left : (j : Json) (t : Option Tree) (ms : json.Members) → wrapped 0 kinds.Scope j t ms ≡ None
+no_depth_left j t json.no_members = refl
+no_depth_left j t (json.member k i ms) = refl
 
-pub no_room_first : (k : List ℕ) (room depth n : ℕ) (ts : List Token) → wrapper_of k ≡ Some kinds.Scope → room ≡ 0 → through (wrap_object room) (after_key depth n (Some k) ts) ≡ None
-no_room_first k room depth n ts e z = refused_member (wrap_object room) k depth n ts (λ i ms. rw (e, z) (no_room i (wrap (0 - 1) i) ms))
+pub no_depth_left_first : (k : List ℕ) (depth_left depth n : ℕ) (ts : List Token) → wrapper_of k ≡ Some kinds.Scope → depth_left ≡ 0 → through (wrap_object depth_left) (after_key depth n (Some k) ts) ≡ None
+no_depth_left_first k depth_left depth n ts e z = refused_member (wrap_object depth_left) k depth n ts (λ i ms. rw (e, z) (no_depth_left i (wrap (0 - 1) i) ms))
 
-pub first_unread : (k : List ℕ) (room depth n : ℕ) (ts : List Token) → wrapper_of k ≡ Some kinds.Scope → through (wrap (room - 1)) (value depth ts) ≡ None
-    → through (wrap_object room) (after_key depth n (Some k) ts) ≡ None
-first_unread k room depth n ts e f =
-    unread (wrap_object room) (wrap (room - 1)) k depth n ts f (λ i ms none. rw (e, none) (scope_first_fails room i ms))
+pub first_unread : (k : List ℕ) (depth_left depth n : ℕ) (ts : List Token) → wrapper_of k ≡ Some kinds.Scope → through (wrap (depth_left - 1)) (value depth ts) ≡ None
+    → through (wrap_object depth_left) (after_key depth n (Some k) ts) ≡ None
+first_unread k depth_left depth n ts e f =
+    unread (wrap_object depth_left) (wrap (depth_left - 1)) k depth n ts f (λ i ms none. rw (e, none) (scope_first_fails depth_left i ms))
 
-pub first_read : (k : List ℕ) (room depth n : ℕ) (ts r : List Token) (u : Tree) → wrapper_of k ≡ Some kinds.Scope → through (wrap (room - 1)) (value depth ts) ≡ Some (u, r)
-    → (j : Json) × (through (wrap_object room) (after_key depth n (Some k) ts) ≡ through (wrapped room kinds.Scope j (Some u)) (members (value depth) n r))
-first_read k room depth n ts r u e f =
-    let p = was_read (wrap (room - 1)) (value depth ts) u r f in
-    (p.0, first_part kinds.Scope k room depth n ts r p.0 e p.1 ∙ ap (λ t. through (wrapped room kinds.Scope p.0 t) (members (value depth) n r)) p.2)
+pub first_read : (k : List ℕ) (depth_left depth n : ℕ) (ts r : List Token) (u : Tree) → wrapper_of k ≡ Some kinds.Scope → through (wrap (depth_left - 1)) (value depth ts) ≡ Some (u, r)
+    → (j : Json) × (through (wrap_object depth_left) (after_key depth n (Some k) ts) ≡ through (wrapped depth_left kinds.Scope j (Some u)) (members (value depth) n r))
+first_read k depth_left depth n ts r u e f =
+    let p = was_read (wrap (depth_left - 1)) (value depth ts) u r f in
+    (p.0, first_part kinds.Scope k depth_left depth n ts r p.0 e p.1 ∙ ap (λ t. through (wrapped depth_left kinds.Scope p.0 t) (members (value depth) n r)) p.2)
 
 scope_with : (v : Option Wrapper) (j i : Json) (t u : Option Tree) (ms : json.Members) → is_code_name v ≡ false → two kinds.Scope j t v i u ms ≡ None
 scope_with (Some kinds.Code) j i t u ms e = absurd cc
 scope_with _ j i t u ms e = refl
 
-pub scope_without_code : (k : List ℕ) (room depth n : ℕ) (ts r : List Token) (j : Json) (t : Option Tree) → length ts ≤ n → read_key ts ≡ Some (Some k, r) → is_code_name (wrapper_of k) ≡ false
-    → through (wrapped room kinds.Scope j t) (members (value depth) n ts) ≡ None
-scope_without_code k room depth n ts r j t le e f = named (wrapped room kinds.Scope j t) k depth n ts r le e
-    ∙ refused_member (wrapped room kinds.Scope j t) k depth (n - 1) r (λ i ms. nested_none room _ (scope_with (wrapper_of k) j i t (wrap (room - 1) i) ms f))
+pub scope_without_code : (k : List ℕ) (depth_left depth n : ℕ) (ts r : List Token) (j : Json) (t : Option Tree) → length ts ≤ n → read_key ts ≡ Some (Some k, r) → is_code_name (wrapper_of k) ≡ false
+    → through (wrapped depth_left kinds.Scope j t) (members (value depth) n ts) ≡ None
+scope_without_code k depth_left depth n ts r j t le e f = named (wrapped depth_left kinds.Scope j t) k depth n ts r le e
+    ∙ refused_member (wrapped depth_left kinds.Scope j t) k depth (n - 1) r (λ i ms. nested_none depth_left _ (scope_with (wrapper_of k) j i t (wrap (depth_left - 1) i) ms f))
 
-pub code_unread : (k : List ℕ) (room depth n : ℕ) (ts r : List Token) (j : Json) (t : Option Tree) → length ts ≤ n → read_key ts ≡ Some (Some k, r) → value depth r ≡ None
-    → through (wrapped room kinds.Scope j t) (members (value depth) n ts) ≡ None
-code_unread k room depth n ts r j t le e f = named (wrapped room kinds.Scope j t) k depth n ts r le e ∙ unreadable (wrapped room kinds.Scope j t) k depth (n - 1) r f
+pub code_unread : (k : List ℕ) (depth_left depth n : ℕ) (ts r : List Token) (j : Json) (t : Option Tree) → length ts ≤ n → read_key ts ≡ Some (Some k, r) → value depth r ≡ None
+    → through (wrapped depth_left kinds.Scope j t) (members (value depth) n ts) ≡ None
+code_unread k depth_left depth n ts r j t le e f = named (wrapped depth_left kinds.Scope j t) k depth n ts r le e ∙ unreadable (wrapped depth_left kinds.Scope j t) k depth (n - 1) r f
 
 pub code_is : (w : Wrapper) → is_code_name (Some w) ≡ true → w ≡ kinds.Code
 code_is kinds.Code e = refl
@@ -217,23 +217,23 @@ no_third : (v : Option Wrapper) (j i : Json) (t u : Option Tree) (l : List ℕ) 
 no_third (Some kinds.Code) j i t u l h ms = refl
 no_third _ j i t u l h ms = refl
 
-pub code_unended : (k : List ℕ) (room depth n : ℕ) (ts r s : List Token) (j i : Json) (t : Option Tree) → length ts ≤ n
+pub code_unended : (k : List ℕ) (depth_left depth n : ℕ) (ts r s : List Token) (j i : Json) (t : Option Tree) → length ts ≤ n
     → read_key ts ≡ Some (Some k, r) → value depth r ≡ Some (i, s) → length s ≤ n - 1 → ((q : List Token) → read_key s ≢ Some (None, q))
-    → through (wrapped room kinds.Scope j t) (members (value depth) n ts) ≡ None
-code_unended k room depth n ts r s j i t le e f less g =
-    named (wrapped room kinds.Scope j t) k depth n ts r le e
-    ∙ member_is (wrapped room kinds.Scope j t) k depth (n - 1) r s i f
+    → through (wrapped depth_left kinds.Scope j t) (members (value depth) n ts) ≡ None
+code_unended k depth_left depth n ts r s j i t le e f less g =
+    named (wrapped depth_left kinds.Scope j t) k depth n ts r le e
+    ∙ member_is (wrapped depth_left kinds.Scope j t) k depth (n - 1) r s i f
     ∙ not_ended _ depth (n - 1) s less g
-    (λ l h ms. nested_none room _ (no_third (wrapper_of k) j i t (wrap (room - 1) i) l h ms))
+    (λ l h ms. nested_none depth_left _ (no_third (wrapper_of k) j i t (wrap (depth_left - 1) i) l h ms))
 
-pub code_ended : (k : List ℕ) (room depth n : ℕ) (ts r s q : List Token) (j i : Json) (u : Tree) → length ts ≤ n → read_key ts ≡ Some (Some k, r)
+pub code_ended : (k : List ℕ) (depth_left depth n : ℕ) (ts r s q : List Token) (j i : Json) (u : Tree) → length ts ≤ n → read_key ts ≡ Some (Some k, r)
     → is_code_name (wrapper_of k) ≡ true → value depth r ≡ Some (i, s)
-    → length s ≤ n - 1 → read_key s ≡ Some (None, q) → 0 < room
-    → through (wrapped room kinds.Scope j (Some u)) (members (value depth) n ts) ≡ option_map (λ (a : Tree). (a, q)) (with_scope (as_str i) (Some u))
-code_ended k room depth n ts r s q j i u le e is f less g h =
-    let last : wrapped room kinds.Scope j (Some u) (json.member k i json.no_members) ≡ nested room (with_scope (as_str i) (Some u)) = rw (is_code_is (wrapper_of k) is) refl in
-    named (wrapped room kinds.Scope j (Some u)) k depth n ts r le e ∙ member_is (wrapped room kinds.Scope j (Some u)) k depth (n - 1) r s i f ∙ ended _ depth (n - 1) s q less g
-    ∙ ap (option_map (λ (a : Tree). (a, q))) (last ∙ nested_is room (with_scope (as_str i) (Some u)) h)
+    → length s ≤ n - 1 → read_key s ≡ Some (None, q) → 0 < depth_left
+    → through (wrapped depth_left kinds.Scope j (Some u)) (members (value depth) n ts) ≡ option_map (λ (a : Tree). (a, q)) (with_scope (as_str i) (Some u))
+code_ended k depth_left depth n ts r s q j i u le e is f less g h =
+    let last : wrapped depth_left kinds.Scope j (Some u) (json.member k i json.no_members) ≡ nested depth_left (with_scope (as_str i) (Some u)) = rw (is_code_is (wrapper_of k) is) refl in
+    named (wrapped depth_left kinds.Scope j (Some u)) k depth n ts r le e ∙ member_is (wrapped depth_left kinds.Scope j (Some u)) k depth (n - 1) r s i f ∙ ended _ depth (n - 1) s q less g
+    ∙ ap (option_map (λ (a : Tree). (a, q))) (last ∙ nested_is depth_left (with_scope (as_str i) (Some u)) h)
 
 -- ---- code with scope
 

@@ -12,7 +12,7 @@ use Rattle.std.proofs.lemmas.Fmt.{digits_decimal, digits_value-decimal, first_de
 use Rattle.std.proofs.lemmas.Int.{ints}
 use Rattle.bd_extjson_text.proofs.JsonStringLemmas.{wider}
 use Rattle.bd_extjson_wrapper.specs.WholeNumber.{are_digits, fits_bits, whole, whole_64, whole_32}
-use Rattle.bd_extjson_wrapper.proofs.WholeNumberLemmas.{own, all_of}
+use Rattle.bd_extjson_wrapper.proofs.WholeNumberLemmas.{digits_model, all_of}
 use Rattle.std.specs.{Prelude.◌||◌, Option.option_zip, Result.result_ok}
 use Rattle.std.proofs.lemmas.Str.{is_utf8-from_IsUtf8}
 use Rattle.base64.specs.Engines.{standard}
@@ -44,7 +44,7 @@ first_nonzero (c ∷ cs) first all = one (c == 48) refl
 
 are_digits-decimal : (n : ℕ) → n < 2 ^ 64 → are_digits (decimal n) ≡ true
 are_digits-decimal zero small = ap are_digits (decimal_digit 0 (omega arith))
-are_digits-decimal (suc n) small = first_nonzero (decimal (suc n)) (first_decimal (suc n) (omega arith) small) (digits_decimal own (suc n) small)
+are_digits-decimal (suc n) small = first_nonzero (decimal (suc n)) (first_decimal (suc n) (omega arith) small) (digits_decimal digits_model (suc n) small)
 
 no_sign : (c : ℕ) (cs : List ℕ) → c ≡ 45 → all_ascii_digits (c ∷ cs) ≡ true → ⊥
 no_sign c cs e all = let minus : all_ascii_digits (45 ∷ cs) ≡ true = ap (λ x. all_ascii_digits (x ∷ cs)) (sym e) ∙ all in let no : false ≡ true = minus in absurd cc
@@ -65,10 +65,10 @@ whole-minus ds n are is = rw are (ap (λ k. Some (neg_ℤ (pos k))) is)
 whole-signed : (z : ℤ) → fits_bits 63 z ≡ true → whole (signed_decimal z) ≡ Some z
 whole-signed (pos n) fits =
     let small : n < 2 ^ 63 = ltb-true n (2 ^ 63) fits in
-    whole-digits (decimal n) n (are_digits-decimal n (omega arith)) (digits_value-decimal own n (omega arith))
+    whole-digits (decimal n) n (are_digits-decimal n (omega arith)) (digits_value-decimal digits_model n (omega arith))
 whole-signed (negsuc n) fits =
     let small : n < 2 ^ 63 = ltb-true n (2 ^ 63) fits in
-    whole-minus (decimal (suc n)) (suc n) (are_digits-decimal (suc n) (omega arith)) (digits_value-decimal own (suc n) (omega arith))
+    whole-minus (decimal (suc n)) (suc n) (are_digits-decimal (suc n) (omega arith)) (digits_value-decimal digits_model (suc n) (omega arith))
 
 bits_63 : (z : ℤ) → FitsSigned w64 z → fits_bits 63 z ≡ true
 bits_63 (pos n) fits = lt-ltb n (2 ^ 63) (omega (arith, ints))
@@ -115,22 +115,22 @@ word_back n small =
 name_back : (s : List ℕ) → has_zero s ≡ false → name_in (kit.string s) ≡ Some s
 name_back s none = rw none refl
 
-pub scalar_back : (s : Scalar) (room : ℕ) → ScalarFits IsAny s → zero_in_scalar s ≡ false → wrap room (scalar_json s) ≡ Some (leaf s)
+pub scalar_back : (s : Scalar) (depth_left : ℕ) → ScalarFits IsAny s → zero_in_scalar s ≡ false → wrap depth_left (scalar_json s) ≡ Some (leaf s)
 unfolding wrapper_of only pair whole
-scalar_back (int32 z) room fits none = ap (λ o. option_map (λ s. leaf s) (option_map (λ y. int32 y) o)) (whole_32-signed z fits)
-scalar_back (int64 z) room fits none = ap (λ o. option_map (λ s. leaf s) (option_map (λ y. int64 y) o)) (whole_64-signed z fits)
-scalar_back (binary k s) room fits none =
+scalar_back (int32 z) depth_left fits none = ap (λ o. option_map (λ s. leaf s) (option_map (λ y. int32 y) o)) (whole_32-signed z fits)
+scalar_back (int64 z) depth_left fits none = ap (λ o. option_map (λ s. leaf s) (option_map (λ y. int64 y) o)) (whole_64-signed z fits)
+scalar_back (binary k s) depth_left fits none =
     ap₂ (λ a b. option_map (λ s. leaf s) (option_map (λ p. binary p.1 p.0) (option_zip a b))) (data_back s fits.1) (subtype_back k fits.0)
-scalar_back (object_id id) room fits none = ap (λ o. option_map (λ s. leaf s) (option_map (λ b. object_id b) o)) (id_back id fits)
-scalar_back (date z) room fits none = ap (λ o. option_map (λ s. leaf s) (option_map (λ y. date y) o)) (whole_64-signed z fits)
-scalar_back (timestamp s i) room fits none =
+scalar_back (object_id id) depth_left fits none = ap (λ o. option_map (λ s. leaf s) (option_map (λ b. object_id b) o)) (id_back id fits)
+scalar_back (date z) depth_left fits none = ap (λ o. option_map (λ s. leaf s) (option_map (λ y. date y) o)) (whole_64-signed z fits)
+scalar_back (timestamp s i) depth_left fits none =
     ap₂ (λ a b. option_map (λ s. leaf s) (option_map (λ p. timestamp p.0 p.1) (option_zip a b))) (word_back s fits.0) (word_back i fits.1)
-scalar_back (regex p o) room fits none =
+scalar_back (regex p o) depth_left fits none =
     let parts = or_parts (has_zero p) (has_zero o) none in
     ap₂ (λ a b. option_map (λ s. leaf s) (option_map (λ p. regex p.0 p.1) (option_zip a b))) (name_back p parts.0) (name_back o parts.1)
-scalar_back (db_pointer s id) room fits none =
+scalar_back (db_pointer s id) depth_left fits none =
     ap (λ o. option_map (λ s. leaf s) (option_map (λ p. db_pointer p.0 p.1) (option_zip (Some s) o))) (id_back id fits.1)
-scalar_back _ room fits none = refl
+scalar_back _ depth_left fits none = refl
 
 -- ---- a tree
 
@@ -146,40 +146,40 @@ no_zeros n t fs none =
     let parts = or_parts (zero_in t) (zero_in_fields fs) name.1 in
     (name.0, parts.0, parts.1)
 
-scope_back : (s : List ℕ) (fs : Fields) (room : ℕ) → wrap_object (suc room - 1) (members_json fs) ≡ Some (doc fs)
-    → wrap (suc room) (json (code_scope s fs)) ≡ Some (code_scope s fs)
+scope_back : (s : List ℕ) (fs : Fields) (depth_left : ℕ) → wrap_object (suc depth_left - 1) (members_json fs) ≡ Some (doc fs)
+    → wrap (suc depth_left) (json (code_scope s fs)) ≡ Some (code_scope s fs)
 unfolding wrapper_of
-scope_back s fs room same = ap (with_scope (Some s)) same
+scope_back s fs depth_left same = ap (with_scope (Some s)) same
 
 mutual
-  pub tree_back : (t : Tree) (room : ℕ) → depth t ≤ room → FitsTypes t → IsPlain t → zero_in t ≡ false → wrap room (json t) ≡ Some t
-  tree_back (leaf s) room deep fits plain none = scalar_back s room fits none
-  tree_back (doc fs) room deep fits plain none = object_back fs room deep fits plain none
+  pub tree_back : (t : Tree) (depth_left : ℕ) → depth t ≤ depth_left → FitsTypes t → IsPlain t → zero_in t ≡ false → wrap depth_left (json t) ≡ Some t
+  tree_back (leaf s) depth_left deep fits plain none = scalar_back s depth_left fits none
+  tree_back (doc fs) depth_left deep fits plain none = object_back fs depth_left deep fits plain none
   tree_back (array ts) zero deep fits plain none = absurd (omega arith)
-  tree_back (array ts) (suc room) deep fits plain none = ap (option_map array) (items_back ts (suc room - 1) (omega arith) fits plain none)
+  tree_back (array ts) (suc depth_left) deep fits plain none = ap (option_map array) (items_back ts (suc depth_left - 1) (omega arith) fits plain none)
   tree_back (code_scope s fs) zero deep fits plain none = absurd (omega arith)
-  tree_back (code_scope s fs) (suc room) deep fits plain none = scope_back s fs room (object_back fs (suc room - 1) (omega arith) fits.1 plain none)
+  tree_back (code_scope s fs) (suc depth_left) deep fits plain none = scope_back s fs depth_left (object_back fs (suc depth_left - 1) (omega arith) fits.1 plain none)
 
-  object_back : (fs : Fields) (room : ℕ) → suc (fields_depth fs) ≤ room → FieldsFit IsAny fs → IsPlainFirst fs × ArePlainFields fs
-      → zero_in_fields fs ≡ false → wrap_object room (members_json fs) ≡ Some (doc fs)
+  object_back : (fs : Fields) (depth_left : ℕ) → suc (fields_depth fs) ≤ depth_left → FieldsFit IsAny fs → IsPlainFirst fs × ArePlainFields fs
+      → zero_in_fields fs ≡ false → wrap_object depth_left (members_json fs) ≡ Some (doc fs)
   object_back fs zero deep fits plain none = absurd (omega arith)
-  object_back no_fields (suc room) deep fits plain none = refl
-  object_back (field n t fs) (suc room) deep fits plain none =
+  object_back no_fields (suc depth_left) deep fits plain none = refl
+  object_back (field n t fs) (suc depth_left) deep fits plain none =
       let parts = no_zeros n t fs none in
       rw plain.0
-      (ap (option_map doc) (field_back n t fs parts.0 (tree_back t (suc room - 1) (omega arith) fits.1.0 plain.1.0 parts.1) (fields_back fs (suc room - 1) (omega arith) fits.1.1 plain.1.1 parts.2)))
+      (ap (option_map doc) (field_back n t fs parts.0 (tree_back t (suc depth_left - 1) (omega arith) fits.1.0 plain.1.0 parts.1) (fields_back fs (suc depth_left - 1) (omega arith) fits.1.1 plain.1.1 parts.2)))
 
-  items_back : (ts : Items) (room : ℕ) → items_depth ts ≤ room → ItemsFit IsAny ts → ArePlainItems ts → zero_in_items ts ≡ false → wrap_items room (elements_json ts) ≡ Some ts
-  items_back no_items room deep fits plain none = refl
-  items_back (item t ts) room deep fits plain none =
+  items_back : (ts : Items) (depth_left : ℕ) → items_depth ts ≤ depth_left → ItemsFit IsAny ts → ArePlainItems ts → zero_in_items ts ≡ false → wrap_items depth_left (elements_json ts) ≡ Some ts
+  items_back no_items depth_left deep fits plain none = refl
+  items_back (item t ts) depth_left deep fits plain none =
       let parts = or_parts (zero_in t) (zero_in_items ts) none in
-      ap₂ add_item (tree_back t room (omega arith) fits.0 plain.0 parts.0) (items_back ts room (omega arith) fits.1 plain.1 parts.1)
+      ap₂ add_item (tree_back t depth_left (omega arith) fits.0 plain.0 parts.0) (items_back ts depth_left (omega arith) fits.1 plain.1 parts.1)
 
-  fields_back : (fs : Fields) (room : ℕ) → fields_depth fs ≤ room → FieldsFit IsAny fs → ArePlainFields fs → zero_in_fields fs ≡ false → wrap_fields room (members_json fs) ≡ Some fs
-  fields_back no_fields room deep fits plain none = refl
-  fields_back (field n t fs) room deep fits plain none =
+  fields_back : (fs : Fields) (depth_left : ℕ) → fields_depth fs ≤ depth_left → FieldsFit IsAny fs → ArePlainFields fs → zero_in_fields fs ≡ false → wrap_fields depth_left (members_json fs) ≡ Some fs
+  fields_back no_fields depth_left deep fits plain none = refl
+  fields_back (field n t fs) depth_left deep fits plain none =
       let parts = no_zeros n t fs none in
-      field_back n t fs parts.0 (tree_back t room (omega arith) fits.1.0 plain.0 parts.1) (fields_back fs room (omega arith) fits.1.1 plain.1 parts.2)
+      field_back n t fs parts.0 (tree_back t depth_left (omega arith) fits.1.0 plain.0 parts.1) (fields_back fs depth_left (omega arith) fits.1.1 plain.1 parts.2)
 
 -- ---- a document
 

@@ -26,9 +26,9 @@ use Rattle.bd_extjson_wrapper.specs.declared.wrapper.Trouble.TheVariants as trou
 use Rattle.bd_extjson_wrapper.specs.declared.wrapper.Wrapper.{Wrapper}
 use Rattle.bd_extjson.specs.Read.{bare_number, nested, add_item, add_field, wrap, wrap_items, wrap_object, wrap_fields, json, document, reading}
 
-pub nested_is : {A : Type 0} (room : ℕ) (r : Option A) → 0 < room → nested room r ≡ r
+pub nested_is : {A : Type 0} (depth_left : ℕ) (r : Option A) → 0 < depth_left → nested depth_left r ≡ r
 nested_is zero r h = absurd (omega arith)
-nested_is (suc room) r h = refl
+nested_is (suc depth_left) r h = refl
 
 -- ---- what is made of what was read
 
@@ -73,31 +73,31 @@ refused_member {A = A} f k depth n ts h =
 
 -- ---- arrays
 
-pub array_read : (room depth : ℕ) (ts : List Token) → 0 < room → 0 < depth
-    → through (wrap room) (value depth (Token.begin_array ∷ ts)) ≡ parse_map array (through (wrap_items (room - 1)) (items (value (depth - 1)) (length ts) ts))
-array_read room depth ts h k =
+pub array_read : (depth_left depth : ℕ) (ts : List Token) → 0 < depth_left → 0 < depth
+    → through (wrap depth_left) (value depth (Token.begin_array ∷ ts)) ≡ parse_map array (through (wrap_items (depth_left - 1)) (items (value (depth - 1)) (length ts) ts))
+array_read depth_left depth ts h k =
     let r = items (value (depth - 1)) (length ts) ts in
-    ap (through (wrap room)) (value-begin_array depth ts k) ∙ through_made (wrap room) kit.array r
-    ∙ through_same (λ js. wrap room (kit.array js)) (λ js. option_map array (wrap_items (room - 1) js)) (λ js. nested_is room _ h) r
-    ∙ through_map (wrap_items (room - 1)) array r
+    ap (through (wrap depth_left)) (value-begin_array depth ts k) ∙ through_made (wrap depth_left) kit.array r
+    ∙ through_same (λ js. wrap depth_left (kit.array js)) (λ js. option_map array (wrap_items (depth_left - 1) js)) (λ js. nested_is depth_left _ h) r
+    ∙ through_map (wrap_items (depth_left - 1)) array r
 
-pub array_refused : (room depth : ℕ) (ts : List Token) → 0 < depth → room ≡ 0 → through (wrap room) (value depth (Token.begin_array ∷ ts)) ≡ None
-array_refused room depth ts k e =
+pub array_refused : (depth_left depth : ℕ) (ts : List Token) → 0 < depth → depth_left ≡ 0 → through (wrap depth_left) (value depth (Token.begin_array ∷ ts)) ≡ None
+array_refused depth_left depth ts k e =
     let r = items (value (depth - 1)) (length ts) ts in
     ap (λ n. through (wrap n) (value depth (Token.begin_array ∷ ts))) e ∙ ap (through (wrap 0)) (value-begin_array depth ts k)
     ∙ through_made (wrap 0) kit.array r ∙ never (λ js. wrap 0 (kit.array js)) (λ js. refl) r
 
-pub too_deep : (room : ℕ) (ts : List Token) → through (wrap room) (value 0 (Token.begin_array ∷ ts)) ≡ None
+pub too_deep : (depth_left : ℕ) (ts : List Token) → through (wrap depth_left) (value 0 (Token.begin_array ∷ ts)) ≡ None
 unfolding value
-too_deep room ts = refl
+too_deep depth_left ts = refl
 
-pub too_deep_object : (room : ℕ) (ts : List Token) → through (wrap room) (value 0 (Token.begin_object ∷ ts)) ≡ None
+pub too_deep_object : (depth_left : ℕ) (ts : List Token) → through (wrap depth_left) (value 0 (Token.begin_object ∷ ts)) ≡ None
 unfolding value
-too_deep_object room ts = refl
+too_deep_object depth_left ts = refl
 
 -- an object is read by its members, one level deeper
-pub object_read : (room depth : ℕ) (ts : List Token) → 0 < depth → through (wrap room) (value depth (Token.begin_object ∷ ts)) ≡ through (wrap_object room) (members (value (depth - 1)) (length ts) ts)
-object_read room depth ts k = ap (through (wrap room)) (value-begin_object depth ts k) ∙ through_made (wrap room) kit.object (members (value (depth - 1)) (length ts) ts)
+pub object_read : (depth_left depth : ℕ) (ts : List Token) → 0 < depth → through (wrap depth_left) (value depth (Token.begin_object ∷ ts)) ≡ through (wrap_object depth_left) (members (value (depth - 1)) (length ts) ts)
+object_read depth_left depth ts k = ap (through (wrap depth_left)) (value-begin_object depth ts k) ∙ through_made (wrap depth_left) kit.object (members (value (depth - 1)) (length ts) ts)
 
 -- ---- what was read, and then more
 
@@ -110,8 +110,8 @@ abbrev with_one : {X : Type 0} → (Option Tree → Option X → Option X) → T
 with_one add t None = None
 with_one add t (Some q) = option_map (λ x. (x, q.1)) (add (Some t) (Some q.0))
 
-module _ (J X : Type 0) (make : Json → J → J) (read : J → Option X) (add : Option Tree → Option X → Option X) (room : ℕ)
-    (made : (j : Json) (js : J) → read (make j js) ≡ add (wrap room j) (read js)) (none : (o : Option X) → add None o ≡ None)
+module _ (J X : Type 0) (make : Json → J → J) (read : J → Option X) (add : Option Tree → Option X → Option X) (depth_left : ℕ)
+    (made : (j : Json) (js : J) → read (make j js) ≡ add (wrap depth_left j) (read js)) (none : (o : Option X) → add None o ≡ None)
     (less : (t : Tree) → add (Some t) None ≡ None) where
   pushed : (t : Tree) (r : Option (J × List Token)) → through (λ js. add (Some t) (read js)) r ≡ with_one add t (through read r)
   pushed t None = refl
@@ -122,24 +122,24 @@ module _ (J X : Type 0) (make : Json → J → J) (read : J → Option X) (add :
       go (Some x) = refl
 
   turn : (more : Parse J) (v : Option (Json × List Token))
-      → through read (option_and_then (λ p. parse_map (make p.0) (more p.1)) v) ≡ then (through (wrap room) v) (λ t r. with_one add t (through read (more r)))
+      → through read (option_and_then (λ p. parse_map (make p.0) (more p.1)) v) ≡ then (through (wrap depth_left) v) (λ t r. with_one add t (through read (more r)))
   turn more None = refl
   turn more (Some p) =
-      through_made read (make p.0) (more p.1) ∙ through_same (λ js. read (make p.0 js)) (λ js. add (wrap room p.0) (read js)) (made p.0) (more p.1) ∙ split (wrap room p.0)
+      through_made read (make p.0) (more p.1) ∙ through_same (λ js. read (make p.0 js)) (λ js. add (wrap depth_left p.0) (read js)) (made p.0) (more p.1) ∙ split (wrap depth_left p.0)
     where
       split : (o : Option Tree) → through (λ js. add o (read js)) (more p.1) ≡ then (option_map (λ (t : Tree). (t, p.1)) o) (λ t s. with_one add t (through read (more s)))
       split None = never (λ js. add None (read js)) (λ js. none (read js)) (more p.1)
       split (Some t) = pushed t (more p.1)
 
-items_step_is : (room depth n : ℕ) (ts : List Token) → 0 < n → after_end_array ts ≡ None
-    → through (wrap_items room) (items (value depth) n ts) ≡ then (through (wrap room) (value depth ts)) (λ t r. with_one add_item t (through (wrap_items room) (items (value depth) (n - 1) r)))
+items_step_is : (depth_left depth n : ℕ) (ts : List Token) → 0 < n → after_end_array ts ≡ None
+    → through (wrap_items depth_left) (items (value depth) n ts) ≡ then (through (wrap depth_left) (value depth ts)) (λ t r. with_one add_item t (through (wrap_items depth_left) (items (value depth) (n - 1) r)))
 unfolding items
-items_step_is room depth zero ts h e = absurd (omega arith)
-items_step_is room depth (suc n) ts h e =
+items_step_is depth_left depth zero ts h e = absurd (omega arith)
+items_step_is depth_left depth (suc n) ts h e =
     let k : n ≡ suc n - 1 = omega arith in
-    ap (λ o. through (wrap_items room) (items_step (value depth) (items (value depth) n) ts o)) e
-    ∙ turn kit.Items Items kit.item (wrap_items room) add_item room (λ j js. refl) (λ o. refl) (λ t. refl) (items (value depth) n) (value depth ts)
-    ∙ ap (λ m. then (through (wrap room) (value depth ts)) (λ t r. with_one add_item t (through (wrap_items room) (items (value depth) m r)))) k
+    ap (λ o. through (wrap_items depth_left) (items_step (value depth) (items (value depth) n) ts o)) e
+    ∙ turn kit.Items Items kit.item (wrap_items depth_left) add_item depth_left (λ j js. refl) (λ o. refl) (λ t. refl) (items (value depth) n) (value depth ts)
+    ∙ ap (λ m. then (through (wrap depth_left) (value depth ts)) (λ t r. with_one add_item t (through (wrap_items depth_left) (items (value depth) m r)))) k
 
 with_item_is : (t : Tree) (r : Option (Items × List Token)) → with_one add_item t r ≡ parse_map (item t) r
 with_item_is t None = refl
@@ -166,11 +166,11 @@ one_more_item ts t (Some p) = ap (λ x. Some (x, p.1)) (items_push ts t p.0)
 -- ---- objects
 
 -- what stands after a name
-field_step : (k : List ℕ) (room depth n : ℕ) (ts : List Token)
-    → through (wrap_fields room) (after_key depth n (Some k) ts)
-    ≡ then (through (wrap room) (value depth ts)) (λ t r. with_one (add_field k) t (through (wrap_fields room) (members (value depth) n r)))
-field_step k room depth n ts =
-    turn kit.Members Fields (kit.member k) (wrap_fields room) (add_field k) room (λ j ms. refl) (λ o. refl) (λ t. refl) (members (value depth) n) (value depth ts)
+field_step : (k : List ℕ) (depth_left depth n : ℕ) (ts : List Token)
+    → through (wrap_fields depth_left) (after_key depth n (Some k) ts)
+    ≡ then (through (wrap depth_left) (value depth ts)) (λ t r. with_one (add_field k) t (through (wrap_fields depth_left) (members (value depth) n r)))
+field_step k depth_left depth n ts =
+    turn kit.Members Fields (kit.member k) (wrap_fields depth_left) (add_field k) depth_left (λ j ms. refl) (λ o. refl) (λ t. refl) (members (value depth) n) (value depth ts)
 
 -- the next name
 pub next_name : (depth n : ℕ) (ts r : List Token) (key : Option (List ℕ)) → length ts ≤ n → read_key ts ≡ Some (key, r) → members (value depth) n ts ≡ after_key depth (n - 1) key r
@@ -213,24 +213,24 @@ pub fails_where : {A : Type 0} (e : Trouble) (x : Option A) → (e ≡ troubles.
 fails_where troubles.Memory x f = tt
 fails_where troubles.Refused x f = f refl
 
-pub items_refused : (room depth n : ℕ) (ts : List Token) → after_end_array ts ≡ None → through (wrap room) (value depth ts) ≡ None → through (wrap_items room) (items (value depth) n ts) ≡ None
+pub items_refused : (depth_left depth n : ℕ) (ts : List Token) → after_end_array ts ≡ None → through (wrap depth_left) (value depth ts) ≡ None → through (wrap_items depth_left) (items (value depth) n ts) ≡ None
 unfolding items
-items_refused room depth zero ts e f = refl
-items_refused room depth (suc n) ts e f =
-    items_step_is room depth (suc n) ts (omega arith) e ∙ ap (λ o. then o (λ t r. with_one add_item t (through (wrap_items room) (items (value depth) (suc n - 1) r)))) f
+items_refused depth_left depth zero ts e f = refl
+items_refused depth_left depth (suc n) ts e f =
+    items_step_is depth_left depth (suc n) ts (omega arith) e ∙ ap (λ o. then o (λ t r. with_one add_item t (through (wrap_items depth_left) (items (value depth) (suc n - 1) r)))) f
 
 -- after an element that is read, the elements that remain are read
-pub items_go_on : (room depth n : ℕ) (ts r : List Token) (t : Tree) → 0 < n → after_end_array ts ≡ None → through (wrap room) (value depth ts) ≡ Some (t, r)
-    → through (wrap_items room) (items (value depth) n ts) ≡ parse_map (item t) (through (wrap_items room) (items (value depth) (n - 1) r))
-items_go_on room depth n ts r t h e f =
-    items_step_is room depth n ts h e ∙ ap (λ o. then o (λ t r. with_one add_item t (through (wrap_items room) (items (value depth) (n - 1) r)))) f
-    ∙ with_item_is t (through (wrap_items room) (items (value depth) (n - 1) r))
+pub items_go_on : (depth_left depth n : ℕ) (ts r : List Token) (t : Tree) → 0 < n → after_end_array ts ≡ None → through (wrap depth_left) (value depth ts) ≡ Some (t, r)
+    → through (wrap_items depth_left) (items (value depth) n ts) ≡ parse_map (item t) (through (wrap_items depth_left) (items (value depth) (n - 1) r))
+items_go_on depth_left depth n ts r t h e f =
+    items_step_is depth_left depth n ts h e ∙ ap (λ o. then o (λ t r. with_one add_item t (through (wrap_items depth_left) (items (value depth) (n - 1) r)))) f
+    ∙ with_item_is t (through (wrap_items depth_left) (items (value depth) (n - 1) r))
 
 -- after a field that is read, the members that remain are read
-pub field_goes_on : (k : List ℕ) (room depth n : ℕ) (ts r : List Token) (t : Tree) → has_zero k ≡ false → through (wrap room) (value depth ts) ≡ Some (t, r)
-    → through (wrap_fields room) (after_key depth n (Some k) ts) ≡ parse_map (field k t) (through (wrap_fields room) (members (value depth) n r))
-field_goes_on k room depth n ts r t z f =
-    field_step k room depth n ts ∙ ap (λ o. then o (λ t r. with_one (add_field k) t (through (wrap_fields room) (members (value depth) n r)))) f ∙ with_field_is k t _ z
+pub field_goes_on : (k : List ℕ) (depth_left depth n : ℕ) (ts r : List Token) (t : Tree) → has_zero k ≡ false → through (wrap depth_left) (value depth ts) ≡ Some (t, r)
+    → through (wrap_fields depth_left) (after_key depth n (Some k) ts) ≡ parse_map (field k t) (through (wrap_fields depth_left) (members (value depth) n r))
+field_goes_on k depth_left depth n ts r t z f =
+    field_step k depth_left depth n ts ∙ ap (λ o. then o (λ t r. with_one (add_field k) t (through (wrap_fields depth_left) (members (value depth) n r)))) f ∙ with_field_is k t _ z
 
 -- ---- an object after its first name
 
@@ -242,47 +242,47 @@ first_name depth ts r key e =
     next_name depth (length ts) ts r key (omega arith) e ∙ ap (λ m. after_key depth m key r) less
 
 -- an object whose first name is a wrapper's is read as this wrapper
-pub object_is_wrapper : {X : Type 0} (view : X → Tree) (result : Result X Trouble) (rest : List Token) (w : Wrapper) (room depth n : ℕ)
+pub object_is_wrapper : {X : Type 0} (view : X → Tree) (result : Result X Trouble) (rest : List Token) (w : Wrapper) (depth_left depth n : ℕ)
     (ts : List Token) (key : Option (List ℕ)) → option_and_then wrapper_of key ≡ Some w
-    → ((name : List ℕ) → wrapper_of name ≡ Some w → Gives (λ x. (view x, rest)) result (through (wrap_object room) (after_key depth n (Some name) ts)))
-    → Gives (λ x. (view x, rest)) result (through (wrap_object room) (after_key depth n key ts))
-object_is_wrapper view result rest w room depth n ts None e f = absurd cc
-object_is_wrapper view result rest w room depth n ts (Some name) e f = f name e
+    → ((name : List ℕ) → wrapper_of name ≡ Some w → Gives (λ x. (view x, rest)) result (through (wrap_object depth_left) (after_key depth n (Some name) ts)))
+    → Gives (λ x. (view x, rest)) result (through (wrap_object depth_left) (after_key depth n key ts))
+object_is_wrapper view result rest w depth_left depth n ts None e f = absurd cc
+object_is_wrapper view result rest w depth_left depth n ts (Some name) e f = f name e
 
 -- an object whose first name is no wrapper's is read as a document
-pub object_is_plain : (room depth n : ℕ) (ts : List Token) (key : Option (List ℕ)) → 0 < room → option_and_then wrapper_of key ≡ None
-    → through (wrap_object room) (after_key depth n key ts) ≡ parse_map doc (through (wrap_fields (room - 1)) (after_key depth n key ts))
-object_is_plain room depth n ts None h e = ap (option_map (λ (a : Tree). (a, ts))) (nested_is room (Some (doc no_fields)) h)
-object_is_plain room depth n ts (Some k) h e =
-    member_same (wrap_object room) (λ ms. option_map doc (wrap_fields (room - 1) ms)) k depth n ts (λ j ms. rw e (nested_is room _ h))
-    ∙ through_map (wrap_fields (room - 1)) doc (after_key depth n (Some k) ts)
+pub object_is_plain : (depth_left depth n : ℕ) (ts : List Token) (key : Option (List ℕ)) → 0 < depth_left → option_and_then wrapper_of key ≡ None
+    → through (wrap_object depth_left) (after_key depth n key ts) ≡ parse_map doc (through (wrap_fields (depth_left - 1)) (after_key depth n key ts))
+object_is_plain depth_left depth n ts None h e = ap (option_map (λ (a : Tree). (a, ts))) (nested_is depth_left (Some (doc no_fields)) h)
+object_is_plain depth_left depth n ts (Some k) h e =
+    member_same (wrap_object depth_left) (λ ms. option_map doc (wrap_fields (depth_left - 1) ms)) k depth n ts (λ j ms. rw e (nested_is depth_left _ h))
+    ∙ through_map (wrap_fields (depth_left - 1)) doc (after_key depth n (Some k) ts)
 
-object_no_room : (depth n : ℕ) (ts : List Token) (key : Option (List ℕ)) → option_and_then wrapper_of key ≡ None → through (wrap_object 0) (after_key depth n key ts) ≡ None
-object_no_room depth n ts None e = refl
-object_no_room depth n ts (Some k) e = refused_member (wrap_object 0) k depth n ts (λ j ms. rw e refl)
+object_no_depth_left : (depth n : ℕ) (ts : List Token) (key : Option (List ℕ)) → option_and_then wrapper_of key ≡ None → through (wrap_object 0) (after_key depth n key ts) ≡ None
+object_no_depth_left depth n ts None e = refl
+object_no_depth_left depth n ts (Some k) e = refused_member (wrap_object 0) k depth n ts (λ j ms. rw e refl)
 
-pub object_refused : (room depth n : ℕ) (ts : List Token) (key : Option (List ℕ)) → room ≡ 0 → option_and_then wrapper_of key ≡ None → through (wrap_object room) (after_key depth n key ts) ≡ None
-object_refused room depth n ts key z e = ap (λ r. through (wrap_object r) (after_key depth n key ts)) z ∙ object_no_room depth n ts key e
+pub object_refused : (depth_left depth n : ℕ) (ts : List Token) (key : Option (List ℕ)) → depth_left ≡ 0 → option_and_then wrapper_of key ≡ None → through (wrap_object depth_left) (after_key depth n key ts) ≡ None
+object_refused depth_left depth n ts key z e = ap (λ r. through (wrap_object r) (after_key depth n key ts)) z ∙ object_no_depth_left depth n ts key e
 
 -- ---- values of one token
 
-pub read_string : (room depth : ℕ) (s : List ℕ) (rest : List Token) → through (wrap room) (value depth (Token.string s ∷ rest)) ≡ Some (leaf (trees.text s), rest)
-read_string room depth s rest = ap (through (wrap room)) (value_is depth (Token.string s ∷ rest))
+pub read_string : (depth_left depth : ℕ) (s : List ℕ) (rest : List Token) → through (wrap depth_left) (value depth (Token.string s ∷ rest)) ≡ Some (leaf (trees.text s), rest)
+read_string depth_left depth s rest = ap (through (wrap depth_left)) (value_is depth (Token.string s ∷ rest))
 
-pub read_number : (room depth : ℕ) (s : List ℕ) (rest : List Token) → through (wrap room) (value depth (Token.number s ∷ rest)) ≡ option_map (λ (a : Tree). (a, rest)) (bare_number (whole_64 s))
-read_number room depth s rest = ap (through (wrap room)) (value_is depth (Token.number s ∷ rest))
+pub read_number : (depth_left depth : ℕ) (s : List ℕ) (rest : List Token) → through (wrap depth_left) (value depth (Token.number s ∷ rest)) ≡ option_map (λ (a : Tree). (a, rest)) (bare_number (whole_64 s))
+read_number depth_left depth s rest = ap (through (wrap depth_left)) (value_is depth (Token.number s ∷ rest))
 
-pub read_boolean : (room depth : ℕ) (b : Bool) (rest : List Token) → through (wrap room) (value depth (Token.boolean b ∷ rest)) ≡ Some (leaf (trees.boolean b), rest)
-read_boolean room depth b rest = ap (through (wrap room)) (value_is depth (Token.boolean b ∷ rest))
+pub read_boolean : (depth_left depth : ℕ) (b : Bool) (rest : List Token) → through (wrap depth_left) (value depth (Token.boolean b ∷ rest)) ≡ Some (leaf (trees.boolean b), rest)
+read_boolean depth_left depth b rest = ap (through (wrap depth_left)) (value_is depth (Token.boolean b ∷ rest))
 
-pub read_null : (room depth : ℕ) (rest : List Token) → through (wrap room) (value depth (Token.null ∷ rest)) ≡ Some (leaf trees.null, rest)
-read_null room depth rest = ap (through (wrap room)) (value_is depth (Token.null ∷ rest))
+pub read_null : (depth_left depth : ℕ) (rest : List Token) → through (wrap depth_left) (value depth (Token.null ∷ rest)) ≡ Some (leaf trees.null, rest)
+read_null depth_left depth rest = ap (through (wrap depth_left)) (value_is depth (Token.null ∷ rest))
 
-pub told : {X A : Type 0} (view : X → A) (result : Result X Trouble) (rest : List Token) (o : Option A) (read : Option (A × List Token))
+pub fact : {X A : Type 0} (view : X → A) (result : Result X Trouble) (rest : List Token) (o : Option A) (read : Option (A × List Token))
     → read ≡ option_map (λ (a : A). (a, rest)) o → Gives view result o → Gives (λ x. (view x, rest)) result read
-told view (Ok x) rest o read e t = e ∙ ap (option_map (λ a. (a, rest))) t
-told view (Err troubles.Memory) rest o read e t = tt
-told view (Err troubles.Refused) rest o read e t = e ∙ ap (option_map (λ a. (a, rest))) t
+fact view (Ok x) rest o read e t = e ∙ ap (option_map (λ a. (a, rest))) t
+fact view (Err troubles.Memory) rest o read e t = tt
+fact view (Err troubles.Refused) rest o read e t = e ∙ ap (option_map (λ a. (a, rest))) t
 
 pub text_is : (s : String Global) → tree_of (values.Text s) ≡ leaf (trees.text (string_bytes s))
 text_is s = search (rules, folds.the_lemmas)

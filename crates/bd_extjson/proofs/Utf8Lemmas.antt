@@ -278,7 +278,7 @@ module _ (text : List ℕ) (utf8 : IsUtf8 text) where
         let xs = drop (i + 1) text in
         rw (drop_more text i 0 lt)
         (byte_texts m (class x) x xs (λ next. lex next xs) (λ e. text_after i lt (is_quote x e)) (λ next. lex_texts n (i + 1) next (omega arith)))
-    | inr past ↦ rw (drop_all i text past) tt
+    | inr beyond ↦ rw (drop_all i text beyond) tt
   ]
 
 -- ---- commas and colons

@@ -20,7 +20,7 @@ bare_number (Some z) = Some (leaf (if fits_bits 31 z then trees.int32 z else tre
 -- the result, if one more level of documents and arrays may be opened here; else None
 abbrev pub nested : {A : Type 0} → ℕ → Option A → Option A
 nested zero r = None
-nested (suc room) r = r
+nested (suc depth_left) r = r
 
 -- an element put before the others of an array; None if one of them could not be read
 abbrev pub add_item : Option Tree → Option Items → Option Items
@@ -46,36 +46,36 @@ two kinds.Scope j t (Some kinds.Code) i u kit.no_members = with_scope (as_str i)
 two _ j t _ i u _ = None
 
 abbrev mutual
-  -- The value that a JSON value stands for, with at most `room` levels of documents and arrays;
+  -- The value that a JSON value stands for, with at most `depth_left` levels of documents and arrays;
   -- None if it has no reading, such as a number with a fraction.
   pub wrap : ℕ → Json → Option Tree
-  wrap room kit.null = Some (leaf trees.null)
-  wrap room (kit.boolean b) = Some (leaf (trees.boolean b))
-  wrap room (kit.number s) = bare_number (whole_64 s)
-  wrap room (kit.string s) = Some (leaf (trees.text s))
-  wrap room (kit.array js) = nested room (option_map array (wrap_items (room - 1) js))
-  wrap room (kit.object ms) = wrap_object room ms
+  wrap depth_left kit.null = Some (leaf trees.null)
+  wrap depth_left (kit.boolean b) = Some (leaf (trees.boolean b))
+  wrap depth_left (kit.number s) = bare_number (whole_64 s)
+  wrap depth_left (kit.string s) = Some (leaf (trees.text s))
+  wrap depth_left (kit.array js) = nested depth_left (option_map array (wrap_items (depth_left - 1) js))
+  wrap depth_left (kit.object ms) = wrap_object depth_left ms
 
   -- the elements of a JSON array, each read; None if one has no reading
   pub wrap_items : ℕ → kit.Items → Option Items
-  wrap_items room kit.no_items = Some no_items
-  wrap_items room (kit.item j js) = add_item (wrap room j) (wrap_items room js)
+  wrap_items depth_left kit.no_items = Some no_items
+  wrap_items depth_left (kit.item j js) = add_item (wrap depth_left j) (wrap_items depth_left js)
 
   -- a JSON object: the value that it wraps if its first name is a wrapper name, else a document
   pub wrap_object : ℕ → kit.Members → Option Tree
-  wrap_object room kit.no_members = nested room (Some (doc no_fields))
-  wrap_object room (kit.member n j ms) = option_map_or (λ w. wrapped room w j (wrap (room - 1) j) ms) (wrapper_of n)
-      (nested room (option_map doc (add_field n (wrap (room - 1) j) (wrap_fields (room - 1) ms))))
+  wrap_object depth_left kit.no_members = nested depth_left (Some (doc no_fields))
+  wrap_object depth_left (kit.member n j ms) = option_map_or (λ w. wrapped depth_left w j (wrap (depth_left - 1) j) ms) (wrapper_of n)
+      (nested depth_left (option_map doc (add_field n (wrap (depth_left - 1) j) (wrap_fields (depth_left - 1) ms))))
 
   -- the value of a wrapper, by its first member and the others: of one name, or `$code` with `$scope`
   pub wrapped : ℕ → Wrapper → Json → Option Tree → kit.Members → Option Tree
-  wrapped room w j t kit.no_members = option_map leaf (single w j)
-  wrapped room w j t (kit.member name i ms) = nested room (two w j t (wrapper_of name) i (wrap (room - 1) i) ms)
+  wrapped depth_left w j t kit.no_members = option_map leaf (single w j)
+  wrapped depth_left w j t (kit.member name i ms) = nested depth_left (two w j t (wrapper_of name) i (wrap (depth_left - 1) i) ms)
 
   -- the members of a JSON object as fields, in order, names that repeat kept; None if one has no reading
   pub wrap_fields : ℕ → kit.Members → Option Fields
-  wrap_fields room kit.no_members = Some no_fields
-  wrap_fields room (kit.member name j ms) = add_field name (wrap room j) (wrap_fields room ms)
+  wrap_fields depth_left kit.no_members = Some no_fields
+  wrap_fields depth_left (kit.member name j ms) = add_field name (wrap depth_left j) (wrap_fields depth_left ms)
 
 -- the JSON value of a whole text (RFC 8259, UTF-8),
 -- with at most 203 brackets inside one another; None if it is none

@@ -22,7 +22,7 @@ mod read;
 
 pub use bd_extjson_fault::{JsonFault, JsonFaultKind};
 pub use bd_extjson_text::{
-    LineRoom, write_doc, write_node, write_number, write_path, write_string, write_value,
+    TextBuffer, write_doc, write_node, write_number, write_path, write_string, write_value,
 };
 pub use bd_extjson_wrapper::{Trouble, Wrapper};
 pub use json::Scratch;

@@ -7,7 +7,7 @@ ghost use Rattle.json.specs.Value.{value_view};
 ghost use Rattle.bd_value.specs.Limits.{most_levels};
 ghost use Rattle.bd_value.specs.Tree.{Doc, Tree, pairs_of, fields_of, items_of};
 ghost use Rattle.bd_value.specs.View.{tree_of, pairs};
-ghost use Rattle.bd_extjson_fault.specs.JsonFault.{IsPlaced, TellsBadUtf8};
+ghost use Rattle.bd_extjson_fault.specs.JsonFault.{IsPlaced, ReportsBadUtf8};
 ghost use Rattle.bd_extjson_fault.specs.TextFault.{text_fault};
 ghost use Rattle.bd_extjson_fault.specs.declared.json_fault.JsonFaultKind.TheVariants as faults;
 ghost use Rattle.bd_extjson_wrapper.specs.WholeNumber.{whole_64};
@@ -38,7 +38,7 @@ pub fn read_doc(alloc: Global, text: &[u8]) -> Result<Document, JsonFault>
     ensures none { IfErr result (λ f. f.kind ≢ faults.NoMemory →
         (d : Doc) → ReadsAs text.now d → ⊥) }
     ensures place { IfErr result (IsPlaced (length text.now)) }
-    ensures utf8 { IfErr result (TellsBadUtf8 text.now) }
+    ensures utf8 { IfErr result (ReportsBadUtf8 text.now) }
     // Which fault is told, and at which byte, is a function of the text.
     ensures fault { IfErr result (λ f. f.kind ≢ faults.NoMemory → f ≡ text_fault text.now) }
 {
@@ -56,7 +56,7 @@ pub fn read_doc_with(
     ensures none { IfErr result (λ f. f.kind ≢ faults.NoMemory →
         (d : Doc) → ReadsAs text.now d → ⊥) }
     ensures place { IfErr result (IsPlaced (length text.now)) }
-    ensures utf8 { IfErr result (TellsBadUtf8 text.now) }
+    ensures utf8 { IfErr result (ReportsBadUtf8 text.now) }
     ensures fault { IfErr result (λ f. f.kind ≢ faults.NoMemory → f ≡ text_fault text.now) }
 {
     match read_bytes(alloc, text, scratch) {
@@ -103,12 +103,17 @@ fn document_of(value: Value) -> Option<Document>
     }
 }
 
-/// One value. At most `room` documents and arrays stand in one another, and `depth` brackets.
+/// One value. At most `depth_left` documents and arrays stand in one another, and `depth` brackets.
 #[cycle(reading)]
 #[tactic(auto, using(crate::proofs::ReadLemmas::value_steps))]
-fn read_value(alloc: Global, reader: &mut Reader<'_>, room: usize, depth: usize) -> Read<Value>
+fn read_value(
+    alloc: Global,
+    reader: &mut Reader<'_>,
+    depth_left: usize,
+    depth: usize,
+) -> Read<Value>
     ensures gives { Gives (λ v.
-        (tree_of v, reader.new)) result (through (wrap room) (value depth reader.old)) }
+        (tree_of v, reader.new)) result (through (wrap depth_left) (value depth reader.old)) }
     ensures shorter { OnOk result (length reader.new < length reader.old) }
 {
     let token = reader.next().ok_or(Trouble::Refused)?;
@@ -122,30 +127,35 @@ fn read_value(alloc: Global, reader: &mut Reader<'_>, room: usize, depth: usize)
             if depth == 0 {
                 return Err(Trouble::Refused);
             }
-            if room == 0 {
+            if depth_left == 0 {
                 return Err(Trouble::Refused);
             }
-            Ok(Value::Array(read_items(alloc, reader, room - 1, depth - 1)?))
+            Ok(Value::Array(read_items(alloc, reader, depth_left - 1, depth - 1)?))
         }
         Token::BeginObject => {
             if depth == 0 {
                 return Err(Trouble::Refused);
             }
-            read_object(alloc, reader, room, depth - 1)
+            read_object(alloc, reader, depth_left, depth - 1)
         }
     }
 }
 
 #[cycle(reading)]
 #[tactic(auto, using(crate::proofs::ReadLemmas::items_steps))]
-fn read_items(alloc: Global, reader: &mut Reader<'_>, room: usize, depth: usize) -> Read<Vec<Value>>
+fn read_items(
+    alloc: Global,
+    reader: &mut Reader<'_>,
+    depth_left: usize,
+    depth: usize,
+) -> Read<Vec<Value>>
     ensures gives { Gives (λ v. (items_of (map tree_of v.items), reader.new)) result
-        (through (wrap_items room) (items (value depth) (length reader.old) reader.old)) }
+        (through (wrap_items depth_left) (items (value depth) (length reader.old) reader.old)) }
     ensures shorter { OnOk result (length reader.new < length reader.old) }
 {
     let mut found = Vec::new(alloc);
     while !reader.take_end_array() {
-        let value = read_value(alloc, reader, room, depth)?;
+        let value = read_value(alloc, reader, depth_left, depth)?;
         found.push(value)?;
     }
     Ok(found)
@@ -154,19 +164,24 @@ fn read_items(alloc: Global, reader: &mut Reader<'_>, room: usize, depth: usize)
 /// What follows the brace of an object.
 #[cycle(reading)]
 #[tactic(auto, using(crate::proofs::ReadLemmas::object_steps))]
-fn read_object(alloc: Global, reader: &mut Reader<'_>, room: usize, depth: usize) -> Read<Value>
+fn read_object(
+    alloc: Global,
+    reader: &mut Reader<'_>,
+    depth_left: usize,
+    depth: usize,
+) -> Read<Value>
     ensures gives { Gives (λ v. (tree_of v, reader.new)) result
-        (through (wrap_object room) (members (value depth) (length reader.old) reader.old)) }
+        (through (wrap_object depth_left) (members (value depth) (length reader.old) reader.old)) }
     ensures shorter { OnOk result (length reader.new < length reader.old) }
 {
     let first = reader.next_key()?;
     if let Some(wrapper) = wrapper_named(first) {
-        return read_wrapper(alloc, reader, wrapper, room, depth);
+        return read_wrapper(alloc, reader, wrapper, depth_left, depth);
     }
-    if room == 0 {
+    if depth_left == 0 {
         return Err(Trouble::Refused);
     }
-    Ok(Value::Doc(read_fields(alloc, reader, first, room - 1, depth)?))
+    Ok(Value::Doc(read_fields(alloc, reader, first, depth_left - 1, depth)?))
 }
 
 /// What follows the first name of an object that is no wrapper.
@@ -176,18 +191,18 @@ fn read_fields<'a>(
     alloc: Global,
     reader: &mut Reader<'a>,
     first: Option<&'a str>,
-    room: usize,
+    depth_left: usize,
     depth: usize,
 ) -> Read<Document>
     ensures gives { Gives (λ d.
-        (fields_of (pairs d), reader.new)) result (through (wrap_fields room)
+        (fields_of (pairs d), reader.new)) result (through (wrap_fields depth_left)
         (after_key depth (length reader.old) (option_map (λ s. s.now) first.entry) reader.old)) }
     ensures shorter { OnOk result (length reader.new ≤ length reader.old) }
 {
     let mut read = Document::new(alloc);
     let mut next = first;
     while let Some(name) = next {
-        let value = read_value(alloc, reader, room, depth)?;
+        let value = read_value(alloc, reader, depth_left, depth)?;
         if has_zero(name) {
             return Err(Trouble::Refused);
         }
@@ -205,7 +220,7 @@ pub fn wrapper_named(first: Option<&str>) -> Option<Wrapper>
 }
 
 /// Reads what follows the first name of an object, which is that wrapper's: the value that the object stands for. At most
-/// `room` documents and arrays stand in one another in it, and `depth` brackets.
+/// `depth_left` documents and arrays stand in one another in it, and `depth` brackets.
 ///
 /// # Errors
 /// `Trouble::Refused` where it stands for none; `Trouble::Memory`.
@@ -214,16 +229,16 @@ pub fn read_wrapper(
     alloc: Global,
     reader: &mut Reader<'_>,
     wrapper: Wrapper,
-    room: usize,
+    depth_left: usize,
     depth: usize,
 ) -> Result<Value, Trouble>
     ensures gives { (name : List ℕ) →
-        wrapper_of name ≡ Some wrapper → Gives (λ v. (tree_of v, reader.new)) result
-        (through (wrap_object room) (after_key depth (length reader.old) (Some name) reader.old)) }
+        wrapper_of name ≡ Some wrapper → Gives (λ v. (tree_of v, reader.new)) result (through
+        (wrap_object depth_left) (after_key depth (length reader.old) (Some name) reader.old)) }
     ensures shorter { OnOk result (length reader.new < length reader.old) }
 {
     if wrapper.is_scope() {
-        return read_scope_first(alloc, reader, room, depth);
+        return read_scope_first(alloc, reader, depth_left, depth);
     }
     let part = read_part(alloc, reader, depth)?;
     let Some(second) = reader.next_key()? else {
@@ -232,7 +247,7 @@ pub fn read_wrapper(
     if !wrapper.is_code() {
         return Err(Trouble::Refused);
     }
-    read_scope_second(alloc, reader, &part, second, room, depth)
+    read_scope_second(alloc, reader, &part, second, depth_left, depth)
 }
 
 /// What follows the second name of an object that began with `$code`.
@@ -242,21 +257,21 @@ fn read_scope_second(
     reader: &mut Reader<'_>,
     code: &json::Value<'_>,
     second: &str,
-    room: usize,
+    depth_left: usize,
     depth: usize,
 ) -> Read<Value>
-    ensures gives { (n : ℕ) (t : Option Tree) → length reader.old ≤ n → Gives (λ v.
-        (tree_of v, reader.new)) result (through (wrapped room kinds.Code (value_view code.now) t)
-        (after_key depth n (Some second.now) reader.old)) }
+    ensures gives { (n : ℕ) (t : Option Tree) → length reader.old ≤ n →
+        Gives (λ v. (tree_of v, reader.new)) result (through (wrapped depth_left kinds.Code
+        (value_view code.now) t) (after_key depth n (Some second.now) reader.old)) }
     ensures shorter { OnOk result (length reader.new < length reader.old) }
 {
-    if room == 0 {
+    if depth_left == 0 {
         return Err(Trouble::Refused);
     }
     if !names_scope(second) {
         return Err(Trouble::Refused);
     }
-    let scope = read_value(alloc, reader, room - 1, depth)?;
+    let scope = read_value(alloc, reader, depth_left - 1, depth)?;
     end_object(reader)?;
     code_with_scope(alloc, code, scope)
 }
@@ -266,18 +281,18 @@ fn read_scope_second(
 fn read_scope_first(
     alloc: Global,
     reader: &mut Reader<'_>,
-    room: usize,
+    depth_left: usize,
     depth: usize,
 ) -> Read<Value>
     ensures gives { (name : List ℕ) →
-        wrapper_of name ≡ Some kinds.Scope → Gives (λ v. (tree_of v, reader.new)) result
-        (through (wrap_object room) (after_key depth (length reader.old) (Some name) reader.old)) }
+        wrapper_of name ≡ Some kinds.Scope → Gives (λ v. (tree_of v, reader.new)) result (through
+        (wrap_object depth_left) (after_key depth (length reader.old) (Some name) reader.old)) }
     ensures shorter { OnOk result (length reader.new < length reader.old) }
 {
-    if room == 0 {
+    if depth_left == 0 {
         return Err(Trouble::Refused);
     }
-    let scope = read_value(alloc, reader, room - 1, depth)?;
+    let scope = read_value(alloc, reader, depth_left - 1, depth)?;
     // Nothing that can fail is asked by `?` here, since each would let the scope go.
     match read_code(alloc, reader, depth) {
         Ok(code) => code_with_scope(alloc, &code, scope),
@@ -287,13 +302,13 @@ fn read_scope_first(
 
 /// The code that follows such a scope, and the brace that ends the object.
 fn read_code<'a>(alloc: Global, reader: &mut Reader<'a>, depth: usize) -> Read<json::Value<'a>>
-    ensures code { IfOk result (λ code. (n room : ℕ) (j : Json) (u : Tree) →
-        length reader.old ≤ n → 0 < room →
-        through (wrapped room kinds.Scope j (Some u)) (members (value depth) n reader.old)
+    ensures code { IfOk result (λ code. (n depth_left : ℕ) (j : Json) (u : Tree) →
+        length reader.old ≤ n → 0 < depth_left →
+        through (wrapped depth_left kinds.Scope j (Some u)) (members (value depth) n reader.old)
         ≡ option_map (λ t. (t, reader.new)) (with_scope (as_str (value_view code)) (Some u))) }
-    ensures none { IfErr result (λ e. (n room : ℕ) (j : Json) (t : Option Tree) →
-        length reader.old ≤ n →
-        Fails e (through (wrapped room kinds.Scope j t) (members (value depth) n reader.old))) }
+    ensures none { IfErr result (λ e. (n depth_left : ℕ) (j : Json) (t : Option Tree) →
+        length reader.old ≤ n → Fails e
+        (through (wrapped depth_left kinds.Scope j t) (members (value depth) n reader.old))) }
     ensures shorter { OnOk result (length reader.new < length reader.old) }
 {
     let Some(second) = reader.next_key()? else {

@@ -4,8 +4,8 @@ use Rattle.std.specs.Prelude.{unwrap_or}
 use Rattle.std.specs.{Str.is_utf8, Str.Lossy.utf8_valid_len}
 use Rattle.std.proofs.lemmas.Str.{IsUtf8-from_is_utf8, is_utf8-from_IsUtf8, utf8_valid_len_le}
 use Rattle.bd_value.specs.Limits.{most_brackets, most_levels}
-use Rattle.bd_extjson_fault.specs.JsonFault.{IsPlaced, TellsBadUtf8}
-use Rattle.bd_extjson_fault.specs.JsonSyntax.{Past, past_text}
+use Rattle.bd_extjson_fault.specs.JsonFault.{IsPlaced, ReportsBadUtf8}
+use Rattle.bd_extjson_fault.specs.JsonSyntax.{Beyond, beyond_text}
 use Rattle.bd_extjson_fault.specs.TreeFault.{is_document, value_fault}
 use Rattle.bd_extjson_fault.specs.TextFault.{first_fault, text_fault, fault_after, tree_or_none, stop_in, kind_of_stop, kind_in_tree}
 use Rattle.bd_extjson_fault.specs.declared.json_fault.JsonFault.{JsonFault}
@@ -17,11 +17,11 @@ use Rattle.bd_extjson_fault.specs.declared.tree_fault.TreeFault.{TreeFault}
 use Rattle.bd_extjson_fault.specs.declared.tree_fault.TreeFaultKind.{TreeFaultKind}
 use Rattle.bd_extjson_fault.specs.declared.tree_fault.TreeFaultKind.TheVariants as trees
 
-abbrev pub syntax_told : ℕ → JsonFault
-syntax_told at = record { kind = kinds.Syntax; at = at }
+abbrev pub syntax_reported : ℕ → JsonFault
+syntax_reported at = record { kind = kinds.Syntax; at = at }
 
 abbrev pub at_end : List ℕ → JsonFault
-at_end text = syntax_told (length text)
+at_end text = syntax_reported (length text)
 
 not_utf8 : (text : List ℕ) → ¬ (IsUtf8 text) → is_utf8 text ≡ false
 not_utf8 text bad = go (is_utf8 text) refl
@@ -34,11 +34,11 @@ pub of_bad_utf8 : (text : List ℕ) → ¬ (IsUtf8 text) → text_fault text ≡
 unfolding first_fault
 of_bad_utf8 text bad = rw (not_utf8 text bad) refl
 
-pub of_no_json : (text : List ℕ) (stop : Stop) → IsUtf8 text → past_text text ≡ Err stop → text_fault text ≡ stop_in (length text) stop
+pub of_no_json : (text : List ℕ) (stop : Stop) → IsUtf8 text → beyond_text text ≡ Err stop → text_fault text ≡ stop_in (length text) stop
 unfolding first_fault
 of_no_json text stop utf8 e = rw (is_utf8-from_IsUtf8 text utf8, e) refl
 
-pub of_tree : (text rest : List ℕ) (found : Option JsonFault) → IsUtf8 text → past_text text ≡ Ok rest
+pub of_tree : (text rest : List ℕ) (found : Option JsonFault) → IsUtf8 text → beyond_text text ≡ Ok rest
     → found ≡ tree_or_none text (value_fault most_brackets most_levels text) → text_fault text ≡ unwrap_or found (at_end text)
 unfolding first_fault
 of_tree text rest found utf8 e f = rw (is_utf8-from_IsUtf8 text utf8, e, f) refl
@@ -68,16 +68,16 @@ tree_known : (text : List ℕ) (found : Option TreeFault) → IsKnown text (tree
 tree_known text (Some fault) = tree_kind fault.kind
 tree_known text None = last_known text (is_document text)
 
-after_known : (text : List ℕ) (told : Past) → IsKnown text (fault_after text told)
+after_known : (text : List ℕ) (reported : Beyond) → IsKnown text (fault_after text reported)
 after_known text (Err stop) = stop_kind stop.kind
 after_known text (Ok rest) = tree_known text (value_fault most_brackets most_levels text)
 
-pub told_kind : (text : List ℕ) → (text_fault text).kind ≢ kinds.NoMemory
+pub reported_kind : (text : List ℕ) → (text_fault text).kind ≢ kinds.NoMemory
 unfolding first_fault
-told_kind text = go (is_utf8 text)
+reported_kind text = go (is_utf8 text)
   where
-    go : (b : Bool) → IsKnown text (if b then fault_after text (past_text text) else Some (record { kind = kinds.Syntax; at = utf8_valid_len text }))
-    go true = after_known text (past_text text)
+    go : (b : Bool) → IsKnown text (if b then fault_after text (beyond_text text) else Some (record { kind = kinds.Syntax; at = utf8_valid_len text }))
+    go true = after_known text (beyond_text text)
     go false = λ e. cc
 
 -- ---- it has a place
@@ -109,7 +109,7 @@ tree_placed text (Some fault) = record {
 }
 tree_placed text None = last_placed text (is_document text)
 
-after_placed : (text : List ℕ) (told : Past) → HasPlace text (fault_after text told)
+after_placed : (text : List ℕ) (reported : Beyond) → HasPlace text (fault_after text reported)
 after_placed text (Err stop) = record {
   inside = omega arith;
   whole = λ e. absurd (stop_whole stop.kind e);
@@ -117,16 +117,16 @@ after_placed text (Err stop) = record {
 }
 after_placed text (Ok rest) = tree_placed text (value_fault most_brackets most_levels text)
 
-pub told_placed : (text : List ℕ) → IsPlaced (length text) (text_fault text)
+pub reported_placed : (text : List ℕ) → IsPlaced (length text) (text_fault text)
 unfolding first_fault
-told_placed text = go (is_utf8 text)
+reported_placed text = go (is_utf8 text)
   where
-    go : (b : Bool) → HasPlace text (if b then fault_after text (past_text text) else Some (syntax_told (utf8_valid_len text)))
-    go true = after_placed text (past_text text)
+    go : (b : Bool) → HasPlace text (if b then fault_after text (beyond_text text) else Some (syntax_reported (utf8_valid_len text)))
+    go true = after_placed text (beyond_text text)
     go false = record { inside = utf8_valid_len_le text; whole = λ e. absurd cc; memory = λ e. absurd cc }
 
-pub told_utf8 : (text : List ℕ) → TellsBadUtf8 text (text_fault text)
-told_utf8 text = record {
+pub reported_utf8 : (text : List ℕ) → ReportsBadUtf8 text (text_fault text)
+reported_utf8 text = record {
   kind = λ bad. ap (λ fault. fault.kind) (of_bad_utf8 text bad);
   at = λ bad. ap (λ fault. fault.at) (of_bad_utf8 text bad);
 }

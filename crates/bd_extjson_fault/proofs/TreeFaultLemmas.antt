@@ -12,7 +12,7 @@ use Rattle.bd_extjson_wrapper.specs.WholeNumber.{are_digits, begins_digits, unsi
 use Rattle.bd_extjson_wrapper.specs.{Wrapper.Gives, Wrapper.only, Wrapper.pair, Wrapper.single, declared.wrapper.Trouble.Trouble, declared.wrapper.Wrapper.Wrapper}
 use Rattle.bd_extjson_wrapper.specs.declared.wrapper.Trouble.TheVariants as troubles
 use Rattle.bd_extjson_wrapper.specs.declared.wrapper.Wrapper.TheVariants as wrappers
-use Rattle.bd_extjson_fault.specs.JsonSyntax.{past_number, past_natural, past_digits}
+use Rattle.bd_extjson_fault.specs.JsonSyntax.{beyond_number, beyond_natural, beyond_digits}
 use Rattle.bd_extjson_fault.specs.SecondPass.{found}
 use Rattle.bd_extjson_fault.specs.TreeFault.{is_outside_profile, json_in, members_fault, refusal, scalar_fault, single_fault}
 use Rattle.bd_extjson_fault.specs.declared.tree_fault.TreeFault.{TreeFault}
@@ -43,17 +43,17 @@ abbrev pub IsLetter : ℕ → Type 0
 IsLetter first = (first ≡ 34) ⊎ (first ≡ 116) ⊎ (first ≡ 102) ⊎ (first ≡ 110)
 
 no_fault : (first : ℕ) (inside : List ℕ) → IsLetter first → scalar_fault (first ∷ inside) ≡ None
-unfolding past_number past_natural past_digits
+unfolding beyond_number beyond_natural beyond_digits
 no_fault first inside (inl e) = rw e refl
 no_fault first inside (inr (inl e)) = rw e refl
 no_fault first inside (inr (inr (inl e))) = rw e refl
 no_fault first inside (inr (inr (inr e))) = rw e refl
 
-pub letter_found : (text : List ℕ) (d first : ℕ) (before : Option TreeFault) (room : Option ℕ) → IsLetter first → 1 ≤ length text
-    → get_or text 0 d ≡ first → before ≡ found before room (λ r. scalar_fault text)
-letter_found [] d first before room is len e = absurd (omega (arith, len))
-letter_found (c ∷ cs) d first before room is len e =
-    sym (found_same before room (λ r. scalar_fault (c ∷ cs)) (λ r. None) (λ r. rw e (no_fault first cs is)) ∙ found_none before room)
+pub letter_found : (text : List ℕ) (d first : ℕ) (before : Option TreeFault) (depth_left : Option ℕ) → IsLetter first → 1 ≤ length text
+    → get_or text 0 d ≡ first → before ≡ found before depth_left (λ r. scalar_fault text)
+letter_found [] d first before depth_left is len e = absurd (omega (arith, len))
+letter_found (c ∷ cs) d first before depth_left is len e =
+    sym (found_same before depth_left (λ r. scalar_fault (c ∷ cs)) (λ r. None) (λ r. rw e (no_fault first cs is)) ∙ found_none before depth_left)
 
 -- ---- the JSON that bytes are
 
@@ -68,10 +68,10 @@ pub json_of_other : (bytes : List ℕ) → ¬ (IsUtf8 bytes) → json_in bytes �
 unfolding json_in
 json_of_other bytes bad = rw (not_utf8 bytes bad) refl
 
-pub json_of_value : (bytes text : List ℕ) (reader left : List Token) (j : Json) → text ≡ bytes → IsUtf8 bytes → reader ≡ tokens text
-    → value most_brackets reader ≡ Some (j, left) → json_in bytes ≡ Some j
+pub json_of_value : (bytes text : List ℕ) (reader remaining : List Token) (j : Json) → text ≡ bytes → IsUtf8 bytes → reader ≡ tokens text
+    → value most_brackets reader ≡ Some (j, remaining) → json_in bytes ≡ Some j
 unfolding json_in
-json_of_value bytes text reader left j same utf8 read e = rw (is_utf8-from_IsUtf8 bytes utf8, ← same, ← read, e) refl
+json_of_value bytes text reader remaining j same utf8 read e = rw (is_utf8-from_IsUtf8 bytes utf8, ← same, ← read, e) refl
 
 -- ---- the members of an object
 
@@ -90,11 +90,11 @@ one_member w (m ∷ []) first len e out =
 one_member w (m ∷ n ∷ ms) first len e out = absurd (omega (arith, len))
 
 -- a value that a wrapper stands for
-pub stands : {X : Type 0} (view : X → Tree) (r : Result X Trouble) (there : Option Scalar) → Gives view r (option_map leaf there) → result_err r ≡ None
+pub meaning : {X : Type 0} (view : X → Tree) (r : Result X Trouble) (there : Option Scalar) → Gives view r (option_map leaf there) → result_err r ≡ None
     → is_some there ≡ true
-stands view (Ok x) None g e = absurd cc
-stands view (Ok x) (Some s) g e = refl
-stands view (Err t) there g e = absurd cc
+meaning view (Ok x) None g e = absurd cc
+meaning view (Ok x) (Some s) g e = refl
+meaning view (Err t) there g e = absurd cc
 
 pub refused : {X : Type 0} (view : X → Tree) (r : Result X Trouble) (there : Option Scalar) → Gives view r (option_map leaf there)
     → result_err r ≡ Some troubles.Refused → is_some there ≡ false
@@ -124,8 +124,8 @@ outside_is_no_value wrappers.Binary (kit.array js) e = absurd cc
 outside_is_no_value wrappers.Binary (kit.object ms) e = absurd cc
 outside_is_no_value w part e = absurd cc
 
-by_tests : (outside stands : Bool) (kind : TreeFaultKind) → (outside ≡ true → stands ≡ false)
-    → ((if outside then Some kinds.NotInProfile else (if stands then None else Some kind)) ≡ None) ↔ (stands ≡ true)
+by_tests : (outside meaning : Bool) (kind : TreeFaultKind) → (outside ≡ true → meaning ≡ false)
+    → ((if outside then Some kinds.NotInProfile else (if meaning then None else Some kind)) ≡ None) ↔ (meaning ≡ true)
 by_tests true true kind h = let f = h refl in absurd cc
 by_tests true false kind h = (λ e. absurd cc, λ e. absurd cc)
 by_tests false true kind h = (λ e. refl, λ e. refl)

@@ -35,6 +35,6 @@ pub record IsPlaced (size : ℕ) (fault : JsonFault) : Type 0 where
   pub memory : fault.kind ≡ kinds.NoMemory → fault.at ≡ 0
 
 -- a text that is not UTF-8 is told as no JSON, at its first byte that is none
-pub record TellsBadUtf8 (text : List ℕ) (fault : JsonFault) : Type 0 where
+pub record ReportsBadUtf8 (text : List ℕ) (fault : JsonFault) : Type 0 where
   pub kind : ¬ (IsUtf8 text) → fault.kind ≡ kinds.Syntax
   pub at : ¬ (IsUtf8 text) → fault.at ≡ utf8_valid_len text

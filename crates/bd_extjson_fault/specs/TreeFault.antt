@@ -11,8 +11,8 @@ use Rattle.bd_extjson_wrapper.specs.WholeNumber.{are_digits, unsigned, whole_64}
 use Rattle.bd_extjson_wrapper.specs.Wrapper.{wrapper_of, is_code_name, is_scope_name, only, pair, single}
 use Rattle.bd_extjson_wrapper.specs.declared.wrapper.Wrapper.{Wrapper}
 use Rattle.bd_extjson_wrapper.specs.declared.wrapper.Wrapper.TheVariants as wrappers
-use Rattle.bd_extjson_fault.specs.JsonSyntax.{Past, ◌>>=◌, past_object, past_member, begins, past_white, past_word, past_string, past_name, past_number}
-use Rattle.bd_extjson_fault.specs.JsonSyntax.{past_next, past_value, opens_object, opens_array}
+use Rattle.bd_extjson_fault.specs.JsonSyntax.{Beyond, ◌>>=◌, beyond_object, beyond_member, begins, beyond_white, beyond_word, beyond_string, beyond_name, beyond_number}
+use Rattle.bd_extjson_fault.specs.JsonSyntax.{beyond_next, beyond_value, opens_object, opens_array}
 use Rattle.bd_extjson_fault.specs.declared.skip.Stop.{Stop}
 use Rattle.bd_extjson_fault.specs.declared.tree_fault.TreeFault.{TreeFault}
 use Rattle.bd_extjson_fault.specs.declared.tree_fault.TreeFaultKind.{TreeFaultKind}
@@ -20,7 +20,7 @@ use Rattle.bd_extjson_fault.specs.declared.tree_fault.TreeFaultKind.TheVariants 
 
 -- a fault at the first byte of what is left of the text
 abbrev pub fault_at : List ℕ → TreeFaultKind → Option TreeFault
-fault_at text kind = Some (record { kind = kind; left = length text })
+fault_at text kind = Some (record { kind = kind; remaining = length text })
 
 -- the bytes of a text up to the rest that is left of it
 abbrev pub bytes_before : List ℕ → List ℕ → List ℕ
@@ -38,13 +38,13 @@ number_fault digits = if are_digits (unsigned digits)
     then (if is_some (whole_64 digits) then None else Some kinds.NumberRange) else Some kinds.NotInProfile
 
 -- of the number that the text begins with, if it begins with one
-abbrev pub number_between : List ℕ → Past → Option TreeFault
+abbrev pub number_between : List ℕ → Beyond → Option TreeFault
 number_between text (Ok rest) = option_and_then (fault_at text) (number_fault (bytes_before rest text))
 number_between text (Err stop) = None
 
 -- the fault of a number that the text begins with; no other value without brackets has one
 abbrev pub scalar_fault : List ℕ → Option TreeFault
-scalar_fault text = number_between text (past_number text)
+scalar_fault text = number_between text (beyond_number text)
 
 -- ---- names
 
@@ -53,22 +53,22 @@ abbrev pub name_in : List ℕ → List ℕ
 name_in quoted = unwrap_or (option_and_then as_str (json_in quoted)) []
 
 -- the bytes that were passed, or none if there was a fault
-abbrev pub quoted_between : List ℕ → Past → List ℕ
+abbrev pub quoted_between : List ℕ → Beyond → List ℕ
 quoted_between text (Ok rest) = bytes_before rest text
 quoted_between text (Err stop) = []
 
 -- the name at the front of the text, in its quotation marks
 unfoldable pub quoted_name : List ℕ → List ℕ
-quoted_name text = quoted_between (past_white text) (past_word (codes "\"") (past_white text) >>= past_string)
+quoted_name text = quoted_between (beyond_white text) (beyond_word (codes "\"") (beyond_white text) >>= beyond_string)
 
 -- the wrapper that the first name says, after the brace of an object
-abbrev pub if_named : Past → List ℕ → Option Wrapper
+abbrev pub if_named : Beyond → List ℕ → Option Wrapper
 if_named (Ok rest) name = wrapper_of name
 if_named (Err stop) name = None
 
 -- the wrapper that the first name of an object is, if it is one; the text begins after the brace
 unfoldable pub first_wrapper : List ℕ → Option Wrapper
-first_wrapper inside = if_named (past_name inside) (name_in (quoted_name inside))
+first_wrapper inside = if_named (beyond_name inside) (name_in (quoted_name inside))
 
 -- ---- objects of one wrapper
 
@@ -142,21 +142,21 @@ parts_after more (Ok next) = if next.0 then more next.1 else []
 parts_after more (Err stop) = []
 
 -- The texts that begin with a part, of those up to the closing byte. The number bounds the turns.
-unfoldable pub parts_from : (ℕ → Bool) → (List ℕ → Past) → ℕ → List ℕ → List (List ℕ)
+unfoldable pub parts_from : (ℕ → Bool) → (List ℕ → Beyond) → ℕ → List ℕ → List (List ℕ)
 parts_from closes part zero text = []
-parts_from closes part (suc n) text = text ∷ parts_after (parts_from closes part n) (part text >>= past_next closes)
+parts_from closes part (suc n) text = text ∷ parts_after (parts_from closes part n) (part text >>= beyond_next closes)
 
 -- the same of what stands in brackets
-unfoldable pub parts_in : (ℕ → Bool) → (List ℕ → Past) → List ℕ → List (List ℕ)
-parts_in closes part text = if begins closes (past_white text) then [] else parts_from closes part (suc (length text)) text
+unfoldable pub parts_in : (ℕ → Bool) → (List ℕ → Beyond) → List ℕ → List (List ℕ)
+parts_in closes part text = if begins closes (beyond_white text) then [] else parts_from closes part (suc (length text)) text
 
 -- an array, after its bracket; the first text begins with that
-unfoldable pub array_fault : (List ℕ → Past) → (ℕ → Finds) → ℕ → List ℕ → List ℕ → Option TreeFault
+unfoldable pub array_fault : (List ℕ → Beyond) → (ℕ → Finds) → ℕ → List ℕ → List ℕ → Option TreeFault
 array_fault value fault zero here inside = fault_at here kinds.TooDeep
-array_fault value fault (suc room) here inside = first_in (fault room) (parts_in (λ b. b == 93) value inside)
+array_fault value fault (suc depth_left) here inside = first_in (fault depth_left) (parts_in (λ b. b == 93) value inside)
 
 -- what stands behind a name and its colon
-abbrev pub rest_of : Past → List ℕ
+abbrev pub rest_of : Beyond → List ℕ
 rest_of (Ok rest) = rest
 rest_of (Err stop) = []
 
@@ -166,35 +166,35 @@ zero_fault quoted from = if has_zero (name_in quoted) then fault_at from kinds.N
 
 -- the fault of the name of a member
 unfoldable pub name_fault : List ℕ → Option TreeFault
-name_fault text = zero_fault (quoted_name text) (past_white text)
+name_fault text = zero_fault (quoted_name text) (beyond_white text)
 
 -- a member of a document: its name, then its value
 abbrev pub member_fault : Finds → Finds
-member_fault fault text = option_or (name_fault text) (fault (rest_of (past_name text)))
+member_fault fault text = option_or (name_fault text) (fault (rest_of (beyond_name text)))
 
 -- the texts that begin with a member of an object; the text begins after the brace
-abbrev pub members_in : (List ℕ → Past) → List ℕ → List (List ℕ)
-members_in value inside = parts_in (λ b. b == 125) (past_member value) inside
+abbrev pub members_in : (List ℕ → Beyond) → List ℕ → List (List ℕ)
+members_in value inside = parts_in (λ b. b == 125) (beyond_member value) inside
 
 -- the first fault of a document, whose brace the first of the two texts begins with
-unfoldable pub document_fault : (List ℕ → Past) → (ℕ → Finds) → ℕ → List ℕ → List ℕ → Option TreeFault
+unfoldable pub document_fault : (List ℕ → Beyond) → (ℕ → Finds) → ℕ → List ℕ → List ℕ → Option TreeFault
 document_fault value fault zero here inside = fault_at here kinds.TooDeep
-document_fault value fault (suc room) here inside = first_in (member_fault (fault room)) (members_in value inside)
+document_fault value fault (suc depth_left) here inside = first_in (member_fault (fault depth_left)) (members_in value inside)
 
 -- a string comes next
 abbrev pub is_string : List ℕ → Bool
-is_string text = begins (λ b. b == 34) (past_white text)
+is_string text = begins (λ b. b == 34) (beyond_white text)
 
 -- an object that is no wrapper
 abbrev pub is_document : List ℕ → Bool
-is_document text = opens_object (past_white text) && is_none (first_wrapper (drop 1 (past_white text)))
+is_document text = opens_object (beyond_white text) && is_none (first_wrapper (drop 1 (beyond_white text)))
 
 -- Code with its scope, of the two values: first how deep the scope is, for two levels, then what stands in it, and last
 -- whether it is a document.
 abbrev pub scope_fault : (ℕ → Finds) → ℕ → List ℕ → List ℕ → List ℕ → Option TreeFault
-scope_fault fault room here code scope = if not (is_string code) then fault_at here kinds.BadWrapper
-    else (if nat_lt room 2 then fault_at here kinds.TooDeep
-    else option_or (fault (room - 1) scope) (if is_document scope then None else fault_at here kinds.BadWrapper))
+scope_fault fault depth_left here code scope = if not (is_string code) then fault_at here kinds.BadWrapper
+    else (if nat_lt depth_left 2 then fault_at here kinds.TooDeep
+    else option_or (fault (depth_left - 1) scope) (if is_document scope then None else fault_at here kinds.BadWrapper))
 
 -- a member of an object: the wrapper that its name says, and the text behind the colon
 abbrev pub Part : Type 0
@@ -202,37 +202,37 @@ Part = Option Wrapper × List ℕ
 
 -- the member that a text begins with
 abbrev pub part_of : List ℕ → Part
-part_of text = (wrapper_of (name_in (quoted_name text)), rest_of (past_name text))
+part_of text = (wrapper_of (name_in (quoted_name text)), rest_of (beyond_name text))
 
 -- the members of an object whose first name is `$code` or `$scope`: the first alone, or both in either order
 abbrev pub code_fault : (ℕ → Finds) → ℕ → List ℕ → List Part → Option TreeFault
-code_fault fault room here (a ∷ []) = if is_code_name a.0 && is_string a.1 then None else fault_at here kinds.BadWrapper
-code_fault fault room here (a ∷ b ∷ []) = if is_code_name a.0 && is_scope_name b.0 then scope_fault fault room here a.1 b.1
-    else (if is_scope_name a.0 && is_code_name b.0 then scope_fault fault room here b.1 a.1 else fault_at here kinds.BadWrapper)
-code_fault fault room here parts = fault_at here kinds.BadWrapper
+code_fault fault depth_left here (a ∷ []) = if is_code_name a.0 && is_string a.1 then None else fault_at here kinds.BadWrapper
+code_fault fault depth_left here (a ∷ b ∷ []) = if is_code_name a.0 && is_scope_name b.0 then scope_fault fault depth_left here a.1 b.1
+    else (if is_scope_name a.0 && is_code_name b.0 then scope_fault fault depth_left here b.1 a.1 else fault_at here kinds.BadWrapper)
+code_fault fault depth_left here parts = fault_at here kinds.BadWrapper
 
 -- an object of another wrapper, whose bytes go up to the rest
-abbrev pub object_fault_of : Wrapper → List ℕ → Past → Option TreeFault
+abbrev pub object_fault_of : Wrapper → List ℕ → Beyond → Option TreeFault
 object_fault_of w here (Ok rest) = option_and_then (fault_at here) (wrapper_fault w (json_in (bytes_before rest here)))
 object_fault_of w here (Err stop) = None
 
 -- an object, whose first name makes it a wrapper or a document
-abbrev pub object_fault_by : Option Wrapper → (List ℕ → Past) → (ℕ → Finds) → ℕ → List ℕ → List ℕ → Option TreeFault
-object_fault_by None value fault room here inside = document_fault value fault room here inside
-object_fault_by (Some w) value fault room here inside = if is_code_name (Some w) || is_scope_name (Some w)
-    then code_fault fault room here (map part_of (members_in value inside))
-    else object_fault_of w here (past_object value inside)
+abbrev pub object_fault_by : Option Wrapper → (List ℕ → Beyond) → (ℕ → Finds) → ℕ → List ℕ → List ℕ → Option TreeFault
+object_fault_by None value fault depth_left here inside = document_fault value fault depth_left here inside
+object_fault_by (Some w) value fault depth_left here inside = if is_code_name (Some w) || is_scope_name (Some w)
+    then code_fault fault depth_left here (map part_of (members_in value inside))
+    else object_fault_of w here (beyond_object value inside)
 
 -- the first fault of an object, whose brace the first of the two texts begins with
-abbrev pub object_fault : (List ℕ → Past) → (ℕ → Finds) → ℕ → List ℕ → List ℕ → Option TreeFault
-object_fault value fault room here inside = object_fault_by (first_wrapper inside) value fault room here inside
+abbrev pub object_fault : (List ℕ → Beyond) → (ℕ → Finds) → ℕ → List ℕ → List ℕ → Option TreeFault
+object_fault value fault depth_left here inside = object_fault_by (first_wrapper inside) value fault depth_left here inside
 
 -- what stands behind white space
-abbrev pub nested_fault : (List ℕ → Past) → (ℕ → Finds) → ℕ → List ℕ → Option TreeFault
-nested_fault value fault room here = if opens_object here then object_fault value fault room here (drop 1 here)
-    else (if opens_array here then array_fault value fault room here (drop 1 here) else scalar_fault here)
+abbrev pub nested_fault : (List ℕ → Beyond) → (ℕ → Finds) → ℕ → List ℕ → Option TreeFault
+nested_fault value fault depth_left here = if opens_object here then object_fault value fault depth_left here (drop 1 here)
+    else (if opens_array here then array_fault value fault depth_left here (drop 1 here) else scalar_fault here)
 
 -- The first fault of a value, with so many brackets and so many levels left (Extended JSON v2, and 200 levels)
 unfoldable pub value_fault : ℕ → ℕ → List ℕ → Option TreeFault
-value_fault zero room text = scalar_fault (past_white text)
-value_fault (suc level) room text = nested_fault (past_value level) (value_fault level) room (past_white text)
+value_fault zero depth_left text = scalar_fault (beyond_white text)
+value_fault (suc level) depth_left text = nested_fault (beyond_value level) (value_fault level) depth_left (beyond_white text)

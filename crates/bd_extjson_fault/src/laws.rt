@@ -5,25 +5,25 @@ ghost use Rattle.json.specs.Json.{Json, member, no_members};
 ghost use Rattle.json.specs.Word.{after_number};
 ghost use Rattle.bd_extjson_wrapper.specs.Wrapper.{single};
 ghost use Rattle.bd_extjson_wrapper.specs.declared.wrapper.Wrapper.{Wrapper};
-ghost use Rattle.bd_extjson_fault.specs.JsonFault.{IsPlaced, TellsBadUtf8};
-ghost use Rattle.bd_extjson_fault.specs.JsonSyntax.{past_number};
+ghost use Rattle.bd_extjson_fault.specs.JsonFault.{IsPlaced, ReportsBadUtf8};
+ghost use Rattle.bd_extjson_fault.specs.JsonSyntax.{beyond_number};
 ghost use Rattle.bd_extjson_fault.specs.TextFault.{text_fault};
 ghost use Rattle.bd_extjson_fault.specs.TreeFault.{members_fault};
 ghost use Rattle.bd_extjson_fault.specs.declared.json_fault.JsonFaultKind.TheVariants as kinds;
 
 /// The fault of a text is at a byte in it, or at its end, and never that memory ran out. Bytes that are not UTF-8 are no JSON, at
 /// the first that is not.
-#[tactic(auto, using(crate::proofs::TextFaultLemmas::told_placed, crate::proofs::TextFaultLemmas::told_utf8, crate::proofs::TextFaultLemmas::told_kind))]
+#[tactic(auto, using(crate::proofs::TextFaultLemmas::reported_placed, crate::proofs::TextFaultLemmas::reported_utf8, crate::proofs::TextFaultLemmas::reported_kind))]
 pub fn fault_is_placed()
     ensures placed { (text : List ℕ) → IsPlaced (length text) (text_fault text) }
-    ensures utf8 { (text : List ℕ) → TellsBadUtf8 text (text_fault text) }
+    ensures utf8 { (text : List ℕ) → ReportsBadUtf8 text (text_fault text) }
     ensures kind { (text : List ℕ) → (text_fault text).kind ≢ kinds.NoMemory }
 {}
 
 /// A number is passed here exactly where the grammar of JSON passes one, and leaves the same.
 #[tactic(auto, using(crate::proofs::NumberLemmas::number_agrees))]
 pub fn passes_numbers_of_json()
-    ensures { (text : List ℕ) → result_ok (past_number text) ≡ after_number text }
+    ensures { (text : List ℕ) → result_ok (beyond_number text) ≡ after_number text }
 {}
 
 /// An object of one name has no fault exactly where its wrapper stands for a value.

@@ -6,13 +6,13 @@ ghost use Rattle.std.specs.Option.{option_or};
 ghost use Rattle.std.specs.Str.{IsUtf8};
 ghost use Rattle.bd_value.specs.Limits.{most_brackets, most_levels};
 ghost use Rattle.bd_extjson_wrapper.specs.Wrapper.{is_code_name, is_scope_name};
-ghost use Rattle.bd_extjson_fault.specs.JsonFault.{IsPlaced, TellsBadUtf8};
-ghost use Rattle.bd_extjson_fault.specs.JsonSyntax.{Gives, begins, past_white, past_word, past_number, past_scalar, past_next};
-ghost use Rattle.bd_extjson_fault.specs.JsonSyntax.{past_array, past_object, past_member, past_value, past_text, past_parts};
+ghost use Rattle.bd_extjson_fault.specs.JsonFault.{IsPlaced, ReportsBadUtf8};
+ghost use Rattle.bd_extjson_fault.specs.JsonSyntax.{Gives, begins, beyond_white, beyond_word, beyond_number, beyond_scalar, beyond_next};
+ghost use Rattle.bd_extjson_fault.specs.JsonSyntax.{beyond_array, beyond_object, beyond_member, beyond_value, beyond_text, beyond_parts};
 ghost use Rattle.bd_extjson_fault.specs.TreeFault.{is_document, is_string, first_wrapper, fault_at, zero_fault, part_of};
 ghost use Rattle.bd_extjson_fault.specs.TreeFault.{Finds, scalar_fault, array_fault, object_fault, document_fault, member_fault};
 ghost use Rattle.bd_extjson_fault.specs.TreeFault.{value_fault, first_in, parts_from, code_fault, members_in, scope_fault};
-ghost use Rattle.bd_extjson_fault.specs.SecondPass.{Walks, IsWithin, found, found_in_scope, deeper, depth_fault};
+ghost use Rattle.bd_extjson_fault.specs.SecondPass.{Passes, IsWithin, found, found_in_scope, deeper, depth_fault};
 ghost use Rattle.bd_extjson_fault.specs.TextFault.{text_fault, stop_in, fault_in, tree_or_none};
 ghost use Rattle.bd_extjson_fault.specs.declared.json_fault.JsonFaultKind.TheVariants as kinds;
 ghost use Rattle.bd_extjson_fault.specs.declared.second_pass.Halt.TheVariants as halts;
@@ -34,7 +34,7 @@ use std::alloc::{AllocError, Global};
 /// It is asked of texts that are refused. Where it finds no fault it says `Syntax` at the text's end.
 pub fn diagnose(alloc: Global, text: &[u8]) -> JsonFault
     ensures place { IsPlaced (length text.now) result }
-    ensures utf8 { TellsBadUtf8 text.now result }
+    ensures utf8 { ReportsBadUtf8 text.now result }
     // What is told is the fault of the text, unless memory runs out.
     ensures is { result.kind ≢ kinds.NoMemory → result ≡ text_fault text.now }
 {
@@ -42,13 +42,13 @@ pub fn diagnose(alloc: Global, text: &[u8]) -> JsonFault
         return syntax_at(error.valid_up_to());
     }
     let (scratch, rest, fault) = (Scratch::new(alloc), text, None);
-    let mut walk = Walk {
+    let mut pass = Pass {
         alloc,
         scratch,
         rest,
         fault,
     };
-    match walk.document() {
+    match pass.document() {
         Ok(None) => syntax_at(text.len()),
         Ok(Some(fault)) => fault,
         Err(Halt::NoJson(stop)) => stop_in(stop, text.len()),
@@ -70,7 +70,7 @@ fn syntax_at(at: usize) -> JsonFault
 
 /// The fault in a text of that length.
 fn stop_in(stop: Stop, len: usize) -> JsonFault
-    requires { stop.left ≤ len }
+    requires { stop.remaining ≤ len }
     ensures placed { IsPlaced len result }
     ensures is { result ≡ stop_in len stop }
 {
@@ -79,7 +79,7 @@ fn stop_in(stop: Stop, len: usize) -> JsonFault
         StopKind::TooDeep => JsonFaultKind::TooDeep,
         StopKind::TrailingText => JsonFaultKind::TrailingText,
     };
-    let at = (len - stop.left) as u64;
+    let at = (len - stop.remaining) as u64;
     JsonFault { kind, at }
 }
 
@@ -95,7 +95,7 @@ fn fault_in(fault: TreeFault, len: usize) -> JsonFault
         TreeFaultKind::NumberRange => JsonFaultKind::NumberRange,
         TreeFaultKind::NulInName => JsonFaultKind::NulInName,
     };
-    let at = len.saturating_sub(fault.left) as u64;
+    let at = len.saturating_sub(fault.remaining) as u64;
     JsonFault { kind, at }
 }
 
@@ -146,8 +146,8 @@ impl Part<'_> {
 
     /// The fault of an object of this one member.
     fn fault_alone(&self, object: &[u8]) -> Option<TreeFault>
-        ensures { (fault : ℕ → Finds) → (room : ℕ)
-            → result ≡ code_fault fault room object.now
+        ensures { (fault : ℕ → Finds) → (depth_left : ℕ)
+            → result ≡ code_fault fault depth_left object.now
             ((self.now.wrapper, self.now.text.now) ∷ []) }
     {
         if self.is_code() {
@@ -177,7 +177,7 @@ fn is_string(text: &[u8]) -> bool
 
 /// A walk over a text, which is JSON so far.
 #[derive(Drop)]
-struct Walk<'a> {
+struct Pass<'a> {
     alloc: Global,
     scratch: Scratch,
     /// What is not passed yet.
@@ -186,10 +186,10 @@ struct Walk<'a> {
     fault: Option<TreeFault>,
 }
 
-impl<'a> Walk<'a> {
+impl<'a> Pass<'a> {
     /// The first fault of the tree, which the whole text is, or that it is no document.
     fn document(&mut self) -> Result<Option<JsonFault>, Halt>
-        ensures past { Walks result [] (past_text self.old.rest.now) }
+        ensures beyond { Passes result [] (beyond_text self.old.rest.now) }
         ensures within { IfErr result (IsWithin (length self.old.rest.now)) }
         ensures place { IfOk result (λ f. IfSome f (IsPlaced (length self.old.rest.now))) }
         ensures first { IfOk result (λ f. self.old.fault ≡ None
@@ -211,9 +211,9 @@ impl<'a> Walk<'a> {
     }
 
     /// Passes the whole text, which is to be one value.
-    #[tactic(auto, unfolding(crate::specs::JsonSyntax::past_text))]
+    #[tactic(auto, unfolding(crate::specs::JsonSyntax::beyond_text))]
     fn whole(&mut self) -> Result<(), Halt>
-        ensures past { Walks result [] (past_text self.old.rest.now) }
+        ensures beyond { Passes result [] (beyond_text self.old.rest.now) }
         ensures within { IfErr result (IsWithin (length self.old.rest.now)) }
         ensures fault { OnOk result (self.new.fault
             ≡ option_or self.old.fault (value_fault most_brackets most_levels self.old.rest.now)) }
@@ -230,7 +230,7 @@ impl<'a> Walk<'a> {
     fn is_document(&mut self, text: &'a [u8]) -> Result<bool, AllocError>
         ensures same { self.new.rest.now ≡ self.old.rest.now }
         ensures same_fault { self.new.fault ≡ self.old.fault }
-        ensures tells { IfOk result (λ is. is ≡ is_document text.now) }
+        ensures reports { IfOk result (λ is. is ≡ is_document text.now) }
     {
         let here = skip_white(text);
         if !begins(here, b'{') {
@@ -240,41 +240,41 @@ impl<'a> Walk<'a> {
     }
 
     /// Passes the next value, with at most `level` brackets in one another. Faults of the tree are looked for where there is a
-    /// `room`: so deep may documents and arrays stand in one another.
+    /// `depth_left`: so deep may documents and arrays stand in one another.
     #[cycle(passing)]
-    fn value(&mut self, level: usize, room: Option<usize>) -> Result<(), Halt>
-        ensures past { Walks result self.new.rest.now (past_value level self.old.rest.now) }
+    fn value(&mut self, level: usize, depth_left: Option<usize>) -> Result<(), Halt>
+        ensures beyond { Passes result self.new.rest.now (beyond_value level self.old.rest.now) }
         ensures shorter { MatchResult result
             (λ u. length self.new.rest.now < length self.old.rest.now)
             (IsWithin (length self.old.rest.now)) }
         ensures fault { OnOk result (self.new.fault
-            ≡ found self.old.fault room (λ r. value_fault level r self.old.rest.now)) }
+            ≡ found self.old.fault depth_left (λ r. value_fault level r self.old.rest.now)) }
     {
         let here = skip_white(self.rest);
         let is_object = begins(here, b'{');
         if !is_object && !begins(here, b'[') {
-            return Ok(self.scalar(here, room)?);
+            return Ok(self.scalar(here, depth_left)?);
         }
         if level == 0 {
             return Err(Halt::NoJson(Stop::at(here, StopKind::TooDeep)));
         }
         self.rest = skip_byte(here);
         if is_object {
-            self.object(here, level - 1, room)
+            self.object(here, level - 1, depth_left)
         } else {
-            self.array(here, level - 1, room)
+            self.array(here, level - 1, depth_left)
         }
     }
 
     /// Passes the value without brackets that the text begins with.
-    #[tactic(auto, unfolding(crate::specs::JsonSyntax::past_scalar))]
-    fn scalar(&mut self, text: &'a [u8], room: Option<usize>) -> Result<(), Stop>
-        ensures past { Gives (λ u. self.new.rest.now) result (past_scalar text.now) }
+    #[tactic(auto, unfolding(crate::specs::JsonSyntax::beyond_scalar))]
+    fn scalar(&mut self, text: &'a [u8], depth_left: Option<usize>) -> Result<(), Stop>
+        ensures beyond { Gives (λ u. self.new.rest.now) result (beyond_scalar text.now) }
         ensures shorter { MatchResult result
             (λ u. length self.new.rest.now < length text.now)
-            (λ stop. stop.left ≤ length text.now) }
+            (λ stop. stop.remaining ≤ length text.now) }
         ensures fault { OnOk result
-            (self.new.fault ≡ found self.old.fault room (λ r. scalar_fault text.now)) }
+            (self.new.fault ≡ found self.old.fault depth_left (λ r. scalar_fault text.now)) }
     {
         let [first, inside @ ..] = text else {
             return Err(Stop::syntax(text));
@@ -284,22 +284,22 @@ impl<'a> Walk<'a> {
             b't' => self.rest = skip_word(inside, b"rue")?,
             b'f' => self.rest = skip_word(inside, b"alse")?,
             b'n' => self.rest = skip_word(inside, b"ull")?,
-            _ => return self.number(text, room),
+            _ => return self.number(text, depth_left),
         }
         Ok(())
     }
 
     /// Passes the number that the text begins with.
-    fn number(&mut self, text: &'a [u8], room: Option<usize>) -> Result<(), Stop>
-        ensures past { Gives (λ u. self.new.rest.now) result (past_number text.now) }
+    fn number(&mut self, text: &'a [u8], depth_left: Option<usize>) -> Result<(), Stop>
+        ensures beyond { Gives (λ u. self.new.rest.now) result (beyond_number text.now) }
         ensures shorter { MatchResult result
             (λ u. length self.new.rest.now < length text.now)
-            (λ stop. stop.left ≤ length text.now) }
+            (λ stop. stop.remaining ≤ length text.now) }
         ensures fault { OnOk result
-            (self.new.fault ≡ found self.old.fault room (λ r. scalar_fault text.now)) }
+            (self.new.fault ≡ found self.old.fault depth_left (λ r. scalar_fault text.now)) }
     {
         self.rest = skip_number(text)?;
-        if room.is_some() {
+        if depth_left.is_some() {
             let number = &text[..text.len() - self.rest.len()];
             self.note(text, number_fault(number));
         }
@@ -308,20 +308,20 @@ impl<'a> Walk<'a> {
 
     /// Passes the array that the text begins with, whose bracket was passed.
     #[cycle(passing)]
-    fn array(&mut self, text: &'a [u8], level: usize, room: Option<usize>) -> Result<(), Halt>
-        ensures past { Walks result self.new.rest.now
-            (past_array (past_value level) self.old.rest.now) }
+    fn array(&mut self, text: &'a [u8], level: usize, depth_left: Option<usize>) -> Result<(), Halt>
+        ensures beyond { Passes result self.new.rest.now
+            (beyond_array (beyond_value level) self.old.rest.now) }
         ensures shorter { MatchResult result
             (λ u. length self.new.rest.now ≤ length self.old.rest.now)
             (IsWithin (length self.old.rest.now)) }
-        ensures fault { OnOk result (self.new.fault ≡ found self.old.fault room
-            (λ r. array_fault (past_value level) (value_fault level) r text.now
+        ensures fault { OnOk result (self.new.fault ≡ found self.old.fault depth_left
+            (λ r. array_fault (beyond_value level) (value_fault level) r text.now
             self.old.rest.now)) }
     {
-        let room = self.deeper(text, room);
+        let depth_left = self.deeper(text, depth_left);
         let mut more = !self.closes(b']');
         while more {
-            self.value(level, room)?;
+            self.value(level, depth_left)?;
             more = self.goes_on(b']')?;
         }
         Ok(())
@@ -329,22 +329,27 @@ impl<'a> Walk<'a> {
 
     /// Passes the object that the text begins with, whose brace was passed: its first name makes it a wrapper or a document.
     #[cycle(passing)]
-    fn object(&mut self, text: &'a [u8], level: usize, room: Option<usize>) -> Result<(), Halt>
+    fn object(
+        &mut self,
+        text: &'a [u8],
+        level: usize,
+        depth_left: Option<usize>,
+    ) -> Result<(), Halt>
         requires { length self.old.rest.now ≤ length text.now }
-        ensures past { Walks result self.new.rest.now
-            (past_object (past_value level) self.old.rest.now) }
+        ensures beyond { Passes result self.new.rest.now
+            (beyond_object (beyond_value level) self.old.rest.now) }
         ensures shorter { MatchResult result
             (λ u. length self.new.rest.now ≤ length self.old.rest.now)
             (IsWithin (length self.old.rest.now)) }
-        ensures fault { OnOk result (self.new.fault ≡ found self.old.fault room
-            (λ r. object_fault (past_value level) (value_fault level) r text.now
+        ensures fault { OnOk result (self.new.fault ≡ found self.old.fault depth_left
+            (λ r. object_fault (beyond_value level) (value_fault level) r text.now
             self.old.rest.now)) }
     {
-        let Some(levels) = room else {
-            return self.members(text, level, room);
+        let Some(levels) = depth_left else {
+            return self.members(text, level, depth_left);
         };
         match self.first_wrapper(self.rest)? {
-            None => self.members(text, level, room),
+            None => self.members(text, level, depth_left),
             Some(Wrapper::Code | Wrapper::Scope) => self.code(text, level, levels),
             Some(wrapper) => {
                 self.members(text, level, None)?;
@@ -371,42 +376,48 @@ impl<'a> Walk<'a> {
 
     /// Passes an object as a document, or as JSON alone.
     #[cycle(passing)]
-    fn members(&mut self, text: &'a [u8], level: usize, room: Option<usize>) -> Result<(), Halt>
-        ensures past { Walks result self.new.rest.now
-            (past_object (past_value level) self.old.rest.now) }
+    fn members(
+        &mut self,
+        text: &'a [u8],
+        level: usize,
+        depth_left: Option<usize>,
+    ) -> Result<(), Halt>
+        ensures beyond { Passes result self.new.rest.now
+            (beyond_object (beyond_value level) self.old.rest.now) }
         ensures shorter { MatchResult result
             (λ u. length self.new.rest.now ≤ length self.old.rest.now)
             (IsWithin (length self.old.rest.now)) }
-        ensures fault { OnOk result (self.new.fault ≡ found self.old.fault room
-            (λ r. document_fault (past_value level) (value_fault level) r text.now
+        ensures fault { OnOk result (self.new.fault ≡ found self.old.fault depth_left
+            (λ r. document_fault (beyond_value level) (value_fault level) r text.now
             self.old.rest.now)) }
     {
-        let room = self.deeper(text, room);
+        let depth_left = self.deeper(text, depth_left);
         if self.closes(b'}') {
             return Ok(());
         }
-        self.more_members(level, room)
+        self.more_members(level, depth_left)
     }
 
     /// Passes the members from here on, of which there is one.
     #[cycle(passing)]
-    fn more_members(&mut self, level: usize, room: Option<usize>) -> Result<(), Halt>
-        ensures past { (n : ℕ) → length self.old.rest.now < n
-            → Walks result self.new.rest.now
-            (past_parts (λ b. b == 125) (past_member (past_value level)) n self.old.rest.now) }
+    fn more_members(&mut self, level: usize, depth_left: Option<usize>) -> Result<(), Halt>
+        ensures beyond { (n : ℕ) →
+            length self.old.rest.now < n → Passes result self.new.rest.now (beyond_parts (λ b.
+            b == 125) (beyond_member (beyond_value level)) n self.old.rest.now) }
         ensures shorter { MatchResult result
             (λ u. length self.new.rest.now ≤ length self.old.rest.now)
             (IsWithin (length self.old.rest.now)) }
-        ensures fault { (n : ℕ) → length self.old.rest.now < n
-            → OnOk result (self.new.fault ≡ found self.old.fault room (λ r. first_in (member_fault (value_fault level r))
-            (parts_from (λ b. b == 125) (past_member (past_value level)) n self.old.rest.now))) }
+        ensures fault { (n : ℕ) → length self.old.rest.now < n →
+            OnOk result (self.new.fault ≡ found self.old.fault depth_left (λ r.
+            first_in (member_fault (value_fault level r)) (parts_from (λ b.
+            b == 125) (beyond_member (beyond_value level)) n self.old.rest.now))) }
     {
         let mut more = true;
         while more {
             let key = skip_key(self.rest)?;
-            self.check_name(&key, room)?;
+            self.check_name(&key, depth_left)?;
             self.rest = key.rest;
-            self.value(level, room)?;
+            self.value(level, depth_left)?;
             more = self.goes_on(b'}')?;
         }
         Ok(())
@@ -415,14 +426,14 @@ impl<'a> Walk<'a> {
     /// Passes an object whose first name is `$code` or `$scope`.
     #[cycle(passing)]
     fn code(&mut self, text: &'a [u8], level: usize, levels: usize) -> Result<(), Halt>
-        ensures past { Walks result self.new.rest.now
-            (past_object (past_value level) self.old.rest.now) }
+        ensures beyond { Passes result self.new.rest.now
+            (beyond_object (beyond_value level) self.old.rest.now) }
         ensures shorter { MatchResult result
             (λ u. length self.new.rest.now ≤ length self.old.rest.now)
             (IsWithin (length self.old.rest.now)) }
         ensures fault { OnOk result (self.new.fault ≡ option_or self.old.fault
             (code_fault (value_fault level) levels text.now
-            (map part_of (members_in (past_value level) self.old.rest.now)))) }
+            (map part_of (members_in (beyond_value level) self.old.rest.now)))) }
     {
         let before = self.fault;
         self.fault = None;
@@ -439,14 +450,14 @@ impl<'a> Walk<'a> {
         level: usize,
         levels: usize,
     ) -> Result<Option<TreeFault>, Halt>
-        ensures past { Walks result self.new.rest.now
-            (past_object (past_value level) self.old.rest.now) }
+        ensures beyond { Passes result self.new.rest.now
+            (beyond_object (beyond_value level) self.old.rest.now) }
         ensures shorter { MatchResult result
             (λ u. length self.new.rest.now ≤ length self.old.rest.now)
             (IsWithin (length self.old.rest.now)) }
         ensures fault { IfOk result (λ f. self.old.fault ≡ None
             → f ≡ code_fault (value_fault level) levels text.now
-            (map part_of (members_in (past_value level) self.old.rest.now))) }
+            (map part_of (members_in (beyond_value level) self.old.rest.now))) }
     {
         if self.closes(b'}') {
             return Ok(bad_wrapper(text));
@@ -466,8 +477,8 @@ impl<'a> Walk<'a> {
     /// Passes a member. Faults are looked for in a scope, for which there is one level less.
     #[cycle(passing)]
     fn code_part(&mut self, level: usize, levels: usize) -> Result<Part<'a>, Halt>
-        ensures past { Walks result self.new.rest.now
-            (past_member (past_value level) self.old.rest.now) }
+        ensures beyond { Passes result self.new.rest.now
+            (beyond_member (beyond_value level) self.old.rest.now) }
         ensures shorter { MatchResult result
             (λ u. length self.new.rest.now < length self.old.rest.now)
             (IsWithin (length self.old.rest.now)) }
@@ -480,12 +491,12 @@ impl<'a> Walk<'a> {
         let text = key.rest;
         let part = Part { wrapper, text };
         self.rest = text;
-        let room = if part.is_scope() {
+        let depth_left = if part.is_scope() {
             Some(levels.saturating_sub(1))
         } else {
             None
         };
-        self.value(level, room)?;
+        self.value(level, depth_left)?;
         Ok(part)
     }
 
@@ -498,11 +509,11 @@ impl<'a> Walk<'a> {
         second: Part<'a>,
     ) -> Result<Option<TreeFault>, AllocError>
         ensures same { self.new.rest.now ≡ self.old.rest.now }
-        ensures fault { (fault : ℕ → Finds)
-            → self.old.fault ≡ option_or (found_in_scope (fault (levels - 1)) first.entry.wrapper first.entry.text.now)
-            (found_in_scope (fault (levels - 1)) second.entry.wrapper second.entry.text.now)
-            → IfOk result (λ f. f ≡ code_fault fault levels text.now
-            ((first.entry.wrapper, first.entry.text.now)
+        ensures fault { (fault : ℕ → Finds) → self.old.fault ≡ option_or
+            (found_in_scope (fault (levels - 1)) first.entry.wrapper first.entry.text.now)
+            (found_in_scope (fault (levels - 1)) second.entry.wrapper second.entry.text.now) →
+            IfOk result (λ f.
+            f ≡ code_fault fault levels text.now ((first.entry.wrapper, first.entry.text.now)
             ∷ (second.entry.wrapper, second.entry.text.now) ∷ [])) }
     {
         if first.is_code() {
@@ -550,24 +561,25 @@ impl<'a> Walk<'a> {
     }
 
     /// How deep documents and arrays may stand in the one that the text begins with.
-    fn deeper(&mut self, text: &[u8], room: Option<usize>) -> Option<usize>
+    fn deeper(&mut self, text: &[u8], depth_left: Option<usize>) -> Option<usize>
         ensures same { self.new.rest.now ≡ self.old.rest.now }
-        ensures fault { self.new.fault ≡ option_or self.old.fault (depth_fault room text.now) }
-        ensures less { result ≡ deeper room }
+        ensures fault { self.new.fault
+            ≡ option_or self.old.fault (depth_fault depth_left text.now) }
+        ensures less { result ≡ deeper depth_left }
     {
-        if room == Some(0) {
+        if depth_left == Some(0) {
             self.note(text, Some(TreeFaultKind::TooDeep));
         }
-        room?.checked_sub(1)
+        depth_left?.checked_sub(1)
     }
 
     /// Takes the fault of a name, where a document may stand.
-    fn check_name(&mut self, key: &Key<'_>, room: Option<usize>) -> Result<(), AllocError>
+    fn check_name(&mut self, key: &Key<'_>, depth_left: Option<usize>) -> Result<(), AllocError>
         ensures same { self.new.rest.now ≡ self.old.rest.now }
-        ensures fault { OnOk result (self.new.fault ≡ found self.old.fault room
+        ensures fault { OnOk result (self.new.fault ≡ found self.old.fault depth_left
             (λ r. zero_fault key.now.quoted.now key.now.from.now)) }
     {
-        if room.is_some() && read_name(self.alloc, key.quoted, &mut self.scratch)?.has_zero {
+        if depth_left.is_some() && read_name(self.alloc, key.quoted, &mut self.scratch)?.has_zero {
             self.note(key.from, Some(TreeFaultKind::NulInName));
         }
         Ok(())
@@ -586,9 +598,9 @@ impl<'a> Walk<'a> {
 
     /// Passes the bracket that closes, and tells whether it is next.
     fn closes(&mut self, bracket: u8) -> bool
-        ensures tells { result ≡ begins (λ b. b == bracket) (past_white self.old.rest.now) }
-        ensures past { self.new.rest.now
-            ≡ (if result then drop 1 (past_white self.old.rest.now) else self.old.rest.now) }
+        ensures reports { result ≡ begins (λ b. b == bracket) (beyond_white self.old.rest.now) }
+        ensures beyond { self.new.rest.now
+            ≡ (if result then drop 1 (beyond_white self.old.rest.now) else self.old.rest.now) }
         ensures shorter { length self.new.rest.now ≤ length self.old.rest.now }
         ensures same { self.new.fault ≡ self.old.fault }
     {
@@ -601,13 +613,13 @@ impl<'a> Walk<'a> {
     }
 
     /// Passes the comma after a part, or the bracket that closes, and tells whether another part comes.
-    #[tactic(auto, unfolding(crate::specs::JsonSyntax::past_next))]
+    #[tactic(auto, unfolding(crate::specs::JsonSyntax::beyond_next))]
     fn goes_on(&mut self, bracket: u8) -> Result<bool, Stop>
-        ensures past { Gives (λ more. (more, self.new.rest.now)) result
-            (past_next (λ b. b == bracket) self.old.rest.now) }
+        ensures beyond { Gives (λ more. (more, self.new.rest.now)) result
+            (beyond_next (λ b. b == bracket) self.old.rest.now) }
         ensures shorter { MatchResult result
             (λ more. length self.new.rest.now ≤ length self.old.rest.now)
-            (λ stop. stop.left ≤ length self.old.rest.now) }
+            (λ stop. stop.remaining ≤ length self.old.rest.now) }
         ensures same { self.new.fault ≡ self.old.fault }
     {
         if self.closes(bracket) {

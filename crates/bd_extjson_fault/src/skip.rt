@@ -1,8 +1,8 @@
 //! The tokens of JSON (RFC 8259), passed one by one, with the first byte that cannot continue.
 ghost use Rattle.std.specs.Prelude.{◌≡◌, ◌<◌, ◌≤◌, ◌-◌, ◌==◌, length, drop, IfOk, MatchResult};
-ghost use Rattle.bd_extjson_fault.specs.JsonSyntax.{Gives, begins, is_decimal, past_all, past_white, past_word, past_digits};
-ghost use Rattle.bd_extjson_fault.specs.JsonSyntax.{past_natural, past_fraction, past_number, past_exponent, past_hex};
-ghost use Rattle.bd_extjson_fault.specs.JsonSyntax.{past_unit, past_low, past_units, past_character, past_string, past_name};
+ghost use Rattle.bd_extjson_fault.specs.JsonSyntax.{Gives, begins, is_decimal, beyond_all, beyond_white, beyond_word, beyond_digits};
+ghost use Rattle.bd_extjson_fault.specs.JsonSyntax.{beyond_natural, beyond_fraction, beyond_number, beyond_exponent, beyond_hex};
+ghost use Rattle.bd_extjson_fault.specs.JsonSyntax.{beyond_unit, beyond_low, beyond_units, beyond_character, beyond_string, beyond_name};
 ghost use Rattle.bd_extjson_fault.specs.TreeFault.{quoted_name};
 ghost use Rattle.bd_extjson_fault.specs.declared.skip.StopKind.TheVariants as kinds;
 
@@ -21,20 +21,20 @@ pub(crate) enum StopKind {
 #[derive(Clone, Copy, Debug, Drop, PartialEq, Eq)]
 pub(crate) struct Stop {
     pub kind: StopKind,
-    pub left: usize,
+    pub remaining: usize,
 }
 
 impl Stop {
     /// At the first byte of what is left of the text.
     pub fn at(rest: &[u8], kind: StopKind) -> Stop
-        ensures { result ≡ record { kind = kind; left = length rest.now } }
+        ensures { result ≡ record { kind = kind; remaining = length rest.now } }
     {
-        let left = rest.len();
-        Stop { kind, left }
+        let remaining = rest.len();
+        Stop { kind, remaining }
     }
 
     pub fn syntax(rest: &[u8]) -> Stop
-        ensures { result ≡ record { kind = kinds.Syntax; left = length rest.now } }
+        ensures { result ≡ record { kind = kinds.Syntax; remaining = length rest.now } }
     {
         Stop::at(rest, StopKind::Syntax)
     }
@@ -49,7 +49,7 @@ pub(crate) fn begins(text: &[u8], byte: u8) -> bool
 
 /// What stands after the first byte.
 pub(crate) fn skip_byte(text: &[u8]) -> &[u8]
-    ensures past { result.now ≡ drop 1 text.now }
+    ensures beyond { result.now ≡ drop 1 text.now }
     ensures shorter { length result.now ≡ length text.now - 1 }
 {
     match text {
@@ -59,9 +59,9 @@ pub(crate) fn skip_byte(text: &[u8]) -> &[u8]
 }
 
 /// What stands after white space.
-#[tactic(auto, unfolding(crate::specs::JsonSyntax::past_all))]
+#[tactic(auto, unfolding(crate::specs::JsonSyntax::beyond_all))]
 pub(crate) fn skip_white(text: &[u8]) -> &[u8]
-    ensures past { result.now ≡ past_white text.now }
+    ensures beyond { result.now ≡ beyond_white text.now }
     ensures shorter { length result.now ≤ length text.now }
 {
     let mut rest = text;
@@ -72,27 +72,27 @@ pub(crate) fn skip_white(text: &[u8]) -> &[u8]
 }
 
 /// What stands after a word.
-#[tactic(auto, unfolding(crate::specs::JsonSyntax::past_word))]
+#[tactic(auto, unfolding(crate::specs::JsonSyntax::beyond_word))]
 pub(crate) fn skip_word<'a>(text: &'a [u8], word: &[u8]) -> Result<&'a [u8], Stop>
-    ensures past { Gives (λ x. x.now) result (past_word word.now text.now) }
+    ensures beyond { Gives (λ x. x.now) result (beyond_word word.now text.now) }
     ensures shorter { MatchResult result (λ rest. length rest.now ≤ length text.now)
-        (λ stop. stop.left ≤ length text.now) }
+        (λ stop. stop.remaining ≤ length text.now) }
 {
-    let (mut rest, mut left) = (text, word);
-    while let [wanted, more @ ..] = left {
+    let (mut rest, mut remaining) = (text, word);
+    while let [wanted, more @ ..] = remaining {
         match rest {
             [byte, tail @ ..] if byte == wanted => rest = tail,
             _ => return Err(Stop::syntax(rest)),
         }
-        left = more;
+        remaining = more;
     }
     Ok(rest)
 }
 
 /// What stands after digits.
-#[tactic(auto, unfolding(crate::specs::JsonSyntax::past_all))]
+#[tactic(auto, unfolding(crate::specs::JsonSyntax::beyond_all))]
 fn skip_all_digits(text: &[u8]) -> &[u8]
-    ensures past { result.now ≡ past_all is_decimal text.now }
+    ensures beyond { result.now ≡ beyond_all is_decimal text.now }
     ensures shorter { length result.now ≤ length text.now }
 {
     let mut rest = text;
@@ -103,11 +103,11 @@ fn skip_all_digits(text: &[u8]) -> &[u8]
 }
 
 /// What stands after one digit or more.
-#[tactic(auto, unfolding(crate::specs::JsonSyntax::past_digits, crate::specs::JsonSyntax::past_all))]
+#[tactic(auto, unfolding(crate::specs::JsonSyntax::beyond_digits, crate::specs::JsonSyntax::beyond_all))]
 fn skip_digits(text: &[u8]) -> Result<&[u8], Stop>
-    ensures past { Gives (λ x. x.now) result (past_digits text.now) }
+    ensures beyond { Gives (λ x. x.now) result (beyond_digits text.now) }
     ensures shorter { MatchResult result (λ rest. length rest.now < length text.now)
-        (λ stop. stop.left ≤ length text.now) }
+        (λ stop. stop.remaining ≤ length text.now) }
 {
     match text {
         [b'0'..=b'9', tail @ ..] => Ok(skip_all_digits(tail)),
@@ -116,11 +116,11 @@ fn skip_digits(text: &[u8]) -> Result<&[u8], Stop>
 }
 
 /// What stands after a number without sign, fraction and exponent: no digit follows a zero in front.
-#[tactic(auto, unfolding(crate::specs::JsonSyntax::past_natural))]
+#[tactic(auto, unfolding(crate::specs::JsonSyntax::beyond_natural))]
 fn skip_natural(text: &[u8]) -> Result<&[u8], Stop>
-    ensures past { Gives (λ x. x.now) result (past_natural text.now) }
+    ensures beyond { Gives (λ x. x.now) result (beyond_natural text.now) }
     ensures shorter { MatchResult result (λ rest. length rest.now < length text.now)
-        (λ stop. stop.left ≤ length text.now) }
+        (λ stop. stop.remaining ≤ length text.now) }
 {
     match text {
         [b'0', tail @ ..] => Ok(tail),
@@ -128,11 +128,11 @@ fn skip_natural(text: &[u8]) -> Result<&[u8], Stop>
     }
 }
 
-#[tactic(auto, unfolding(crate::specs::JsonSyntax::past_fraction))]
+#[tactic(auto, unfolding(crate::specs::JsonSyntax::beyond_fraction))]
 fn skip_fraction(text: &[u8]) -> Result<&[u8], Stop>
-    ensures past { Gives (λ x. x.now) result (past_fraction text.now) }
+    ensures beyond { Gives (λ x. x.now) result (beyond_fraction text.now) }
     ensures shorter { MatchResult result (λ rest. length rest.now ≤ length text.now)
-        (λ stop. stop.left ≤ length text.now) }
+        (λ stop. stop.remaining ≤ length text.now) }
 {
     match text {
         [b'.', digits @ ..] => skip_digits(digits),
@@ -140,11 +140,11 @@ fn skip_fraction(text: &[u8]) -> Result<&[u8], Stop>
     }
 }
 
-#[tactic(auto, unfolding(crate::specs::JsonSyntax::past_exponent))]
+#[tactic(auto, unfolding(crate::specs::JsonSyntax::beyond_exponent))]
 fn skip_exponent(text: &[u8]) -> Result<&[u8], Stop>
-    ensures past { Gives (λ x. x.now) result (past_exponent text.now) }
+    ensures beyond { Gives (λ x. x.now) result (beyond_exponent text.now) }
     ensures shorter { MatchResult result (λ rest. length rest.now ≤ length text.now)
-        (λ stop. stop.left ≤ length text.now) }
+        (λ stop. stop.remaining ≤ length text.now) }
 {
     match text {
         [b'e' | b'E', b'+' | b'-', digits @ ..] => skip_digits(digits),
@@ -154,11 +154,11 @@ fn skip_exponent(text: &[u8]) -> Result<&[u8], Stop>
 }
 
 /// What stands after a number (section 6).
-#[tactic(auto, unfolding(crate::specs::JsonSyntax::past_number))]
+#[tactic(auto, unfolding(crate::specs::JsonSyntax::beyond_number))]
 pub(crate) fn skip_number(text: &[u8]) -> Result<&[u8], Stop>
-    ensures past { Gives (λ x. x.now) result (past_number text.now) }
+    ensures beyond { Gives (λ x. x.now) result (beyond_number text.now) }
     ensures shorter { MatchResult result (λ rest. length rest.now < length text.now)
-        (λ stop. stop.left ≤ length text.now) }
+        (λ stop. stop.remaining ≤ length text.now) }
 {
     let fraction = match text {
         [b'-', tail @ ..] => skip_natural(tail)?,
@@ -169,12 +169,12 @@ pub(crate) fn skip_number(text: &[u8]) -> Result<&[u8], Stop>
 }
 
 /// The value of a hexadecimal digit, and what stands after it.
-#[tactic(auto, unfolding(crate::specs::JsonSyntax::past_hex))]
+#[tactic(auto, unfolding(crate::specs::JsonSyntax::beyond_hex))]
 fn skip_hex(text: &[u8]) -> Result<(u32, &[u8]), Stop>
-    ensures past { Gives (λ x. (x.0, x.1.now)) result (past_hex text.now) }
+    ensures beyond { Gives (λ x. (x.0, x.1.now)) result (beyond_hex text.now) }
     ensures digit { IfOk result (λ x. x.0 < 16) }
     ensures shorter { MatchResult result (λ x. length x.1.now < length text.now)
-        (λ stop. stop.left ≤ length text.now) }
+        (λ stop. stop.remaining ≤ length text.now) }
 {
     let [byte, tail @ ..] = text else {
         return Err(Stop::syntax(text));
@@ -186,11 +186,11 @@ fn skip_hex(text: &[u8]) -> Result<(u32, &[u8]), Stop>
 }
 
 /// The number of an escape of four digits, and what stands after it.
-#[tactic(auto, unfolding(crate::specs::JsonSyntax::past_unit))]
+#[tactic(auto, unfolding(crate::specs::JsonSyntax::beyond_unit))]
 fn skip_unit(text: &[u8]) -> Result<(u32, &[u8]), Stop>
-    ensures past { Gives (λ x. (x.0, x.1.now)) result (past_unit text.now) }
+    ensures beyond { Gives (λ x. (x.0, x.1.now)) result (beyond_unit text.now) }
     ensures shorter { MatchResult result (λ x. length x.1.now < length text.now)
-        (λ stop. stop.left ≤ length text.now) }
+        (λ stop. stop.remaining ≤ length text.now) }
 {
     let digits = skip_word(text, b"\\u")?;
     let (a, after_a) = skip_hex(digits)?;
@@ -201,25 +201,25 @@ fn skip_unit(text: &[u8]) -> Result<(u32, &[u8]), Stop>
 }
 
 /// What stands after a low surrogate, which is to follow a high one. Without it the high one is alone, unless the text ends first.
-#[tactic(auto, unfolding(crate::specs::JsonSyntax::past_low))]
+#[tactic(auto, unfolding(crate::specs::JsonSyntax::beyond_low))]
 fn skip_low<'a>(high: &[u8], text: &'a [u8]) -> Result<&'a [u8], Stop>
-    ensures past { Gives (λ x. x.now) result (past_low high.now (past_unit text.now)) }
+    ensures beyond { Gives (λ x. x.now) result (beyond_low high.now (beyond_unit text.now)) }
     ensures shorter { MatchResult result (λ rest. length rest.now < length text.now)
-        (λ stop. stop.left ≤ length high.now) }
+        (λ stop. stop.remaining ≤ length high.now) }
 {
     match skip_unit(text) {
         Ok((0xdc00..=0xdfff, rest)) => Ok(rest),
-        Err(stop) if stop.left == 0 => Err(stop),
+        Err(stop) if stop.remaining == 0 => Err(stop),
         _ => Err(Stop::syntax(high)),
     }
 }
 
 /// What stands after an escape of four digits, or after two that stand for a pair of surrogates.
-#[tactic(auto, unfolding(crate::specs::JsonSyntax::past_units))]
+#[tactic(auto, unfolding(crate::specs::JsonSyntax::beyond_units))]
 fn skip_units(text: &[u8]) -> Result<&[u8], Stop>
-    ensures past { Gives (λ x. x.now) result (past_units text.now) }
+    ensures beyond { Gives (λ x. x.now) result (beyond_units text.now) }
     ensures shorter { MatchResult result (λ rest. length rest.now < length text.now)
-        (λ stop. stop.left ≤ length text.now) }
+        (λ stop. stop.remaining ≤ length text.now) }
 {
     let (unit, rest) = skip_unit(text)?;
     match unit {
@@ -230,11 +230,11 @@ fn skip_units(text: &[u8]) -> Result<&[u8], Stop>
 }
 
 /// What stands after a character of a string.
-#[tactic(auto, unfolding(crate::specs::JsonSyntax::past_character, crate::specs::JsonSyntax::past_escape))]
+#[tactic(auto, unfolding(crate::specs::JsonSyntax::beyond_character, crate::specs::JsonSyntax::beyond_escape))]
 fn skip_character(text: &[u8]) -> Result<&[u8], Stop>
-    ensures past { Gives (λ x. x.now) result (past_character text.now) }
+    ensures beyond { Gives (λ x. x.now) result (beyond_character text.now) }
     ensures shorter { MatchResult result (λ rest. length rest.now < length text.now)
-        (λ stop. stop.left ≤ length text.now) }
+        (λ stop. stop.remaining ≤ length text.now) }
 {
     match text {
         [b'\\', b'u', ..] => skip_units(text),
@@ -250,11 +250,11 @@ fn skip_character(text: &[u8]) -> Result<&[u8], Stop>
 }
 
 /// What stands after a string (section 7), in a text that begins after its first quotation mark.
-#[tactic(auto, unfolding(crate::specs::JsonSyntax::past_string))]
+#[tactic(auto, unfolding(crate::specs::JsonSyntax::beyond_string))]
 pub(crate) fn skip_string(text: &[u8]) -> Result<&[u8], Stop>
-    ensures past { Gives (λ x. x.now) result (past_string text.now) }
+    ensures beyond { Gives (λ x. x.now) result (beyond_string text.now) }
     ensures shorter { MatchResult result (λ rest. length rest.now ≤ length text.now)
-        (λ stop. stop.left ≤ length text.now) }
+        (λ stop. stop.remaining ≤ length text.now) }
 {
     let mut rest = text;
     while !begins(rest, b'"') {
@@ -275,13 +275,13 @@ pub(crate) struct Key<'a> {
 }
 
 /// The next name, with its colon.
-#[tactic(auto, unfolding(crate::specs::JsonSyntax::past_name, crate::specs::JsonSyntax::past_word, crate::specs::TreeFault::quoted_name))]
+#[tactic(auto, unfolding(crate::specs::JsonSyntax::beyond_name, crate::specs::JsonSyntax::beyond_word, crate::specs::TreeFault::quoted_name))]
 pub(crate) fn skip_key(text: &[u8]) -> Result<Key<'_>, Stop>
-    ensures past { Gives (λ key. key.rest.now) result (past_name text.now) }
+    ensures beyond { Gives (λ key. key.rest.now) result (beyond_name text.now) }
     ensures quoted { IfOk result (λ key. key.quoted.now ≡ quoted_name text.now) }
-    ensures from { IfOk result (λ key. key.from.now ≡ past_white text.now) }
+    ensures from { IfOk result (λ key. key.from.now ≡ beyond_white text.now) }
     ensures shorter { MatchResult result (λ key. length key.rest.now < length text.now)
-        (λ stop. stop.left ≤ length text.now) }
+        (λ stop. stop.remaining ≤ length text.now) }
 {
     let from = skip_white(text);
     let [b'"', inside @ ..] = from else {

@@ -30,16 +30,16 @@ pub(crate) enum TreeFaultKind {
 #[derive(Clone, Copy, Debug, Drop, PartialEq, Eq)]
 pub(crate) struct TreeFault {
     pub kind: TreeFaultKind,
-    pub left: usize,
+    pub remaining: usize,
 }
 
 impl TreeFault {
     /// A fault at the first byte of what is left of the text.
     pub fn at(rest: &[u8], kind: TreeFaultKind) -> TreeFault
-        ensures { result ≡ record { kind = kind; left = length rest.now } }
+        ensures { result ≡ record { kind = kind; remaining = length rest.now } }
     {
-        let left = rest.len();
-        TreeFault { kind, left }
+        let remaining = rest.len();
+        TreeFault { kind, remaining }
     }
 }
 

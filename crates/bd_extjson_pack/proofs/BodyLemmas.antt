@@ -51,20 +51,20 @@ if_ok (Err f) x P Q e p = absurd cc
 -- a body after the four bytes that its length has, which stand at the place that was told
 pub body_size : {E : Type 0} (r : Result ℕ E) (at : ℕ) (Q : E → Type 0) (old body out : List ℕ) → Some at ≡ result_ok r → MatchResult r (λ x. x ≡ length old) Q
     → out ≡ (old ++ number 0) ++ body → at + 4 ≤ length out
-body_size r at Q old body out told place is =
-    let here = if_ok r at (λ x. x ≡ length old) Q told place in
+body_size r at Q old body out reported place is =
+    let here = if_ok r at (λ x. x ≡ length old) Q reported place in
     omega (arith, here, ap (λ xs. length xs) is, length-append (old ++ number 0) body, length-append old (number 0), number_length 0)
 
 -- a body that is ended where it began is framed
 pub ended : {E : Type 0} (r : Result ℕ E) (at : ℕ) (Q : E → Type 0) (old body out : List ℕ) → Some at ≡ result_ok r → MatchResult r (λ x. x ≡ length old) Q
     → out ≡ (old ++ number 0) ++ body → take at out ++ framed (drop (at + 4) out) ≡ old ++ framed body
-ended r at Q old body out told place is =
-    let here = if_ok r at (λ x. x ≡ length old) Q told place in
+ended r at Q old body out reported place is =
+    let here = if_ok r at (λ x. x ≡ length old) Q reported place in
     let whole : out ≡ old ++ (number 0 ++ body) = is ∙ append_assoc old (number 0) body in
     let size : length (old ++ number 0) ≡ at + 4 = omega (arith, here, length-append old (number 0), number_length 0) in
-    let front : take at out ≡ old = ap (take at) whole ∙ take_at old (number 0 ++ body) at (sym here) in
+    let prefix : take at out ≡ old = ap (take at) whole ∙ take_at old (number 0 ++ body) at (sym here) in
     let back : drop (at + 4) out ≡ body = ap (drop (at + 4)) is ∙ drop_at (old ++ number 0) body (at + 4) size in
-    ap₂ (λ (x y : List ℕ). x ++ framed y) front back
+    ap₂ (λ (x y : List ℕ). x ++ framed y) prefix back
 
 -- ---- results
 
@@ -98,20 +98,20 @@ both_some (Some x) P Q p q = (p, q)
 -- ---- wrappers of one string
 
 -- a wrapper's name, a value and the brace that ends the object
-unwrapped : (room depth : ℕ) (first : List ℕ) (w : Wrapper) (j : Json) (ts rest : List Token) → wrapper_of first ≡ Some w → value depth ts ≡ Some (j, Token.end_object ∷ rest)
-    → length (Token.end_object ∷ rest) ≤ length ts → through (wrap_object room) (after_key depth (length ts) (Some first) ts) ≡ option_map (λ (a : Tree). (a, rest)) (option_map leaf (single w j))
-unwrapped room depth first w j ts rest named read less =
-    of_members.member_is (wrap_object room) first depth (length ts) ts (Token.end_object ∷ rest) j read
-    ∙ of_members.ended (λ ms. wrap_object room (json.member first j ms)) depth (length ts) (Token.end_object ∷ rest) rest less refl
+unwrapped : (depth_left depth : ℕ) (first : List ℕ) (w : Wrapper) (j : Json) (ts rest : List Token) → wrapper_of first ≡ Some w → value depth ts ≡ Some (j, Token.end_object ∷ rest)
+    → length (Token.end_object ∷ rest) ≤ length ts → through (wrap_object depth_left) (after_key depth (length ts) (Some first) ts) ≡ option_map (λ (a : Tree). (a, rest)) (option_map leaf (single w j))
+unwrapped depth_left depth first w j ts rest named read less =
+    of_members.member_is (wrap_object depth_left) first depth (length ts) ts (Token.end_object ∷ rest) j read
+    ∙ of_members.ended (λ ms. wrap_object depth_left (json.member first j ms)) depth (length ts) (Token.end_object ∷ rest) rest less refl
     ∙ rw named refl
 
 pub string_gives : (depth : ℕ) (w v : Wrapper) (s : List ℕ) (x : Scalar) (ts rest : List Token) → w ≡ v → ts ≡ Token.string s ∷ Token.end_object ∷ rest
     → single v (json.string s) ≡ Some x
-    → (room : ℕ) (first : List ℕ) → wrapper_of first ≡ Some w → through (wrap_object room) (after_key depth (length ts) (Some first) ts) ≡ Some (leaf x, rest)
-string_gives depth w v s x ts rest same is stands room first named =
+    → (depth_left : ℕ) (first : List ℕ) → wrapper_of first ≡ Some w → through (wrap_object depth_left) (after_key depth (length ts) (Some first) ts) ≡ Some (leaf x, rest)
+string_gives depth w v s x ts rest same is is_at depth_left first named =
     rw is
-    (unwrapped room depth first v (json.string s) (Token.string s ∷ Token.end_object ∷ rest) rest (named ∙ ap Some same) (value_is depth (Token.string s ∷ Token.end_object ∷ rest)) (omega arith)
-    ∙ ap (λ o. option_map (λ (a : Tree). (a, rest)) (option_map leaf o)) stands)
+    (unwrapped depth_left depth first v (json.string s) (Token.string s ∷ Token.end_object ∷ rest) rest (named ∙ ap Some same) (value_is depth (Token.string s ∷ Token.end_object ∷ rest)) (omega arith)
+    ∙ ap (λ o. option_map (λ (a : Tree). (a, rest)) (option_map leaf o)) is_at)
 
 -- an object of one name and a string
 inner : (depth : ℕ) (k s : List ℕ) (rest : List Token) → 0 < depth
@@ -130,14 +130,14 @@ dated s = refl
 
 pub date_gives : (depth : ℕ) (w : Wrapper) (s : List ℕ) (x : Scalar) (ts rest : List Token) → 0 < depth → w ≡ kinds.Date
     → ts ≡ Token.begin_object ∷ Token.key (codes "$numberLong") ∷ Token.string s ∷ Token.end_object ∷ Token.end_object ∷ rest → option_map (λ z. trees.date z) (whole_64 s) ≡ Some x
-    → (room : ℕ) (first : List ℕ) → wrapper_of first ≡ Some w → through (wrap_object room) (after_key depth (length ts) (Some first) ts) ≡ Some (leaf x, rest)
-date_gives depth w s x ts rest some same is stands room first named =
+    → (depth_left : ℕ) (first : List ℕ) → wrapper_of first ≡ Some w → through (wrap_object depth_left) (after_key depth (length ts) (Some first) ts) ≡ Some (leaf x, rest)
+date_gives depth w s x ts rest some same is is_at depth_left first named =
     let name = codes "$numberLong" in
     let whole : List Token = Token.begin_object ∷ Token.key name ∷ Token.string s ∷ Token.end_object ∷ Token.end_object ∷ rest in
     rw is
-    (unwrapped room depth first kinds.Date (json.object (json.member name (json.string s) json.no_members)) whole rest (named ∙ ap Some same)
+    (unwrapped depth_left depth first kinds.Date (json.object (json.member name (json.string s) json.no_members)) whole rest (named ∙ ap Some same)
     (inner depth name s (Token.end_object ∷ rest) some) (omega arith)
-    ∙ ap (λ o. option_map (λ (a : Tree). (a, rest)) (option_map leaf o)) (dated s ∙ stands))
+    ∙ ap (λ o. option_map (λ (a : Tree). (a, rest)) (option_map leaf o)) (dated s ∙ is_at))
 
 -- ---- a number of a signed type, by its bits
 

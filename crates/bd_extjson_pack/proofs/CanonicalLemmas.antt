@@ -26,7 +26,7 @@ use Rattle.bd_extjson.proofs.ReadBackLemmas.{document_back}
 use Rattle.bd_extjson_pack.specs.Packable.{plain, IsPackable, IsCanonical, AreCanonical, AreCanonicalFields}
 use Rattle.hex.specs.{Hex.encode_lower, Hex.decode_sized, declared.FromHexError.FromHexError}
 use Rattle.hex.proofs.HexLemmas.{decode_of-ok, decode_sized-ok, decode_sized-twice}
-use Rattle.bd_extjson_wrapper.proofs.WholeNumberLemmas.{own}
+use Rattle.bd_extjson_wrapper.proofs.WholeNumberLemmas.{digits_model}
 use Rattle.std.proofs.lemmas.Simd.{length-chunk, trailing_mask_l, mask_l-mod, zip2_splat, zip2_of_maps, map-map, run_in_chunk_fails, none_from_empty_mask}
 use lib.Count.{count_trailing_zeros}
 use lib.Lanes.{zip2, chunk, mask_l, top}
@@ -44,9 +44,9 @@ no_zero (b ∷ s) e =
 pub string_read : (whole after inside last rest : List ℕ) (n : ℕ) → whole ≡ 34 ∷ after → inside ≡ take n after → last ≡ drop n after → last ≡ 34 ∷ rest → list_any needs_escape (take n after) ≡ false
     → (whole ≡ quoted inside ++ rest) × (has_zero inside ≡ false)
 unfolding quoted
-string_read whole after inside last rest n begins is left ends none =
+string_read whole after inside last rest n begins is remaining ends none =
     let plain : list_any needs_escape inside ≡ false = rw is none in
-    let all : after ≡ inside ++ (34 ∷ rest) = sym (take-append-drop n after) ∙ rw (← is, ← left, ends) refl in
+    let all : after ≡ inside ++ (34 ∷ rest) = sym (take-append-drop n after) ∙ rw (← is, ← remaining, ends) refl in
     (rw (begins, all, escaped-plain inside plain, append_assoc inside (34 ∷ []) rest) refl, no_zero inside plain)
 
 -- ---- lists of texts
@@ -66,45 +66,45 @@ joined_end (y ∷ z ∷ xs) x = ap (λ l. y ++ (44 ∷ l)) (joined_end (z ∷ xs
 
 -- ---- trees
 
-pub roomier : (few room : ℕ) (t : Tree) → few ≤ room → IsCanonical few t → IsCanonical room t
-roomier few room t le c = record { fits = c.fits; determined = c.determined; no_zero = c.no_zero; shallow = omega (arith, le, c.shallow) }
+pub more_depth_left : (few depth_left : ℕ) (t : Tree) → few ≤ depth_left → IsCanonical few t → IsCanonical depth_left t
+more_depth_left few depth_left t le c = record { fits = c.fits; determined = c.determined; no_zero = c.no_zero; shallow = omega (arith, le, c.shallow) }
 
 -- the four facts, of lists of elements and of pairs
 abbrev AreItems : ℕ → Items → Type 0
-AreItems room ts = ItemsFit IsUtf8 ts × ArePlainItems ts × (zero_in_items ts ≡ false) × (items_depth ts ≤ room)
+AreItems depth_left ts = ItemsFit IsUtf8 ts × ArePlainItems ts × (zero_in_items ts ≡ false) × (items_depth ts ≤ depth_left)
 
 abbrev AreFields : ℕ → Fields → Type 0
-AreFields room fs = FieldsFit IsUtf8 fs × ArePlainFields fs × (zero_in_fields fs ≡ false) × (fields_depth fs ≤ room)
+AreFields depth_left fs = FieldsFit IsUtf8 fs × ArePlainFields fs × (zero_in_fields fs ≡ false) × (fields_depth fs ≤ depth_left)
 
-items_known : (room : ℕ) (ts : List Tree) → AreCanonical room ts → AreItems room (items_of ts)
-items_known room [] a = (tt, tt, refl, omega arith)
-items_known room (t ∷ ts) a =
+items_known : (depth_left : ℕ) (ts : List Tree) → AreCanonical depth_left ts → AreItems depth_left (items_of ts)
+items_known depth_left [] a = (tt, tt, refl, omega arith)
+items_known depth_left (t ∷ ts) a =
     let c = a.0 in
-    let r = items_known room ts a.1 in
+    let r = items_known depth_left ts a.1 in
     ((c.fits, r.0), (c.determined, r.1), or_from (zero_in t) (zero_in_items (items_of ts)) c.no_zero r.2, omega (arith, c.shallow, r.3))
 
-pub array_known : (room : ℕ) (ts : List Tree) → AreCanonical room ts → IsCanonical (suc room) (array (items_of ts))
-array_known room ts a =
-    let r = items_known room ts a in
+pub array_known : (depth_left : ℕ) (ts : List Tree) → AreCanonical depth_left ts → IsCanonical (suc depth_left) (array (items_of ts))
+array_known depth_left ts a =
+    let r = items_known depth_left ts a in
     record { fits = r.0; determined = r.1; no_zero = r.2; shallow = omega (arith, r.3) }
 
-fields_known : (room : ℕ) (d : Doc) → AreCanonicalFields room d → AreFields room (fields_of d)
-fields_known room [] a = (tt, tt, refl, omega arith)
-fields_known room (p ∷ ps) a =
+fields_known : (depth_left : ℕ) (d : Doc) → AreCanonicalFields depth_left d → AreFields depth_left (fields_of d)
+fields_known depth_left [] a = (tt, tt, refl, omega arith)
+fields_known depth_left (p ∷ ps) a =
     let c = a.1 in
-    let r = fields_known room ps a.2 in
+    let r = fields_known depth_left ps a.2 in
     let others = or_from (zero_in p.1) (zero_in_fields (fields_of ps)) c.no_zero r.2 in
     let zero = or_from (has_zero p.0) (zero_in p.1 || zero_in_fields (fields_of ps)) a.0.1 others in
     ((a.0.0, (c.fits, r.0)), (c.determined, r.1), zero, omega (arith, c.shallow, r.3))
 
-first_plain : (room : ℕ) (d : Doc) → AreCanonicalFields room d → IsPlainFirst (fields_of d)
-first_plain room [] a = tt
-first_plain room (p ∷ ps) a = a.0.2
+first_plain : (depth_left : ℕ) (d : Doc) → AreCanonicalFields depth_left d → IsPlainFirst (fields_of d)
+first_plain depth_left [] a = tt
+first_plain depth_left (p ∷ ps) a = a.0.2
 
-pub doc_known : (room : ℕ) (d : Doc) → AreCanonicalFields room d → IsCanonical (suc room) (doc (fields_of d))
-doc_known room d a =
-    let r = fields_known room d a in
-    record { fits = r.0; determined = (first_plain room d a, r.1); no_zero = r.2; shallow = omega (arith, r.3) }
+pub doc_known : (depth_left : ℕ) (d : Doc) → AreCanonicalFields depth_left d → IsCanonical (suc depth_left) (doc (fields_of d))
+doc_known depth_left d a =
+    let r = fields_known depth_left d a in
+    record { fits = r.0; determined = (first_plain depth_left d a, r.1); no_zero = r.2; shallow = omega (arith, r.3) }
 
 pub reads_canonical : (line rest : List ℕ) (d : Doc) → line ≡ text (doc (fields_of d)) ++ rest → length rest ≡ 0 → AreCanonicalFields (most_levels - 1) d → ReadsAs line d
 reads_canonical line [] d is none a =
@@ -115,16 +115,16 @@ reads_canonical line (x ∷ rest) d is none a = absurd cc
 
 -- ---- one more
 
-pub one_more_canonical : (room : ℕ) (ts : List Tree) (t : Tree) → AreCanonical room ts → IsCanonical room t → AreCanonical room (ts ++ t ∷ [])
-one_more_canonical room [] t a c = (c, tt)
-one_more_canonical room (s ∷ ts) t a c = (a.0, one_more_canonical room ts t a.1 c)
+pub one_more_canonical : (depth_left : ℕ) (ts : List Tree) (t : Tree) → AreCanonical depth_left ts → IsCanonical depth_left t → AreCanonical depth_left (ts ++ t ∷ [])
+one_more_canonical depth_left [] t a c = (c, tt)
+one_more_canonical depth_left (s ∷ ts) t a c = (a.0, one_more_canonical depth_left ts t a.1 c)
 
 abbrev pub IsName : List ℕ → Type 0
 IsName name = IsUtf8 name × (has_zero name ≡ false) × (wrapper_of name ≡ None)
 
-pub one_more_canonical_field : (room : ℕ) (ps : Doc) (name : List ℕ) (t : Tree) → AreCanonicalFields room ps → IsName name → IsCanonical room t → AreCanonicalFields room (ps ++ (name, t) ∷ [])
-one_more_canonical_field room [] name t a n c = (n, c, tt)
-one_more_canonical_field room (p ∷ ps) name t a n c = (a.0, a.1, one_more_canonical_field room ps name t a.2 n c)
+pub one_more_canonical_field : (depth_left : ℕ) (ps : Doc) (name : List ℕ) (t : Tree) → AreCanonicalFields depth_left ps → IsName name → IsCanonical depth_left t → AreCanonicalFields depth_left (ps ++ (name, t) ∷ [])
+one_more_canonical_field depth_left [] name t a n c = (n, c, tt)
+one_more_canonical_field depth_left (p ∷ ps) name t a n c = (a.0, a.1, one_more_canonical_field depth_left ps name t a.2 n c)
 
 pub texts_end : (ts : List Tree) (t : Tree) → items_text (items_of (ts ++ t ∷ [])) ≡ items_text (items_of ts) ++ text t ∷ []
 texts_end [] t = refl
@@ -168,14 +168,14 @@ no_wrapper (c ∷ cs) p = rw p refl
 -- ---- scalars
 
 -- a wrapper in three pieces
-pub wrapped : (front value back whole text inside after rest : List ℕ) → text ≡ front ++ inside → inside ≡ value ++ after → after ≡ back ++ rest
-    → whole ≡ front ++ (value ++ back) → text ≡ whole ++ rest
-wrapped front value back whole text inside after rest a b c spelled = rw (a, b, c, spelled) (simp append_assoc)
+pub wrapped : (prefix value back whole text inside after rest : List ℕ) → text ≡ prefix ++ inside → inside ≡ value ++ after → after ≡ back ++ rest
+    → whole ≡ prefix ++ (value ++ back) → text ≡ whole ++ rest
+wrapped prefix value back whole text inside after rest a b c spelled = rw (a, b, c, spelled) (simp append_assoc)
 
 -- a wrapper of a number that was read is the canonical text of that number, whatever follows
-pub number_read : (make : ℤ → Scalar) (front back text inside after rest : List ℕ) (z y : ℤ) → text ≡ front ++ inside → inside ≡ quoted (signed_decimal z) ++ after → after ≡ back ++ rest → z ≡ y
-    → scalar_text (make z) ≡ front ++ (quoted (signed_decimal z) ++ back) → text ≡ scalar_text (make y) ++ rest
-number_read make front back text inside after rest z y a b c same spelled = rw (← same) (wrapped front (quoted (signed_decimal z)) back (scalar_text (make z)) text inside after rest a b c spelled)
+pub number_read : (make : ℤ → Scalar) (prefix back text inside after rest : List ℕ) (z y : ℤ) → text ≡ prefix ++ inside → inside ≡ quoted (signed_decimal z) ++ after → after ≡ back ++ rest → z ≡ y
+    → scalar_text (make z) ≡ prefix ++ (quoted (signed_decimal z) ++ back) → text ≡ scalar_text (make y) ++ rest
+number_read make prefix back text inside after rest z y a b c same spelled = rw (← same) (wrapped prefix (quoted (signed_decimal z)) back (scalar_text (make z)) text inside after rest a b c spelled)
 
 nested : (a b c d e : List ℕ) → ((a ++ (b ++ c)) ++ d) ++ e ≡ a ++ (b ++ (c ++ (d ++ e)))
 nested a b c d e = simp append_assoc
@@ -234,14 +234,14 @@ packs_canonical line rest new old d false r is known short put empty then = rw t
 pub run_read : (text : List ℕ) (n : ℕ) (o : Option (Bor (List ℕ) × Bor (List ℕ))) → IfSome o (λ x. x.0.now ≡ take n text)
     → IfSome o (λ x. x.1.now ≡ drop n text) → list_any needs_escape (take n text) ≡ false
     → IfSome o (λ p. text ≡ escaped p.0.now ++ p.1.now)
-run_read text n None front back none = tt
-run_read text n (Some p) front back none =
-    sym (take-append-drop n text) ∙ ap₂ (λ (x y : List ℕ). x ++ y) (sym (escaped-plain (take n text) none) ∙ ap escaped (sym front)) (sym back)
+run_read text n None prefix back none = tt
+run_read text n (Some p) prefix back none =
+    sym (take-append-drop n text) ∙ ap₂ (λ (x y : List ℕ). x ++ y) (sym (escaped-plain (take n text) none) ∙ ap escaped (sym prefix)) (sym back)
 
 -- an escape and the run after it
-pub run_goes_on : (text held old after run rest : List ℕ) (byte : ℕ) → text ≡ 34 ∷ (escaped held ++ old) → old ≡ escape_byte byte ++ after
-    → after ≡ escaped run ++ rest → text ≡ 34 ∷ (escaped (held ++ (byte ∷ run)) ++ rest)
-run_goes_on text held old after run rest byte a b c = rw (a, b, c, flat_map-append escape_byte held (byte ∷ run)) (simp append_assoc)
+pub run_goes_on : (text decoded old after run rest : List ℕ) (byte : ℕ) → text ≡ 34 ∷ (escaped decoded ++ old) → old ≡ escape_byte byte ++ after
+    → after ≡ escaped run ++ rest → text ≡ 34 ∷ (escaped (decoded ++ (byte ∷ run)) ++ rest)
+run_goes_on text decoded old after run rest byte a b c = rw (a, b, c, flat_map-append escape_byte decoded (byte ∷ run)) (simp append_assoc)
 
 escape_some : (byte : ℕ) → 0 < length (escape_byte byte)
 unfolding escape_byte
@@ -257,11 +257,11 @@ escape_some byte = go (byte == 34 || byte == 92) (byte == 8) (byte == 12) (byte 
 pub run_shorter : (old after run rest : List ℕ) (byte : ℕ) → old ≡ escape_byte byte ++ after → after ≡ escaped run ++ rest → length rest < length old
 run_shorter old after run rest byte a b = omega (arith, ap (λ x. length x) a, ap (λ x. length x) b, length-append (escape_byte byte) after, length-append (escaped run) rest, escape_some byte)
 
-pub run_ends : (text held old : List ℕ) (o : Option (Bor (List ℕ))) (into new : List ℕ) → text ≡ 34 ∷ (escaped held ++ old) → new ≡ into ++ held → IfSome o (λ rest. old ≡ 34 ∷ rest.now)
-    → IfSome o (λ rest. (held : List ℕ) × (text ≡ quoted held ++ rest.now) × (new ≡ into ++ held))
+pub run_ends : (text decoded old : List ℕ) (o : Option (Bor (List ℕ))) (into new : List ℕ) → text ≡ 34 ∷ (escaped decoded ++ old) → new ≡ into ++ decoded → IfSome o (λ rest. old ≡ 34 ∷ rest.now)
+    → IfSome o (λ rest. (decoded : List ℕ) × (text ≡ quoted decoded ++ rest.now) × (new ≡ into ++ decoded))
 unfolding quoted
-run_ends text held old None into new a b c = tt
-run_ends text held old (Some rest) into new a b c = (held, rw (a, c) (simp append_assoc), b)
+run_ends text decoded old None into new a b c = tt
+run_ends text decoded old (Some rest) into new a b c = (decoded, rw (a, c) (simp append_assoc), b)
 
 -- ---- what is pushed to a text
 
@@ -269,9 +269,9 @@ pub pushed : {A E : Type 0} (r : Result A E) (x : A) (new a b : List ℕ) → So
 pushed (Ok y) x new a b is e = e
 pushed (Err f) x new a b is e = absurd cc
 
-pub pieces_put : (into old held plain one new encoded : List ℕ) (byte : ℕ) → old ≡ into ++ held → one ≡ old ++ encoded → encoded ≡ byte ∷ []
-    → new ≡ one ++ plain → new ≡ into ++ (held ++ (byte ∷ plain))
-pieces_put into old held plain one new encoded byte a b c d = rw (d, b, a, c) (simp append_assoc)
+pub pieces_put : (into old decoded plain one new encoded : List ℕ) (byte : ℕ) → old ≡ into ++ decoded → one ≡ old ++ encoded → encoded ≡ byte ∷ []
+    → new ≡ one ++ plain → new ≡ into ++ (decoded ++ (byte ∷ plain))
+pieces_put into old decoded plain one new encoded byte a b c d = rw (d, b, a, c) (simp append_assoc)
 
 pub all_more : (bs : List ℕ) (i : ℕ) → i < length bs → all_ascii_digits (take i bs) ≡ true → is_ascii_digit (get_or bs i 0) ≡ true → all_ascii_digits (take (suc i) bs) ≡ true
 all_more [] i lt all one = absurd (omega arith)
@@ -300,7 +300,7 @@ id_fits s bytes e =
 
 pub digits_read : (text rest bytes : List ℕ) (n count : ℕ) → bytes ≡ text → count ≤ length bytes → digits_value 10 (take count bytes) ≡ n → all_ascii_digits (take count bytes) ≡ true → n < 2 ^ 64
     → 0 < count → (1 < count → get_or bytes 0 0 ≡ 48 → ⊥) → rest ≡ drop count text → text ≡ decimal n ++ rest
-digits_read text rest bytes n count same within value all small some lead left =
+digits_read text rest bytes n count same within value all small some lead remaining =
     let d = take count bytes in
     let long : length d ≡ count = length-take-le count bytes within in
     let first : get_or d 0 0 ≡ get_or bytes 0 0 = get_or-take count bytes 0 0 (omega arith) in
@@ -308,8 +308,8 @@ digits_read text rest bytes n count same within value all small some lead left =
       | inl more ↦ absurd (lead more (sym first ∙ e))
       | inr few ↦ omega (arith, long)
     ] in
-    let back = decimal-digits_value own d all (omega (arith, long)) alone (omega (arith, value)) in
-    sym (take-append-drop count text) ∙ ap₂ (λ (x y : List ℕ). x ++ y) (ap (take count) (sym same) ∙ sym back ∙ ap decimal value) (sym left)
+    let back = decimal-digits_value digits_model d all (omega (arith, long)) alone (omega (arith, value)) in
+    sym (take-append-drop count text) ∙ ap₂ (λ (x y : List ℕ). x ++ y) (ap (take count) (sym same) ∙ sym back ∙ ap decimal value) (sym remaining)
 
 -- one more digit
 pub digit_more : (bs : List ℕ) (i n m d next : ℕ) → i < length bs → digits_value 10 (take i bs) ≡ n → all_ascii_digits (take i bs) ≡ true
@@ -384,25 +384,25 @@ abbrev pub IsQuiet : List ℕ → ℕ → Type 0
 IsQuiet text n = (k : ℕ) → k < n → needs_escape (get_or text k 0) ≡ false
 
 -- bytes that each need no escape hold none that does
-pub quiet_front : (text bytes : List ℕ) (n : ℕ) → bytes ≡ text → n ≤ length bytes → IsQuiet bytes n → list_any needs_escape (take n text) ≡ false
-quiet_front text bytes n same le quiet =
+pub quiet_prefix : (text bytes : List ℕ) (n : ℕ) → bytes ≡ text → n ≤ length bytes → IsQuiet bytes n → list_any needs_escape (take n text) ≡ false
+quiet_prefix text bytes n same le quiet =
     let long = length-take-le n bytes le in
     rw (← same) (none_any needs_escape (take n bytes) (λ k lt. ap needs_escape (get_or-take n bytes k 0 (omega (arith, long))) ∙ quiet k (omega (arith, long))))
 
-module _ (text : List ℕ) (i : ℕ) (room : i + 32 ≤ length text) (before : IsQuiet text i) where
+module _ (text : List ℕ) (i : ℕ) (depth_left : i + 32 ≤ length text) (before : IsQuiet text i) where
   pub all_quiet : mask_l (map needs_escape (chunk i 32 text)) ≡ 0 → IsQuiet text (i + 32)
   all_quiet none k lt = elim (cases_lt k i) [
     | inl less ↦ before k less
-    | inr more ↦ none_from_empty_mask needs_escape text i 32 0 room none k (omega (arith, more)) lt
+    | inr more ↦ none_from_empty_mask needs_escape text i 32 0 depth_left none k (omega (arith, more)) lt
   ]
 
   -- the first byte that stops is one of the chunk, and those before it are quiet
   pub stops_within : (r : ℕ) → 0 < mask_l (map needs_escape (chunk i 32 text)) → r ≡ count_trailing_zeros 64 (mask_l (map needs_escape (chunk i 32 text))) → (r ≤ 32) × IsQuiet text (i + r)
   stops_within r some counted =
-      let long = length-chunk i 32 text room in
+      let long = length-chunk i 32 text depth_left in
       let first : r ≡ prefix_len (λ x. not (needs_escape x)) (chunk i 32 text) = counted ∙ trailing_mask_l needs_escape 64 (chunk i 32 text) (omega (arith, long)) some in
       let quiet : IsQuiet text (i + r) = λ k lt. elim (cases_lt k i) [
         | inl less ↦ before k less
-        | inr more ↦ run_in_chunk_fails needs_escape text i 32 r 0 room first k (omega (arith, more)) lt
+        | inr more ↦ run_in_chunk_fails needs_escape text i 32 r 0 depth_left first k (omega (arith, more)) lt
       ] in
       (omega (arith, first, prefix_len-le-length (λ x. not (needs_escape x)) (chunk i 32 text), long), quiet)

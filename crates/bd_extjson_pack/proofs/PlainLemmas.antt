@@ -18,16 +18,16 @@ use Rattle.bd_extjson_wrapper.specs.declared.wrapper.Wrapper.TheVariants as kind
 
 -- what stands there nests so deep at most, and has no zero where there may be none
 abbrev IsTree : ℕ → Option Tree → Type 0
-IsTree room None = Unit {0}
-IsTree room (Some t) = (depth t ≤ room) × (zero_in t ≡ false)
+IsTree depth_left None = Unit {0}
+IsTree depth_left (Some t) = (depth t ≤ depth_left) × (zero_in t ≡ false)
 
 abbrev AreItems : ℕ → Option Items → Type 0
-AreItems room None = Unit {0}
-AreItems room (Some ts) = (items_depth ts ≤ room) × (zero_in_items ts ≡ false)
+AreItems depth_left None = Unit {0}
+AreItems depth_left (Some ts) = (items_depth ts ≤ depth_left) × (zero_in_items ts ≡ false)
 
 abbrev AreFields : ℕ → Option Fields → Type 0
-AreFields room None = Unit {0}
-AreFields room (Some fs) = (fields_depth fs ≤ room) × (zero_in_fields fs ≡ false)
+AreFields depth_left None = Unit {0}
+AreFields depth_left (Some fs) = (fields_depth fs ≤ depth_left) × (zero_in_fields fs ≡ false)
 
 -- ---- scalars
 
@@ -82,83 +82,83 @@ single_plain kinds.MaxKey j = true_plain (one j) trees.max_key refl
 single_plain kinds.Undefined j = true_plain (unwrap_or (as_bool j) false) trees.undefined refl
 single_plain _ j = tt
 
-leaf_plain : (room : ℕ) (o : Option Scalar) → IsScalar o → IsTree room (option_map leaf o)
-leaf_plain room None h = tt
-leaf_plain room (Some s) h = (omega arith, h)
+leaf_plain : (depth_left : ℕ) (o : Option Scalar) → IsScalar o → IsTree depth_left (option_map leaf o)
+leaf_plain depth_left None h = tt
+leaf_plain depth_left (Some s) h = (omega arith, h)
 
-number_plain : (room : ℕ) (o : Option ℤ) → IsTree room (bare_number o)
-number_plain room None = tt
-number_plain room (Some z) = cond_both (fits_bits 31 z) (trees.int32 z) (trees.int64 z) (λ s. IsTree room (Some (leaf s))) (λ e. (omega arith, refl)) (λ e. (omega arith, refl))
+number_plain : (depth_left : ℕ) (o : Option ℤ) → IsTree depth_left (bare_number o)
+number_plain depth_left None = tt
+number_plain depth_left (Some z) = cond_both (fits_bits 31 z) (trees.int32 z) (trees.int64 z) (λ s. IsTree depth_left (Some (leaf s))) (λ e. (omega arith, refl)) (λ e. (omega arith, refl))
 
 -- ---- lists
 
-item_plain : (room : ℕ) (t : Option Tree) (ts : Option Items) → IsTree room t → AreItems room ts → AreItems room (add_item t ts)
-item_plain room (Some t) (Some ts) p q = (let a = p.0 in let b = q.0 in omega arith, or_from (zero_in t) (zero_in_items ts) p.1 q.1)
-item_plain room _ _ p q = tt
+item_plain : (depth_left : ℕ) (t : Option Tree) (ts : Option Items) → IsTree depth_left t → AreItems depth_left ts → AreItems depth_left (add_item t ts)
+item_plain depth_left (Some t) (Some ts) p q = (let a = p.0 in let b = q.0 in omega arith, or_from (zero_in t) (zero_in_items ts) p.1 q.1)
+item_plain depth_left _ _ p q = tt
 
-field_plain : (room : ℕ) (name : List ℕ) (t : Option Tree) (fs : Option Fields) → IsTree room t → AreFields room fs → AreFields room (add_field name t fs)
-field_plain room name (Some t) (Some fs) p q =
+field_plain : (depth_left : ℕ) (name : List ℕ) (t : Option Tree) (fs : Option Fields) → IsTree depth_left t → AreFields depth_left fs → AreFields depth_left (add_field name t fs)
+field_plain depth_left name (Some t) (Some fs) p q =
     let a = p.0 in
     let b = q.0 in
-    cond_both (has_zero name) None (Some (field name t fs)) (AreFields room) (λ e. tt)
+    cond_both (has_zero name) None (Some (field name t fs)) (AreFields depth_left) (λ e. tt)
     (λ e. (omega arith, or_from (has_zero name) (zero_in t || zero_in_fields fs) e (or_from (zero_in t) (zero_in_fields fs) p.1 q.1)))
-field_plain room name _ _ p q = tt
+field_plain depth_left name _ _ p q = tt
 
-array_plain : (room : ℕ) (ts : Option Items) → AreItems (room - 1) ts → IsTree room (nested room (option_map array ts))
-array_plain (suc room) (Some ts) p = (let a = p.0 in omega arith, p.1)
+array_plain : (depth_left : ℕ) (ts : Option Items) → AreItems (depth_left - 1) ts → IsTree depth_left (nested depth_left (option_map array ts))
+array_plain (suc depth_left) (Some ts) p = (let a = p.0 in omega arith, p.1)
 array_plain _ _ p = tt
 
-doc_plain : (room : ℕ) (fs : Option Fields) → AreFields (room - 1) fs → IsTree room (nested room (option_map doc fs))
-doc_plain (suc room) (Some fs) p = (let a = p.0 in omega arith, p.1)
+doc_plain : (depth_left : ℕ) (fs : Option Fields) → AreFields (depth_left - 1) fs → IsTree depth_left (nested depth_left (option_map doc fs))
+doc_plain (suc depth_left) (Some fs) p = (let a = p.0 in omega arith, p.1)
 doc_plain _ _ p = tt
 
 -- ---- objects that stand for values of other kinds
 
-scope_plain : (room : ℕ) (s : Option (List ℕ)) (t : Option Tree) → IsTree (room - 1) t → IsTree room (nested room (with_scope s t))
-scope_plain (suc room) (Some s) (Some (doc fs)) p = (let a = p.0 in omega arith, p.1)
+scope_plain : (depth_left : ℕ) (s : Option (List ℕ)) (t : Option Tree) → IsTree (depth_left - 1) t → IsTree depth_left (nested depth_left (with_scope s t))
+scope_plain (suc depth_left) (Some s) (Some (doc fs)) p = (let a = p.0 in omega arith, p.1)
 scope_plain _ _ _ p = tt
 
-two_plain : (room : ℕ) (w : Wrapper) (j : Json) (t : Option Tree) (v : Option Wrapper) (i : Json) (u : Option Tree) (ms : json.Members)
-    → IsTree (room - 1) t → IsTree (room - 1) u → IsTree room (nested room (two w j t v i u ms))
-two_plain room kinds.Code j t (Some kinds.Scope) i u json.no_members p q = scope_plain room (as_str j) u q
-two_plain room kinds.Scope j t (Some kinds.Code) i u json.no_members p q = scope_plain room (as_str i) t p
+two_plain : (depth_left : ℕ) (w : Wrapper) (j : Json) (t : Option Tree) (v : Option Wrapper) (i : Json) (u : Option Tree) (ms : json.Members)
+    → IsTree (depth_left - 1) t → IsTree (depth_left - 1) u → IsTree depth_left (nested depth_left (two w j t v i u ms))
+two_plain depth_left kinds.Code j t (Some kinds.Scope) i u json.no_members p q = scope_plain depth_left (as_str j) u q
+two_plain depth_left kinds.Scope j t (Some kinds.Code) i u json.no_members p q = scope_plain depth_left (as_str i) t p
 two_plain zero _ j t _ i u _ p q = tt
-two_plain (suc room) _ j t _ i u _ p q = tt
+two_plain (suc depth_left) _ j t _ i u _ p q = tt
 
-either_plain : (room : ℕ) (o : Option Wrapper) (f : Wrapper → Option Tree) (d : Option Tree) → ((w : Wrapper) → IsTree room (f w)) → IsTree room d → IsTree room (option_map_or f o d)
-either_plain room None f d p q = q
-either_plain room (Some w) f d p q = p w
+either_plain : (depth_left : ℕ) (o : Option Wrapper) (f : Wrapper → Option Tree) (d : Option Tree) → ((w : Wrapper) → IsTree depth_left (f w)) → IsTree depth_left d → IsTree depth_left (option_map_or f o d)
+either_plain depth_left None f d p q = q
+either_plain depth_left (Some w) f d p q = p w
 
 -- ---- values
 
 mutual
-  wrap_plain : (room : ℕ) (j : Json) → IsTree room (wrap room j)
-  wrap_plain room json.null = (omega arith, refl)
-  wrap_plain room (json.boolean b) = (omega arith, refl)
-  wrap_plain room (json.number s) = number_plain room (whole_64 s)
-  wrap_plain room (json.string s) = (omega arith, refl)
-  wrap_plain room (json.array js) = array_plain room (wrap_items (room - 1) js) (wrap_items_plain (room - 1) js)
-  wrap_plain room (json.object ms) = wrap_object_plain room ms
+  wrap_plain : (depth_left : ℕ) (j : Json) → IsTree depth_left (wrap depth_left j)
+  wrap_plain depth_left json.null = (omega arith, refl)
+  wrap_plain depth_left (json.boolean b) = (omega arith, refl)
+  wrap_plain depth_left (json.number s) = number_plain depth_left (whole_64 s)
+  wrap_plain depth_left (json.string s) = (omega arith, refl)
+  wrap_plain depth_left (json.array js) = array_plain depth_left (wrap_items (depth_left - 1) js) (wrap_items_plain (depth_left - 1) js)
+  wrap_plain depth_left (json.object ms) = wrap_object_plain depth_left ms
 
-  wrap_items_plain : (room : ℕ) (js : json.Items) → AreItems room (wrap_items room js)
-  wrap_items_plain room json.no_items = (omega arith, refl)
-  wrap_items_plain room (json.item j js) = item_plain room (wrap room j) (wrap_items room js) (wrap_plain room j) (wrap_items_plain room js)
+  wrap_items_plain : (depth_left : ℕ) (js : json.Items) → AreItems depth_left (wrap_items depth_left js)
+  wrap_items_plain depth_left json.no_items = (omega arith, refl)
+  wrap_items_plain depth_left (json.item j js) = item_plain depth_left (wrap depth_left j) (wrap_items depth_left js) (wrap_plain depth_left j) (wrap_items_plain depth_left js)
 
-  wrap_object_plain : (room : ℕ) (ms : json.Members) → IsTree room (wrap_object room ms)
-  wrap_object_plain room json.no_members = doc_plain room (Some no_fields) (omega arith, refl)
-  wrap_object_plain room (json.member name j ms) =
-      either_plain room (wrapper_of name) (λ w. wrapped room w j (wrap (room - 1) j) ms) (nested room (option_map doc (add_field name (wrap (room - 1) j) (wrap_fields (room - 1) ms))))
-      (λ w. wrapped_plain room w j (wrap (room - 1) j) ms (wrap_plain (room - 1) j))
-      (doc_plain room (add_field name (wrap (room - 1) j) (wrap_fields (room - 1) ms))
-      (field_plain (room - 1) name (wrap (room - 1) j) (wrap_fields (room - 1) ms) (wrap_plain (room - 1) j) (wrap_fields_plain (room - 1) ms)))
+  wrap_object_plain : (depth_left : ℕ) (ms : json.Members) → IsTree depth_left (wrap_object depth_left ms)
+  wrap_object_plain depth_left json.no_members = doc_plain depth_left (Some no_fields) (omega arith, refl)
+  wrap_object_plain depth_left (json.member name j ms) =
+      either_plain depth_left (wrapper_of name) (λ w. wrapped depth_left w j (wrap (depth_left - 1) j) ms) (nested depth_left (option_map doc (add_field name (wrap (depth_left - 1) j) (wrap_fields (depth_left - 1) ms))))
+      (λ w. wrapped_plain depth_left w j (wrap (depth_left - 1) j) ms (wrap_plain (depth_left - 1) j))
+      (doc_plain depth_left (add_field name (wrap (depth_left - 1) j) (wrap_fields (depth_left - 1) ms))
+      (field_plain (depth_left - 1) name (wrap (depth_left - 1) j) (wrap_fields (depth_left - 1) ms) (wrap_plain (depth_left - 1) j) (wrap_fields_plain (depth_left - 1) ms)))
 
-  wrapped_plain : (room : ℕ) (w : Wrapper) (j : Json) (t : Option Tree) (ms : json.Members) → IsTree (room - 1) t → IsTree room (wrapped room w j t ms)
-  wrapped_plain room w j t json.no_members p = leaf_plain room (single w j) (single_plain w j)
-  wrapped_plain room w j t (json.member name i ms) p = two_plain room w j t (wrapper_of name) i (wrap (room - 1) i) ms p (wrap_plain (room - 1) i)
+  wrapped_plain : (depth_left : ℕ) (w : Wrapper) (j : Json) (t : Option Tree) (ms : json.Members) → IsTree (depth_left - 1) t → IsTree depth_left (wrapped depth_left w j t ms)
+  wrapped_plain depth_left w j t json.no_members p = leaf_plain depth_left (single w j) (single_plain w j)
+  wrapped_plain depth_left w j t (json.member name i ms) p = two_plain depth_left w j t (wrapper_of name) i (wrap (depth_left - 1) i) ms p (wrap_plain (depth_left - 1) i)
 
-  wrap_fields_plain : (room : ℕ) (ms : json.Members) → AreFields room (wrap_fields room ms)
-  wrap_fields_plain room json.no_members = (omega arith, refl)
-  wrap_fields_plain room (json.member name j ms) = field_plain room name (wrap room j) (wrap_fields room ms) (wrap_plain room j) (wrap_fields_plain room ms)
+  wrap_fields_plain : (depth_left : ℕ) (ms : json.Members) → AreFields depth_left (wrap_fields depth_left ms)
+  wrap_fields_plain depth_left json.no_members = (omega arith, refl)
+  wrap_fields_plain depth_left (json.member name j ms) = field_plain depth_left name (wrap depth_left j) (wrap_fields depth_left ms) (wrap_plain depth_left j) (wrap_fields_plain depth_left ms)
 
 -- ---- documents
 
@@ -186,6 +186,6 @@ kept : (o : Option Tree) (t : Tree) (ts rest : List Token) → option_map {U = T
 kept None t ts rest e = absurd cc
 kept (Some u) t ts rest e = ap (λ (x : Option (Tree × List Token)). option_map (λ (p : Tree × List Token). p.0) x) e
 
-pub object_plain : (room : ℕ) (r : Option (json.Members × List Token)) (t : Tree) (rest : List Token) → through (wrap_object room) r ≡ Some (t, rest) → zero_in t ≡ false
-object_plain room None t rest e = absurd cc
-object_plain room (Some p) t rest e = (rw (kept (wrap_object room p.0) t p.1 rest e) at (wrap_object_plain room p.0)).1
+pub object_plain : (depth_left : ℕ) (r : Option (json.Members × List Token)) (t : Tree) (rest : List Token) → through (wrap_object depth_left) r ≡ Some (t, rest) → zero_in t ≡ false
+object_plain depth_left None t rest e = absurd cc
+object_plain depth_left (Some p) t rest e = (rw (kept (wrap_object depth_left p.0) t p.1 rest e) at (wrap_object_plain depth_left p.0)).1

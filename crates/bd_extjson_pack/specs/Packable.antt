@@ -5,7 +5,7 @@ use Rattle.bd_value.specs.{Tree.doc, Tree.fields_of, Fits.has_zero, Fits.zero_in
 use Rattle.bd_bson_write.specs.TreeBytes.{bytes_of}
 use Rattle.bd_extjson_wrapper.specs.Wrapper.{wrapper_of}
 use Rattle.bd_extjson.specs.{Read.ReadsAs, Laws.IsPlain}
-use Rattle.bd_extjson_fault.specs.{JsonFault.IsPlaced, JsonFault.TellsBadUtf8, TextFault.text_fault}
+use Rattle.bd_extjson_fault.specs.{JsonFault.IsPlaced, JsonFault.ReportsBadUtf8, TextFault.text_fault}
 use Rattle.bd_extjson_fault.specs.declared.json_fault.JsonFaultKind.TheVariants as kinds
 use Rattle.bd_extjson_pack.specs.declared.line.LineFault.{LineFault}
 use Rattle.bd_extjson_pack.specs.declared.line.LineFault.TheVariants as faults
@@ -21,29 +21,29 @@ IsPackable line d = ReadsAs line d × (length (plain d) ≤ longest_document)
 -- The line is no document, or too long.
 abbrev pub IsBad : List ℕ → LineFault → Type 0
 IsBad line (faults.Unread f) = (f.kind ≢ kinds.NoMemory) × ((d : Doc) → ReadsAs line d → ⊥)
-    × IsPlaced (length line) f × TellsBadUtf8 line f
+    × IsPlaced (length line) f × ReportsBadUtf8 line f
 IsBad line faults.TooLong = (d : Doc) × ReadsAs line d × (longest_document < length (plain d))
 
 -- the fault that is reported of a line that is no document is the fault of its text
-abbrev pub TellsFault : List ℕ → LineFault → Type 0
-TellsFault line (faults.Unread f) = f ≡ text_fault line
-TellsFault line faults.TooLong = Unit {0}
+abbrev pub ReportsFault : List ℕ → LineFault → Type 0
+ReportsFault line (faults.Unread f) = f ≡ text_fault line
+ReportsFault line faults.TooLong = Unit {0}
 
--- A value of at most `room` levels that is read back from its canonical text:
+-- A value of at most `depth_left` levels that is read back from its canonical text:
 -- it fits, its text is of no other value, and no `cstring` has a zero.
-pub record IsCanonical (room : ℕ) (t : Tree) : Type 0 where
+pub record IsCanonical (depth_left : ℕ) (t : Tree) : Type 0 where
   pub fits : Fits t
   pub determined : IsPlain t
   pub no_zero : zero_in t ≡ false
-  pub shallow : depth t ≤ room
+  pub shallow : depth t ≤ depth_left
 
 -- Each of these values is read back from its canonical text.
 abbrev pub AreCanonical : ℕ → List Tree → Type 0
-AreCanonical room [] = Unit {0}
-AreCanonical room (t ∷ ts) = IsCanonical room t × AreCanonical room ts
+AreCanonical depth_left [] = Unit {0}
+AreCanonical depth_left (t ∷ ts) = IsCanonical depth_left t × AreCanonical depth_left ts
 
 -- Each value is read back from its canonical text; each name is UTF-8 without a zero, and no wrapper name.
 abbrev pub AreCanonicalFields : ℕ → Doc → Type 0
-AreCanonicalFields room [] = Unit {0}
-AreCanonicalFields room (p ∷ ps) =
-    (IsUtf8 p.0 × (has_zero p.0 ≡ false) × (wrapper_of p.0 ≡ None)) × IsCanonical room p.1 × AreCanonicalFields room ps
+AreCanonicalFields depth_left [] = Unit {0}
+AreCanonicalFields depth_left (p ∷ ps) =
+    (IsUtf8 p.0 × (has_zero p.0 ≡ false) × (wrapper_of p.0 ≡ None)) × IsCanonical depth_left p.1 × AreCanonicalFields depth_left ps

@@ -36,9 +36,9 @@ pub(crate) fn append_canonical(text: &str, out: &mut Vec<u8>) -> Option<()>
 /// Appends the document that the text begins with.
 #[cycle(canonical)]
 #[inline(never)]
-fn append_fields<'a>(text: &'a str, room: usize, out: &mut Vec<u8>) -> Option<&'a str>
+fn append_fields<'a>(text: &'a str, depth_left: usize, out: &mut Vec<u8>) -> Option<&'a str>
     ensures gives { IfSome result (λ rest. (d : Doc)
-        × (text.now ≡ text_of (doc (fields_of d)) ++ rest.now) × AreCanonicalFields room d
+        × (text.now ≡ text_of (doc (fields_of d)) ++ rest.now) × AreCanonicalFields depth_left d
         × (out.new.items ≡ out.old.items ++ bytes_of (doc (fields_of d)))) }
     ensures within { IfSome result (λ rest. length out.new.items ≤ longest_document) }
 {
@@ -50,7 +50,7 @@ fn append_fields<'a>(text: &'a str, room: usize, out: &mut Vec<u8>) -> Option<&'
         if may_name_wrapper(name) {
             return None;
         }
-        rest = append_next(after_word(value, b":")?, name, room, out)?;
+        rest = append_next(after_word(value, b":")?, name, depth_left, out)?;
         next = after_word(rest, b",");
     }
     end_body(start, out).ok()?;
@@ -60,9 +60,9 @@ fn append_fields<'a>(text: &'a str, room: usize, out: &mut Vec<u8>) -> Option<&'
 /// Appends the array that the text begins with.
 #[cycle(canonical)]
 #[inline(never)]
-fn append_items<'a>(text: &'a str, room: usize, out: &mut Vec<u8>) -> Option<&'a str>
+fn append_items<'a>(text: &'a str, depth_left: usize, out: &mut Vec<u8>) -> Option<&'a str>
     ensures { IfSome result (λ rest. (ts : List Tree)
-        × (text.now ≡ text_of (array (items_of ts)) ++ rest.now) × AreCanonical room ts
+        × (text.now ≡ text_of (array (items_of ts)) ++ rest.now) × AreCanonical depth_left ts
         × (out.new.items ≡ out.old.items ++ bytes_of (array (items_of ts)))) }
 {
     let start = begin_body(out).ok()?;
@@ -71,7 +71,7 @@ fn append_items<'a>(text: &'a str, room: usize, out: &mut Vec<u8>) -> Option<&'a
     let mut next = unless_ended(rest, b']');
     while let Some(at) = next {
         let mut digits = itoa::Buffer::new();
-        rest = append_next(at, digits.format(place), room, out)?;
+        rest = append_next(at, digits.format(place), depth_left, out)?;
         place = place.checked_add(1)?;
         next = after_word(rest, b",");
     }
@@ -79,24 +79,30 @@ fn append_items<'a>(text: &'a str, room: usize, out: &mut Vec<u8>) -> Option<&'a
     after_word(rest, b"]")
 }
 
-/// Appends the element of that name of the value that the text begins with, and gives what follows. At most `room` documents and
+/// Appends the element of that name of the value that the text begins with, and gives what follows. At most `depth_left` documents and
 /// arrays stand in one another in it.
 #[cycle(canonical)]
-fn append_next<'a>(text: &'a str, name: &str, room: usize, out: &mut Vec<u8>) -> Option<&'a str>
-    ensures { IfSome result (λ rest. (t : Tree) × (text.now ≡ text_of t ++ rest.now)
-        × IsCanonical room t × (out.new.items ≡ out.old.items ++ element t name.now (bytes_of t))) }
+fn append_next<'a>(
+    text: &'a str,
+    name: &str,
+    depth_left: usize,
+    out: &mut Vec<u8>,
+) -> Option<&'a str>
+    ensures { IfSome result (λ rest. (t : Tree)
+        × (text.now ≡ text_of t ++ rest.now) × IsCanonical depth_left t
+        × (out.new.items ≡ out.old.items ++ element t name.now (bytes_of t))) }
 {
     match text.as_bytes() {
         [b'"', ..] => append_string(text, name, out),
         [b'{', b'"', b'$', ..] => append_wrapper(text, name, out),
-        [b'{' | b'[', ..] if room == 0 => None,
+        [b'{' | b'[', ..] if depth_left == 0 => None,
         [b'{', ..] => {
             append_label(Kind::Doc, name, out).ok()?;
-            append_fields(text, room - 1, out)
+            append_fields(text, depth_left - 1, out)
         }
         [b'[', ..] => {
             append_label(Kind::Array, name, out).ok()?;
-            append_items(text, room - 1, out)
+            append_items(text, depth_left - 1, out)
         }
         _ => append_word(text, name, out),
     }
@@ -212,8 +218,8 @@ fn append_escaped<'a>(text: &'a str, name: &str, out: &mut Vec<u8>) -> Option<&'
 /// Appends what a string with escapes holds, and gives what follows it.
 #[inline(never)]
 fn append_unescaped<'a>(text: &'a str, into: &mut String) -> Option<&'a str>
-    ensures { IfSome result (λ rest. (held : List ℕ) × (text.now ≡ quoted held ++ rest.now)
-        × (string_bytes into.new ≡ string_bytes into.old ++ held)) }
+    ensures { IfSome result (λ rest. (decoded : List ℕ) × (text.now ≡ quoted decoded ++ rest.now)
+        × (string_bytes into.new ≡ string_bytes into.old ++ decoded)) }
 {
     let (plain, mut rest) = plain_run(after_word(text, b"\"")?)?;
     into.push_str(plain).ok()?;
@@ -426,8 +432,8 @@ fn is_hex_text(bytes: &[u8], text: &str) -> bool
     requires { length bytes.now ≤ 12 }
     ensures { IsTrue result → text.now ≡ hex_text bytes.now }
 {
-    let mut room = [0; 24];
-    let digits = &mut room[..2 * bytes.len()];
+    let mut buffer = [0; 24];
+    let digits = &mut buffer[..2 * bytes.len()];
     if hex::encode_to_slice(bytes, digits).is_err() {
         return false;
     }
@@ -439,8 +445,8 @@ fn is_hex_text(bytes: &[u8], text: &str) -> bool
 fn after_word<'a, const N: usize>(text: &'a str, word: &[u8; N]) -> Option<&'a str>
     ensures { IfSome result (λ rest. text.now ≡ word.now ++ rest.now) }
 {
-    let (front, _) = text.as_bytes().split_first_chunk::<N>()?;
-    if !is_word(front, word) {
+    let (prefix, _) = text.as_bytes().split_first_chunk::<N>()?;
+    if !is_word(prefix, word) {
         return None;
     }
     let (_, rest) = text.split_at_checked(N)?;
@@ -449,12 +455,12 @@ fn after_word<'a, const N: usize>(text: &'a str, word: &[u8; N]) -> Option<&'a s
 
 /// Whether the bytes are those of the word. All are looked at together.
 #[inline(always)]
-fn is_word<const N: usize>(front: &[u8; N], word: &[u8; N]) -> bool
-    ensures { IsTrue result → front.now ≡ word.now }
+fn is_word<const N: usize>(prefix: &[u8; N], word: &[u8; N]) -> bool
+    ensures { IsTrue result → prefix.now ≡ word.now }
 {
     let mut differ = false;
     for i in 0..N {
-        differ |= front[i] != word[i];
+        differ |= prefix[i] != word[i];
     }
     !differ
 }

@@ -64,8 +64,8 @@ fn append_document(
     if wrapper_named(first).is_some() {
         return None;
     }
-    let (room, depth) = (MOST_LEVELS - 1, MOST_BRACKETS - 1);
-    append_fields(alloc, &mut reader, first, room, depth, out)?;
+    let (depth_left, depth) = (MOST_LEVELS - 1, MOST_BRACKETS - 1);
+    append_fields(alloc, &mut reader, first, depth_left, depth, out)?;
     if reader.next().is_some() {
         return None;
     }
@@ -79,12 +79,12 @@ fn append_fields<'a>(
     alloc: Global,
     reader: &mut Reader<'a>,
     first: Option<&'a str>,
-    room: usize,
+    depth_left: usize,
     depth: usize,
     out: &mut Vec<u8>,
 ) -> Option<()>
     ensures gives { IfSome result (λ u. (fs : Fields)
-        × (through (wrap_fields room) (after_key depth (length reader.old) (option_map (λ s.
+        × (through (wrap_fields depth_left) (after_key depth (length reader.old) (option_map (λ s.
         s.now) first.entry) reader.old) ≡ Some (fs, reader.new))
         × (out.new.items ≡ out.old.items ++ bytes_of (doc fs))) }
     ensures shorter { IfSome result (λ u. length reader.new ≤ length reader.old) }
@@ -96,25 +96,25 @@ fn append_fields<'a>(
         if has_zero(name) {
             return None;
         }
-        append_next(alloc, reader, name, room, depth, out)?;
+        append_next(alloc, reader, name, depth_left, depth, out)?;
         next = reader.next_key().ok()?;
     }
     end_body(at, out).ok()
 }
 
-/// Appends the element of that name of the value that comes next. At most `room` documents and arrays stand in one another in
+/// Appends the element of that name of the value that comes next. At most `depth_left` documents and arrays stand in one another in
 /// it, and `depth` brackets.
 #[cycle(tokens)]
 fn append_next(
     alloc: Global,
     reader: &mut Reader<'_>,
     name: &str,
-    room: usize,
+    depth_left: usize,
     depth: usize,
     out: &mut Vec<u8>,
 ) -> Option<()>
     ensures gives { IfSome result (λ u. (t : trees.Tree)
-        × (through (wrap room) (value depth reader.old) ≡ Some (t, reader.new))
+        × (through (wrap depth_left) (value depth reader.old) ≡ Some (t, reader.new))
         × (out.new.items ≡ out.old.items ++ element t name.now (bytes_of t))) }
     ensures shorter { IfSome result (λ u. length reader.new < length reader.old) }
 {
@@ -123,12 +123,12 @@ fn append_next(
         Token::Number(text) => append_number(name, text, out),
         Token::Bool(b) => append_bool(name, b, out),
         Token::Null => push_label(Kind::Null, name, out),
-        Token::BeginArray if depth > 0 && room > 0 => {
+        Token::BeginArray if depth > 0 && depth_left > 0 => {
             append_label(Kind::Array, name, out).ok()?;
-            append_items(alloc, reader, room - 1, depth - 1, out)
+            append_items(alloc, reader, depth_left - 1, depth - 1, out)
         }
         Token::BeginObject if depth > 0 => {
-            append_object(alloc, reader, name, room, depth - 1, out)
+            append_object(alloc, reader, name, depth_left, depth - 1, out)
         }
         _ => None,
     }
@@ -140,12 +140,12 @@ fn append_next(
 fn append_items(
     alloc: Global,
     reader: &mut Reader<'_>,
-    room: usize,
+    depth_left: usize,
     depth: usize,
     out: &mut Vec<u8>,
 ) -> Option<()>
     ensures gives { IfSome result (λ u. (ts : Items)
-        × (through (wrap_items room) (items (value depth) (length reader.old) reader.old)
+        × (through (wrap_items depth_left) (items (value depth) (length reader.old) reader.old)
         ≡ Some (ts, reader.new)) × (out.new.items ≡ out.old.items ++ bytes_of (array ts))) }
     ensures shorter { IfSome result (λ u. length reader.new < length reader.old) }
 {
@@ -153,7 +153,7 @@ fn append_items(
     let mut place: u32 = 0;
     while !reader.take_end_array() {
         let mut digits = itoa::Buffer::new();
-        append_next(alloc, reader, digits.format(place), room, depth, out)?;
+        append_next(alloc, reader, digits.format(place), depth_left, depth, out)?;
         place = place.checked_add(1)?;
     }
     end_body(at, out).ok()
@@ -166,12 +166,12 @@ fn append_object(
     alloc: Global,
     reader: &mut Reader<'_>,
     name: &str,
-    room: usize,
+    depth_left: usize,
     depth: usize,
     out: &mut Vec<u8>,
 ) -> Option<()>
     ensures gives { IfSome result (λ u. (t : trees.Tree)
-        × (through (wrap_object room) (members (value depth) (length reader.old) reader.old)
+        × (through (wrap_object depth_left) (members (value depth) (length reader.old) reader.old)
         ≡ Some (t, reader.new))
         × (out.new.items ≡ out.old.items ++ element t name.now (bytes_of t))) }
     ensures shorter { IfSome result (λ u. length reader.new < length reader.old) }
@@ -181,13 +181,13 @@ fn append_object(
         if is_short(wrapper) {
             return append_short(reader, wrapper, name, depth, out);
         }
-        return append_wrapped(alloc, reader, wrapper, name, room, depth, out);
+        return append_wrapped(alloc, reader, wrapper, name, depth_left, depth, out);
     }
-    if room == 0 {
+    if depth_left == 0 {
         return None;
     }
     append_label(Kind::Doc, name, out).ok()?;
-    append_fields(alloc, reader, first, room - 1, depth, out)
+    append_fields(alloc, reader, first, depth_left - 1, depth, out)
 }
 
 /// Appends the element of that name of a wrapper whose own name was read, by the value that it stands for.
@@ -197,19 +197,18 @@ fn append_wrapped(
     reader: &mut Reader<'_>,
     wrapper: Wrapper,
     name: &str,
-    room: usize,
+    depth_left: usize,
     depth: usize,
     out: &mut Vec<u8>,
 ) -> Option<()>
     requires { (first : List ℕ) × (wrapper_of first ≡ Some wrapper) }
     ensures gives { IfSome result (λ u. (t : trees.Tree)
-        × ((first : List ℕ) → wrapper_of first ≡ Some wrapper →
-        through (wrap_object room) (after_key depth (length reader.old) (Some first) reader.old)
-        ≡ Some (t, reader.new))
+        × ((first : List ℕ) → wrapper_of first ≡ Some wrapper → through (wrap_object depth_left)
+        (after_key depth (length reader.old) (Some first) reader.old) ≡ Some (t, reader.new))
         × (out.new.items ≡ out.old.items ++ element t name.now (bytes_of t))) }
     ensures shorter { IfSome result (λ u. length reader.new < length reader.old) }
 {
-    let value = read_wrapper(alloc, reader, wrapper, room, depth).ok()?;
+    let value = read_wrapper(alloc, reader, wrapper, depth_left, depth).ok()?;
     append_read(name, value, out)
 }
 
@@ -250,10 +249,9 @@ fn append_short(
     depth: usize,
     out: &mut Vec<u8>,
 ) -> Option<()>
-    ensures gives { IfSome result (λ u. (t : trees.Tree)
-        × ((room : ℕ) (first : List ℕ) → wrapper_of first ≡ Some wrapper →
-        through (wrap_object room) (after_key depth (length reader.old) (Some first) reader.old)
-        ≡ Some (t, reader.new))
+    ensures gives { IfSome result (λ u. (t : trees.Tree) × ((depth_left : ℕ) (first : List ℕ) →
+        wrapper_of first ≡ Some wrapper → through (wrap_object depth_left)
+        (after_key depth (length reader.old) (Some first) reader.old) ≡ Some (t, reader.new))
         × (out.new.items ≡ out.old.items ++ element t name.now (bytes_of t))) }
     ensures shorter { IfSome result (λ u. length reader.new < length reader.old) }
 {

@@ -15,8 +15,8 @@ fn takes_the_deepest_documents(rt: HostRuntime) -> Result<(), Fail> {
         let open = r#"{"a":"#.repeat(alloc, levels)?;
         let close = "}".repeat(alloc, levels)?;
         let text = format!(in alloc; "{open}{inside}{close}")?;
-        let told = diagnose(alloc, text.as_bytes());
-        assert!(rt; told.kind == JsonFaultKind::Syntax && told.at == end);
+        let reported = diagnose(alloc, text.as_bytes());
+        assert!(rt; reported.kind == JsonFaultKind::Syntax && reported.at == end);
     }
     Ok(())
 }
@@ -29,6 +29,6 @@ fn has_limits_and_words(rt: HostRuntime) {
             && JsonFaultKind::NoMemory.words() == "no memory"
     );
     // It has no place.
-    let told = diagnose(rt.alloc(), b" [1]");
-    assert!(rt; told.kind == JsonFaultKind::NotADocument && told.at == 0);
+    let reported = diagnose(rt.alloc(), b" [1]");
+    assert!(rt; reported.kind == JsonFaultKind::NotADocument && reported.at == 0);
 }

@@ -20,8 +20,8 @@ fn packs_after_what_is_there(rt: HostRuntime) -> Result<(), Fail> {
             b"xy\x05\0\0\0\0\x0e\0\0\0\x02c\0\x02\0\0\0A\0\0".as_slice(),
         ),
     ] {
-        let told = packer.pack_line(line.as_bytes(), &mut out)?;
-        assert!(rt; told == fault && out.as_slice() == bytes, "{line}");
+        let reported = packer.pack_line(line.as_bytes(), &mut out)?;
+        assert!(rt; reported == fault && out.as_slice() == bytes, "{line}");
     }
     Ok(())
 }

@@ -1,7 +1,7 @@
 //! Texts that are written after what is there, room that is used again, and laws.
 use bd_extjson::{read_doc_with, reads_back, text_determines_document};
 use bd_extjson_text::{
-    LineRoom, write_doc, write_node, write_number, write_path, write_string, write_value,
+    TextBuffer, write_doc, write_node, write_number, write_path, write_string, write_value,
 };
 use bd_value::{Tree, Value};
 use json::Scratch;
@@ -29,16 +29,16 @@ fn writes_strings_nodes_and_paths(rt: HostRuntime) {
 /// Each is written over the one before, also where it is shorter.
 #[test]
 fn writes_lines(rt: HostRuntime) {
-    let mut room = LineRoom::new(rt.alloc());
+    let mut buffer = TextBuffer::new(rt.alloc());
     for (value, wanted) in [(Value::Bool(false), "false\n"), (Value::Null, "null\n")] {
-        let line = room.line(Tree::Value(&value)).expect(&rt, "a line");
+        let line = buffer.line(Tree::Value(&value)).expect(&rt, "a line");
         assert!(rt; line == wanted.as_bytes());
     }
 }
 
 /// The second text, with a shorter string, is read in the room of the first.
 #[test]
-fn keeps_its_room_from_text_to_text(rt: HostRuntime) {
+fn keeps_its_buffer_from_text_to_text(rt: HostRuntime) {
     let mut scratch = Scratch::new(rt.alloc());
     for (text, wanted) in [
         (r#"{"a":"\u0061\u0062\u0063"}"#, r#"{"a":"abc"}"#),

@@ -64,8 +64,8 @@ not_found m n e = grind (arith, nat_tests, e)
 
 pub escaped-to_end : (xs : List ℕ) → position needs_escape xs ≡ None → escaped xs ≡ xs
 escaped-to_end xs e =
-    let past = not_found (position_or_len needs_escape xs) (length xs) e in
-    escaped-from_run xs ∙ rw (take_all (position_or_len needs_escape xs) xs past, drop_of_length-le xs past) (append-nil xs)
+    let beyond = not_found (position_or_len needs_escape xs) (length xs) e in
+    escaped-from_run xs ∙ rw (take_all (position_or_len needs_escape xs) xs beyond, drop_of_length-le xs beyond) (append-nil xs)
 
 -- a run and the escape after it are written, and the rest of the n bytes is still to come
 pub run_step : (xs out total : List ℕ) (i n : ℕ) → position needs_escape xs ≡ Some i → length xs ≡ n → out ++ escaped xs ≡ total

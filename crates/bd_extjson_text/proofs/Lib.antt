@@ -1,4 +1,4 @@
 pub mod ScalarLemmas
 pub mod JsonStringLemmas
-pub mod RoomLemmas
+pub mod BufferLemmas
 pub mod TextLemmas

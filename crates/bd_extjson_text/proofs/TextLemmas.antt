@@ -8,7 +8,7 @@ use Rattle.std.specs.Int.RustNames.{FitsSigned}
 use Rattle.std.specs.Int.Signed.{mag}
 use Rattle.std.proofs.lemmas.Int.{to_z-of_z}
 use Rattle.bd_value.specs.View.{kind_of}
-use Rattle.bd_value.specs.Tree.{own_of, own_code, own, Scalar, Tree, leaf, array, Doc, fields_of, items_of, fields_of-pairs_of, items_of-list_of, tree_size, fields_size}
+use Rattle.bd_value.specs.Tree.{leaf_of, code_leaf, scalar_leaf, Scalar, Tree, leaf, array, Doc, fields_of, items_of, fields_of-pairs_of, items_of-list_of, tree_size, fields_size}
 use Rattle.bd_value.specs.Tree.{items_size, Fields, doc, code_scope, int32, int64, symbol, binary, object_id, date, timestamp, regex, db_pointer, code}
 use Rattle.bd_value.specs.Tree.{values_of, scope_of, AreParts}
 use Rattle.bd_value.specs.declared.node.Kind.TheVariants as kinds
@@ -116,18 +116,18 @@ pub scope_smaller : (t u : Tree) → Some u ≡ scope_of t → tree_size u < tre
 scope_smaller (code_scope c fs) u scope = let same : u ≡ doc fs = cc in rw same (omega arith)
 scope_smaller _ u scope = absurd cc
 
-pub text_of-scope : (c : List ℕ) (t u : Tree) → Some (own_code c) ≡ own_of t → Some u ≡ scope_of t
+pub text_of-scope : (c : List ℕ) (t u : Tree) → Some (code_leaf c) ≡ leaf_of t → Some u ≡ scope_of t
     → (((codes "{\"$code\":" ++ quoted c) ++ codes ",\"$scope\":") ++ text u) ++ 125 ∷ [] ≡ text t
-text_of-scope c (code_scope s fs) u held scope =
+text_of-scope c (code_scope s fs) u scalar_of scope =
     let same : c ≡ s = cc in
     let inside : u ≡ doc fs = cc in
     rw (same, inside) (written-code_scope s fs)
-text_of-scope c _ u held scope = absurd cc
+text_of-scope c _ u scalar_of scope = absurd cc
 
 -- what a value that is no code with scope holds is all of it
-pub held_text : (t : Tree) (s : Scalar) → Some (own s) ≡ own_of t → text t ≡ scalar_text s
-held_text (leaf u) s is = let same : s ≡ u = cc in ap scalar_text (sym same)
-held_text _ s is = absurd cc
+pub text_of_scalar : (t : Tree) (s : Scalar) → Some (scalar_leaf s) ≡ leaf_of t → text t ≡ scalar_text s
+text_of_scalar (leaf u) s is = let same : s ≡ u = cc in ap scalar_text (sym same)
+text_of_scalar _ s is = absurd cc
 
 -- ---- which values are scalars, and which of them have a short text
 
@@ -185,10 +185,10 @@ name_step : (later : Bool) (x : List ℕ) (pieces xs : List (List ℕ)) (out tot
     → ((out ++ before later 46) ++ escaped x) ++ escaped (to_come true 46 xs) ≡ total
 name_step later x pieces xs out total is so_far =
     let whole : out ++ escaped (before later 46 ++ (x ++ to_come true 46 xs)) ≡ total = subst (λ (p : List (List ℕ)). out ++ escaped (to_come later 46 p) ≡ total) is so_far in
-    let cut : escaped (before later 46 ++ (x ++ to_come true 46 xs)) ≡ before later 46 ++ (escaped x ++ escaped (to_come true 46 xs)) =
+    let splits : escaped (before later 46 ++ (x ++ to_come true 46 xs)) ≡ before later 46 ++ (escaped x ++ escaped (to_come true 46 xs)) =
     flat_map-append escape_byte (before later 46) (x ++ to_come true 46 xs)
     ∙ ap₂ (λ (a b : List ℕ). a ++ b) (escaped-before later) (flat_map-append escape_byte x (to_come true 46 xs)) in
-    simp append_assoc (ap (λ (l : List ℕ). out ++ l) (sym cut) ∙ whole)
+    simp append_assoc (ap (λ (l : List ℕ). out ++ l) (sym splits) ∙ whole)
 
 -- the same of what was written
 pub name_written : (later : Bool) (given x : List ℕ) (pieces xs : List (List ℕ)) (old separated out total : List ℕ)

@@ -2,10 +2,10 @@
 ghost use Rattle.std.specs.Prelude.{◌≡◌, ◌<◌, ◌≤◌, ◌+◌, ◌++◌, OnOk, OnErr, IfOk, IsTrue, string_bytes, map, if◌then◌else◌, [], ◌∷◌, length, take, false, true};
 ghost use Rattle.std.specs.Char.{digit_char};
 ghost use Rattle.std.specs.List.{list_any, position, join_with_byte};
-ghost use Rattle.bd_extjson_text.specs.Room.{Appends};
+ghost use Rattle.bd_extjson_text.specs.Buffer.{Appends};
 ghost use Rattle.bd_extjson_text.specs.Text.{needs_escape, escape_byte, escaped, quoted};
 
-use crate::room::{End, VALUE, make_room, put, put_byte, put_byte_in, put_known, settle};
+use crate::buffer::{End, VALUE, grow_buffer, put, put_byte, put_byte_in, put_known, settle};
 use bd_value::NoMemory;
 
 /// How many bytes are looked at together.
@@ -19,7 +19,7 @@ pub fn write_string(text: &str, out: &mut Vec<u8>) -> Result<(), NoMemory>
     ensures err { OnErr result (out.new.items ≡ out.old.items) }
 {
     let before = out.len();
-    make_room(out, before, 1)?;
+    grow_buffer(out, before, 1)?;
     let end = append_string(text, out, before);
     settle(end, before, out)
 }
@@ -44,7 +44,7 @@ fn append_path(path: &[String], out: &mut Vec<u8>, end: usize) -> End
     ensures { Appends out.old.items end result out.new.items
         (quoted (join_with_byte 46 (map string_bytes path.now))) }
 {
-    make_room(out, end, 2)?;
+    grow_buffer(out, end, 2)?;
     let mut at = put_byte_in(b'"', out, end);
     let mut later = false;
     for name in path {
@@ -75,15 +75,15 @@ pub(crate) fn append_name(later: bool, name: &str, out: &mut Vec<u8>, end: usize
     requires { end ≤ length out.old.items }
     ensures text { Appends out.old.items end result out.new.items
         ((if later then 44 ∷ [] else []) ++ (quoted name.now ++ 58 ∷ [])) }
-    ensures room { IfOk result (λ e. e + VALUE ≤ length out.new.items) }
+    ensures capacity { IfOk result (λ e. e + VALUE ≤ length out.new.items) }
 {
-    make_room(out, end, name.len() + (4 + VALUE))?;
-    let room = out.as_mut_slice();
-    let at = put_separator(later, b',', room, end);
-    let at = put_byte(b'"', room, at);
+    grow_buffer(out, end, name.len() + (4 + VALUE))?;
+    let buffer = out.as_mut_slice();
+    let at = put_separator(later, b',', buffer, end);
+    let at = put_byte(b'"', buffer, at);
     let bytes = name.as_bytes();
-    if copy_plain(bytes, room, at) {
-        return Ok(put_known(*b"\":", room, at + bytes.len()));
+    if copy_plain(bytes, buffer, at) {
+        return Ok(put_known(*b"\":", buffer, at + bytes.len()));
     }
     let at = append_escaped(bytes, 2 + VALUE, out, at)?;
     Ok(put_known(*b"\":", out.as_mut_slice(), at))
@@ -91,14 +91,14 @@ pub(crate) fn append_name(later: bool, name: &str, out: &mut Vec<u8>, end: usize
 
 /// Writes what stands before a piece after the text: the separator, where it comes `later` than others.
 #[inline(always)]
-fn put_separator(later: bool, separator: u8, room: &mut [u8], end: usize) -> usize
-    requires { end < length room.old }
-    ensures put { take result room.new
-        ≡ take end room.old ++ (if later then separator ∷ [] else []) }
+fn put_separator(later: bool, separator: u8, buffer: &mut [u8], end: usize) -> usize
+    requires { end < length buffer.old }
+    ensures appended { take result buffer.new
+        ≡ take end buffer.old ++ (if later then separator ∷ [] else []) }
     ensures end { (end ≤ result) × (result ≤ end + 1) }
 {
     if later {
-        return put_byte(separator, room, end);
+        return put_byte(separator, buffer, end);
     }
     end
 }
@@ -109,9 +109,9 @@ pub(crate) fn append_separator(later: bool, separator: u8, out: &mut Vec<u8>, en
     requires { end ≤ length out.old.items }
     ensures text { Appends out.old.items end result out.new.items
         (if later then separator ∷ [] else []) }
-    ensures room { IfOk result (λ e. e + VALUE ≤ length out.new.items) }
+    ensures capacity { IfOk result (λ e. e + VALUE ≤ length out.new.items) }
 {
-    make_room(out, end, 1 + VALUE)?;
+    grow_buffer(out, end, 1 + VALUE)?;
     Ok(put_separator(later, separator, out.as_mut_slice(), end))
 }
 
@@ -120,9 +120,9 @@ pub(crate) fn append_separator(later: bool, separator: u8, out: &mut Vec<u8>, en
 fn append_text(text: &[u8], after: usize, out: &mut Vec<u8>, end: usize) -> End
     requires { (end ≤ length out.old.items) × (after ≤ 1000) }
     ensures text { Appends out.old.items end result out.new.items (escaped text.now) }
-    ensures room { IfOk result (λ e. e + after ≤ length out.new.items) }
+    ensures capacity { IfOk result (λ e. e + after ≤ length out.new.items) }
 {
-    make_room(out, end, text.len() + after)?;
+    grow_buffer(out, end, text.len() + after)?;
     if copy_plain(text, out.as_mut_slice(), end) {
         return Ok(end + text.len());
     }
@@ -132,38 +132,38 @@ fn append_text(text: &[u8], after: usize, out: &mut Vec<u8>, end: usize) -> End
 /// Copies a text after the text that is there, and tells whether no byte of it needs an escape. Where one does, what is after `end`
 /// is room still.
 #[inline(always)]
-fn copy_plain(text: &[u8], room: &mut [u8], end: usize) -> bool
-    requires { end + length text.now ≤ length room.old }
+fn copy_plain(text: &[u8], buffer: &mut [u8], end: usize) -> bool
+    requires { end + length text.now ≤ length buffer.old }
     ensures copied { IsTrue result →
-        take (end + length text.now) room.new ≡ take end room.old ++ text.now }
+        take (end + length text.now) buffer.new ≡ take end buffer.old ++ text.now }
     ensures plain { IsTrue result → list_any needs_escape text.now ≡ false }
-    ensures kept { take end room.new ≡ take end room.old }
+    ensures unchanged { take end buffer.new ≡ take end buffer.old }
 {
     if text.len() < 4 {
-        copy_few(text, room, end)
+        copy_few(text, buffer, end)
     } else if text.len() < 8 {
-        copy_ends(4, text, room, end)
+        copy_ends(4, text, buffer, end)
     } else if text.len() < 16 {
-        copy_ends(8, text, room, end)
+        copy_ends(8, text, buffer, end)
     } else {
-        copy_many(text, room, end)
+        copy_many(text, buffer, end)
     }
 }
 
 /// Copies a text byte by byte, and tells whether none needs an escape. Where one does, what was copied is a front of it.
 #[inline(always)]
-fn copy_few(text: &[u8], room: &mut [u8], end: usize) -> bool
-    requires { end + length text.now ≤ length room.old }
+fn copy_few(text: &[u8], buffer: &mut [u8], end: usize) -> bool
+    requires { end + length text.now ≤ length buffer.old }
     ensures copied { IsTrue result →
-        take (end + length text.now) room.new ≡ take end room.old ++ text.now }
+        take (end + length text.now) buffer.new ≡ take end buffer.old ++ text.now }
     ensures plain { IsTrue result → list_any needs_escape text.now ≡ false }
-    ensures kept { take end room.new ≡ take end room.old }
+    ensures unchanged { take end buffer.new ≡ take end buffer.old }
 {
     for (i, b) in text.iter().enumerate() {
         if needs_escape(*b) {
             return false;
         }
-        room[end + i] = *b;
+        buffer[end + i] = *b;
     }
     true
 }
@@ -171,28 +171,28 @@ fn copy_few(text: &[u8], room: &mut [u8], end: usize) -> bool
 /// Copies a text of at least `size` and at most twice as many bytes, and tells whether none needs an escape. The first and the last
 /// `size` bytes are copied, so that each copy is of a known length.
 #[inline(always)]
-fn copy_ends(size: usize, text: &[u8], room: &mut [u8], end: usize) -> bool
+fn copy_ends(size: usize, text: &[u8], buffer: &mut [u8], end: usize) -> bool
     requires size { (size ≤ length text.now) × (length text.now ≤ size + size) }
-    requires room { end + length text.now ≤ length room.old }
-    ensures copied { take (end + length text.now) room.new ≡ take end room.old ++ text.now }
+    requires buffer { end + length text.now ≤ length buffer.old }
+    ensures copied { take (end + length text.now) buffer.new ≡ take end buffer.old ++ text.now }
     ensures plain { IsTrue result → list_any needs_escape text.now ≡ false }
 {
     let between = text.len() - size;
     let (first, _) = text.split_at(size);
     let (_, last) = text.split_at(between);
-    put(first, room, end);
-    put(last, room, end + between);
+    put(first, buffer, end);
+    put(last, buffer, end + between);
     !any_escape(first) && !any_escape(last)
 }
 
 /// Copies a text of at least 16 bytes, and tells whether none needs an escape. Where one does, what was copied is a front of it.
 #[inline(always)]
-fn copy_many(text: &[u8], room: &mut [u8], end: usize) -> bool
-    requires { (16 ≤ length text.now) × (end + length text.now ≤ length room.old) }
+fn copy_many(text: &[u8], buffer: &mut [u8], end: usize) -> bool
+    requires { (16 ≤ length text.now) × (end + length text.now ≤ length buffer.old) }
     ensures copied { IsTrue result →
-        take (end + length text.now) room.new ≡ take end room.old ++ text.now }
+        take (end + length text.now) buffer.new ≡ take end buffer.old ++ text.now }
     ensures plain { IsTrue result → list_any needs_escape text.now ≡ false }
-    ensures kept { take end room.new ≡ take end room.old }
+    ensures unchanged { take end buffer.new ≡ take end buffer.old }
 {
     let mut passed = 0;
     while text.len() - passed > 2 * STEP {
@@ -200,28 +200,28 @@ fn copy_many(text: &[u8], room: &mut [u8], end: usize) -> bool
         if any_escape(part) {
             return false;
         }
-        put(part, room, end + passed);
+        put(part, buffer, end + passed);
         passed += STEP;
     }
-    copy_ends(STEP, &text[passed..], room, end + passed)
+    copy_ends(STEP, &text[passed..], buffer, end + passed)
 }
 
 /// The same of a text that needs escapes: what stands between two of them is copied as it is.
 fn append_escaped(text: &[u8], after: usize, out: &mut Vec<u8>, end: usize) -> End
     requires { (end ≤ length out.old.items) × (after ≤ 1000) }
     ensures text { Appends out.old.items end result out.new.items (escaped text.now) }
-    ensures room { IfOk result (λ e. e + after ≤ length out.new.items) }
+    ensures capacity { IfOk result (λ e. e + after ≤ length out.new.items) }
 {
     let mut rest = text;
     let mut at = end;
     while let Some(run) = first_escape(rest) {
-        make_room(out, at, run + 6)?;
-        let room = out.as_mut_slice();
-        at = put(&rest[..run], room, at);
-        at = put_escape(rest[run], room, at);
+        grow_buffer(out, at, run + 6)?;
+        let buffer = out.as_mut_slice();
+        at = put(&rest[..run], buffer, at);
+        at = put_escape(rest[run], buffer, at);
         rest = &rest[run + 1..];
     }
-    make_room(out, at, rest.len() + after)?;
+    grow_buffer(out, at, rest.len() + after)?;
     Ok(put(rest, out.as_mut_slice(), at))
 }
 
@@ -250,23 +250,23 @@ fn first_of_few(text: &[u8]) -> Option<usize>
 
 /// Writes the escape of a byte that needs one after the text.
 #[tactic(auto, unfolding(crate::specs::Text::escape_byte))]
-fn put_escape(b: u8, room: &mut [u8], end: usize) -> usize
+fn put_escape(b: u8, buffer: &mut [u8], end: usize) -> usize
     requires escape { IsTrue (needs_escape b) }
-    requires room { end + 6 ≤ length room.old }
-    ensures put { take result room.new ≡ take end room.old ++ escape_byte b }
+    requires buffer { end + 6 ≤ length buffer.old }
+    ensures appended { take result buffer.new ≡ take end buffer.old ++ escape_byte b }
     ensures end { result ≤ end + 6 }
 {
     match b {
-        b'"' | b'\\' => put(&[b'\\', b], room, end),
-        8 => put(b"\\b", room, end),
-        12 => put(b"\\f", room, end),
-        b'\n' => put(b"\\n", room, end),
-        b'\r' => put(b"\\r", room, end),
-        b'\t' => put(b"\\t", room, end),
+        b'"' | b'\\' => put(&[b'\\', b], buffer, end),
+        8 => put(b"\\b", buffer, end),
+        12 => put(b"\\f", buffer, end),
+        b'\n' => put(b"\\n", buffer, end),
+        b'\r' => put(b"\\r", buffer, end),
+        b'\t' => put(b"\\t", buffer, end),
         _ => {
             let digits = [hex_digit(b / 16), hex_digit(b % 16)];
-            let end = put(b"\\u00", room, end);
-            put(&digits, room, end)
+            let end = put(b"\\u00", buffer, end);
+            put(&digits, buffer, end)
         }
     }
 }

@@ -10,18 +10,18 @@
 //! assert!(rt; text.as_slice() == b"{\"$numberInt\":\"5\"}".as_slice());
 //! ```
 //!
-//! - `text`: `write_node`, `write_value` and `write_doc`: a value wherever it lies, a value, a document; `LineRoom`, the buffer of
+//! - `text`: `write_node`, `write_value` and `write_doc`: a value wherever it lies, a value, a document; `TextBuffer`, the buffer of
 //!   a line for one node after the other.
 //! - `scalar`: a row of the conversion table each, and numbers, base64 and hexadecimal digits.
 //! - `json_string`: strings, and the names of a path.
-//! - `room`: text that is written into a buffer whose space was made once.
+//! - `buffer`: text that is written into a buffer whose space was made once.
 #![tactic(auto)]
 
+mod buffer;
 mod json_string;
-mod room;
 mod scalar;
 mod text;
 
 pub use json_string::{write_path, write_string};
 pub use scalar::write_number;
-pub use text::{LineRoom, write_doc, write_node, write_value};
+pub use text::{TextBuffer, write_doc, write_node, write_value};

@@ -9,11 +9,11 @@ ghost use Rattle.bd_value.specs.View.{kind_of};
 ghost use Rattle.bd_value.specs.Tree as trees;
 ghost use Rattle.bd_value.specs.Tree.{leaf, int32, int64, binary, object_id, boolean, date, timestamp, regex, db_pointer};
 ghost use Rattle.bd_value.specs.declared.node.Kind.TheVariants as kinds;
-ghost use Rattle.bd_extjson_text.specs.Room.{Appends};
+ghost use Rattle.bd_extjson_text.specs.Buffer.{Appends};
 ghost use Rattle.bd_extjson_text.specs.Text.{HasShortText, quoted, base64_text, hex_text, scalar_text, text};
 
+use crate::buffer::{End, VALUE, grow_buffer, put, put_byte, put_known};
 use crate::json_string::append_string;
-use crate::room::{End, VALUE, make_room, put, put_byte, put_known};
 use base64::encoded_len;
 use base64::engine::general_purpose::STANDARD;
 use bd_value::{Kind, NoMemory, Reading, Scalar};
@@ -21,10 +21,10 @@ use std::alloc::AllocError;
 use std::simd::prelude::*;
 
 /// What is made of what a node holds, whose kind is known: so nothing is left of the look at it.
-macro_rules! held {
-    ($node:ident, $holds:pat => $made:expr) => {
+macro_rules! scalar_of {
+    ($node:ident, $shape:pat => $made:expr) => {
         match $node.leaf() {
-            Some($holds) => $made,
+            Some($shape) => $made,
             _ => unreachable!(),
         }
     };
@@ -36,24 +36,24 @@ macro_rules! held {
 pub(crate) fn append_scalar<N: Reading>(node: N, out: &mut Vec<u8>, end: usize) -> End
     requires scalar { (s : trees.Scalar) × (N.tree node ≡ leaf s) }
     requires other { kind_of (N.tree node) ≢ kinds.Text }
-    requires room { end + VALUE ≤ length out.old.items }
+    requires buffer { end + VALUE ≤ length out.old.items }
     ensures { Appends out.old.items end result out.new.items (text (N.tree node)) }
 {
     match node.kind() {
         Kind::Symbol => {
-            held!(node, Scalar::Symbol(text) => append_one(b"{\"$symbol\":", text, out, end))
+            scalar_of!(node, Scalar::Symbol(text) => append_one(b"{\"$symbol\":", text, out, end))
         }
         Kind::Code => {
-            held!(node, Scalar::Code(text) => append_one(b"{\"$code\":", text, out, end))
+            scalar_of!(node, Scalar::Code(text) => append_one(b"{\"$code\":", text, out, end))
         }
         Kind::Binary => {
-            held!(node, Scalar::Binary { subtype, payload } => append_binary(subtype, payload, out, end))
+            scalar_of!(node, Scalar::Binary { subtype, payload } => append_binary(subtype, payload, out, end))
         }
         Kind::Regex => {
-            held!(node, Scalar::Regex { pattern, options } => append_regex(pattern, options, out, end))
+            scalar_of!(node, Scalar::Regex { pattern, options } => append_regex(pattern, options, out, end))
         }
         Kind::DbPointer => {
-            held!(node, Scalar::DbPointer { space, id } => append_pointer(space, &id, out, end))
+            scalar_of!(node, Scalar::DbPointer { space, id } => append_pointer(space, &id, out, end))
         }
         _ => Ok(put_short(node, out.as_mut_slice(), end)),
     }
@@ -62,25 +62,25 @@ pub(crate) fn append_scalar<N: Reading>(node: N, out: &mut Vec<u8>, end: usize) 
 /// Writes the text of a value after the text, where it holds no text and no bytes but an id.
 #[inline(always)]
 #[tactic(auto, unfolding(crate::specs::Text::scalar_text, crate::specs::Text::quoted, crate::specs::Text::escape_byte))]
-fn put_short<N: Reading>(node: N, room: &mut [u8], end: usize) -> usize
+fn put_short<N: Reading>(node: N, buffer: &mut [u8], end: usize) -> usize
     requires short { HasShortText (N.tree node) }
-    requires room { end + VALUE ≤ length room.old }
-    ensures put { take result room.new ≡ take end room.old ++ text (N.tree node) }
+    requires buffer { end + VALUE ≤ length buffer.old }
+    ensures appended { take result buffer.new ≡ take end buffer.old ++ text (N.tree node) }
     ensures within { result ≤ end + VALUE }
 {
     match node.kind() {
-        Kind::MinKey => put_known(*b"{\"$minKey\":1}", room, end),
-        Kind::Undefined => put_known(*b"{\"$undefined\":true}", room, end),
-        Kind::Null => put_known(*b"null", room, end),
-        Kind::Int32 => held!(node, Scalar::Int32(n) => put_int32(n, room, end)),
-        Kind::Int64 => held!(node, Scalar::Int64(n) => put_int64(n, room, end)),
-        Kind::ObjectId => held!(node, Scalar::ObjectId(id) => put_object_id(&id, room, end)),
-        Kind::Bool => held!(node, Scalar::Bool(truth) => put_bool(truth, room, end)),
-        Kind::Date => held!(node, Scalar::Date(time) => put_date(time, room, end)),
+        Kind::MinKey => put_known(*b"{\"$minKey\":1}", buffer, end),
+        Kind::Undefined => put_known(*b"{\"$undefined\":true}", buffer, end),
+        Kind::Null => put_known(*b"null", buffer, end),
+        Kind::Int32 => scalar_of!(node, Scalar::Int32(n) => put_int32(n, buffer, end)),
+        Kind::Int64 => scalar_of!(node, Scalar::Int64(n) => put_int64(n, buffer, end)),
+        Kind::ObjectId => scalar_of!(node, Scalar::ObjectId(id) => put_object_id(&id, buffer, end)),
+        Kind::Bool => scalar_of!(node, Scalar::Bool(truth) => put_bool(truth, buffer, end)),
+        Kind::Date => scalar_of!(node, Scalar::Date(time) => put_date(time, buffer, end)),
         Kind::Timestamp => {
-            held!(node, Scalar::Timestamp { seconds, increment } => put_timestamp(seconds, increment, room, end))
+            scalar_of!(node, Scalar::Timestamp { seconds, increment } => put_timestamp(seconds, increment, buffer, end))
         }
-        Kind::MaxKey => put_known(*b"{\"$maxKey\":1}", room, end),
+        Kind::MaxKey => put_known(*b"{\"$maxKey\":1}", buffer, end),
         _ => unreachable!(),
     }
 }
@@ -88,82 +88,84 @@ fn put_short<N: Reading>(node: N, room: &mut [u8], end: usize) -> usize
 /// Int32.
 #[inline(always)]
 #[tactic(auto, using(crate::proofs::TextLemmas::int32_steps))]
-fn put_int32(n: i32, room: &mut [u8], end: usize) -> usize
-    requires { end + VALUE ≤ length room.old }
-    ensures put { take result room.new ≡ take end room.old ++ scalar_text (int32 n) }
+fn put_int32(n: i32, buffer: &mut [u8], end: usize) -> usize
+    requires { end + VALUE ≤ length buffer.old }
+    ensures appended { take result buffer.new ≡ take end buffer.old ++ scalar_text (int32 n) }
     ensures within { result ≤ end + VALUE }
 {
-    let at = put_known(*b"{\"$numberInt\":\"", room, end);
-    let at = put_signed(i64::from(n), room, at);
-    put_known(*b"\"}", room, at)
+    let at = put_known(*b"{\"$numberInt\":\"", buffer, end);
+    let at = put_signed(i64::from(n), buffer, at);
+    put_known(*b"\"}", buffer, at)
 }
 
 /// Int64.
 #[inline(always)]
-fn put_int64(n: i64, room: &mut [u8], end: usize) -> usize
-    requires { end + VALUE ≤ length room.old }
-    ensures put { take result room.new ≡ take end room.old ++ scalar_text (int64 n) }
+fn put_int64(n: i64, buffer: &mut [u8], end: usize) -> usize
+    requires { end + VALUE ≤ length buffer.old }
+    ensures appended { take result buffer.new ≡ take end buffer.old ++ scalar_text (int64 n) }
     ensures within { result ≤ end + VALUE }
 {
-    let at = put_known(*b"{\"$numberLong\":\"", room, end);
-    let at = put_signed(n, room, at);
-    put_known(*b"\"}", room, at)
+    let at = put_known(*b"{\"$numberLong\":\"", buffer, end);
+    let at = put_signed(n, buffer, at);
+    put_known(*b"\"}", buffer, at)
 }
 
 /// Datetime: the milliseconds as an Int64 also before 1970 and after 9999.
 #[inline(always)]
 #[tactic(auto, using(crate::proofs::TextLemmas::date_steps))]
-fn put_date(milliseconds: i64, room: &mut [u8], end: usize) -> usize
-    requires { end + VALUE ≤ length room.old }
-    ensures put { take result room.new ≡ take end room.old ++ scalar_text (date milliseconds) }
+fn put_date(milliseconds: i64, buffer: &mut [u8], end: usize) -> usize
+    requires { end + VALUE ≤ length buffer.old }
+    ensures appended { take result buffer.new
+        ≡ take end buffer.old ++ scalar_text (date milliseconds) }
     ensures within { result ≤ end + VALUE }
 {
-    let at = put_known(*b"{\"$date\":{\"$numberLong\":\"", room, end);
-    let at = put_signed(milliseconds, room, at);
-    put_known(*b"\"}}", room, at)
+    let at = put_known(*b"{\"$date\":{\"$numberLong\":\"", buffer, end);
+    let at = put_signed(milliseconds, buffer, at);
+    put_known(*b"\"}}", buffer, at)
 }
 
 /// Boolean.
 #[inline(always)]
 #[tactic(auto, unfolding(crate::specs::Text::scalar_text))]
-fn put_bool(truth: bool, room: &mut [u8], end: usize) -> usize
-    requires { end + VALUE ≤ length room.old }
-    ensures put { take result room.new ≡ take end room.old ++ scalar_text (boolean truth) }
+fn put_bool(truth: bool, buffer: &mut [u8], end: usize) -> usize
+    requires { end + VALUE ≤ length buffer.old }
+    ensures appended { take result buffer.new ≡ take end buffer.old ++ scalar_text (boolean truth) }
     ensures within { result ≤ end + VALUE }
 {
     if truth {
-        put_known(*b"true", room, end)
+        put_known(*b"true", buffer, end)
     } else {
-        put_known(*b"false", room, end)
+        put_known(*b"false", buffer, end)
     }
 }
 
 /// ObjectId: 24 lower-case digits.
 #[inline(always)]
 #[tactic(auto, using(crate::proofs::TextLemmas::object_id_pieces))]
-fn put_object_id(id: &[u8; 12], room: &mut [u8], end: usize) -> usize
-    requires { end + VALUE ≤ length room.old }
-    ensures put { take result room.new ≡ take end room.old ++ scalar_text (object_id id.now) }
+fn put_object_id(id: &[u8; 12], buffer: &mut [u8], end: usize) -> usize
+    requires { end + VALUE ≤ length buffer.old }
+    ensures appended { take result buffer.new
+        ≡ take end buffer.old ++ scalar_text (object_id id.now) }
     ensures within { result ≤ end + VALUE }
 {
-    let at = put_known(*b"{\"$oid\":\"", room, end);
-    let at = put_id(id, room, at);
-    put_known(*b"\"}", room, at)
+    let at = put_known(*b"{\"$oid\":\"", buffer, end);
+    let at = put_id(id, buffer, at);
+    put_known(*b"\"}", buffer, at)
 }
 
 /// Timestamp: the seconds and the increment as plain numbers.
 #[tactic(auto, using(crate::proofs::TextLemmas::timestamp_pieces))]
-fn put_timestamp(seconds: u32, increment: u32, room: &mut [u8], end: usize) -> usize
-    requires { end + VALUE ≤ length room.old }
-    ensures put { take result room.new
-        ≡ take end room.old ++ scalar_text (timestamp seconds increment) }
+fn put_timestamp(seconds: u32, increment: u32, buffer: &mut [u8], end: usize) -> usize
+    requires { end + VALUE ≤ length buffer.old }
+    ensures appended { take result buffer.new
+        ≡ take end buffer.old ++ scalar_text (timestamp seconds increment) }
     ensures within { result ≤ end + VALUE }
 {
-    let at = put_known(*b"{\"$timestamp\":{\"t\":", room, end);
-    let at = put_digits(u64::from(seconds), room, at);
-    let at = put_known(*b",\"i\":", room, at);
-    let at = put_digits(u64::from(increment), room, at);
-    put_known(*b"}}", room, at)
+    let at = put_known(*b"{\"$timestamp\":{\"t\":", buffer, end);
+    let at = put_digits(u64::from(seconds), buffer, at);
+    let at = put_known(*b",\"i\":", buffer, at);
+    let at = put_digits(u64::from(increment), buffer, at);
+    put_known(*b"}}", buffer, at)
 }
 
 /// Binary: base64 with padding, the subtype in two digits.
@@ -175,9 +177,9 @@ fn append_binary(subtype: u8, bytes: &[u8], out: &mut Vec<u8>, end: usize) -> En
     let at = append_few(b"{\"$binary\":{\"base64\":\"", out, end)?;
     let at = append_base64(bytes, out, at)?;
     let at = append_few(b"\",\"subType\":\"", out, at)?;
-    let room = out.as_mut_slice();
-    let at = put_hex(subtype, room, at);
-    Ok(put_known(*b"\"}}", room, at))
+    let buffer = out.as_mut_slice();
+    let at = put_hex(subtype, buffer, at);
+    Ok(put_known(*b"\"}}", buffer, at))
 }
 
 /// Regular Expression: the options as they are stored.
@@ -199,9 +201,9 @@ fn append_pointer(space: &str, id: &[u8; 12], out: &mut Vec<u8>, end: usize) -> 
 {
     let at = append_led(b"{\"$dbPointer\":{\"$ref\":", space, out, end)?;
     let at = append_few(b",\"$id\":{\"$oid\":\"", out, at)?;
-    let room = out.as_mut_slice();
-    let at = put_id(id, room, at);
-    Ok(put_known(*b"\"}}}", room, at))
+    let buffer = out.as_mut_slice();
+    let at = put_id(id, buffer, at);
+    Ok(put_known(*b"\"}}}", buffer, at))
 }
 
 /// Appends an object of one string: what leads to the string, the string, and the brace after it.
@@ -219,7 +221,7 @@ pub(crate) fn append_led(lead: &[u8], text: &str, out: &mut Vec<u8>, end: usize)
     requires { (end ≤ length out.old.items) × (length lead.now ≤ 1000) }
     ensures { Appends out.old.items end result out.new.items (lead.now ++ quoted text.now) }
 {
-    make_room(out, end, lead.len() + 1)?;
+    grow_buffer(out, end, lead.len() + 1)?;
     let at = put(lead, out.as_mut_slice(), end);
     append_string(text, out, at)
 }
@@ -228,21 +230,21 @@ pub(crate) fn append_led(lead: &[u8], text: &str, out: &mut Vec<u8>, end: usize)
 pub(crate) fn append_few(bytes: &[u8], out: &mut Vec<u8>, end: usize) -> End
     requires { end ≤ length out.old.items }
     ensures text { Appends out.old.items end result out.new.items bytes.now }
-    ensures room { IfOk result (λ e. e + VALUE ≤ length out.new.items) }
+    ensures capacity { IfOk result (λ e. e + VALUE ≤ length out.new.items) }
 {
-    make_room(out, end, bytes.len() + VALUE)?;
+    grow_buffer(out, end, bytes.len() + VALUE)?;
     Ok(put(bytes, out.as_mut_slice(), end))
 }
 
 /// Writes the base64 text of bytes, of that size, after the text.
-fn put_base64(bytes: &[u8], size: usize, room: &mut [u8], end: usize) -> usize
+fn put_base64(bytes: &[u8], size: usize, buffer: &mut [u8], end: usize) -> usize
     requires size { size ≡ encoded_size_of standard (length bytes.now) }
-    requires room { end + size ≤ length room.old }
-    ensures put { take result room.new ≡ take end room.old ++ base64_text bytes.now }
+    requires buffer { end + size ≤ length buffer.old }
+    ensures appended { take result buffer.new ≡ take end buffer.old ++ base64_text bytes.now }
     ensures end { result ≡ end + size }
 {
     let after = end + size;
-    let Ok(_) = STANDARD.encode_slice(bytes, &mut room[end..after]) else {
+    let Ok(_) = STANDARD.encode_slice(bytes, &mut buffer[end..after]) else {
         unreachable!();
     };
     after
@@ -255,7 +257,7 @@ pub(crate) fn append_base64(bytes: &[u8], out: &mut Vec<u8>, end: usize) -> End
     ensures { Appends out.old.items end result out.new.items (base64_text bytes.now) }
 {
     let size = encoded_len(bytes.len(), true).ok_or(AllocError)?;
-    make_room(out, end, size)?;
+    grow_buffer(out, end, size)?;
     Ok(put_base64(bytes, size, out.as_mut_slice(), end))
 }
 
@@ -281,27 +283,27 @@ fn digit_pairs(bytes: u8x16) -> (u8x16, u8x16)
 
 /// Writes the 24 digits of an id after the text. Those of 16 bytes are made and written at once, and the last of them are room.
 #[inline(always)]
-pub(crate) fn put_id(id: &[u8; 12], room: &mut [u8], end: usize) -> usize
-    requires { end + 32 ≤ length room.old }
-    ensures put { take result room.new ≡ take end room.old ++ hex_text id.now }
+pub(crate) fn put_id(id: &[u8; 12], buffer: &mut [u8], end: usize) -> usize
+    requires { end + 32 ≤ length buffer.old }
+    ensures appended { take result buffer.new ≡ take end buffer.old ++ hex_text id.now }
     ensures end { result ≡ end + 24 }
 {
     let mut bytes = [0; 16];
     bytes[..12].copy_from_slice(id);
-    let (front, back) = digit_pairs(u8x16::from_array(bytes));
-    let after = put(front.as_array(), room, end);
-    put(back.as_array(), room, after);
+    let (prefix, back) = digit_pairs(u8x16::from_array(bytes));
+    let after = put(prefix.as_array(), buffer, end);
+    put(back.as_array(), buffer, after);
     end + 24
 }
 
 /// Writes the two digits of a byte after the text.
 #[tactic(auto, unfolding(crate::specs::Text::hex_text))]
-pub(crate) fn put_hex(byte: u8, room: &mut [u8], end: usize) -> usize
-    requires { end + 2 ≤ length room.old }
-    ensures put { take result room.new ≡ take end room.old ++ hex_text (byte ∷ []) }
+pub(crate) fn put_hex(byte: u8, buffer: &mut [u8], end: usize) -> usize
+    requires { end + 2 ≤ length buffer.old }
+    ensures appended { take result buffer.new ≡ take end buffer.old ++ hex_text (byte ∷ []) }
     ensures end { result ≡ end + 2 }
 {
-    let Ok(()) = hex::encode_to_slice([byte].as_slice(), &mut room[end..end + 2]) else {
+    let Ok(()) = hex::encode_to_slice([byte].as_slice(), &mut buffer[end..end + 2]) else {
         unreachable!();
     };
     end + 2
@@ -326,27 +328,27 @@ const DIGITS: usize = 20;
 /// Writes a number of at most 64 bits in decimal after the text, and gives the end of both. Twenty bytes are copied, however many the
 /// digits are, so that the copy is of a known length.
 #[inline(always)]
-pub(crate) fn put_digits(n: u64, room: &mut [u8], end: usize) -> usize
-    requires { end + 20 ≤ length room.old }
-    ensures put { take result room.new ≡ take end room.old ++ decimal n }
+pub(crate) fn put_digits(n: u64, buffer: &mut [u8], end: usize) -> usize
+    requires { end + 20 ≤ length buffer.old }
+    ensures appended { take result buffer.new ≡ take end buffer.old ++ decimal n }
     ensures end { result ≤ end + 20 }
 {
     let mut digits = [0; 2 * DIGITS];
     let start = itoa::write_digits(n, &mut digits, DIGITS);
-    room[end..end + DIGITS].copy_from_slice(&digits[start..start + DIGITS]);
+    buffer[end..end + DIGITS].copy_from_slice(&digits[start..start + DIGITS]);
     end + (DIGITS - start)
 }
 
 /// The same of a number with a sign.
 #[inline(always)]
-pub(crate) fn put_signed(n: i64, room: &mut [u8], end: usize) -> usize
-    requires { end + 21 ≤ length room.old }
-    ensures put { take result room.new ≡ take end room.old ++ signed_decimal n }
+pub(crate) fn put_signed(n: i64, buffer: &mut [u8], end: usize) -> usize
+    requires { end + 21 ≤ length buffer.old }
+    ensures appended { take result buffer.new ≡ take end buffer.old ++ signed_decimal n }
     ensures end { result ≤ end + 21 }
 {
     if n >= 0 {
-        return put_digits(n.unsigned_abs(), room, end);
+        return put_digits(n.unsigned_abs(), buffer, end);
     }
-    let end = put_byte(b'-', room, end);
-    put_digits(n.unsigned_abs(), room, end)
+    let end = put_byte(b'-', buffer, end);
+    put_digits(n.unsigned_abs(), buffer, end)
 }

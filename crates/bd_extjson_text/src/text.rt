@@ -3,11 +3,11 @@ ghost use Rattle.std.specs.Prelude.{◌≡◌, ◌<◌, ◌≤◌, ◌+◌, ◌+
 ghost use Rattle.bd_value.specs.View.{kind_of, tree_of, pairs};
 ghost use Rattle.bd_value.specs.Tree.{values_of, doc, array, fields_of, items_of};
 ghost use Rattle.bd_value.specs.declared.node.Kind.TheVariants as kinds;
-ghost use Rattle.bd_extjson_text.specs.Room.{Appends};
+ghost use Rattle.bd_extjson_text.specs.Buffer.{Appends};
 ghost use Rattle.bd_extjson_text.specs.Text.{text};
 
+use crate::buffer::{End, VALUE, grow_buffer, put_byte_in, settle};
 use crate::json_string::{append_name, append_separator, append_string};
-use crate::room::{End, VALUE, make_room, put_byte_in, settle};
 use crate::scalar::{append_few, append_led, append_scalar};
 use bd_value::{Document, Kind, NoMemory, Reading, Scalar, Tree, Value};
 use std::alloc::Global;
@@ -20,7 +20,7 @@ pub fn write_node<N: Reading>(node: N, out: &mut Vec<u8>) -> Result<(), NoMemory
     ensures err { OnErr result (out.new.items ≡ out.old.items) }
 {
     let before = out.len();
-    make_room(out, before, VALUE)?;
+    grow_buffer(out, before, VALUE)?;
     let end = append_node(node, out, before);
     settle(end, before, out)
 }
@@ -48,15 +48,15 @@ pub fn write_doc(document: &Document, out: &mut Vec<u8>) -> Result<(), NoMemory>
 
 /// Room for one line after the other, each over the one before. It is made once, and grows where a line is longer.
 #[derive(Debug, Drop)]
-pub struct LineRoom {
-    room: Vec<u8>,
+pub struct TextBuffer {
+    buffer: Vec<u8>,
 }
 
-impl LineRoom {
+impl TextBuffer {
     /// No room yet.
-    pub fn new(alloc: Global) -> LineRoom {
-        LineRoom {
-            room: Vec::new(alloc),
+    pub fn new(alloc: Global) -> TextBuffer {
+        TextBuffer {
+            buffer: Vec::new(alloc),
         }
     }
 
@@ -67,10 +67,10 @@ impl LineRoom {
     pub fn line<N: Reading>(&mut self, node: N) -> Result<&[u8], NoMemory>
         ensures { IfOk result (λ line. line.now ≡ text (N.tree node) ++ 10 ∷ []) }
     {
-        make_room(&mut self.room, 0, VALUE)?;
-        let end = append_node(node, &mut self.room, 0)?;
-        let end = append_few(b"\n", &mut self.room, end)?;
-        Ok(&self.room[..end])
+        grow_buffer(&mut self.buffer, 0, VALUE)?;
+        let end = append_node(node, &mut self.buffer, 0)?;
+        let end = append_few(b"\n", &mut self.buffer, end)?;
+        Ok(&self.buffer[..end])
     }
 }
 
@@ -99,7 +99,7 @@ fn append_node<N: Reading>(node: N, out: &mut Vec<u8>, end: usize) -> End
 #[cycle(text)]
 fn append_scope<N: Reading>(node: N, out: &mut Vec<u8>, end: usize) -> End
     requires kind { kind_of (N.tree node) ≡ kinds.CodeScope }
-    requires room { end ≤ length out.old.items }
+    requires buffer { end ≤ length out.old.items }
     ensures { Appends out.old.items end result out.new.items (text (N.tree node)) }
 {
     let Some(Scalar::CodeScope(code)) = node.leaf() else {
@@ -120,7 +120,7 @@ fn append_scope<N: Reading>(node: N, out: &mut Vec<u8>, end: usize) -> End
 fn append_fields<N: Reading>(fields: N::Rest, out: &mut Vec<u8>, end: usize) -> End
     requires { end < length out.old.items }
     ensures { Appends out.old.items end result out.new.items
-        (text (doc (fields_of (N.left fields)))) }
+        (text (doc (fields_of (N.remaining fields)))) }
 {
     let mut at = put_byte_in(b'{', out, end);
     let mut later = false;
@@ -140,7 +140,7 @@ fn append_fields<N: Reading>(fields: N::Rest, out: &mut Vec<u8>, end: usize) -> 
 fn append_items<N: Reading>(items: N::Rest, out: &mut Vec<u8>, end: usize) -> End
     requires { end < length out.old.items }
     ensures { Appends out.old.items end result out.new.items
-        (text (array (items_of (values_of (N.left items))))) }
+        (text (array (items_of (values_of (N.remaining items))))) }
 {
     let mut at = put_byte_in(b'[', out, end);
     let mut later = false;

@@ -12,8 +12,8 @@ use Rattle.std.specs.Prelude.{option_map, option_and_then}
 use Rattle.bd_extjson_wrapper.specs.WholeNumber.{are_digits, digits_number, fits_bits, if_fits, begins_digits, unsigned, whole, whole_64}
 
 -- the decimal digits of a text, with what they are worth, are numerals as `parse` has them
-pub own : IsNumeralModel (λ ds. all_ascii_digits ds ≡ true) (digits_value 10)
-own = numerals_by_value (λ ds. all_ascii_digits ds ≡ true) tells_all_ascii_digits
+pub digits_model : IsNumeralModel (λ ds. all_ascii_digits ds ≡ true) (digits_value 10)
+digits_model = numerals_by_value (λ ds. all_ascii_digits ds ≡ true) tells_all_ascii_digits
 
 pub all_of : (ds : List ℕ) → are_digits ds ≡ true → (all_ascii_digits ds ≡ true) × (0 < length ds)
 all_of [] h = absurd cc
@@ -37,22 +37,22 @@ fits_negative zero h = refl
 fits_negative (suc n) h = grind arith
 
 -- the same where the form is looked at first
-told : {E : Type 0} (d : Bool) (r : Result ℤ E) (P : Type 0) (v : ℤ) (b : Bool) → (d ≡ true → b ≡ true → P) → (P → (d ≡ true) × (b ≡ true))
+fact : {E : Type 0} (d : Bool) (r : Result ℤ E) (P : Type 0) (v : ℤ) (b : Bool) → (d ≡ true → b ≡ true → P) → (P → (d ≡ true) × (b ≡ true))
     → OkIff r P v → result_ok r ≡ cond d (cond b (Some v) None) None
-told true r P v b f g h = decided r P v b (f refl) (λ p. (g p).1) h
-told false (Ok x) P v b f g h = let e = (g h.0).0 in absurd cc
-told false (Err e) P v b f g h = refl
+fact true r P v b f g h = decided r P v b (f refl) (λ p. (g p).1) h
+fact false (Ok x) P v b f g h = let e = (g h.0).0 in absurd cc
+fact false (Err e) P v b f g h = refl
 
 minus_first : {E : Type 0} (bs : List ℕ) (r : Result ℤ E) → get_or bs 0 0 ≡ 45 → begins_digits (drop 1 bs) ≡ true → ParsesSigned w64 10 bs r
     → result_ok r ≡ cond (are_digits (drop 1 bs)) (cond (fits_bits 63 (neg_ℤ (pos (digits_value 10 (drop 1 bs))))) (Some (neg_ℤ (pos (digits_value 10 (drop 1 bs))))) None) None
 minus_first bs r e w h =
-    told (are_digits (drop 1 bs)) r _ _ _ (λ d t. let a = all_of (drop 1 bs) d in (a.0, a.1, negative_fits _ t))
-    (λ p. (digits_from (drop 1 bs) w p.0, fits_negative _ p.2)) (parse_signed_minus own w64 bs r h e)
+    fact (are_digits (drop 1 bs)) r _ _ _ (λ d t. let a = all_of (drop 1 bs) d in (a.0, a.1, negative_fits _ t))
+    (λ p. (digits_from (drop 1 bs) w p.0, fits_negative _ p.2)) (parse_signed_minus digits_model w64 bs r h e)
 
 plain_first : {E : Type 0} (bs : List ℕ) (r : Result ℤ E) → (get_or bs 0 0 ≡ 43 → ⊥) → (get_or bs 0 0 ≡ 45 → ⊥) → begins_digits bs ≡ true → ParsesSigned w64 10 bs r
     → result_ok r ≡ cond (are_digits bs) (cond (nat_lt (digits_value 10 bs) (2 ^ 63)) (Some (pos (digits_value 10 bs))) None) None
 plain_first bs r m n w h =
-    told (are_digits bs) r _ _ _ (λ d t. let a = all_of bs d in (a.0, a.1, ltb-true _ _ t)) (λ p. (digits_from bs w p.0, lt-ltb _ _ p.2)) (parse_signed_plain own w64 bs r h m n)
+    fact (are_digits bs) r _ _ _ (λ d t. let a = all_of bs d in (a.0, a.1, ltb-true _ _ t)) (λ p. (digits_from bs w p.0, lt-ltb _ _ p.2)) (parse_signed_plain digits_model w64 bs r h m n)
 
 no_plus : (b : Bool) (c : ℕ) (cs : List ℕ) → (c == 48) ≡ b → cond b (length cs == 0) (is_ascii_digit c) ≡ true → c ≡ 43 → ⊥
 no_plus true c cs e w p = grind arith

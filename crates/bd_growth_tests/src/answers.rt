@@ -28,8 +28,8 @@ impl<E: Debug + Drop> From<E> for RowFault {
     fn from(error: E) -> RowFault {
         let text = InlineText::<512>::of(format_args!("{error:?}"));
         let text = text.as_str();
-        let is_starved = text.contains("NoMemory") && !text.starts_with("BadFilter");
-        if is_starved || text.starts_with("Alloc") {
+        let is_out_of_memory = text.contains("NoMemory") && !text.starts_with("BadFilter");
+        if is_out_of_memory || text.starts_with("Alloc") {
             RowFault::NoMemory
         } else {
             RowFault::Otherwise

@@ -22,9 +22,9 @@ fn push(alloc: Global, document: &mut Document, number: i32) -> Result<bool, Row
     if document.push(name, Value::Int32(number)).is_ok() {
         return Ok(true);
     }
-    let is_left = document.len() == before;
+    let is_remaining = document.len() == before;
     document.push(String::from_str(alloc, "a")?, Value::Int32(number))?;
-    Ok(is_left)
+    Ok(is_remaining)
 }
 
 fn pushes(alloc: Global) -> Result<bool, RowFault> {
@@ -109,7 +109,7 @@ fn reads(alloc: Global, limits: Limits, wanted: Option<ReadFault>) -> Result<boo
 }
 
 /// A document, and two bytes of a length. After a refusal each further call fails.
-fn cut_documents(alloc: Global) -> Result<bool, RowFault> {
+fn cut_short_documents(alloc: Global) -> Result<bool, RowFault> {
     let input = MemoryInput::new(b"\x0c\0\0\0\x10a\0\x01\0\0\0\0\x05\0", 5, None);
     let limits = Limits {
         bytes: 100,
@@ -133,7 +133,7 @@ fn answer(alloc: Global, row: &str) -> Result<bool, RowFault> {
         "a document" => documents(alloc),
         "copies" => copies(alloc),
         "faults" => faults(alloc),
-        "documents that are cut" => cut_documents(alloc),
+        "documents that are cut" => cut_short_documents(alloc),
         _ => Err(RowFault::Otherwise),
     }
 }

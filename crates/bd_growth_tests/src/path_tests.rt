@@ -98,7 +98,7 @@ fn bounds(alloc: Global) -> Result<bool, RowFault> {
     }
     let from_five = read_filter(alloc, "{\"a\":{\"$gte\":5}}")?;
     let bounds = Bounds::of(alloc, &from_five, &path, false)?;
-    Ok(matches!(&bounds, Some(b) if b.holds(Tree::Value(&Value::Int32(5)))))
+    Ok(matches!(&bounds, Some(b) if b.contains(Tree::Value(&Value::Int32(5)))))
 }
 
 /// What the row of that name answers.

@@ -6,7 +6,7 @@ use bd_bson_dump::Dump;
 use bd_cli_service::{Reply, write_reply};
 use bd_cursor_request::{Batch, Token};
 use bd_extjson_pack::Packer;
-use bd_extjson_text::{LineRoom, write_doc, write_node, write_value};
+use bd_extjson_text::{TextBuffer, write_doc, write_node, write_value};
 use bd_value::{Document, NoMemory, Value};
 use std::alloc::Global;
 
@@ -49,7 +49,7 @@ struct Sources {
     document: Document,
     dump: Dump,
     reply: Reply,
-    room: LineRoom,
+    buffer: TextBuffer,
     packer: Packer,
 }
 
@@ -67,7 +67,7 @@ fn read_sources(alloc: Global) -> Result<Sources, RowFault> {
         document: read_document(alloc, TWICE, 0, 0)?,
         dump: dump_of(alloc, ONE)?,
         reply: Reply::Gave(batch),
-        room: LineRoom::new(alloc),
+        buffer: TextBuffer::new(alloc),
         packer: Packer::new(alloc),
     })
 }
@@ -79,13 +79,13 @@ fn append(alloc: Global, from: &mut Sources, row: Row, out: &mut Vec<u8>) -> Res
         Row::Tree => write_doc(&from.document, out),
         Row::View if from.dump.len() == 1 => write_node(from.dump.document(0).value(), out),
         Row::Line if from.dump.len() == 1 => {
-            out.extend_from_slice(from.room.line(from.dump.document(0).value())?)
+            out.extend_from_slice(from.buffer.line(from.dump.document(0).value())?)
         }
         Row::View | Row::Line => Ok(()),
         Row::Reply => write_reply(alloc, &from.dump, &from.reply, out),
         Row::Packed(line) => match from.packer.pack_line(line, out) {
             Ok(_) => Ok(()),
-            Err(starved) => Err(starved),
+            Err(out_of_memory) => Err(out_of_memory),
         },
     }
 }

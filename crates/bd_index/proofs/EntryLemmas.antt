@@ -10,7 +10,7 @@ use Rattle.std.specs.Ordering.{is_lt, is_eq, nat_cmp, ordering_then, ordering_re
 use Rattle.std.proofs.lemmas.Cmp.{and_equiv, eq_by_cmp_equiv, nat_cmp_total, nat_eq_equiv, on_equiv, on_total, then_total}
 use Rattle.bd_value.specs.{Order.cmp, Tree.Tree, Tree.Doc, Tree.doc, Tree.fields_of}
 use Rattle.bd_value.proofs.{OrderLemmas.cmp_total, ViewLemmas.next_at}
-use Rattle.bd_bson_view.specs.{Sound.StandsAt, Sound.stands, declared.views.At.At}
+use Rattle.bd_bson_view.specs.{Sound.IsAt, Sound.meaning, declared.views.At.At}
 use Rattle.bd_bson_dump.specs.{Collection.bytes_of, Collection.documents, declared.collection.Dump.Dump}
 use Rattle.bd_path.specs.{Key.distinct, Key.indexed_keys, Key.keys, Reach.Names}
 use Rattle.bd_path.proofs.SortLemmas.{has_a_key}
@@ -127,45 +127,45 @@ zip_at R (a ∷ xs) [] i d e all lt = absurd all
 zip_at R (a ∷ xs) (b ∷ ys) zero d e all lt = all.0
 zip_at R (a ∷ xs) (b ∷ ys) (suc i) d e all lt = zip_at R xs ys i d e all.1 (omega arith)
 
-pub as_many_kept : (bytes : List ℕ) (kept : List Entry) (es : List KeyAt) → KeepsEntries bytes kept es → length es ≡ length kept
-as_many_kept bytes kept es all = AllZip-long (KeepsEntry bytes) kept es all
+pub as_many_stored : (bytes : List ℕ) (stored : List Entry) (es : List KeyAt) → KeepsEntries bytes stored es → length es ≡ length stored
+as_many_stored bytes stored es all = AllZip-long (KeepsEntry bytes) stored es all
 
 -- an index has as many entries in memory as those that it stands for
-pub count_kept : (dump : Dump) (index : Index) (h : IsIndexOf dump index) → length h.keeps.entries ≡ length index.entries.items
-count_kept dump index h = as_many_kept (bytes_of dump) index.entries.items h.keeps.entries h.keeps.stand
+pub count_stored : (dump : Dump) (index : Index) (h : IsIndexOf dump index) → length h.keeps.entries ≡ length index.entries.items
+count_stored dump index h = as_many_stored (bytes_of dump) index.entries.items h.keeps.entries h.keeps.entries_are_at
 
 -- the key of an entry stands where it says
-pub key_there : (bytes : List ℕ) (kept : List Entry) (es : List KeyAt) (i : ℕ) (k : Entry) (d : KeyAt) → KeepsEntries bytes kept es → i < length kept
-    → k ≡ get_or kept i k → StandsAt bytes k.key (get_or es i d).0
-key_there bytes kept es i k d all lt is = subst (λ (x : Entry). StandsAt bytes x.key (get_or es i d).0) (sym is) (zip_at (KeepsEntry bytes) kept es i k d all lt).0
+pub key_there : (bytes : List ℕ) (stored : List Entry) (es : List KeyAt) (i : ℕ) (k : Entry) (d : KeyAt) → KeepsEntries bytes stored es → i < length stored
+    → k ≡ get_or stored i k → IsAt bytes k.key (get_or es i d).0
+key_there bytes stored es i k d all lt is = subst (λ (x : Entry). IsAt bytes x.key (get_or es i d).0) (sym is) (zip_at (KeepsEntry bytes) stored es i k d all lt).0
 
 -- the entries of some keys, and one more
-pub one_entry : (bytes : List ℕ) (kept new : List Entry) (xs : List FoundKey) (i : ℕ) (x : FoundKey) (at : At) → i < length xs → x ≡ get_or xs i x
-    → All (IsFoundIn bytes) xs → StandsAt x.key.bytes.now at (stands x.key.sound)
-    → new ≡ kept ++ record { key = at; place = x.place } ∷ [] → KeepsEntries bytes kept (map found_entry (take i xs)) → KeepsEntries bytes new (map found_entry (take (i + 1) xs))
-one_entry bytes kept new xs i x at lt is all there pushed so =
+pub one_entry : (bytes : List ℕ) (stored new : List Entry) (xs : List FoundKey) (i : ℕ) (x : FoundKey) (at : At) → i < length xs → x ≡ get_or xs i x
+    → All (IsFoundIn bytes) xs → IsAt x.key.bytes.now at (meaning x.key.sound)
+    → new ≡ stored ++ record { key = at; place = x.place } ∷ [] → KeepsEntries bytes stored (map found_entry (take i xs)) → KeepsEntries bytes new (map found_entry (take (i + 1) xs))
+one_entry bytes stored new xs i x at lt is all there pushed so =
     let here : x.key.bytes.now ≡ bytes = subst (λ (f : FoundKey). IsFoundIn bytes f) (sym is) (all i x lt) in
     let more : map found_entry (take (i + 1) xs) ≡ map found_entry (take i xs) ++ found_entry x ∷ [] = map_more found_entry xs i x lt
     ∙ ap (λ (f : FoundKey). map found_entry (take i xs) ++ found_entry f ∷ []) (sym is) in
-    rw (pushed, more) (zip_push (KeepsEntry bytes) kept (map found_entry (take i xs)) (record { key = at; place = x.place }) (found_entry x) so
-    (subst (λ (b : List ℕ). StandsAt b at (stands x.key.sound)) here there, refl))
+    rw (pushed, more) (zip_push (KeepsEntry bytes) stored (map found_entry (take i xs)) (record { key = at; place = x.place }) (found_entry x) so
+    (subst (λ (b : List ℕ). IsAt b at (meaning x.key.sound)) here there, refl))
 
 -- ---- one document more
 
 -- whether a document passes, by this one and those after it
 pub any_next : (test : Tree → Bool) (n : ℕ) (ds : List Doc) (d : Doc) (t : Tree) (r : Bool) → slice_get ds n ≡ Some d → t ≡ doc (fields_of d) → r ≡ test t
     → list_any (λ x. test (doc (fields_of x))) (drop n ds) ≡ (r || list_any (λ x. test (doc (fields_of x))) (drop (n + 1) ds))
-any_next test n ds d t r is tree told =
+any_next test n ds d t r is tree fact =
     ap (list_any (λ x. test (doc (fields_of x)))) (next_at ds n d is)
-    ∙ ap (λ (b : Bool). b || list_any (λ x. test (doc (fields_of x))) (drop (n + 1) ds)) (ap test (sym tree) ∙ sym told)
+    ∙ ap (λ (b : Bool). b || list_any (λ x. test (doc (fields_of x))) (drop (n + 1) ds)) (ap test (sym tree) ∙ sym fact)
 
 pub count-append : (test : KeyAt → Bool) (xs ys : List KeyAt) → count_by test (xs ++ ys) ≡ count_by test xs + count_by test ys
 count-append test xs ys = sum_by-append (λ (e : KeyAt). cond (test e) 1 0) xs ys
 
-pub counted_own : (test : KeyAt → Bool) (old new own : List FoundKey) (ks : List KeyAt) → new ≡ old ++ own
-    → count_by test (map found_entry own) ≡ count_by test ks → count_by test (map found_entry new) ≡ count_by test (map found_entry old ++ ks)
-counted_own test old new own ks is h =
-    ap (count_by test) (ap (map found_entry) is ∙ map-append found_entry old own) ∙ count-append test (map found_entry old) (map found_entry own)
+pub counted_document_keys : (test : KeyAt → Bool) (old new document_keys : List FoundKey) (ks : List KeyAt) → new ≡ old ++ document_keys
+    → count_by test (map found_entry document_keys) ≡ count_by test ks → count_by test (map found_entry new) ≡ count_by test (map found_entry old ++ ks)
+counted_document_keys test old new document_keys ks is h =
+    ap (count_by test) (ap (map found_entry) is ∙ map-append found_entry old document_keys) ∙ count-append test (map found_entry old) (map found_entry document_keys)
     ∙ ap (λ (n : ℕ). count_by test (map found_entry old) + n) h ∙ sym (count-append test (map found_entry old) ks)
 
 -- the entries of one document more
@@ -175,13 +175,13 @@ one_more sparse path n ds d t ks is tree listed =
     ap (entries_from sparse path n) (next_at ds n d is)
     ∙ ap (λ (x : List Tree). keys_at n x ++ entries_from sparse path (n + 1) (drop (n + 1) ds)) (sym (listed ∙ ap (λ (x : Tree). indexed_keys sparse x path) tree))
 
-pub counted_more : (test : KeyAt → Bool) (old new own rest from : List KeyAt) (all : ℕ) → count_by test new ≡ count_by test (old ++ own)
-    → from ≡ own ++ rest → count_by test (old ++ from) ≡ all → count_by test (new ++ rest) ≡ all
-counted_more test old new own rest from all added is so_far =
+pub counted_more : (test : KeyAt → Bool) (old new document_keys rest from : List KeyAt) (all : ℕ) → count_by test new ≡ count_by test (old ++ document_keys)
+    → from ≡ document_keys ++ rest → count_by test (old ++ from) ≡ all → count_by test (new ++ rest) ≡ all
+counted_more test old new document_keys rest from all added is so_far =
     let a = count-append test new rest in
-    let b = count-append test old own in
-    let c = count-append test own rest in
-    let d = count-append test old (own ++ rest) in
+    let b = count-append test old document_keys in
+    let c = count-append test document_keys rest in
+    let d = count-append test old (document_keys ++ rest) in
     let e = ap (λ (l : List KeyAt). count_by test (old ++ l)) (sym is) ∙ so_far in
     omega (arith, a, b, c, d, e, added)
 
@@ -191,9 +191,9 @@ count_all : {A : Type 0} (xs : List A) → count_by (λ _. true) xs ≡ length x
 count_all {A} xs = sym (length-filter (λ _. true) xs) ∙ ap (λ (l : List A). length l) (all_pass (λ _. true) xs (λ k d lt. refl))
 
 -- as many are kept as the documents have
-pub size_kept : (sparse : Bool) (path : Names) (dump : Dump) (kept : List Entry) → KeepsDump sparse path dump kept → length kept ≡ length (entries_of sparse path (documents dump))
-size_kept sparse path dump kept k =
-    sym (as_many_kept (bytes_of dump) kept k.entries k.stand) ∙ sym (count_all k.entries) ∙ k.are.same (λ _. true) ∙ count_all (entries_of sparse path (documents dump))
+pub size_stored : (sparse : Bool) (path : Names) (dump : Dump) (stored : List Entry) → KeepsDump sparse path dump stored → length stored ≡ length (entries_of sparse path (documents dump))
+size_stored sparse path dump stored k =
+    sym (as_many_stored (bytes_of dump) stored k.entries k.entries_are_at) ∙ sym (count_all k.entries) ∙ k.are.same (λ _. true) ∙ count_all (entries_of sparse path (documents dump))
 
 -- ---- each document has a key, so there are more entries than documents where one has two
 

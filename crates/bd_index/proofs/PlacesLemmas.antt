@@ -11,7 +11,7 @@ use Rattle.bd_value.specs.Tree.{Tree}
 use Rattle.bd_bson_dump.specs.{Collection.bytes_of, Collection.documents, declared.collection.Dump.Dump}
 use Rattle.bd_path.specs.PathNames.{names_of}
 use Rattle.bd_index_bounds.specs.{Bounds.KeyBounds, Bounds.KeySet, Bounds.intersection, Bounds.is_among, Bounds.union, BoundsView.keys_between, BoundsView.keys_within}
-use Rattle.bd_index_bounds.specs.{BoundsView.is_before, declared.bounds.Bounds.Bounds, declared.bounds.Bounds.TheVariants.Range, declared.bounds.Cut.Cut}
+use Rattle.bd_index_bounds.specs.{BoundsView.is_before, declared.bounds.Bounds.Bounds, declared.bounds.Bounds.TheVariants.Range, declared.bounds.Cutoff.Cutoff}
 use Rattle.bd_index_bounds.specs.declared.bounds.Bounds.TheFolds as folds
 use Rattle.bd_index_bounds.proofs.{FilterBoundsLemmas.falls_once, FilterBoundsLemmas.one_off}
 use Rattle.bd_index.specs.Entries.{KeyAt, entries_of, entry_cmp}
@@ -22,8 +22,8 @@ use Rattle.bd_index.proofs.EntryLemmas.{all_pass, any_as_counts, any_filter, any
 -- ---- the search for a cut
 
 -- the entries before a cut come before those that are not
-pub parted : (cut : Cut) (es : List KeyAt) → IsSortedBy (λ a b. is_lt (entry_cmp a b)) es → IsPartitionedBy (λ e. is_before cut e.0) es
-parted cut es sorted i j d le lt h = falls_once cut (get_or es i d).0 (get_or es j d).0 (keys_rise es sorted i j d le lt) h
+pub parted : (cutoff : Cutoff) (es : List KeyAt) → IsSortedBy (λ a b. is_lt (entry_cmp a b)) es → IsPartitionedBy (λ e. is_before cutoff e.0) es
+parted cutoff es sorted i j d le lt h = falls_once cutoff (get_or es i d).0 (get_or es j d).0 (keys_rise es sorted i j d le lt) h
 
 pub below_next : {A : Type 0} (p : A → Bool) (es : List A) (m : ℕ) → IsPartitionedBy p es → m < length es → ((d : A) → p (get_or es m d) ≡ true)
     → AllWithin (λ e. p e ≡ true) es 0 (m + 1)
@@ -34,10 +34,10 @@ pub above_next : {A : Type 0} (p : A → Bool) (es : List A) (m : ℕ) → IsPar
 above_next p es m up here k d low high = false_from_ne_true (p (get_or es k d)) (λ e. let f = up m k d low high e in let g = here d in cc)
 
 -- what the test of an entry tells
-pub told : (cut : Cut) (t : Tree) (e : KeyAt) (r b : Bool) → t ≡ e.0 → r ≡ is_before cut t → r ≡ b → is_before cut e.0 ≡ b
-told cut t e r b key is was = sym (ap (is_before cut) key) ∙ sym is ∙ was
+pub fact : (cutoff : Cutoff) (t : Tree) (e : KeyAt) (r b : Bool) → t ≡ e.0 → r ≡ is_before cutoff t → r ≡ b → is_before cutoff e.0 ≡ b
+fact cutoff t e r b key is was = sym (ap (is_before cutoff) key) ∙ sym is ∙ was
 
-pub between : (from to : Cut) (es : List KeyAt) (start until : ℕ) (s : Span) → s.from ≡ start → s.to ≡ max until start
+pub between : (from to : Cutoff) (es : List KeyAt) (start until : ℕ) (s : Span) → s.from ≡ start → s.to ≡ max until start
     → IsPartitionPoint (λ e. is_before from e.0 ≡ true) (λ e. is_before from e.0 ≡ false) es start → IsPartitionPoint (λ e. is_before to e.0 ≡ true) (λ e. is_before to e.0 ≡ false) es until
     → (k : ℕ) (d : KeyAt) → k < length es → is_in_span k s ≡ keys_between from to (get_or es k d).0
 between from to es start until s begin end a b k d lt = grind (arith, nat_tests, a.0 k d, a.1 k d, b.0 k d, b.1 k d)
@@ -65,12 +65,12 @@ order_within low high [] h k d lt = absurd (omega arith)
 order_within low high (x ∷ xs) h zero d lt = (h.1, order_ends x.to high xs h.2)
 order_within low high (x ∷ xs) h (suc k) d lt = order_within x.to high xs h.2 k d (omega arith)
 
-none_in_front : (low high : ℕ) (xs : List Span) (k : ℕ) → AreInOrder low high xs → k < low → is_covered xs k ≡ false
-none_in_front low high [] k h lt = refl
-none_in_front low high (x ∷ xs) k h lt =
+none_before : (low high : ℕ) (xs : List Span) (k : ℕ) → AreInOrder low high xs → k < low → is_covered xs k ≡ false
+none_before low high [] k h lt = refl
+none_before low high (x ∷ xs) k h lt =
     let a = h.0 in
     let b = h.1 in
-    grind (arith, nat_tests, none_in_front x.to high xs k h.2 (omega arith))
+    grind (arith, nat_tests, none_before x.to high xs k h.2 (omega arith))
 
 -- ---- the loop that puts spans in order
 
@@ -113,21 +113,21 @@ module _ (spans ordered : List Span) (i end : ℕ) (s : Span) (lt : i < length s
 -- ---- the loop that finds the gaps
 
 -- the gaps so far, and those behind an end
-pub record Gaps (count : ℕ) (old gaps spans left : List Span) (end : ℕ) : Type 0 where
-  pub order : AreInOrder end count left
+pub record Gaps (count : ℕ) (old gaps spans remaining : List Span) (end : ℕ) : Type 0 where
+  pub order : AreInOrder end count remaining
   pub below : All (λ s. s.to ≤ count) gaps
-  pub added : (k : ℕ) → k < count → (is_covered gaps k || (not (nat_lt k end) && not (is_covered left k))) ≡ (is_covered old k || not (is_covered spans k))
+  pub added : (k : ℕ) → k < count → (is_covered gaps k || (not (nat_lt k end) && not (is_covered remaining k))) ≡ (is_covered old k || not (is_covered spans k))
 
-pub gaps_one : (count : ℕ) (old gaps new spans left : List Span) (end : ℕ) (s t : Span) → t.from ≡ end → t.to ≡ s.from → new ≡ gaps ++ t ∷ []
-    → Gaps count old gaps spans (s ∷ left) end → Gaps count old new spans left s.to
-gaps_one count old gaps new spans left end s t begin until pushed g =
+pub gaps_one : (count : ℕ) (old gaps new spans remaining : List Span) (end : ℕ) (s t : Span) → t.from ≡ end → t.to ≡ s.from → new ≡ gaps ++ t ∷ []
+    → Gaps count old gaps spans (s ∷ remaining) end → Gaps count old new spans remaining s.to
+gaps_one count old gaps new spans remaining end s t begin until pushed g =
     let a = g.order.0 in
     let b = g.order.1 in
-    let c = order_ends s.to count left g.order.2 in
+    let c = order_ends s.to count remaining g.order.2 in
     record {
       order = g.order.2;
       below = rw pushed (All-push (λ x. x.to ≤ count) gaps t g.below (omega arith));
-      added = λ k lt. grind (arith, nat_tests, covered_push gaps t k, none_in_front s.to count left k g.order.2, g.added k lt);
+      added = λ k lt. grind (arith, nat_tests, covered_push gaps t k, none_before s.to count remaining k g.order.2, g.added k lt);
     }
 
 -- ---- what stands in the spans is what passes
@@ -153,13 +153,13 @@ pieces_pass {A} p es low (s ∷ spans) order cover =
     let b = order.1 in
     let f = slice_range es low s.from in
     let m = slice_range es s.from s.to in
-    let front : filter p f ≡ [] = none_pass p f (λ k d lt. let at = in_piece es low s.from k d lt in
-    ap p at.is ∙ sym (cover (low + k) d (omega arith) at.inside) ∙ none_in_front s.from (length es) (s ∷ spans) (low + k) (omega arith, b, order.2) at.below) in
+    let prefix : filter p f ≡ [] = none_pass p f (λ k d lt. let at = in_piece es low s.from k d lt in
+    ap p at.is ∙ sym (cover (low + k) d (omega arith) at.inside) ∙ none_before s.from (length es) (s ∷ spans) (low + k) (omega arith, b, order.2) at.below) in
     let middle : filter p m ≡ m = all_pass p m (λ k d lt. let at = in_piece es s.from s.to k d lt in
     ap p at.is ∙ sym (cover (s.from + k) d (omega arith) at.inside) ∙ grind (arith, nat_tests)) in
     let rest = pieces_pass p es s.to spans order.2 (λ k d le lt. let c = cover k d (omega arith) lt in grind (arith, nat_tests)) in
     sym (ap (filter p) (drop_split es low s.from a) ∙ filter-append p f (drop s.from es)
-    ∙ ap₂ (λ (x y : List A). x ++ y) front (ap (filter p) (drop_split es s.from s.to b) ∙ filter-append p m (drop s.to es) ∙ ap₂ (λ (x y : List A). x ++ y) middle (sym rest)))
+    ∙ ap₂ (λ (x y : List A). x ++ y) prefix (ap (filter p) (drop_split es s.from s.to b) ∙ filter-append p m (drop s.to es) ∙ ap₂ (λ (x y : List A). x ++ y) middle (sym rest)))
 
 -- what is seen of them
 pub pieces_map : {A B : Type 0} (f : A → B) (xs : List A) (spans : List Span) → map f (pieces xs spans) ≡ pieces (map f xs) spans
@@ -214,15 +214,15 @@ pub covers_one : (es : List KeyAt) (keys : KeySet) (spans : List Span) (s : Span
     → ((k : ℕ) (d : KeyAt) → k < length es → is_in_span k s ≡ keys (get_or es k d).0) → CoverKeys es keys spans
 covers_one es keys spans s is size le inside = rw is (record { order = (omega arith, size, le); cover = λ k d lt. let e = inside k d lt in grind arith })
 
-pub keys_within-Range : (from to : Cut) → keys_within (Range from to) ≡ keys_between from to
+pub keys_within-Range : (from to : Cutoff) → keys_within (Range from to) ≡ keys_between from to
 keys_within-Range from to = search (rules, folds.the_lemmas)
 
 -- ---- the places of what stands in the spans
 
-places_kept : (bytes : List ℕ) (kept : List Entry) (es : List KeyAt) → KeepsEntries bytes kept es → map (λ e. e.place) kept ≡ map (λ e. e.1) es
-places_kept bytes [] [] h = refl
-places_kept bytes (k ∷ ks) (e ∷ es) h = ap₂ (λ (x : ℕ) (xs : List ℕ). x ∷ xs) h.0.1 (places_kept bytes ks es h.1)
-places_kept bytes _ _ h = absurd h
+places_stored : (bytes : List ℕ) (stored : List Entry) (es : List KeyAt) → KeepsEntries bytes stored es → map (λ e. e.place) stored ≡ map (λ e. e.1) es
+places_stored bytes [] [] h = refl
+places_stored bytes (k ∷ ks) (e ∷ es) h = ap₂ (λ (x : ℕ) (xs : List ℕ). x ∷ xs) h.0.1 (places_stored bytes ks es h.1)
+places_stored bytes _ _ h = absurd h
 
 -- a place among those of what passes
 place_among : (p : KeyAt → Bool) (n : ℕ) (es : List KeyAt) → list_any (λ m. m == n) (map (λ e. e.1) (filter p es)) ≡ list_any (λ e. p e && (e.1 == n)) es
@@ -245,7 +245,7 @@ among_once n (x ∷ xs) = among_from n x xs
 module _ (dump : Dump) (index : Index) (h : IsIndexOf dump index) (bounds : KeyBounds) (spans : List Span) (c : CoverKeys h.keeps.entries (is_among bounds) spans) where
   inside : pieces (map (λ e. e.place) index.entries.items) spans ≡ map (λ e. e.1) (filter (has_key_in bounds) h.keeps.entries)
   inside =
-      ap (λ (l : List ℕ). pieces l spans) (places_kept (bytes_of dump) index.entries.items h.keeps.entries h.keeps.stand)
+      ap (λ (l : List ℕ). pieces l spans) (places_stored (bytes_of dump) index.entries.items h.keeps.entries h.keeps.entries_are_at)
       ∙ sym (pieces_map (λ e. e.1) h.keeps.entries spans)
       ∙ ap (map (λ e. e.1)) (pieces_pass (has_key_in bounds) h.keeps.entries 0 spans c.order (λ k d low lt. c.cover k d lt))
 
@@ -259,9 +259,9 @@ module _ (dump : Dump) (index : Index) (h : IsIndexOf dump index) (bounds : KeyB
   counted_within = ap (λ (l : List ℕ). length l) inside ∙ length-map (filter (has_key_in bounds) h.keeps.entries) (λ e. e.1)
       ∙ length-filter (has_key_in bounds) h.keeps.entries ∙ h.keeps.are.same (has_key_in bounds)
 
-pub piece_added : (kept : List Entry) (from to i : ℕ) (items : List Entry) (old new : List ℕ) → new ≡ old ++ map (λ e. e.place) (take i items)
-    → items ≡ slice_range kept from to → length items ≤ i → new ≡ old ++ slice_range (map (λ e. e.place) kept) from to
-piece_added kept from to i items old new added is whole =
+pub piece_added : (stored : List Entry) (from to i : ℕ) (items : List Entry) (old new : List ℕ) → new ≡ old ++ map (λ e. e.place) (take i items)
+    → items ≡ slice_range stored from to → length items ≤ i → new ≡ old ++ slice_range (map (λ e. e.place) stored) from to
+piece_added stored from to i items old new added is whole =
     added
     ∙ ap (λ (l : List Entry). old ++ map (λ e. e.place) l) (take_all i items whole ∙ is)
-    ∙ ap (λ (l : List ℕ). old ++ l) (sym (take-map (λ e. e.place) (to - from) (drop from kept)) ∙ ap (take (to - from)) (sym (drop-map (λ e. e.place) from kept)))
+    ∙ ap (λ (l : List ℕ). old ++ l) (sym (take-map (λ e. e.place) (to - from) (drop from stored)) ∙ ap (take (to - from)) (sym (drop-map (λ e. e.place) from stored)))

@@ -28,19 +28,19 @@ count_filter t p xs = sym (length-filter t (filter p xs)) ∙ ap length (filter_
 
 -- a list at the first of its members that pass: x, and then the rest of them
 record Taken {A : Type 0} (p : A → Bool) (x : A) (rest ys : List A) : Type 0 where
-  front : List A
+  prefix : List A
   back : List A
-  is : ys ≡ front ++ x ∷ back
-  none : filter p front ≡ []
-  left : filter p back ≡ rest
+  is : ys ≡ prefix ++ x ∷ back
+  none : filter p prefix ≡ []
+  remaining : filter p back ≡ rest
 
 taken : {A : Type 0} (p : A → Bool) (x : A) (rest ys : List A) → filter p ys ≡ x ∷ rest → Taken p x rest ys
 taken p x rest [] h = absurd cc
 taken {A} p x rest (y ∷ ys) h = go (p y) refl h (taken p x rest ys)
   where
     go : (b : Bool) → p y ≡ b → cond b (y ∷ filter p ys) (filter p ys) ≡ x ∷ rest → (filter p ys ≡ x ∷ rest → Taken p x rest ys) → Taken p x rest (y ∷ ys)
-    go true e g on = let same : y ≡ x = cc in record { front = []; back = ys; is = ap (λ (z : A). z ∷ ys) same; none = refl; left = cc }
-    go false e g on = let s = on g in record { front = y ∷ s.front; back = s.back; is = ap (λ (l : List A). y ∷ l) s.is; none = rw e s.none; left = s.left }
+    go true e g on = let same : y ≡ x = cc in record { prefix = []; back = ys; is = ap (λ (z : A). z ∷ ys) same; none = refl; remaining = cc }
+    go false e g on = let s = on g in record { prefix = y ∷ s.prefix; back = s.back; is = ap (λ (l : List A). y ∷ l) s.is; none = rw e s.none; remaining = s.remaining }
 
 -- ---- of members that are the same the first
 
@@ -71,21 +71,21 @@ absorbed b c e = grind arith
 
 module _ {A : Type 0} (same : A → A → Bool) (laws : IsEquivalence same) where
   -- the first of its class counts by itself
-  count_first : (front back : List A) (x : A) (t : A → Bool) → filter (same x) front ≡ []
-      → count_by t (firsts same (front ++ x ∷ back)) ≡ cond (t x) 1 0 + count_by (λ y. not (same x y) && t y) (firsts same (front ++ back))
+  count_first : (prefix back : List A) (x : A) (t : A → Bool) → filter (same x) prefix ≡ []
+      → count_by t (firsts same (prefix ++ x ∷ back)) ≡ cond (t x) 1 0 + count_by (λ y. not (same x y) && t y) (firsts same (prefix ++ back))
   count_first [] back x t none =
       sum_by-cons (λ (y : A). cond (t y) 1 0) x (filter (λ y. not (same x y)) (firsts same back))
       ∙ ap (λ (n : ℕ). cond (t x) 1 0 + n) (count_filter t (λ y. not (same x y)) (firsts same back))
-  count_first (f ∷ front) back x t none = go (same x f) refl none (λ u n. count_first front back x u n)
+  count_first (f ∷ prefix) back x t none = go (same x f) refl none (λ u n. count_first prefix back x u n)
     where
       all : List A
-      all = firsts same (front ++ x ∷ back)
+      all = firsts same (prefix ++ x ∷ back)
 
       rest : List A
-      rest = firsts same (front ++ back)
+      rest = firsts same (prefix ++ back)
 
-      go : (b : Bool) → same x f ≡ b → cond b (f ∷ filter (same x) front) (filter (same x) front) ≡ []
-          → ((u : A → Bool) → filter (same x) front ≡ [] → count_by u all ≡ cond (u x) 1 0 + count_by (λ y. not (same x y) && u y) rest)
+      go : (b : Bool) → same x f ≡ b → cond b (f ∷ filter (same x) prefix) (filter (same x) prefix) ≡ []
+          → ((u : A → Bool) → filter (same x) prefix ≡ [] → count_by u all ≡ cond (u x) 1 0 + count_by (λ y. not (same x y) && u y) rest)
           → count_by t (f ∷ filter (λ y. not (same f y)) all) ≡ cond (t x) 1 0 + count_by (λ y. not (same x y) && t y) (f ∷ filter (λ y. not (same f y)) rest)
       go true e n on = absurd cc
       go false e n on =
@@ -102,13 +102,13 @@ module _ {A : Type 0} (same : A → A → Bool) (laws : IsEquivalence same) wher
   one_class e x xs h = filter_agree (same e) (same x) (λ y. laws.congr e x y h) xs
 
   -- each class without its first
-  class_left : (x e : A) (xs ys : List A) (s : Taken (same x) x (filter (same x) xs) ys) → filter (same e) ys ≡ filter (same e) (x ∷ xs)
-      → filter (same e) (s.front ++ s.back) ≡ filter (same e) xs
-  class_left x e xs ys s h = filter-append (same e) s.front s.back ∙ go (same e x) refl (sym (filter-append (same e) s.front (x ∷ s.back)) ∙ ap (filter (same e)) (sym s.is) ∙ h)
+  class_remaining : (x e : A) (xs ys : List A) (s : Taken (same x) x (filter (same x) xs) ys) → filter (same e) ys ≡ filter (same e) (x ∷ xs)
+      → filter (same e) (s.prefix ++ s.back) ≡ filter (same e) xs
+  class_remaining x e xs ys s h = filter-append (same e) s.prefix s.back ∙ go (same e x) refl (sym (filter-append (same e) s.prefix (x ∷ s.back)) ∙ ap (filter (same e)) (sym s.is) ∙ h)
     where
-      go : (b : Bool) → same e x ≡ b → filter (same e) s.front ++ cond b (x ∷ filter (same e) s.back) (filter (same e) s.back) ≡ cond b (x ∷ filter (same e) xs) (filter (same e) xs)
-          → filter (same e) s.front ++ filter (same e) s.back ≡ filter (same e) xs
-      go true is g = ap₂ (λ (k l : List A). k ++ l) (one_class e x s.front is ∙ s.none) (one_class e x s.back is ∙ s.left ∙ sym (one_class e x xs is))
+      go : (b : Bool) → same e x ≡ b → filter (same e) s.prefix ++ cond b (x ∷ filter (same e) s.back) (filter (same e) s.back) ≡ cond b (x ∷ filter (same e) xs) (filter (same e) xs)
+          → filter (same e) s.prefix ++ filter (same e) s.back ≡ filter (same e) xs
+      go true is g = ap₂ (λ (k l : List A). k ++ l) (one_class e x s.prefix is ∙ s.none) (one_class e x s.back is ∙ s.remaining ∙ sym (one_class e x xs is))
       go false is g = g
 
   -- lists whose classes are the same have as many firsts of each kind
@@ -118,8 +118,8 @@ module _ {A : Type 0} (same : A → A → Bool) (laws : IsEquivalence same) wher
   as_many_firsts (x ∷ xs) ys alike t =
       let s = taken (same x) x (filter (same x) xs) ys (rw (laws.refl x) at (alike x)) in
       let u : A → Bool = λ y. not (same x y) && t y in
-      ap (λ (l : List A). count_by t (firsts same l)) s.is ∙ count_first s.front s.back x t s.none
-      ∙ ap (λ (n : ℕ). cond (t x) 1 0 + n) (as_many_firsts xs (s.front ++ s.back) (λ e. class_left x e xs ys s (alike e)) u)
+      ap (λ (l : List A). count_by t (firsts same l)) s.is ∙ count_first s.prefix s.back x t s.none
+      ∙ ap (λ (n : ℕ). cond (t x) 1 0 + n) (as_many_firsts xs (s.prefix ++ s.back) (λ e. class_remaining x e xs ys s (alike e)) u)
       ∙ sym (count_first [] xs x t refl)
 
 -- ---- of found keys in their order those without repeats are the firsts
@@ -168,9 +168,9 @@ once_sorted (x ∷ xs) up = after_one x xs up
 equal_laws : IsEquivalence equal
 equal_laws = eq_by_cmp_equiv cmp_total
 
-distinct_after : (kept ts : List Tree) → with_keys kept ts ≡ kept ++ filter (λ e. not (list_any (λ k. equal k e) kept)) (firsts equal ts)
-distinct_after kept [] = sym (append-nil kept)
-distinct_after kept (t ∷ ts) = go (list_any (λ k. equal k t) kept) refl (distinct_after kept ts) (distinct_after (kept ++ t ∷ []) ts)
+distinct_after : (stored ts : List Tree) → with_keys stored ts ≡ stored ++ filter (λ e. not (list_any (λ k. equal k e) stored)) (firsts equal ts)
+distinct_after stored [] = sym (append-nil stored)
+distinct_after stored (t ∷ ts) = go (list_any (λ k. equal k t) stored) refl (distinct_after stored ts) (distinct_after (stored ++ t ∷ []) ts)
   where
     new : List Tree → Tree → Bool
     new ks e = not (list_any (λ k. equal k e) ks)
@@ -179,24 +179,24 @@ distinct_after kept (t ∷ ts) = go (list_any (λ k. equal k t) kept) refl (dist
     rest = filter (λ e. not (equal t e)) (firsts equal ts)
 
     -- one that equals t is not new where t is not
-    passed : (e : Tree) (b : Bool) → equal t e ≡ b → list_any (λ k. equal k t) kept ≡ true → (not b && new kept e) ≡ new kept e
-    passed e true h old = ap not (sym old ∙ ap (λ (f : Tree → Bool). list_any f kept) (fun_ext (λ k. equal_laws.symm k t ∙ equal_laws.congr t e k h ∙ equal_laws.symm e k)))
+    passed : (e : Tree) (b : Bool) → equal t e ≡ b → list_any (λ k. equal k t) stored ≡ true → (not b && new stored e) ≡ new stored e
+    passed e true h old = ap not (sym old ∙ ap (λ (f : Tree → Bool). list_any f stored) (fun_ext (λ k. equal_laws.symm k t ∙ equal_laws.congr t e k h ∙ equal_laws.symm e k)))
     passed e false h old = refl
 
     neither : (a b : Bool) → not (a || (b || false)) ≡ (not b && not a)
     neither a b = grind arith
 
-    go : (b : Bool) → list_any (λ k. equal k t) kept ≡ b → with_keys kept ts ≡ kept ++ filter (new kept) (firsts equal ts)
-        → with_keys (kept ++ t ∷ []) ts ≡ (kept ++ t ∷ []) ++ filter (new (kept ++ t ∷ [])) (firsts equal ts)
-        → with_keys (cond b kept (kept ++ t ∷ [])) ts ≡ kept ++ cond (not b) (t ∷ filter (new kept) rest) (filter (new kept) rest)
+    go : (b : Bool) → list_any (λ k. equal k t) stored ≡ b → with_keys stored ts ≡ stored ++ filter (new stored) (firsts equal ts)
+        → with_keys (stored ++ t ∷ []) ts ≡ (stored ++ t ∷ []) ++ filter (new (stored ++ t ∷ [])) (firsts equal ts)
+        → with_keys (cond b stored (stored ++ t ∷ [])) ts ≡ stored ++ cond (not b) (t ∷ filter (new stored) rest) (filter (new stored) rest)
     go true old on after =
-        on ∙ ap (λ (l : List Tree). kept ++ l) (sym (filter_both (new kept) (λ e. not (equal t e)) (firsts equal ts)
-        ∙ filter_agree _ (new kept) (λ e. passed e (equal t e) refl old) (firsts equal ts)))
+        on ∙ ap (λ (l : List Tree). stored ++ l) (sym (filter_both (new stored) (λ e. not (equal t e)) (firsts equal ts)
+        ∙ filter_agree _ (new stored) (λ e. passed e (equal t e) refl old) (firsts equal ts)))
     go false old on after =
-        after ∙ append_assoc kept (t ∷ []) (filter (new (kept ++ t ∷ [])) (firsts equal ts))
-        ∙ ap (λ (l : List Tree). kept ++ t ∷ l) (filter_agree (new (kept ++ t ∷ [])) (λ e. not (equal t e) && new kept e)
-        (λ e. ap not (list_any-append (λ k. equal k e) kept (t ∷ [])) ∙ neither (list_any (λ k. equal k e) kept) (equal t e)) (firsts equal ts)
-        ∙ sym (filter_both (new kept) (λ e. not (equal t e)) (firsts equal ts)))
+        after ∙ append_assoc stored (t ∷ []) (filter (new (stored ++ t ∷ [])) (firsts equal ts))
+        ∙ ap (λ (l : List Tree). stored ++ t ∷ l) (filter_agree (new (stored ++ t ∷ [])) (λ e. not (equal t e) && new stored e)
+        (λ e. ap not (list_any-append (λ k. equal k e) stored (t ∷ [])) ∙ neither (list_any (λ k. equal k e) stored) (equal t e)) (firsts equal ts)
+        ∙ sym (filter_both (new stored) (λ e. not (equal t e)) (firsts equal ts)))
 
 distinct_firsts : (ks : List Tree) → distinct ks ≡ firsts equal ks
 distinct_firsts ks = distinct_after [] ks ∙ all_pass (λ e. true) (firsts equal ks) (λ i d lt. refl)
@@ -219,18 +219,18 @@ several ks k ts is =
 
 -- ---- the keys of a document, sorted and without repeats
 
-pub own_once : (place : ℕ) (ks : List Tree) (own sorted : List FoundKey) → map found_entry own ≡ keys_at place ks
-    → Ascends found_lt sorted → IsStableBy found_lt own sorted → (test : KeyAt → Bool)
+pub document_keys_once : (place : ℕ) (ks : List Tree) (document_keys sorted : List FoundKey) → map found_entry document_keys ≡ keys_at place ks
+    → Ascends found_lt sorted → IsStableBy found_lt document_keys sorted → (test : KeyAt → Bool)
     → count_by test (map found_entry (dedup repeats sorted)) ≡ count_by test (keys_at place (distinct ks))
-own_once place ks own sorted is up stable test =
+document_keys_once place ks document_keys sorted is up stable test =
     ap (λ (fs : List FoundKey). count_by test (map found_entry fs)) (once_sorted sorted up)
-    ∙ seen (firsts found_same sorted)
-    ∙ as_many_firsts found_same found_laws own sorted (λ f. classes f sorted ∙ stable f ∙ sym (classes f own)) (λ f. test (found_entry f))
-    ∙ sym (seen (firsts found_same own))
-    ∙ ap (count_by test) (firsts_map found_entry is_same_entry own ∙ ap (firsts is_same_entry) is ∙ firsts_at place ks)
+    ∙ visited (firsts found_same sorted)
+    ∙ as_many_firsts found_same found_laws document_keys sorted (λ f. classes f sorted ∙ stable f ∙ sym (classes f document_keys)) (λ f. test (found_entry f))
+    ∙ sym (visited (firsts found_same document_keys))
+    ∙ ap (count_by test) (firsts_map found_entry is_same_entry document_keys ∙ ap (firsts is_same_entry) is ∙ firsts_at place ks)
   where
-    seen : (fs : List FoundKey) → count_by test (map found_entry fs) ≡ count_by (λ f. test (found_entry f)) fs
-    seen fs = fold-map (λ (n : ℕ) (e : KeyAt). n + cond (test e) 1 0) found_entry 0 fs
+    visited : (fs : List FoundKey) → count_by test (map found_entry fs) ≡ count_by (λ f. test (found_entry f)) fs
+    visited fs = fold-map (λ (n : ℕ) (e : KeyAt). n + cond (test e) 1 0) found_entry 0 fs
 
     classes : (f : FoundKey) (fs : List FoundKey) → filter (found_same f) fs ≡ filter (ties found_lt f) fs
     classes f fs = filter_agree _ _ (λ g. sym (ties_are_same (found_entry f) (found_entry g))) fs

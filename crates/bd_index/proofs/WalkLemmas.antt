@@ -21,7 +21,7 @@ use Rattle.bd_path.proofs.SortLemmas.{dir_total, equal_is, equal_itself, has_a_k
 use Rattle.bd_index.specs.Entries.{AreEntries, IsRun, KeyAt, downward, entries_from, entries_of, entry_cmp, keys_at, put_down}
 use Rattle.bd_index.specs.IndexView.{IsIndexOf, IsIndexOf-prop, KeepsEntry}
 use Rattle.bd_index.specs.{Walk.WalksAll, Walk.fresh_places, declared.entry.Entry.Entry, declared.index.Index.Index}
-use Rattle.bd_index.proofs.EntryLemmas.{Rises, all_pass, any_as_counts, any_map, ascends, by_total, count_kept, entry_by, entry_total, first_not_less, keys_rise, neither_less, zip_at}
+use Rattle.bd_index.proofs.EntryLemmas.{Rises, all_pass, any_as_counts, any_map, ascends, by_total, count_stored, entry_by, entry_total, first_not_less, keys_rise, neither_less, zip_at}
 use Rattle.bd_index.proofs.PlacesLemmas.{in_piece}
 use Rattle.bd_index.proofs.RepeatLemmas.{all_firsts, any_firsts, filter_both, firsts, firsts_map}
 
@@ -53,8 +53,8 @@ module _ (es : List KeyAt) (start end : ℕ) (run : IsRun es start end) (le : en
       let at = in_piece es start end k d lt in
       subst (λ (e : KeyAt). cmp e.0 (get_or es (end - 1) d).0 ≡ Equal) (sym at.is) (equal_is _ (run.equals (start + k) d (omega arith) at.below))
 
-  front_below : All (λ x. All (λ y. is_lt (cmp x.0 y.0) ≡ true) (slice_range es start end)) (take start es)
-  front_below k d lt j e low =
+  prefix_below : All (λ x. All (λ y. is_lt (cmp x.0 y.0) ≡ true) (slice_range es start end)) (take start es)
+  prefix_below k d lt j e low =
       let n = length-take start es in
       let there : get_or (take start es) k d ≡ get_or es k e = get_or-take start es k d (omega arith) ∙ get_or_default es k d e (omega arith) in
       let y = (get_or (slice_range es start end) j e).0 in
@@ -72,8 +72,8 @@ module _ (es : List KeyAt) (start end : ℕ) (run : IsRun es start end) (le : en
   run_taken =
       let some = run.some in
       let n : start + (end - start) ≡ end = omega arith in
-      let cut : take end es ≡ take start es ++ slice_range es start end = ap (λ (m : ℕ). take m es) (sym n) ∙ take-add start (end - start) es in
-      ap downward cut ∙ run_first (take start es) (slice_range es start end) front_below tied
+      let cutoff : take end es ≡ take start es ++ slice_range es start end = ap (λ (m : ℕ). take m es) (sym n) ∙ take-add start (end - start) es in
+      ap downward cutoff ∙ run_first (take start es) (slice_range es start end) prefix_below tied
 
 -- ---- all entries are there
 
@@ -166,21 +166,21 @@ run_is_whole es start end a b d sorted some lt le first last other k low =
 -- ---- the entries that are ahead, one after the other
 
 module _ (dump : Dump) (index : Index) (i h : IsIndexOf dump index) where
-  same_kept : i.keeps.entries ≡ h.keeps.entries
-  same_kept = ap (λ (x : IsIndexOf dump index). x.keeps.entries) (IsIndexOf-prop dump index i h)
+  same_stored : i.keeps.entries ≡ h.keeps.entries
+  same_stored = ap (λ (x : IsIndexOf dump index). x.keeps.entries) (IsIndexOf-prop dump index i h)
 
   pub upward_ahead : (n : ℕ) → n ≡ length index.entries.items → slice_range i.keeps.entries 0 n ++ downward (take 0 i.keeps.entries) ≡ h.keeps.entries
-  upward_ahead n is = append-nil (slice_range i.keeps.entries 0 n) ∙ take_all (n - 0) i.keeps.entries (omega (arith, count_kept dump index i)) ∙ same_kept
+  upward_ahead n is = append-nil (slice_range i.keeps.entries 0 n) ∙ take_all (n - 0) i.keeps.entries (omega (arith, count_stored dump index i)) ∙ same_stored
 
   pub downward_ahead : (n : ℕ) → n ≡ length index.entries.items → slice_range i.keeps.entries 0 0 ++ downward (take n i.keeps.entries) ≡ downward h.keeps.entries
-  downward_ahead n is = ap downward (take_all n i.keeps.entries (omega (arith, count_kept dump index i)) ∙ same_kept)
+  downward_ahead n is = ap downward (take_all n i.keeps.entries (omega (arith, count_stored dump index i)) ∙ same_stored)
 
   pub run_ahead : (next end start below : ℕ) → end ≤ next → below ≤ length index.entries.items → IsRun h.keeps.entries start below
       → slice_range i.keeps.entries start below ++ downward (take start i.keeps.entries) ≡ slice_range h.keeps.entries next end ++ downward (take below h.keeps.entries)
   run_ahead next end start below done le run =
       let none : end - next ≡ 0 = omega arith in
-      ap (λ (es : List KeyAt). slice_range es start below ++ downward (take start es)) same_kept
-      ∙ sym (run_taken h.keeps.entries start below run (omega (arith, count_kept dump index h)))
+      ap (λ (es : List KeyAt). slice_range es start below ++ downward (take start es)) same_stored
+      ∙ sym (run_taken h.keeps.entries start below run (omega (arith, count_stored dump index h)))
       ∙ ap (λ (n : ℕ). take n (drop next h.keeps.entries) ++ downward (take below h.keeps.entries)) (sym none)
 
   -- the next entry of a run
@@ -190,11 +190,11 @@ module _ (dump : Dump) (index : Index) (i h : IsIndexOf dump index) where
   entry_taken next end below k lt le is =
       let es = h.keeps.entries in
       let d : KeyAt = (leaf null, 0) in
-      let size = count_kept dump index h in
+      let size = count_stored dump index h in
       let n : end - next ≡ suc (end - (next + 1)) = omega arith in
-      let there = (zip_at (KeepsEntry (bytes_of dump)) index.entries.items es next k d h.keeps.stand (omega arith)).1 in
+      let there = (zip_at (KeepsEntry (bytes_of dump)) index.entries.items es next k d h.keeps.entries_are_at (omega arith)).1 in
       ap₂ (λ (m : ℕ) (l : List KeyAt). map (λ e. e.1) (take m l ++ downward (take below es))) n (drop_more es next d (omega arith))
-      ∙ ap₂ (λ (p : ℕ) (fs : List KeyAt). p ∷ map (λ e. e.1) (slice_range fs (next + 1) end ++ downward (take below fs))) (sym there ∙ ap (λ (e : Entry). e.place) (sym is)) (sym same_kept)
+      ∙ ap₂ (λ (p : ℕ) (fs : List KeyAt). p ∷ map (λ e. e.1) (slice_range fs (next + 1) end ++ downward (take below fs))) (sym there ∙ ap (λ (e : Entry). e.place) (sym is)) (sym same_stored)
 
 -- ---- the sort key of a document among its keys
 
@@ -405,18 +405,18 @@ module _ (dir : Dir) (path : Names) (ds : List Doc) (es : List KeyAt) (a : AreOr
     all = λ p. sym (any_map (λ q. q == p) (λ e. e.1) (firsts at_one es)) ∙ any_firsts at_one (λ e. e.1 == p) (λ x y h. other_place x.1 y.1 p h) es ∙ places_are p;
   }
 
-  pub room_for : (n : ℕ) → n ≡ length ds → All (λ p. p < n) (map (λ e. e.1) es)
-  room_for n size = All-map (λ p. p < n) (λ e. e.1) es (λ i d lt. let low = places_below i d lt in omega arith)
+  pub in_range_for : (n : ℕ) → n ≡ length ds → All (λ p. p < n) (map (λ e. e.1) es)
+  in_range_for n size = All-map (λ p. p < n) (λ e. e.1) es (λ i d lt. let low = places_below i d lt in omega arith)
 
 -- ---- marks in place of a list of what came
 
-fresh_firsts : (seen : List Bool) (ps : List ℕ) → All (λ p. p < length seen) ps → fresh_places seen ps ≡ filter (λ p. not (get_or seen p true)) (firsts (λ n m. n == m) ps)
-fresh_firsts seen [] below = refl
-fresh_firsts seen (p ∷ ps) below =
-    let n = length-set seen p true in
-    let lt : p < length seen = All-head (λ q. q < length seen) p ps below in
-    let rest = All-tail (λ q. q < length seen) p ps below in
-    go (get_or seen p true) refl lt (fresh_firsts seen ps rest) (fresh_firsts (set seen p true) ps (λ k d low. let r = rest k d low in omega arith))
+fresh_firsts : (visited : List Bool) (ps : List ℕ) → All (λ p. p < length visited) ps → fresh_places visited ps ≡ filter (λ p. not (get_or visited p true)) (firsts (λ n m. n == m) ps)
+fresh_firsts visited [] below = refl
+fresh_firsts visited (p ∷ ps) below =
+    let n = length-set visited p true in
+    let lt : p < length visited = All-head (λ q. q < length visited) p ps below in
+    let rest = All-tail (λ q. q < length visited) p ps below in
+    go (get_or visited p true) refl lt (fresh_firsts visited ps rest) (fresh_firsts (set visited p true) ps (λ k d low. let r = rest k d low in omega arith))
   where
     new : List Bool → ℕ → Bool
     new s q = not (get_or s q true)
@@ -427,28 +427,28 @@ fresh_firsts seen (p ∷ ps) below =
     others : List ℕ
     others = filter (λ q. not (p == q)) all
 
-    marked : (q : ℕ) → p < length seen → new (set seen p true) q ≡ (not (p == q) && new seen q)
-    marked q lt = elim (cases_eq q p) [
-      | inl e ↦ (let s = get_or-set_same seen p true true lt in grind (arith, nat_tests))
-      | inr n ↦ (let s = get_or-set_other seen p q true true n in grind (arith, nat_tests))
+    visited_after : (q : ℕ) → p < length visited → new (set visited p true) q ≡ (not (p == q) && new visited q)
+    visited_after q lt = elim (cases_eq q p) [
+      | inl e ↦ (let s = get_or-set_same visited p true true lt in grind (arith, nat_tests))
+      | inr n ↦ (let s = get_or-set_other visited p q true true n in grind (arith, nat_tests))
     ]
 
-    passed : (q : ℕ) → get_or seen p true ≡ true → (not (p == q) && new seen q) ≡ new seen q
+    passed : (q : ℕ) → get_or visited p true ≡ true → (not (p == q) && new visited q) ≡ new visited q
     passed q e = grind (arith, nat_tests)
 
-    go : (b : Bool) → get_or seen p true ≡ b → p < length seen → fresh_places seen ps ≡ filter (new seen) all → fresh_places (set seen p true) ps ≡ filter (new (set seen p true)) all
-        → cond b (fresh_places seen ps) (p ∷ fresh_places (set seen p true) ps) ≡ cond (not b) (p ∷ filter (new seen) others) (filter (new seen) others)
-    go true e lt on after = on ∙ sym (filter_both (new seen) (λ q. not (p == q)) all ∙ filter_agree _ (new seen) (λ q. passed q e) all)
-    go false e lt on after = ap (λ (l : List ℕ). p ∷ l) (after ∙ filter_agree (new (set seen p true)) _ (λ q. marked q lt) all ∙ sym (filter_both (new seen) (λ q. not (p == q)) all))
+    go : (b : Bool) → get_or visited p true ≡ b → p < length visited → fresh_places visited ps ≡ filter (new visited) all → fresh_places (set visited p true) ps ≡ filter (new (set visited p true)) all
+        → cond b (fresh_places visited ps) (p ∷ fresh_places (set visited p true) ps) ≡ cond (not b) (p ∷ filter (new visited) others) (filter (new visited) others)
+    go true e lt on after = on ∙ sym (filter_both (new visited) (λ q. not (p == q)) all ∙ filter_agree _ (new visited) (λ q. passed q e) all)
+    go false e lt on after = ap (λ (l : List ℕ). p ∷ l) (after ∙ filter_agree (new (set visited p true)) _ (λ q. visited_after q lt) all ∙ sym (filter_both (new visited) (λ q. not (p == q)) all))
 
 -- a walk from its start
-pub walks_fresh : (dir : Dir) (path : Names) (ds : List Doc) (es : List KeyAt) (seen : List Bool) → AreOrdered dir path ds es
-    → length seen ≡ length ds → ((k : ℕ) (d : Bool) → k < length ds → get_or seen k d ≡ false)
-    → WalksAll dir path ds (fresh_places seen (map (λ e. e.1) es))
-walks_fresh dir path ds es seen a size none =
+pub walks_fresh : (dir : Dir) (path : Names) (ds : List Doc) (es : List KeyAt) (visited : List Bool) → AreOrdered dir path ds es
+    → length visited ≡ length ds → ((k : ℕ) (d : Bool) → k < length ds → get_or visited k d ≡ false)
+    → WalksAll dir path ds (fresh_places visited (map (λ e. e.1) es))
+walks_fresh dir path ds es visited a size none =
     let ps = map (λ e. e.1) es in
-    let below : All (λ p. p < length seen) ps = room_for dir path ds es a (length seen) size in
+    let below : All (λ p. p < length visited) ps = in_range_for dir path ds es a (length visited) size in
     let all = firsts (λ n m. n == m) ps in
-    let fresh = all_pass (λ p. not (get_or seen p true)) all (λ i d lt.
-    let low = all_firsts (λ n m. n == m) (λ p. p < length seen) ps below i d lt in ap not (none (get_or all i d) true (omega arith))) in
-    subst (WalksAll dir path ds) (firsts_map (λ e. e.1) (λ n m. n == m) es ∙ sym fresh ∙ sym (fresh_firsts seen ps below)) (walks dir path ds es a)
+    let fresh = all_pass (λ p. not (get_or visited p true)) all (λ i d lt.
+    let low = all_firsts (λ n m. n == m) (λ p. p < length visited) ps below i d lt in ap not (none (get_or all i d) true (omega arith))) in
+    subst (WalksAll dir path ds) (firsts_map (λ e. e.1) (λ n m. n == m) es ∙ sym fresh ∙ sym (fresh_firsts visited ps below)) (walks dir path ds es a)

@@ -5,7 +5,7 @@ use Rattle.std.specs.Prelude.{◌≡◌, ℕ, List, [], ◌∷◌, Bool}
 use Rattle.std.specs.{Coded.Coded-set, Coded.coded_ℕ, List.All, List.AllZip}
 use mathlib.Core.HLevel.{is_prop→PathP}
 use Rattle.bd_value.specs.Tree.{Tree}
-use Rattle.bd_bson_view.specs.{Sound.StandsAt, Sound.StandsAt-prop, Sound.one_stands, Sound.stands}
+use Rattle.bd_bson_view.specs.{Sound.IsAt, Sound.IsAt-prop, Sound.one_is_at, Sound.meaning}
 use Rattle.bd_bson_view.specs.{declared.raw.RawValue.RawValue}
 use Rattle.bd_bson_dump.specs.{Collection.bytes_of, Collection.documents, declared.collection.Dump.Dump}
 use Rattle.bd_path.specs.{PathNames.names_of, Reach.Names}
@@ -15,16 +15,16 @@ use Rattle.bd_index.specs.{declared.entry.Entry.Entry, declared.entry.FoundKey.F
 -- The entry in memory is this one: its key begins in the bytes where it says,
 -- and it has the same document number.
 abbrev pub KeepsEntry : List ℕ → Entry → KeyAt → Type 0
-KeepsEntry bytes kept e = StandsAt bytes kept.key e.0 × (kept.place ≡ e.1)
+KeepsEntry bytes stored e = IsAt bytes stored.key e.0 × (stored.place ≡ e.1)
 
 -- The entries in memory are these, in the same order, each with its key in the bytes of the dump.
 abbrev pub KeepsEntries : List ℕ → List Entry → List KeyAt → Type 0
-KeepsEntries bytes kept es = AllZip (KeepsEntry bytes) kept es
+KeepsEntries bytes stored es = AllZip (KeepsEntry bytes) stored es
 
 -- The entries in memory are those of this dump's documents on the path, sparse or not.
-pub record KeepsDump (sparse : Bool) (path : Names) (dump : Dump) (kept : List Entry) : Type 0 where
+pub record KeepsDump (sparse : Bool) (path : Names) (dump : Dump) (stored : List Entry) : Type 0 where
   pub entries : List KeyAt
-  pub stand : KeepsEntries (bytes_of dump) kept entries
+  pub entries_are_at : KeepsEntries (bytes_of dump) stored entries
   pub are : AreEntries sparse path (documents dump) entries
 
 -- The index in memory has the entries of this dump's documents, and says rightly whether it is multikey.
@@ -35,35 +35,35 @@ pub record IsIndexOf (dump : Dump) (index : Index) : Type 0 where
 -- ---- there is one proof of it at most, so that a ghost field may hold it
 
 -- entries in memory stand for one list of entries at most
-pub same_entries : (bytes : List ℕ) (kept : List Entry) (es fs : List KeyAt) → KeepsEntries bytes kept es →
-    KeepsEntries bytes kept fs → es ≡ fs
+pub same_entries : (bytes : List ℕ) (stored : List Entry) (es fs : List KeyAt) → KeepsEntries bytes stored es →
+    KeepsEntries bytes stored fs → es ≡ fs
 same_entries bytes [] [] [] p q = λ i. []
 same_entries bytes [] [] (f ∷ fs) p q = absurd q
 same_entries bytes [] (e ∷ es) fs p q = absurd p
 same_entries bytes (k ∷ ks) [] fs p q = absurd p
 same_entries bytes (k ∷ ks) (e ∷ es) [] p q = absurd q
-same_entries bytes (k ∷ ks) (e ∷ es) (f ∷ fs) p q = let key = one_stands bytes k.key e.0 f.0 p.0.0 q.0.0 in
+same_entries bytes (k ∷ ks) (e ∷ es) (f ∷ fs) p q = let key = one_is_at bytes k.key e.0 f.0 p.0.0 q.0.0 in
     let place = sym p.0.1 ∙ q.0.1 in let others = same_entries bytes ks es fs p.1 q.1 in
     λ i. (key i, place i) ∷ others i
 
-pub KeepsEntries-prop : (bytes : List ℕ) (kept : List Entry) (es : List KeyAt) → IsProp (KeepsEntries bytes kept es)
+pub KeepsEntries-prop : (bytes : List ℕ) (stored : List Entry) (es : List KeyAt) → IsProp (KeepsEntries bytes stored es)
 KeepsEntries-prop bytes [] [] p q = λ i. tt
 KeepsEntries-prop bytes [] (e ∷ es) p q = absurd p
 KeepsEntries-prop bytes (k ∷ ks) [] p q = absurd p
 KeepsEntries-prop bytes (k ∷ ks) (e ∷ es) p q =
     λ i. (
-      (StandsAt-prop bytes k.key e.0 p.0.0 q.0.0 i, Coded-set coded_ℕ k.place e.1 p.0.1 q.0.1 i),
+      (IsAt-prop bytes k.key e.0 p.0.0 q.0.0 i, Coded-set coded_ℕ k.place e.1 p.0.1 q.0.1 i),
       KeepsEntries-prop bytes ks es p.1 q.1 i,
     )
 
-pub KeepsDump-prop : (sparse : Bool) (path : Names) (dump : Dump) (kept : List Entry) →
-    IsProp (KeepsDump sparse path dump kept)
-KeepsDump-prop sparse path dump kept p q =
-    let e : p.entries ≡ q.entries = same_entries (bytes_of dump) kept p.entries q.entries p.stand q.stand in
+pub KeepsDump-prop : (sparse : Bool) (path : Names) (dump : Dump) (stored : List Entry) →
+    IsProp (KeepsDump sparse path dump stored)
+KeepsDump-prop sparse path dump stored p q =
+    let e : p.entries ≡ q.entries = same_entries (bytes_of dump) stored p.entries q.entries p.entries_are_at q.entries_are_at in
     λ i. record {
       entries = e i;
-      stand = is_prop→PathP (λ k. KeepsEntries (bytes_of dump) kept (e k))
-          (λ k. KeepsEntries-prop (bytes_of dump) kept (e k)) p.stand q.stand i;
+      entries_are_at = is_prop→PathP (λ k. KeepsEntries (bytes_of dump) stored (e k))
+          (λ k. KeepsEntries-prop (bytes_of dump) stored (e k)) p.entries_are_at q.entries_are_at i;
       are = is_prop→PathP (λ k. AreEntries sparse path (documents dump) (e k)) (λ k. hlevel props) p.are q.are i;
     }
 
@@ -79,7 +79,7 @@ AreIndexesOf-prop dump indexes = hlevel IsIndexOf-prop
 
 -- the value that a view into the bytes of a dump stands for
 abbrev pub raw_tree : RawValue → Tree
-raw_tree v = stands v.sound
+raw_tree v = meaning v.sound
 
 -- the bytes that a view is into
 abbrev pub raw_source : RawValue → List ℕ
@@ -87,7 +87,7 @@ raw_source v = v.bytes.now
 
 -- the entry that was found: the value of its key, and its document number
 abbrev pub found_entry : FoundKey → KeyAt
-found_entry f = (stands f.key.sound, f.place)
+found_entry f = (meaning f.key.sound, f.place)
 
 -- The key that was found is a view into these bytes.
 abbrev pub IsFoundIn : List ℕ → FoundKey → Type 0

@@ -2,4 +2,4 @@ pub mod Entries
 pub mod IndexView
 pub mod Places
 pub mod Walk
-pub mod WalkLeft
+pub mod WalkRemaining

@@ -37,8 +37,8 @@ contained ps q h = let a = Any-from_list_any (λ m. m == q) ps h in
     (a.0, a.2, subst (λ (m : ℕ). get_or ps a.0 m ≡ m) (eqb-true a.1 q a.4) a.3)
 
 -- the document numbers of an index walk are a source: no match is missing, and none comes twice
-pub walk_law : (n : ℕ) (hits : ℕ → Bool) (ps : List ℕ) → WalksEach n ps → IsSource n hits ps
-walk_law n hits ps w = record {
+pub walk_law : (n : ℕ) (matches_at : ℕ → Bool) (ps : List ℕ) → WalksEach n ps → IsSource n matches_at ps
+walk_law n matches_at ps w = record {
   below = λ k d lt. let p = get_or ps k d in
       let low : p < length w.documents =
       ltb-true p (length w.documents) (sym (w.walks.all p)
@@ -67,6 +67,6 @@ places_ahead o = map (λ e. e.1) (entries_ahead o)
 
 -- of these document numbers those that were not seen before, each once
 abbrev pub fresh_places : List Bool → List ℕ → List ℕ
-fresh_places seen [] = []
-fresh_places seen (p ∷ ps) =
-    if slice_index_or seen p true then fresh_places seen ps else p ∷ fresh_places (slice_set seen p true) ps
+fresh_places visited [] = []
+fresh_places visited (p ∷ ps) =
+    if slice_index_or visited p true then fresh_places visited ps else p ∷ fresh_places (slice_set visited p true) ps

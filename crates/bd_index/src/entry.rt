@@ -1,11 +1,11 @@
 //! The entries of an index, as it keeps them and as they were found.
 
 ghost use Rattle.std.specs.Prelude.{◌≡◌};
-ghost use Rattle.bd_bson_view.specs.Sound.{stands};
-ghost use Rattle.bd_index_prefix.specs.Front.{front_of};
+ghost use Rattle.bd_bson_view.specs.Sound.{meaning};
+ghost use Rattle.bd_index_prefix.specs.Prefix.{prefix_of};
 
 use bd_bson_view::{At, RawValue};
-use bd_index_prefix::Front;
+use bd_index_prefix::Prefix;
 
 /// A key of a document, by where it stands in the dump, and the place of the document. A null or an undefined that stands for
 /// what is not there has the offset 0: it takes no byte, so that one stands there in any bytes.
@@ -20,6 +20,6 @@ pub(crate) struct Entry {
 pub(crate) struct FoundKey<'a> {
     pub key: RawValue<'a>,
     pub place: u32,
-    pub front: Front,
-    ghost fronted: { front ≡ front_of (stands key.sound) },
+    pub prefix: Prefix,
+    ghost prefixed: { prefix ≡ prefix_of (meaning key.sound) },
 }

@@ -3,7 +3,7 @@
 ghost use Rattle.std.specs.Prelude.{◌≡◌, ◌++◌, List, ℕ, Bool, true, false, not, map, length, nat_lt, count_by, IfOk, OnOk};
 ghost use Rattle.std.specs.List.{All, list_any};
 ghost use Rattle.bd_value.specs.Order.{equal};
-ghost use Rattle.bd_bson_view.specs.Sound.{stands};
+ghost use Rattle.bd_bson_view.specs.Sound.{meaning};
 ghost use Rattle.bd_bson_dump.specs.Collection.{bytes_of, documents};
 ghost use Rattle.bd_bson_dump.specs.declared.collection.Dump.{Dump};
 ghost use Rattle.bd_path.specs.Key.{AreKeysOf, IsKeyOf, distinct, key_tree, key_trees};
@@ -14,7 +14,7 @@ ghost use Rattle.bd_index.specs.IndexView.{IsFoundIn, IsIndexOf, KeepsDump, Keep
 use crate::entry::{Entry, FoundKey};
 use bd_bson_dump::Dump;
 use bd_bson_view::{At, RawValue};
-use bd_index_prefix::{Front, compare_fronts};
+use bd_index_prefix::{Prefix, compare_prefixes};
 use bd_path::{Key, Path, all_key_nodes, compare_keys};
 use bd_value::{NoMemory, Reading, compare_nodes};
 use std::alloc::Global;
@@ -103,7 +103,7 @@ fn entries_of(alloc: Global, dump: &Dump, path: &Path, sparse: bool) -> Result<V
 {
     let mut found = find_all(alloc, dump, path, sparse)?;
     found.sort_by(compare_found)?;
-    let entries = kept_entries(alloc, &found)?;
+    let entries = stored_entries(alloc, &found)?;
     Ok(entries)
 }
 
@@ -117,13 +117,13 @@ fn find_all<'a>(
     ensures found { IfOk result (λ v. (test : KeyAt → Bool) →
         count_by test (map found_entry v.items) ≡ count_by test
         (entries_of sparse (names_of path.now) (documents dump.now))) }
-    ensures kept { IfOk result (λ v. All (IsFoundIn (bytes_of dump.now)) v.items) }
+    ensures found_in { IfOk result (λ v. All (IsFoundIn (bytes_of dump.now)) v.items) }
 {
     let mut found = Vec::new(alloc);
-    let mut own = Vec::new(alloc);
+    let mut document_keys = Vec::new(alloc);
     for place in 0..dump.len() {
         let keys = all_key_nodes(alloc, dump.document(place).value(), path, sparse)?;
-        add_document(dump, keys, place, &mut own, &mut found)?;
+        add_document(dump, keys, place, &mut document_keys, &mut found)?;
     }
     Ok(found)
 }
@@ -135,7 +135,7 @@ fn add_document<'a>(
     dump: &'a Dump,
     keys: Vec<Key<RawValue<'a>>>,
     place: u32,
-    own: &mut Vec<FoundKey<'a>>,
+    document_keys: &mut Vec<FoundKey<'a>>,
     found: &mut Vec<FoundKey<'a>>,
 ) -> Result<(), NoMemory>
     requires { AreKeysOf raw_source (bytes_of dump.now) keys.items }
@@ -143,15 +143,15 @@ fn add_document<'a>(
         count_by test (map found_entry found.new.items)
         ≡ count_by test (map found_entry found.old.items
         ++ keys_at place (distinct (key_trees raw_tree keys.entry.items)))) }
-    ensures kept { OnOk result (All (IsFoundIn (bytes_of dump.now)) found.old.items →
+    ensures found_in { OnOk result (All (IsFoundIn (bytes_of dump.now)) found.old.items →
         All (IsFoundIn (bytes_of dump.now)) found.new.items) }
 {
-    own.clear();
-    add_found(dump, &keys, place, own)?;
+    document_keys.clear();
+    add_found(dump, &keys, place, document_keys)?;
     drop(keys);
-    own.sort_by(compare_found)?;
-    own.dedup_by(|next, last| repeats(last, next));
-    found.extend_from_slice(own)?;
+    document_keys.sort_by(compare_found)?;
+    document_keys.dedup_by(|next, last| repeats(last, next));
+    found.extend_from_slice(document_keys)?;
     Ok(())
 }
 
@@ -165,13 +165,13 @@ fn add_found<'a>(
     requires { AreKeysOf raw_source (bytes_of dump.now) keys.now }
     ensures added { OnOk result (map found_entry found.new.items
         ≡ map found_entry found.old.items ++ keys_at place (key_trees raw_tree keys.now)) }
-    ensures kept { All (IsFoundIn (bytes_of dump.now)) found.old.items →
+    ensures found_in { All (IsFoundIn (bytes_of dump.now)) found.old.items →
         All (IsFoundIn (bytes_of dump.now)) found.new.items }
 {
     for key in keys {
         let key = in_dump(dump, *key);
-        let front = Front::of(Key::Node(key));
-        found.push(FoundKey { key, place, front })?;
+        let prefix = Prefix::of(Key::Node(key));
+        found.push(FoundKey { key, place, prefix })?;
     }
     Ok(())
 }
@@ -179,8 +179,8 @@ fn add_found<'a>(
 /// The key as a value of the dump. One that is not there takes no byte, and stands everywhere.
 fn in_dump<'a>(dump: &'a Dump, key: Key<RawValue<'a>>) -> RawValue<'a>
     requires { IsKeyOf raw_source (bytes_of dump.now) key }
-    ensures tree { stands result.sound ≡ key_tree raw_tree key.entry }
-    ensures kept { result.bytes.now ≡ bytes_of dump.now }
+    ensures tree { meaning result.sound ≡ key_tree raw_tree key.entry }
+    ensures same_source { result.bytes.now ≡ bytes_of dump.now }
 {
     match key {
         Key::Node(value) => value,
@@ -193,7 +193,7 @@ fn in_dump<'a>(dump: &'a Dump, key: Key<RawValue<'a>>) -> RawValue<'a>
 fn compare_found(a: &FoundKey<'_>, b: &FoundKey<'_>) -> Ordering
     ensures { result ≡ entry_cmp (found_entry a.now) (found_entry b.now) }
 {
-    let order = match compare_fronts(a.front, b.front) {
+    let order = match compare_prefixes(a.prefix, b.prefix) {
         Some(order) => order,
         None => compare_nodes(a.key, b.key),
     };
@@ -208,7 +208,7 @@ fn repeats(last: &FoundKey<'_>, next: &FoundKey<'_>) -> bool
 }
 
 /// Where the keys stand.
-fn kept_entries(alloc: Global, found: &[FoundKey<'_>]) -> Result<Vec<Entry>, NoMemory>
+fn stored_entries(alloc: Global, found: &[FoundKey<'_>]) -> Result<Vec<Entry>, NoMemory>
     ensures { (bytes : List ℕ) → All (IsFoundIn bytes) found.now →
         IfOk result (λ v. KeepsEntries bytes v.items (map found_entry found.now)) }
 {

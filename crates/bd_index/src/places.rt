@@ -3,7 +3,7 @@
 ghost use Rattle.std.specs.Prelude.{◌≡◌, ◌++◌, ◌<◌, ◌≤◌, ◌||◌, ℕ, true, false, not, map, length, slice_index_or, slice_range, IfOk, OnOk};
 ghost use Rattle.std.specs.List.{All};
 ghost use Rattle.std.specs.List.Sorted.{IsPartitionPoint};
-ghost use Rattle.bd_bson_view.specs.Sound.{stands};
+ghost use Rattle.bd_bson_view.specs.Sound.{meaning};
 ghost use Rattle.bd_bson_dump.specs.Collection.{bytes_of, documents};
 ghost use Rattle.bd_path.specs.PathNames.{names_of};
 ghost use Rattle.bd_index_bounds.specs.Bounds.{intersection, is_among, union};
@@ -15,7 +15,7 @@ ghost use Rattle.bd_index.specs.Places.{AreInOrder, AreWithin, CoverKeys, is_cov
 use crate::index::Index;
 use bd_bson_dump::Dump;
 use bd_bson_view::RawValue;
-use bd_index_bounds::{Bounds, Cut};
+use bd_index_bounds::{Bounds, Cutoff};
 use bd_value::{NoMemory, compare_nodes};
 use std::alloc::Global;
 
@@ -160,7 +160,7 @@ impl Index {
     }
 
     /// The positions of the entries between two cuts.
-    fn span_between(&self, dump: &Dump, from: Cut<'_>, to: Cut<'_>) -> Span
+    fn span_between(&self, dump: &Dump, from: Cutoff<'_>, to: Cutoff<'_>) -> Span
         requires { IsIndexOf dump.now self.now }
         ensures order { result.from ≤ result.to }
         ensures bound { result.to ≤ length self.now.entries.items }
@@ -174,18 +174,18 @@ impl Index {
     }
 
     /// How many entries are before a cut, by binary search.
-    fn count_before(&self, dump: &Dump, cut: Cut<'_>) -> usize
+    fn count_before(&self, dump: &Dump, cutoff: Cutoff<'_>) -> usize
         requires { IsIndexOf dump.now self.now }
         ensures bound { result ≤ length self.now.entries.items }
         ensures parted { (h : IsIndexOf dump.now self.now) →
-            IsPartitionPoint (λ e. is_before cut.entry e.0 ≡ true) (λ e.
-            is_before cut.entry e.0 ≡ false) h.keeps.entries result }
+            IsPartitionPoint (λ e. is_before cutoff.entry e.0 ≡ true) (λ e.
+            is_before cutoff.entry e.0 ≡ false) h.keeps.entries result }
     {
         let mut low = 0;
         let mut high = self.entries.len();
         while low < high {
             let middle = low + (high - low) / 2;
-            if cut.has_before(self.key(dump, middle)) {
+            if cutoff.has_before(self.key(dump, middle)) {
                 low = middle + 1;
             } else {
                 high = middle;
@@ -199,8 +199,8 @@ impl Index {
         requires indexed { IsIndexOf dump.now self.now }
         requires inside { i < length self.now.entries.items }
         ensures key { (h : IsIndexOf dump.now self.now) (d : KeyAt) →
-            stands result.sound ≡ (slice_index_or h.keeps.entries i d).0 }
-        ensures kept { result.bytes.now ≡ bytes_of dump.now }
+            meaning result.sound ≡ (slice_index_or h.keeps.entries i d).0 }
+        ensures same_source { result.bytes.now ≡ bytes_of dump.now }
     {
         dump.value_at(self.entries[i].key)
     }

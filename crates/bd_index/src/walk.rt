@@ -18,26 +18,27 @@ use std::alloc::Global;
 pub struct Walk<'a> {
     pub(crate) order: EntryOrder<'a>,
     /// For each place, whether it was handed out.
-    pub(crate) seen: Vec<bool>,
-    ghost room: { All (λ p. p < length seen.items) (places_ahead order) } by { Prim.hlevel props },
+    pub(crate) visited: Vec<bool>,
+    ghost in_range: { All (λ p.
+        p < length visited.items) (places_ahead order) } by { Prim.hlevel props },
 }
 
 impl<'a> Iterator for Walk<'a> {
     ghost use Rattle.std.specs.Iterator.{YieldsFirst, item_count};
-    ghost use Rattle.bd_index.specs.WalkLeft.{walk_left};
+    ghost use Rattle.bd_index.specs.WalkRemaining.{walk_remaining};
 
     type Item = u32;
 
-    ghost next_gives = { YieldsFirst walk_left };
+    ghost next_gives = { YieldsFirst walk_remaining };
 
-    ghost remaining = { item_count walk_left };
+    ghost remaining = { item_count walk_remaining };
 
     /// The next place. It takes no memory.
     fn next(&mut self) -> Option<u32> {
         while let Some((place, after)) = self.order.split_first() {
             self.order = after;
-            if !self.seen[place as usize] {
-                self.seen[place as usize] = true;
+            if !self.visited[place as usize] {
+                self.visited[place as usize] = true;
                 return Some(place);
             }
         }
@@ -47,17 +48,17 @@ impl<'a> Iterator for Walk<'a> {
 
 impl<'a> PlaceSource for Walk<'a> {
     ghost use Rattle.bd_index.specs.Walk.{WalksEach, walk_law};
-    ghost use Rattle.bd_index.specs.WalkLeft.{walk_left};
+    ghost use Rattle.bd_index.specs.WalkRemaining.{walk_remaining};
 
-    ghost left = { walk_left };
+    ghost remaining = { walk_remaining };
 
-    ghost serves = { λ s n hits. WalksEach n (walk_left s) };
+    ghost serves = { λ s n matches_at. WalksEach n (walk_remaining s) };
 
     fn next_place(&mut self) -> Option<u32> {
         self.next()
     }
 
-    ghost law = { λ s n hits w. walk_law n hits (walk_left s) w };
+    ghost law = { λ s n matches_at w. walk_law n matches_at (walk_remaining s) w };
 }
 
 impl Index {
@@ -65,7 +66,7 @@ impl Index {
     ghost use Rattle.bd_path.specs.PathNames.{names_of};
     ghost use Rattle.bd_index.specs.IndexView.{IsIndexOf};
     ghost use Rattle.bd_index.specs.Walk.{WalksAll};
-    ghost use Rattle.bd_index.specs.WalkLeft.{walk_left};
+    ghost use Rattle.bd_index.specs.WalkRemaining.{walk_remaining};
 
     /// The places of all documents, each once, in the order of a sort by the path of the index; documents whose sort keys are
     /// equal in the order of the dump, in both directions. It fails only if memory runs out.
@@ -73,13 +74,13 @@ impl Index {
         requires index { IsIndexOf dump.now self.now }
         requires whole { self.now.sparse ≡ false }
         ensures { IfOk result (λ walk.
-            WalksAll dir (names_of self.now.path) (documents dump.now) (walk_left walk)) }
+            WalksAll dir (names_of self.now.path) (documents dump.now) (walk_remaining walk)) }
     {
-        let seen = vec![in alloc; false; dump.len() as usize]?;
+        let visited = vec![in alloc; false; dump.len() as usize]?;
         let order = match dir {
             Dir::Up => EntryOrder::upward(dump, self),
             Dir::Down => EntryOrder::downward(dump, self),
         };
-        Ok(Walk { order, seen })
+        Ok(Walk { order, visited })
     }
 }

@@ -10,7 +10,7 @@ use Rattle.bd_value.specs.{Order.class_cmp, Order.cmp, Order.same_class_cmp, Ord
 use Rattle.bd_query_filter.specs.Filter.{Operators, no_operators, operator}
 use Rattle.bd_index_bounds.specs.Bounds.{KeyBounds, KeySet, conjunction, disjunction, no_key, operator_bounds, union, is_of_class, keys_equal_to}
 use Rattle.bd_index_bounds.specs.{BoundsView.keys_within, BoundsView.edge_cmp, BoundsView.is_before, declared.bounds.Bounds.Bounds, declared.bounds.Bounds.TheVariants.Or}
-use Rattle.bd_index_bounds.specs.{declared.bounds.Cut.Cut, declared.bounds.Edge.Edge}
+use Rattle.bd_index_bounds.specs.{declared.bounds.Cutoff.Cutoff, declared.bounds.Edge.Edge}
 use Rattle.bd_index_bounds.specs.declared.bounds.Bounds.TheFolds as folds
 use Rattle.bd_value.specs.Tree as trees
 use Rattle.bd_value.specs.declared.node.Class.TheVariants as classes
@@ -68,8 +68,8 @@ one_wider F f xs i x next parts after first lt is added so_far =
     ap (λ b. disjunction b (F rest)) more ∙ either_in_turn (some_parts parts) (Some (keys_within next)) (F rest)
     ∙ ap (disjunction (some_parts parts)) (sym (one_off F f xs i x lt is ∙ first rest)) ∙ so_far
 
-pub no_part_left : (parts : List Bounds) → disjunction (some_parts parts) (Some no_key) ≡ some_parts parts
-no_part_left parts = ap Some (fun_ext (λ k. grind arith))
+pub no_part_remaining : (parts : List Bounds) → disjunction (some_parts parts) (Some no_key) ≡ some_parts parts
+no_part_remaining parts = ap Some (fun_ext (λ k. grind arith))
 
 -- the keys within a union in memory are those within some part
 pub keys_within-Or : (v : Vec Bounds Global) → keys_within (Or v) ≡ union (map keys_within v.items)
@@ -118,5 +118,5 @@ edges_rise (edges.Class class) j k h =
     in_order nat_cmp nat_cmp_total (class_rank (class_of j)) (class_rank (class_of k)) (class_rank class) (first_not_less (class_cmp k j) (same_class_cmp k j) h)
 
 -- a key that is not above one before a cut is before the cut too
-pub falls_once : (cut : Cut) (j k : Tree) → is_lt (cmp k j) ≡ false → is_before cut k ≡ true → is_before cut j ≡ true
-falls_once cut j k h b = lower cut.after (edge_cmp j cut.edge) (edge_cmp k cut.edge) (edges_rise cut.edge j k h) b
+pub falls_once : (cutoff : Cutoff) (j k : Tree) → is_lt (cmp k j) ≡ false → is_before cutoff k ≡ true → is_before cutoff j ≡ true
+falls_once cutoff j k h b = lower cutoff.after (edge_cmp j cutoff.edge) (edge_cmp k cutoff.edge) (edges_rise cutoff.edge j k h) b

@@ -2,7 +2,7 @@
 use Rattle.std.specs.Prelude.{Bool, if◌then◌else◌, ◌&&◌, not, List, [], ◌∷◌, map, Option, Some, None, option_map}
 use Rattle.std.specs.{declared.cmp.Ordering.Ordering, Ordering.is_le, Ordering.is_lt, Ordering.nat_cmp}
 use Rattle.bd_value.specs.{Order.cmp, Order.class_of, Order.class_rank, Tree.Tree, View.tree_of}
-use Rattle.bd_index_bounds.specs.{declared.bounds.Cut.Cut, declared.bounds.Edge.Edge, declared.bounds.Bounds.Bounds}
+use Rattle.bd_index_bounds.specs.{declared.bounds.Cutoff.Cutoff, declared.bounds.Edge.Edge, declared.bounds.Bounds.Bounds}
 use Rattle.bd_index_bounds.specs.{declared.bounds.Bounds.TheFolds.fold-Bounds, declared.bounds.Bounds.TheOpen.Bounds-F}
 use Rattle.bd_index_bounds.specs.Bounds.{KeyBounds, KeySet, intersection, union}
 use Rattle.bd_index_bounds.specs.declared.bounds.Edge.TheVariants as edges
@@ -13,11 +13,11 @@ edge_cmp k (edges.Value v) = cmp k (tree_of v.now)
 edge_cmp k (edges.Class class) = nat_cmp (class_rank (class_of k)) (class_rank class)
 
 -- whether a key is below a cut: less than its edge, or equal to it if the cut is after the edge
-abbrev pub is_before : Cut → Tree → Bool
-is_before cut k = if cut.after then is_le (edge_cmp k cut.edge) else is_lt (edge_cmp k cut.edge)
+abbrev pub is_before : Cutoff → Tree → Bool
+is_before cutoff k = if cutoff.after then is_le (edge_cmp k cutoff.edge) else is_lt (edge_cmp k cutoff.edge)
 
 -- the keys from one cut to another: not below the first, and below the second
-abbrev pub keys_between : Cut → Cut → KeySet
+abbrev pub keys_between : Cutoff → Cutoff → KeySet
 keys_between from to k = not (is_before from k) && is_before to k
 
 -- one level of bounds in memory, whose parts are already read so
@@ -31,8 +31,8 @@ abbrev pub keys_within : Bounds → KeySet
 keys_within = fold-Bounds KeySet keys_step
 
 -- the bounds that bounds in memory stand for; None is unbounded
-abbrev pub seen_bounds : Option Bounds → KeyBounds
-seen_bounds b = option_map keys_within b
+abbrev pub bounds_view : Option Bounds → KeyBounds
+bounds_view b = option_map keys_within b
 
 -- the intersection of bounds in memory; unbounded if there are none
 abbrev pub parts_bounds : List Bounds → KeyBounds

@@ -16,7 +16,7 @@ use std::cmp::Ordering;
 #[derive(Drop)]
 pub enum Bounds<'a> {
     /// The keys from one cut to another.
-    Range { from: Cut<'a>, to: Cut<'a> },
+    Range { from: Cutoff<'a>, to: Cutoff<'a> },
     /// The keys that are in each of them.
     And(Vec<Bounds<'a>>),
     /// The keys that are in one of them; no key where there are none.
@@ -26,13 +26,13 @@ pub enum Bounds<'a> {
 impl<'a> Bounds<'a> {
     /// Whether a key is inside. It takes no memory.
     #[cycle(holding)]
-    pub fn holds<N: Reading>(&self, key: N) -> bool
+    pub fn contains<N: Reading>(&self, key: N) -> bool
         ensures { result ≡ keys_within self.now (N.tree key) }
     {
         match self {
             Bounds::Range { from, to } => !from.has_before(key) && to.has_before(key),
-            Bounds::And(parts) => all_hold(parts, key),
-            Bounds::Or(parts) => any_holds(parts, key),
+            Bounds::And(parts) => all_contain(parts, key),
+            Bounds::Or(parts) => any_contains(parts, key),
         }
     }
 
@@ -40,16 +40,16 @@ impl<'a> Bounds<'a> {
     pub fn has_null(&self) -> bool
         ensures { result ≡ keys_within self.now (leaf trees.null) }
     {
-        self.holds(Tree::Value(&Value::Null))
+        self.contains(Tree::Value(&Value::Null))
     }
 }
 
 #[cycle(holding)]
-fn all_hold<N: Reading>(parts: &[Bounds<'_>], key: N) -> bool
+fn all_contain<N: Reading>(parts: &[Bounds<'_>], key: N) -> bool
     ensures { result ≡ intersection (map keys_within parts.now) (N.tree key) }
 {
     for part in parts {
-        if !part.holds(key) {
+        if !part.contains(key) {
             return false;
         }
     }
@@ -57,11 +57,11 @@ fn all_hold<N: Reading>(parts: &[Bounds<'_>], key: N) -> bool
 }
 
 #[cycle(holding)]
-fn any_holds<N: Reading>(parts: &[Bounds<'_>], key: N) -> bool
+fn any_contains<N: Reading>(parts: &[Bounds<'_>], key: N) -> bool
     ensures { result ≡ union (map keys_within parts.now) (N.tree key) }
 {
     for part in parts {
-        if part.holds(key) {
+        if part.contains(key) {
             return true;
         }
     }
@@ -77,12 +77,12 @@ pub enum Edge<'a> {
 
 /// A place in the order of keys: before the keys that equal a value or are of a class, or after them.
 #[derive(Clone, Copy)]
-pub struct Cut<'a> {
+pub struct Cutoff<'a> {
     pub edge: Edge<'a>,
     pub after: bool,
 }
 
-impl<'a> Cut<'a> {
+impl<'a> Cutoff<'a> {
     /// Whether a key is before the cut. It takes no memory.
     pub fn has_before<N: Reading>(self, key: N) -> bool
         ensures { result ≡ is_before self.entry (N.tree key) }

@@ -10,7 +10,7 @@ ghost use Rattle.bd_query_filter.specs.Filter.{filter_tree, filters_from, operat
 ghost use Rattle.bd_query_filter.specs.FilterMatch.{is_array, is_related};
 ghost use Rattle.bd_index_bounds.specs.Bounds.{all_bounds, all_element_bounds, bounds, bounds_at, bounds_here, conjunction, element_bounds, is_listed};
 ghost use Rattle.bd_index_bounds.specs.Bounds.{keys_of_types, operator_bounds, rest_after, some_bounds};
-ghost use Rattle.bd_index_bounds.specs.BoundsView.{parts_bounds, seen_bounds};
+ghost use Rattle.bd_index_bounds.specs.BoundsView.{parts_bounds, bounds_view};
 
 use crate::bounds::Bounds;
 use crate::range::{
@@ -34,7 +34,7 @@ impl<'a> Bounds<'a> {
         multikey: bool,
     ) -> Result<Option<Bounds<'a>>, NoMemory>
         ensures { IfOk result (λ b.
-            seen_bounds b ≡ bounds (filter_tree filter.now) (names_of path.now) multikey) }
+            bounds_view b ≡ bounds (filter_tree filter.now) (names_of path.now) multikey) }
     {
         let path = path.components();
         filter_bounds(alloc, filter, &Index { path, multikey })
@@ -53,7 +53,7 @@ pub(crate) struct Index<'p> {
 
 #[cycle(bounding)]
 fn filter_bounds<'a>(alloc: Global, filter: &'a Filter, index: &Index) -> Found<'a>
-    ensures { IfOk result (λ b. seen_bounds b
+    ensures { IfOk result (λ b. bounds_view b
         ≡ bounds (filter_tree filter.now) (component_names index.now.path.now) index.now.multikey) }
 {
     match filter {
@@ -74,7 +74,7 @@ fn filter_bounds<'a>(alloc: Global, filter: &'a Filter, index: &Index) -> Found<
 #[cycle(bounding)]
 fn all_bounds<'a>(alloc: Global, filters: &'a [Filter], index: &Index) -> Found<'a>
     ensures { IfOk result
-        (λ b. seen_bounds b ≡ all_bounds (filters_from (map filter_tree filters.now))
+        (λ b. bounds_view b ≡ all_bounds (filters_from (map filter_tree filters.now))
         (component_names index.now.path.now) index.now.multikey) }
 {
     let mut parts = Vec::new(alloc);
@@ -89,7 +89,7 @@ fn all_bounds<'a>(alloc: Global, filters: &'a [Filter], index: &Index) -> Found<
 #[cycle(bounding)]
 fn some_bounds<'a>(alloc: Global, filters: &'a [Filter], index: &Index) -> Found<'a>
     ensures { IfOk result
-        (λ b. seen_bounds b ≡ some_bounds (filters_from (map filter_tree filters.now))
+        (λ b. bounds_view b ≡ some_bounds (filters_from (map filter_tree filters.now))
         (component_names index.now.path.now) index.now.multikey) }
 {
     let mut parts = Vec::new(alloc);
@@ -106,7 +106,7 @@ fn some_bounds<'a>(alloc: Global, filters: &'a [Filter], index: &Index) -> Found
 #[cycle(bounding)]
 fn operator_bounds<'a>(alloc: Global, operators: &'a [Operator], index: &Index) -> Found<'a>
     ensures { IfOk result
-        (λ b. seen_bounds b ≡ operator_bounds (operators_from (map operator_tree operators.now))
+        (λ b. bounds_view b ≡ operator_bounds (operators_from (map operator_tree operators.now))
         (Some (component_names index.now.path.now)) index.now.multikey) }
 {
     let mut parts = Vec::new(alloc);
@@ -121,7 +121,7 @@ fn operator_bounds<'a>(alloc: Global, operators: &'a [Operator], index: &Index) 
 #[cycle(bounding)]
 fn bounds_at<'a>(alloc: Global, operator: &'a Operator, index: &Index) -> Found<'a>
     ensures { IfOk result
-        (λ b. seen_bounds b ≡ bounds_at (operator_tree operator.now)
+        (λ b. bounds_view b ≡ bounds_at (operator_tree operator.now)
         (Some (component_names index.now.path.now)) index.now.multikey) }
 {
     if index.path.is_empty() {
@@ -138,15 +138,15 @@ fn rest_after<'p>(start: &[Component], path: &'p [Component]) -> Option<&'p [Com
     ensures { option_map (λ path. component_names path.now) result
         ≡ rest_after (component_names start.now) (component_names path.now) }
 {
-    let mut left = path;
+    let mut remaining = path;
     for component in start {
-        let (first, rest) = left.split_first()?;
+        let (first, rest) = remaining.split_first()?;
         if component.name != first.name {
             return None;
         }
-        left = rest;
+        remaining = rest;
     }
-    Some(left)
+    Some(remaining)
 }
 
 /// One more part of a conjunction, in the filter's order. In a multikey index the first part counts alone: a document may have
@@ -157,7 +157,7 @@ fn narrow<'a>(
     multikey: bool,
 ) -> Result<(), NoMemory>
     ensures { OnOk result (parts_bounds parts.new.items
-        ≡ conjunction multikey (parts_bounds parts.old.items) (seen_bounds next.entry)) }
+        ≡ conjunction multikey (parts_bounds parts.old.items) (bounds_view next.entry)) }
 {
     let Some(bounds) = next else {
         return Ok(());
@@ -171,7 +171,7 @@ fn narrow<'a>(
 
 /// The conjunction of parts; unbounded where there are none.
 fn conjoined(parts: Vec<Bounds<'_>>) -> Option<Bounds<'_>>
-    ensures { seen_bounds result ≡ parts_bounds parts.entry.items }
+    ensures { bounds_view result ≡ parts_bounds parts.entry.items }
 {
     if parts.is_empty() {
         return None;
@@ -181,7 +181,7 @@ fn conjoined(parts: Vec<Bounds<'_>>) -> Option<Bounds<'_>>
 
 /// Bounds of an operand that orders values; unbounded where it is an array, since an array in a document is no key.
 fn unless_array(relation: Relation, operand: &Value) -> Option<Bounds<'_>>
-    ensures { seen_bounds result ≡ (if is_array
+    ensures { bounds_view result ≡ (if is_array
         (tree_of operand.now) then None else Some (is_related relation (tree_of operand.now))) }
 {
     match operand {
@@ -192,7 +192,7 @@ fn unless_array(relation: Relation, operand: &Value) -> Option<Bounds<'_>>
 
 /// `$type`: unbounded where arrays are listed, since an array in a document is no key. It fails only if memory runs out.
 fn type_bounds<'a>(alloc: Global, kinds: &[Kind]) -> Found<'a>
-    ensures { IfOk result (λ b. seen_bounds b
+    ensures { IfOk result (λ b. bounds_view b
         ≡ (if is_listed kind.Array kinds.now then None else Some (keys_of_types kinds.now))) }
 {
     if lists_arrays(kinds) {
@@ -209,7 +209,7 @@ fn lists_arrays(kinds: &[Kind]) -> bool
 
 /// The bounds of an operator for an index on its path; None where there are none. It fails only if memory runs out.
 fn bounds_here<'a>(alloc: Global, operator: &'a Operator, multikey: bool) -> Found<'a>
-    ensures { IfOk result (λ b. seen_bounds b ≡ bounds_here (operator_tree operator.now) multikey) }
+    ensures { IfOk result (λ b. bounds_view b ≡ bounds_here (operator_tree operator.now) multikey) }
 {
     match operator {
         Operator::Equal(operand) => Ok(Some(equal_bounds(alloc, operand)?)),
@@ -235,7 +235,7 @@ fn bounds_here<'a>(alloc: Global, operator: &'a Operator, multikey: bool) -> Fou
 /// The bounds of operators that all hold of one element, which is a key. It fails only if memory runs out.
 fn all_element_bounds<'a>(alloc: Global, operators: &'a [Operator]) -> Found<'a>
     ensures { IfOk result (λ b.
-        seen_bounds b ≡ all_element_bounds (operators_from (map operator_tree operators.now))) }
+        bounds_view b ≡ all_element_bounds (operators_from (map operator_tree operators.now))) }
 {
     let mut parts = Vec::new(alloc);
     for operator in operators {
@@ -246,7 +246,7 @@ fn all_element_bounds<'a>(alloc: Global, operators: &'a [Operator]) -> Found<'a>
 
 /// The bounds of an operator of one element, which is a key; None where there are none. It fails only if memory runs out.
 fn element_bounds<'a>(alloc: Global, operator: &'a Operator) -> Found<'a>
-    ensures { IfOk result (λ b. seen_bounds b ≡ element_bounds (operator_tree operator.now)) }
+    ensures { IfOk result (λ b. bounds_view b ≡ element_bounds (operator_tree operator.now)) }
 {
     match operator {
         Operator::Equal(operand) => Ok(Some(equal_to(operand))),

@@ -11,7 +11,7 @@ ghost use Rattle.bd_query_filter.specs.Filter as filters;
 ghost use Rattle.bd_query_filter.specs.FilterMatch.{matches};
 ghost use Rattle.bd_index_bounds.specs.Bounds.{bounds, is_inside};
 ghost use Rattle.bd_index_bounds.specs.BoundsView.{is_before};
-ghost use Rattle.bd_index_bounds.specs.declared.bounds.Cut as cuts;
+ghost use Rattle.bd_index_bounds.specs.declared.bounds.Cutoff as cutoffs;
 
 /// A document that matches a filter has a key inside the filter's bounds, for every filter, path and document: in a multikey
 /// index, and in any index where the document has one key. It has one that is not for a missing field, where null is outside.
@@ -38,7 +38,7 @@ pub fn bounded_alike()
 
 /// What is not above a key before a cut is before it too, so that keys in their order are parted by a cut.
 #[tactic(auto, using(crate::proofs::FilterBoundsLemmas::falls_once))]
-pub fn cuts_fall_once()
-    ensures { (cut : cuts.Cut) (j k : trees.Tree) →
-        IsFalse (is_lt (cmp k j)) → IsTrue (is_before cut k) → IsTrue (is_before cut j) }
+pub fn cutoffs_fall_once()
+    ensures { (cutoff : cutoffs.Cutoff) (j k : trees.Tree) →
+        IsFalse (is_lt (cmp k j)) → IsTrue (is_before cutoff k) → IsTrue (is_before cutoff j) }
 {}

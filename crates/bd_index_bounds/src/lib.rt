@@ -11,8 +11,8 @@
 //! let filter = parse(alloc, &query)?;
 //! let path = Path::parse(alloc, "a")?;
 //! let bounds = Bounds::of(alloc, &filter, &path, false)?;
-//! assert!(rt; matches!(&bounds, Some(b) if b.holds(Tree::Value(&Value::Int32(5)))));
-//! assert!(rt; matches!(&bounds, Some(b) if !b.holds(Tree::Value(&Value::Int32(9)))));
+//! assert!(rt; matches!(&bounds, Some(b) if b.contains(Tree::Value(&Value::Int32(5)))));
+//! assert!(rt; matches!(&bounds, Some(b) if !b.contains(Tree::Value(&Value::Int32(9)))));
 //! ```
 //!
 //! - `bounds`: `Bounds`, ranges put together as the filter has them, each between two places in the order of keys:
@@ -28,5 +28,5 @@ mod filter_bounds;
 mod laws;
 mod range;
 
-pub use bounds::{Bounds, Cut, Edge};
-pub use laws::{bounded_alike, bounds_lose_no_match, cuts_fall_once};
+pub use bounds::{Bounds, Cutoff, Edge};
+pub use laws::{bounded_alike, bounds_lose_no_match, cutoffs_fall_once};

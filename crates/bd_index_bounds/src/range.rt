@@ -9,7 +9,7 @@ ghost use Rattle.bd_query_filter.specs.FilterMatch.{is_related};
 ghost use Rattle.bd_index_bounds.specs.Bounds.{is_of_class, keys_equal_to, keys_of_each, keys_of_equal};
 ghost use Rattle.bd_index_bounds.specs.BoundsView.{keys_between, keys_within};
 
-use crate::bounds::{Bounds, Cut, Edge};
+use crate::bounds::{Bounds, Cutoff, Edge};
 use bd_query_filter::Relation;
 use bd_value::{Class, Kind, NoMemory, Value, class, class_of_kind};
 use std::alloc::Global;
@@ -60,22 +60,22 @@ pub(crate) fn null<'a>() -> Bounds<'a>
     of_class(Class::Null)
 }
 
-fn between<'a>(from: Cut<'a>, to: Cut<'a>) -> Bounds<'a>
+fn between<'a>(from: Cutoff<'a>, to: Cutoff<'a>) -> Bounds<'a>
     ensures { keys_within result ≡ keys_between from.entry to.entry }
 {
     Bounds::Range { from, to }
 }
 
-fn before(edge: Edge<'_>) -> Cut<'_>
+fn before(edge: Edge<'_>) -> Cutoff<'_>
     ensures { result ≡ record { edge = edge.entry; after = false } }
 {
-    Cut { edge, after: false }
+    Cutoff { edge, after: false }
 }
 
-fn after(edge: Edge<'_>) -> Cut<'_>
+fn after(edge: Edge<'_>) -> Cutoff<'_>
     ensures { result ≡ record { edge = edge.entry; after = true } }
 {
-    Cut { edge, after: true }
+    Cutoff { edge, after: true }
 }
 
 /// The keys of a document with a value that equals this one. It fails only if memory runs out.

@@ -7,14 +7,14 @@
 //! An example, which `bd_query_tests` proves and runs as `examples::seven_before_nine`:
 //!
 //! ```
-//! let seven = Front::of(sort_key_node(dump.document(0).value(), &path, Dir::Up));
-//! let nine = Front::of(sort_key_node(dump.document(1).value(), &path, Dir::Up));
-//! assert!(rt; compare_fronts(seven, nine) == Some(Ordering::Less));
+//! let seven = Prefix::of(sort_key_node(dump.document(0).value(), &path, Dir::Up));
+//! let nine = Prefix::of(sort_key_node(dump.document(1).value(), &path, Dir::Up));
+//! assert!(rt; compare_prefixes(seven, nine) == Some(Ordering::Less));
 //! ```
 //!
-//! - `front`: `Front`, and `compare_fronts`: `specs/Front.antt`.
+//! - `prefix`: `Prefix`, and `compare_prefixes`: `specs/Prefix.antt`.
 #![tactic(auto)]
 
-mod front;
+mod prefix;
 
-pub use front::{Front, compare_fronts};
+pub use prefix::{Prefix, compare_prefixes};

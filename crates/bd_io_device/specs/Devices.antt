@@ -16,25 +16,25 @@ after_more n more = min (n + more) greatest
 -- a reader: the bytes that it will still give (None:
 -- not known), how many reads were made, and how many failed
 pub record Reader : Type 0 where
-  pub left : Option (List ℕ)
+  pub remaining : Option (List ℕ)
   pub calls : ℕ
   pub failures : ℕ
 
 -- a writer: the bytes that it holds (None: not known), how many writes were made, and how many failed
 pub record Writer : Type 0 where
-  pub held : Option (List ℕ)
+  pub contents : Option (List ℕ)
   pub calls : ℕ
   pub failures : ℕ
 
 -- a reader with these bytes to give (None: not known) after these counts of
 -- reads and of failures, each at most 2^64 - 1
 abbrev pub reader_of : Option (List ℕ) → Tally → Reader
-reader_of left tally = record { left = left; calls = min tally.calls greatest; failures = min tally.failures greatest }
+reader_of remaining tally = record { remaining = remaining; calls = min tally.calls greatest; failures = min tally.failures greatest }
 
 -- a writer that took these bytes (None: not known) after these counts of
 -- writes and of failures, each at most 2^64 - 1
 abbrev pub writer_of : Option (List ℕ) → Tally → Writer
-writer_of held tally = record { held = held; calls = min tally.calls greatest; failures = min tally.failures greatest }
+writer_of contents tally = record { contents = contents; calls = min tally.calls greatest; failures = min tally.failures greatest }
 
 -- the two states of a device around a run: the one before it and the one after it
 pub record Over (Device : Type 0) : Type 0 where
@@ -51,31 +51,31 @@ over state old new = between (state old) (state new)
 
 -- The writer took the whole text, and no write failed; for an empty text no write was made.
 abbrev pub TakesText : Over Writer → List ℕ → Type 0
-TakesText out text = Appends out.before.held out.after.held text × (out.after.failures ≡ out.before.failures)
+TakesText out text = Appends out.before.contents out.after.contents text × (out.after.failures ≡ out.before.failures)
     × (text ≡ [] → out.after ≡ out.before)
 
 -- The writer took a prefix of the text, and no write failed.
-abbrev pub TakesFront : Over Writer → List ℕ → Type 0
-TakesFront out text = (front : List ℕ) × (rest : List ℕ) × (text ≡ front ++ rest) × TakesText out front
+abbrev pub TakesPrefix : Over Writer → List ℕ → Type 0
+TakesPrefix out text = (prefix : List ℕ) × (rest : List ℕ) × (text ≡ prefix ++ rest) × TakesText out prefix
 
 -- the writer took the first text whole and a prefix of the second, and then a write of the rest failed
-abbrev pub BreaksAfter : Over Writer → List ℕ → List ℕ → Type 0
-BreaksAfter out whole text = (front : List ℕ) × (rest : List ℕ) × (text ≡ front ++ rest) × (rest ≢ [])
-    × Appends out.before.held out.after.held (whole ++ front)
+abbrev pub WriteFailsAfter : Over Writer → List ℕ → List ℕ → Type 0
+WriteFailsAfter out whole text = (prefix : List ℕ) × (rest : List ℕ) × (text ≡ prefix ++ rest) × (rest ≢ [])
+    × Appends out.before.contents out.after.contents (whole ++ prefix)
     × (out.after.failures ≡ after_more out.before.failures 1)
 
 -- the writer took a prefix of the text, and then a write of the rest failed
-abbrev pub BreaksWithin : Over Writer → List ℕ → Type 0
-BreaksWithin out text = BreaksAfter out [] text
+abbrev pub WriteFailsWithin : Over Writer → List ℕ → Type 0
+WriteFailsWithin out text = WriteFailsAfter out [] text
 
 -- the reader gave at most `limit` bytes
 abbrev pub TakesAtMost : ℕ → Over Reader → Type 0
-TakesAtMost limit file = (given : List ℕ) × Consumes file.before.left file.after.left given × (length given ≤ limit)
+TakesAtMost limit file = (given : List ℕ) × Consumes file.before.remaining file.after.remaining given × (length given ≤ limit)
 
 -- what a read into a buffer gave: the bytes at its start, or None if the read failed
 abbrev pub bytes_given : {E : Type 0} → Result ℕ E → List ℕ → Option (List ℕ)
-bytes_given (Ok n) room = Some (take n room)
-bytes_given (Err _) room = None
+bytes_given (Ok n) buffer = Some (take n buffer)
+bytes_given (Err _) buffer = None
 
 -- how many bytes a write took, or None if the write failed
 abbrev pub count_taken : {E : Type 0} → Result ℕ E → Option ℕ
@@ -85,9 +85,9 @@ count_taken (Err _) = None
 -- n reads in a row led from one device to the other;
 -- each gave at least one byte, and these are all bytes that they gave
 pub data AreReads {S : Type 0} (gives : S → Option (List ℕ) → S → Type 0) : ℕ → S → List ℕ → S → Type 0 where
-  no_read : (s : S) → AreReads gives 0 s [] s
-  more_reads : (n : ℕ) (s t u : S) (front part : List ℕ) → AreReads gives n s front t
-      → gives t (Some part) u → 0 < length part → AreReads gives (suc n) s (front ++ part) u
+  zero_reads : (s : S) → AreReads gives 0 s [] s
+  more_reads : (n : ℕ) (s t u : S) (prefix part : List ℕ) → AreReads gives n s prefix t
+      → gives t (Some part) u → 0 < length part → AreReads gives (suc n) s (prefix ++ part) u
 
 -- writes in a row led from one device to the other;
 -- each was given all that remained of the bytes, and took at least one
@@ -106,22 +106,22 @@ module _ {S : Type 0} (gives : S → Option (List ℕ) → S → Type 0) where
       (n : ℕ) × (last : S) × (turns ≡ suc n) × AreReads gives n s bytes last × gives last answer t
 
   -- Reads gave these bytes: as many as the buffer takes, or fewer, and one more read found the end.
-  abbrev pub FillsRoom : ℕ → ℕ → S → List ℕ → S → Type 0
-  FillsRoom size turns s bytes t = ((length bytes ≡ size) × AreReads gives turns s bytes t)
+  abbrev pub FillsBuffer : ℕ → ℕ → S → List ℕ → S → Type 0
+  FillsBuffer size turns s bytes t = ((length bytes ≡ size) × AreReads gives turns s bytes t)
       ⊎ ((length bytes < size) × ReadsUntil turns s bytes (Some []) t)
 
   -- A buffer of that size was not filled within the limits, for this reason, and this is what the reads gave.
   abbrev pub FailsToFill : (S → Reader) → Limits → ℕ → S → S → ReadFault → Type 0
   FailsToFill state limits size s t reads.TooLong =
       (turns : ℕ) × (given : List ℕ) × (last : List ℕ) × (turns ≤ limits.turns) × ReadsUntil turns s given (Some last) t
-      × Consumes (state s).left (state t).left (given ++ last) × (length given ≤ limits.bytes)
+      × Consumes (state s).remaining (state t).remaining (given ++ last) × (length given ≤ limits.bytes)
       × (limits.bytes < length given + length last) × (length given + length last ≤ size)
   FailsToFill state limits size s t reads.Device =
       (turns : ℕ) × (given : List ℕ) × (turns ≤ limits.turns) × ReadsUntil turns s given None t
-      × Consumes (state s).left (state t).left given × (length given < size) × (length given ≤ limits.bytes)
+      × Consumes (state s).remaining (state t).remaining given × (length given < size) × (length given ≤ limits.bytes)
   FailsToFill state limits size s t reads.TooManyTurns =
       (given : List ℕ) × AreReads gives limits.turns s given t
-      × Consumes (state s).left (state t).left given × (length given < size) × (length given ≤ limits.bytes)
+      × Consumes (state s).remaining (state t).remaining given × (length given < size) × (length given ≤ limits.bytes)
   FailsToFill state limits size s t reads.NoMemory = ⊥
 
 -- the message of an input that was not read to its end

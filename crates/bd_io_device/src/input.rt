@@ -23,28 +23,29 @@ pub trait Input {
     /// A read of the first device may give these bytes, or fail at `None`, and leave the second.
     ghost read_gives: { Self → Option (List ℕ) → Self → Type 0 } = { λ _ _ _. ⊤ };
 
-    /// Reads into the front of `room` and tells how many bytes it gave: none only at the end, or where `room` is empty.
+    /// Reads into the front of `buffer` and tells how many bytes it gave: none only at the end, or where `buffer` is empty.
     /// Where it fails it gives none.
-    fn read(&mut self, room: &mut [u8]) -> Result<usize, DeviceFault>
-        ensures within { IfOk result (λ n. n ≤ length room.new) }
-        ensures bytes { ReadConsumes (state self.old).left (state self.new).left result room.new }
-        ensures gives { read_gives self.old (bytes_given result room.new) self.new }
+    fn read(&mut self, buffer: &mut [u8]) -> Result<usize, DeviceFault>
+        ensures within { IfOk result (λ n. n ≤ length buffer.new) }
+        ensures bytes { ReadConsumes
+            (state self.old).remaining (state self.new).remaining result buffer.new }
+        ensures gives { read_gives self.old (bytes_given result buffer.new) self.new }
         ensures called { (state self.new).calls ≡ after_more (state self.old).calls 1 }
-        ensures well { OnOk result ((state self.new).failures ≡ (state self.old).failures) }
+        ensures no_failure { OnOk result ((state self.new).failures ≡ (state self.old).failures) }
         ensures failed { OnErr result ((state self.new).failures
             ≡ after_more (state self.old).failures 1) };
 
-    /// Fills all of `room` by one read, where the device holds so many bytes and the room is not empty; else it does nothing,
+    /// Fills all of `buffer` by one read, where the device holds so many bytes and the room is not empty; else it does nothing,
     /// and gives false. A device that holds none gives false always.
     #[inline(always)]
-    fn read_held(&mut self, room: &mut [u8]) -> bool
-        ensures bytes { IsTrue result →
-            (0 < length room.old) × Consumes (state self.old).left (state self.new).left room.new }
-        ensures gives { IsTrue result → read_gives self.old (Some room.new) self.new }
+    fn read_buffered(&mut self, buffer: &mut [u8]) -> bool
+        ensures bytes { IsTrue result → (0 < length buffer.old)
+            × Consumes (state self.old).remaining (state self.new).remaining buffer.new }
+        ensures gives { IsTrue result → read_gives self.old (Some buffer.new) self.new }
         ensures called { IsTrue result →
             (state self.new).calls ≡ after_more (state self.old).calls 1 }
-        ensures well { (state self.new).failures ≡ (state self.old).failures }
-        ensures none { result ≡ false → (self.new ≡ self.old) × (room.new ≡ room.old) }
+        ensures no_failure { (state self.new).failures ≡ (state self.old).failures }
+        ensures none { result ≡ false → (self.new ≡ self.old) × (buffer.new ≡ buffer.old) }
     {
         false
     }
@@ -67,7 +68,7 @@ impl<R: Read + Drop> SystemInput<R> {
     /// The device over this reader, with both counts at 0.
     pub fn new(reader: R) -> SystemInput<R>
         ensures state { ⟦<SystemInput<R> as Input>⟧.state result
-            ≡ record { left = R.remaining reader; calls = 0; failures = 0 } }
+            ≡ record { remaining = R.remaining reader; calls = 0; failures = 0 } }
     {
         let tally = Tally::default();
         SystemInput { reader, tally }
@@ -81,9 +82,9 @@ impl<R: Read + Drop> Input for SystemInput<R> {
 
     ghost failures_fit = { λ s. Prim.search rules };
 
-    fn read(&mut self, room: &mut [u8]) -> Result<usize, DeviceFault> {
+    fn read(&mut self, buffer: &mut [u8]) -> Result<usize, DeviceFault> {
         self.tally.call();
-        let Ok(n) = self.reader.read(room) else {
+        let Ok(n) = self.reader.read(buffer) else {
             return Err(self.tally.fail());
         };
         Ok(n)
@@ -100,7 +101,7 @@ impl<R: Read + Drop> BufferedInput<R> {
     /// The device over this reader, with both counts at 0.
     pub fn new(reader: BufReader<R>) -> BufferedInput<R>
         ensures state { ⟦<BufferedInput<R> as Input>⟧.state result
-            ≡ record { left = reader_remaining R.remaining reader; calls = 0; failures = 0 } }
+            ≡ record { remaining = reader_remaining R.remaining reader; calls = 0; failures = 0 } }
     {
         let device = SystemInput::new(reader);
         BufferedInput { device }
@@ -114,19 +115,19 @@ impl<R: Read + Drop> Input for BufferedInput<R> {
 
     ghost failures_fit = { λ s. Prim.search rules };
 
-    fn read(&mut self, room: &mut [u8]) -> Result<usize, DeviceFault> {
-        self.device.read(room)
+    fn read(&mut self, buffer: &mut [u8]) -> Result<usize, DeviceFault> {
+        self.device.read(buffer)
     }
 
     #[inline(always)]
-    fn read_held(&mut self, room: &mut [u8]) -> bool {
-        let held = self.device.reader.buffer();
-        if room.is_empty() || held.len() < room.len() {
+    fn read_buffered(&mut self, buffer: &mut [u8]) -> bool {
+        let buffered = self.device.reader.buffer();
+        if buffer.is_empty() || buffered.len() < buffer.len() {
             return false;
         }
-        let (front, _) = held.split_at(room.len());
-        room.copy_from_slice(front);
-        self.device.reader.consume(room.len());
+        let (prefix, _) = buffered.split_at(buffer.len());
+        buffer.copy_from_slice(prefix);
+        self.device.reader.consume(buffer.len());
         self.device.tally.call();
         true
     }
@@ -150,7 +151,7 @@ impl<'a> MemoryInput<'a> {
     pub fn new(bytes: &'a [u8], most: usize, failing: Option<u64>) -> MemoryInput<'a>
         requires { 0 < most }
         ensures state { ⟦<MemoryInput<'a> as Input>⟧.state result ≡ record {
-          left = Some bytes.now;
+          remaining = Some bytes.now;
           calls = 0;
           failures = 0;
         } }
@@ -193,17 +194,17 @@ impl<'a> Input for MemoryInput<'a> {
     ghost failures_fit = { λ s. Prim.search rules };
 
     /// All that the room, the device and `most` let a call give.
-    fn read(&mut self, room: &mut [u8]) -> Result<usize, DeviceFault>
-        ensures within { IfOk result (λ n. n ≤ length room.new) }
+    fn read(&mut self, buffer: &mut [u8]) -> Result<usize, DeviceFault>
+        ensures within { IfOk result (λ n. n ≤ length buffer.new) }
         ensures count { IfOk result (λ n.
-            n ≡ min (min (length self.old.bytes.now) (length room.old)) self.old.most) }
-        ensures bytes { ReadConsumes (⟦<MemoryInput<'a> as Input>⟧.state self.old).left
-            (⟦<MemoryInput<'a> as Input>⟧.state self.new).left result room.new }
+            n ≡ min (min (length self.old.bytes.now) (length buffer.old)) self.old.most) }
+        ensures bytes { ReadConsumes (⟦<MemoryInput<'a> as Input>⟧.state self.old).remaining
+            (⟦<MemoryInput<'a> as Input>⟧.state self.new).remaining result buffer.new }
         ensures gives { ⟦<MemoryInput<'a> as Input>⟧.read_gives self.old
-            (bytes_given result room.new) self.new }
+            (bytes_given result buffer.new) self.new }
         ensures called { (⟦<MemoryInput<'a> as Input>⟧.state self.new).calls
             ≡ after_more (⟦<MemoryInput<'a> as Input>⟧.state self.old).calls 1 }
-        ensures well { OnOk result ((⟦<MemoryInput<'a> as Input>⟧.state self.new).failures
+        ensures no_failure { OnOk result ((⟦<MemoryInput<'a> as Input>⟧.state self.new).failures
             ≡ (⟦<MemoryInput<'a> as Input>⟧.state self.old).failures) }
         ensures failed { OnErr result ((⟦<MemoryInput<'a> as Input>⟧.state self.new).failures
             ≡ after_more (⟦<MemoryInput<'a> as Input>⟧.state self.old).failures 1) }
@@ -212,9 +213,9 @@ impl<'a> Input for MemoryInput<'a> {
         if self.failing == Some(self.tally.calls) {
             return Err(self.tally.fail());
         }
-        let n = self.bytes.len().min(room.len()).min(self.most);
+        let n = self.bytes.len().min(buffer.len()).min(self.most);
         let (given, rest) = self.bytes.split_at(n);
-        room[..n].copy_from_slice(given);
+        buffer[..n].copy_from_slice(given);
         self.bytes = rest;
         Ok(n)
     }

@@ -2,7 +2,7 @@
 ghost use Rattle.std.specs.Prelude.{◌≡◌, ◌≢◌, ℕ, List, None, Some, Option, IfOk, OnOk, OnErr, length, take, ◌-◌, ◌<◌, ◌≤◌, MatchOption, min, ⊤, ◌⊎◌, []};
 ghost use Rattle.std.proofs.Common.{rules};
 ghost use Rattle.std.specs.Io.KnownBytes.{WriteAppends, Appends};
-ghost use Rattle.bd_io_device.specs.Devices.{Writer, AreWrites, BreaksWithin, TakesText, after_more, count_taken, greatest, over, writer_of};
+ghost use Rattle.bd_io_device.specs.Devices.{Writer, AreWrites, WriteFailsWithin, TakesText, after_more, count_taken, greatest, over, writer_of};
 ghost use Rattle.bd_io_device.specs.declared.output.FailingWrite.TheVariants.{Error, Zero};
 
 use crate::input::{DeviceFault, Tally};
@@ -22,10 +22,11 @@ pub trait Output {
     /// Appends a front of `bytes` and tells how many bytes it took. Where it fails it took none.
     fn write(&mut self, bytes: &[u8]) -> Result<usize, DeviceFault>
         ensures within { IfOk result (λ n. n ≤ length bytes.now) }
-        ensures bytes { WriteAppends (state self.old).held (state self.new).held result bytes.now }
+        ensures bytes { WriteAppends
+            (state self.old).contents (state self.new).contents result bytes.now }
         ensures takes { write_takes self.old bytes.now (count_taken result) self.new }
         ensures called { (state self.new).calls ≡ after_more (state self.old).calls 1 }
-        ensures well { IfOk result (λ n. (0 < n) ⊎ (bytes.now ≡ []) →
+        ensures no_failure { IfOk result (λ n. (0 < n) ⊎ (bytes.now ≡ []) →
             (state self.new).failures ≡ (state self.old).failures) }
         ensures none { IfOk result (λ n. n ≡ 0 →
             bytes.now ≢ [] → (state self.new).failures ≡ after_more (state self.old).failures 1) }
@@ -50,7 +51,7 @@ impl<W: Write + Drop> SystemOutput<W> {
     /// The device over this writer, with both counts at 0.
     pub fn new(writer: W) -> SystemOutput<W>
         ensures state { ⟦<SystemOutput<W> as Output>⟧.state result
-            ≡ record { held = W.contents writer; calls = 0; failures = 0 } }
+            ≡ record { contents = W.contents writer; calls = 0; failures = 0 } }
     {
         let tally = Tally::default();
         SystemOutput { writer, tally }
@@ -92,31 +93,31 @@ pub struct MemoryOutput<'a> {
     pub most: usize,
     /// The call that fails.
     pub failing: Option<FailingWrite>,
-    room: &'a mut [u8],
+    buffer: &'a mut [u8],
     filled: usize,
     tally: Tally,
     ghost takes: { 0 < most },
-    ghost inside: { filled ≤ length room.now },
+    ghost inside: { filled ≤ length buffer.now },
 }
 
 impl<'a> MemoryOutput<'a> {
-    /// The device that fills `room` from its start, with at most `most` bytes a call. It takes 0 bytes where the room is
+    /// The device that fills `buffer` from its start, with at most `most` bytes a call. It takes 0 bytes where the room is
     /// full. The call that `failing` names takes none. Both counts are at 0.
-    pub fn new(room: &'a mut [u8], most: usize, failing: Option<FailingWrite>) -> MemoryOutput<'a>
+    pub fn new(buffer: &'a mut [u8], most: usize, failing: Option<FailingWrite>) -> MemoryOutput<'a>
         requires { 0 < most }
         ensures state { ⟦<MemoryOutput<'a> as Output>⟧.state result ≡ record {
-          held = Some [];
+          contents = Some [];
           calls = 0;
           failures = 0;
         } }
-        ensures room { length result.room.now ≡ length room.old }
+        ensures buffer { length result.buffer.now ≡ length buffer.old }
         ensures most { result.most ≡ most }
         ensures failing { result.failing ≡ failing }
     {
         MemoryOutput {
             most,
             failing,
-            room,
+            buffer,
             filled: 0,
             tally: Tally::default(),
         }
@@ -124,9 +125,9 @@ impl<'a> MemoryOutput<'a> {
 
     /// The bytes that it holds.
     pub fn bytes(&self) -> &[u8]
-        ensures { (⟦<MemoryOutput<'a> as Output>⟧.state self.now).held ≡ Some result.now }
+        ensures { (⟦<MemoryOutput<'a> as Output>⟧.state self.now).contents ≡ Some result.now }
     {
-        &self.room[..self.filled]
+        &self.buffer[..self.filled]
     }
 
     /// How many writes were made.
@@ -145,15 +146,15 @@ impl<'a> MemoryOutput<'a> {
 }
 
 impl Output for MemoryOutput<'_> {
-    ghost state = { λ s. writer_of (Some (take s.filled s.room.now)) s.tally };
+    ghost state = { λ s. writer_of (Some (take s.filled s.buffer.now)) s.tally };
 
     ghost write_takes = { λ s bytes answer t. (t.most ≡ s.most)
-        × (t.failing ≡ s.failing) × (length t.room.now ≡ length s.room.now)
+        × (t.failing ≡ s.failing) × (length t.buffer.now ≡ length s.buffer.now)
         × MatchOption answer (s.failing ≡ Some (Error (after_more s.tally.calls 1))) (λ n.
         (s.failing ≢ Some (Error (after_more s.tally.calls 1)))
         × (n ≤ s.most) × (s.failing ≡ Some (Zero (after_more s.tally.calls 1)) → n ≡ 0)
         × (s.failing ≢ Some (Zero (after_more s.tally.calls 1)) →
-        n ≡ min (min (length bytes) (length s.room.now - s.filled)) s.most)) };
+        n ≡ min (min (length bytes) (length s.buffer.now - s.filled)) s.most)) };
 
     ghost calls_fit = { λ s. Prim.search rules };
 
@@ -164,7 +165,7 @@ impl Output for MemoryOutput<'_> {
         if self.failing == Some(FailingWrite::Error(self.tally.calls)) {
             return Err(self.tally.fail());
         }
-        let spare = self.room.len() - self.filled;
+        let spare = self.buffer.len() - self.filled;
         let mut n = bytes.len().min(spare).min(self.most);
         if self.failing == Some(FailingWrite::Zero(self.tally.calls)) {
             n = 0;
@@ -172,7 +173,7 @@ impl Output for MemoryOutput<'_> {
         if n == 0 && !bytes.is_empty() {
             self.tally.fail();
         }
-        self.room[self.filled..self.filled + n].copy_from_slice(&bytes[..n]);
+        self.buffer[self.filled..self.filled + n].copy_from_slice(&bytes[..n]);
         self.filled += n;
         Ok(n)
     }
@@ -185,7 +186,8 @@ impl Output for MemoryOutput<'_> {
 pub fn write_all<W: Output>(writer: &mut W, bytes: &[u8]) -> Result<(), DeviceFault>
     // What the device holds, where that is known, and its count of failures, which rises by one exactly at an error.
     ensures written { OnOk result (TakesText (over W.state writer.old writer.new) bytes.now) }
-    ensures broken { OnErr result (BreaksWithin (over W.state writer.old writer.new) bytes.now) }
+    ensures write_failed { OnErr result
+        (WriteFailsWithin (over W.state writer.old writer.new) bytes.now) }
 
     // The writes, also of an unknown device: each of all that was left, and none after a failure.
     ensures writes { OnOk result (AreWrites W.write_takes bytes.now writer.old [] writer.new) }

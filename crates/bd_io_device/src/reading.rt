@@ -1,7 +1,7 @@
 //! The bytes of a device: all of them, or as many as a room takes.
 ghost use Rattle.std.specs.Prelude.{◌≡◌, ℕ, List, [], Some, None, IfOk, IfSome, IsErrOf, OnErr, OnOk, length, vec_len, ◌+◌, ◌<◌, ◌≤◌, ◌++◌, take, IfErr, ◌-◌};
 ghost use Rattle.std.specs.Io.KnownBytes.{IsAtEnd, Consumes};
-ghost use Rattle.bd_io_device.specs.Devices.{AreReads, FailsToFill, FillsRoom, after_more, over, read_words};
+ghost use Rattle.bd_io_device.specs.Devices.{AreReads, FailsToFill, FillsBuffer, after_more, over, read_words};
 
 use crate::input::Input;
 use std::alloc::Global;
@@ -63,14 +63,14 @@ pub fn read_all<R: Input>(
     limits: Limits,
 ) -> Result<Vec<u8>, ReadFault>
     // All bytes, where they are known, and as the reads gave them.
-    ensures bytes { IfOk result (λ v. IfSome (R.state reader.old).left (λ xs. v.items ≡ xs)) }
-    ensures end { OnOk result (IsAtEnd (R.state reader.new).left) }
+    ensures bytes { IfOk result (λ v. IfSome (R.state reader.old).remaining (λ xs. v.items ≡ xs)) }
+    ensures end { OnOk result (IsAtEnd (R.state reader.new).remaining) }
     ensures whole { IfOk result (λ v. (n : ℕ)
         × (last : R) × (n < limits.turns) × AreReads R.read_gives n reader.old v.items last
         × R.read_gives last (Some []) reader.new) }
     ensures short { IfOk result (λ v. vec_len v ≤ limits.bytes) }
-    ensures front { OnErr result ((given : List ℕ)
-        × Consumes (R.state reader.old).left (R.state reader.new).left given) }
+    ensures prefix { OnErr result ((given : List ℕ)
+        × Consumes (R.state reader.old).remaining (R.state reader.new).remaining given) }
     ensures turns { (R.state reader.new).calls
         ≤ after_more (R.state reader.old).calls limits.turns }
 
@@ -80,13 +80,13 @@ pub fn read_all<R: Input>(
         × (length given ≤ limits.bytes) × (limits.bytes < length given + length part)
         × AreReads R.read_gives n reader.old given last × R.read_gives last (Some part) reader.new }
     ensures too_long_known { IsErrOf result ReadFault.TooLong →
-        IfSome (R.state reader.old).left (λ xs. limits.bytes < length xs) }
+        IfSome (R.state reader.old).remaining (λ xs. limits.bytes < length xs) }
 
     // All reads were made, and each gave a byte at least.
     ensures too_many { IsErrOf result ReadFault.TooManyTurns →
         (given : List ℕ) × (length given ≤ limits.bytes)
         × AreReads R.read_gives limits.turns reader.old given reader.new
-        × Consumes (R.state reader.old).left (R.state reader.new).left given }
+        × Consumes (R.state reader.old).remaining (R.state reader.new).remaining given }
     ensures too_many_calls { IsErrOf result ReadFault.TooManyTurns →
         (R.state reader.new).calls ≡ after_more (R.state reader.old).calls limits.turns }
 
@@ -96,14 +96,14 @@ pub fn read_all<R: Input>(
         × AreReads R.read_gives n reader.old given last × R.read_gives last None reader.new }
     ensures failed { IsErrOf result ReadFault.Device →
         (R.state reader.new).failures ≡ after_more (R.state reader.old).failures 1 }
-    ensures well { ¬ (IsErrOf result ReadFault.Device) →
+    ensures no_failure { ¬ (IsErrOf result ReadFault.Device) →
         (R.state reader.new).failures ≡ (R.state reader.old).failures }
 
     // The reads before a refusal of the allocator gave a byte each, and no more than the limit.
     ensures memory { IsErrOf result ReadFault.NoMemory →
         (n : ℕ) × (given : List ℕ) × (n ≤ limits.turns)
         × (length given ≤ limits.bytes) × AreReads R.read_gives n reader.old given reader.new
-        × Consumes (R.state reader.old).left (R.state reader.new).left given }
+        × Consumes (R.state reader.old).remaining (R.state reader.new).remaining given }
 {
     let mut buffer = [0u8; 65536];
     let mut bytes = Vec::new(alloc);
@@ -137,33 +137,34 @@ pub struct FillCounts {
 #[inline(always)]
 pub fn fill<R: Input>(
     reader: &mut R,
-    room: &mut [u8],
+    buffer: &mut [u8],
     limits: Limits,
 ) -> Result<FillCounts, ReadFault>
-    ensures fits { IfOk result (λ f. f.bytes ≤ length room.old) }
-    ensures bytes { IfOk result (λ f.
-        Consumes (R.state reader.old).left (R.state reader.new).left (take f.bytes room.new)) }
-    ensures end { IfOk result (λ f. f.bytes < length room.old → IsAtEnd (R.state reader.new).left) }
+    ensures fits { IfOk result (λ f. f.bytes ≤ length buffer.old) }
+    ensures bytes { IfOk result (λ f. Consumes
+        (R.state reader.old).remaining (R.state reader.new).remaining (take f.bytes buffer.new)) }
+    ensures end { IfOk result (λ f. f.bytes < length buffer.old →
+        IsAtEnd (R.state reader.new).remaining) }
     ensures within { IfOk result (λ f. (f.bytes ≤ limits.bytes) × (f.turns ≤ limits.turns)) }
     ensures called { IfOk result (λ f.
         (R.state reader.new).calls ≡ after_more (R.state reader.old).calls f.turns) }
     ensures turns { (R.state reader.new).calls
         ≤ after_more (R.state reader.old).calls limits.turns }
     // The reads, also of an unknown device. Where too many would be needed, all were made and each gave a byte at least.
-    ensures reads { IfOk result (λ f. FillsRoom R.read_gives
-        (length room.old) f.turns reader.old (take f.bytes room.new) reader.new) }
+    ensures reads { IfOk result (λ f. FillsBuffer R.read_gives
+        (length buffer.old) f.turns reader.old (take f.bytes buffer.new) reader.new) }
     ensures unfilled { IfErr result
-        (FailsToFill R.read_gives R.state limits (length room.old) reader.old reader.new) }
+        (FailsToFill R.read_gives R.state limits (length buffer.old) reader.old reader.new) }
     ensures too_many_calls { IsErrOf result ReadFault.TooManyTurns →
         (R.state reader.new).calls ≡ after_more (R.state reader.old).calls limits.turns }
     // The last read failed, and it alone: exactly then the count of failures rises.
     ensures failed { IsErrOf result ReadFault.Device →
         (R.state reader.new).failures ≡ after_more (R.state reader.old).failures 1 }
-    ensures well { ¬ (IsErrOf result ReadFault.Device) →
+    ensures no_failure { ¬ (IsErrOf result ReadFault.Device) →
         (R.state reader.new).failures ≡ (R.state reader.old).failures }
 {
-    let size = room.len();
-    if 0 < limits.turns && size as u64 <= limits.bytes && reader.read_held(room) {
+    let size = buffer.len();
+    if 0 < limits.turns && size as u64 <= limits.bytes && reader.read_buffered(buffer) {
         return Ok(FillCounts {
             bytes: size,
             turns: 1,
@@ -171,11 +172,11 @@ pub fn fill<R: Input>(
     }
     let mut bytes = 0;
     let mut turns = 0;
-    while bytes < room.len() {
+    while bytes < buffer.len() {
         if turns == limits.turns {
             return Err(ReadFault::TooManyTurns);
         }
-        let Ok(n) = reader.read(&mut room[bytes..]) else {
+        let Ok(n) = reader.read(&mut buffer[bytes..]) else {
             return Err(ReadFault::Device);
         };
         turns += 1;
@@ -194,18 +195,18 @@ pub fn fill<R: Input>(
 /// room's length.
 pub fn fill_after<R: Input>(
     reader: &mut R,
-    room: &mut [u8],
+    buffer: &mut [u8],
     head: [u8; 4],
     size: usize,
     limits: Limits,
 ) -> Result<FillCounts, ReadFault>
-    requires { (4 ≤ size) × (size ≤ length room.old) }
+    requires { (4 ≤ size) × (size ≤ length buffer.old) }
     ensures fits { IfOk result (λ f. f.bytes + 4 ≤ size) }
     ensures gives { IfOk result (λ f. (given : List ℕ)
-        × Consumes (R.state reader.old).left (R.state reader.new).left given
-        × (length given ≡ f.bytes) × (take (4 + f.bytes) room.new ≡ head ++ given)
-        × FillsRoom R.read_gives (size - 4) f.turns reader.old given reader.new) }
-    ensures end { IfOk result (λ f. f.bytes + 4 < size → IsAtEnd (R.state reader.new).left) }
+        × Consumes (R.state reader.old).remaining (R.state reader.new).remaining given
+        × (length given ≡ f.bytes) × (take (4 + f.bytes) buffer.new ≡ head ++ given)
+        × FillsBuffer R.read_gives (size - 4) f.turns reader.old given reader.new) }
+    ensures end { IfOk result (λ f. f.bytes + 4 < size → IsAtEnd (R.state reader.new).remaining) }
     ensures within { IfOk result (λ f. (f.bytes ≤ limits.bytes) × (f.turns ≤ limits.turns)) }
     ensures called { IfOk result (λ f.
         (R.state reader.new).calls ≡ after_more (R.state reader.old).calls f.turns) }
@@ -217,9 +218,9 @@ pub fn fill_after<R: Input>(
         (R.state reader.new).calls ≡ after_more (R.state reader.old).calls limits.turns }
     ensures failed { IsErrOf result ReadFault.Device →
         (R.state reader.new).failures ≡ after_more (R.state reader.old).failures 1 }
-    ensures well { ¬ (IsErrOf result ReadFault.Device) →
+    ensures no_failure { ¬ (IsErrOf result ReadFault.Device) →
         (R.state reader.new).failures ≡ (R.state reader.old).failures }
 {
-    room[..4].copy_from_slice(&head);
-    fill(reader, &mut room[4..size], limits)
+    buffer[..4].copy_from_slice(&head);
+    fill(reader, &mut buffer[4..size], limits)
 }

@@ -12,8 +12,8 @@ pub line_grows : (line more : List ℕ) → IsLine line → IsLine more → IsLi
 line_grows line more first rest = All-append (λ b. is_newline b ≡ false) line more first rest
 
 -- the front of a line is one
-pub line_front : (line more : List ℕ) → IsLine (line ++ more) → IsLine line
-line_front line more all =
+pub line_prefix : (line more : List ℕ) → IsLine (line ++ more) → IsLine line
+line_prefix line more all =
     subst IsLine (take_at line more (length line) refl) (All-take (λ b. is_newline b ≡ false) (length line) (line ++ more) all)
 
 pub both_empty : (xs ys : List ℕ) → xs ++ ys ≡ [] → (xs ≡ []) × (ys ≡ [])
@@ -29,18 +29,18 @@ onto_more b (part ∷ parts) rest some = refl
 some_part : (text : List ℕ) → 0 < length (text_lines text)
 some_part text = let e = length-slice_split is_newline text in omega (arith, e)
 
-lines_step : (b : ℕ) (front rest : List ℕ) (c : Bool) → is_newline b ≡ c → text_lines (front ++ 10 ∷ rest) ≡ text_lines front ++ text_lines rest
-    → text_lines (b ∷ (front ++ 10 ∷ rest)) ≡ text_lines (b ∷ front) ++ text_lines rest
-lines_step b front rest true is e =
-    slice_split-cons_yes is_newline b (front ++ 10 ∷ rest) is ∙ ap (λ x. [] ∷ x) e ∙ ap (λ x. x ++ text_lines rest) (sym (slice_split-cons_yes is_newline b front is))
-lines_step b front rest false is e =
-    slice_split-cons_no is_newline b (front ++ 10 ∷ rest) is ∙ ap (λ x. onto_first b x) e ∙ onto_more b (text_lines front) (text_lines rest) (some_part front)
-    ∙ ap (λ x. x ++ text_lines rest) (sym (slice_split-cons_no is_newline b front is))
+lines_step : (b : ℕ) (prefix rest : List ℕ) (c : Bool) → is_newline b ≡ c → text_lines (prefix ++ 10 ∷ rest) ≡ text_lines prefix ++ text_lines rest
+    → text_lines (b ∷ (prefix ++ 10 ∷ rest)) ≡ text_lines (b ∷ prefix) ++ text_lines rest
+lines_step b prefix rest true is e =
+    slice_split-cons_yes is_newline b (prefix ++ 10 ∷ rest) is ∙ ap (λ x. [] ∷ x) e ∙ ap (λ x. x ++ text_lines rest) (sym (slice_split-cons_yes is_newline b prefix is))
+lines_step b prefix rest false is e =
+    slice_split-cons_no is_newline b (prefix ++ 10 ∷ rest) is ∙ ap (λ x. onto_first b x) e ∙ onto_more b (text_lines prefix) (text_lines rest) (some_part prefix)
+    ∙ ap (λ x. x ++ text_lines rest) (sym (slice_split-cons_no is_newline b prefix is))
 
 -- lines before a newline and after it
-pub lines_apart : (front rest : List ℕ) → text_lines (front ++ 10 ∷ rest) ≡ text_lines front ++ text_lines rest
+pub lines_apart : (prefix rest : List ℕ) → text_lines (prefix ++ 10 ∷ rest) ≡ text_lines prefix ++ text_lines rest
 lines_apart [] rest = slice_split-cons_yes is_newline 10 rest refl
-lines_apart (b ∷ front) rest = lines_step b front rest (is_newline b) refl (lines_apart front rest)
+lines_apart (b ∷ prefix) rest = lines_step b prefix rest (is_newline b) refl (lines_apart prefix rest)
 
 not_empty_apart : (xs ys : List (List ℕ)) → not_empty (xs ++ ys) ≡ not_empty xs ++ not_empty ys
 unfolding not_empty
@@ -54,17 +54,17 @@ no_commands : not_empty ([] ∷ []) ≡ []
 unfolding not_empty
 no_commands = refl
 
-commands_apart : (front rest : List ℕ) → commands_of (front ++ 10 ∷ rest) ≡ commands_of front ++ commands_of rest
-commands_apart front rest = ap not_empty (lines_apart front rest) ∙ not_empty_apart (text_lines front) (text_lines rest)
+commands_apart : (prefix rest : List ℕ) → commands_of (prefix ++ 10 ∷ rest) ≡ commands_of prefix ++ commands_of rest
+commands_apart prefix rest = ap not_empty (lines_apart prefix rest) ∙ not_empty_apart (text_lines prefix) (text_lines rest)
 
 -- a newline at the end makes no command
-commands_ended : (front : List ℕ) → commands_of (front ++ 10 ∷ []) ≡ commands_of front
-commands_ended front = commands_apart front [] ∙ ap (λ x. commands_of front ++ x) no_commands ∙ append-nil (commands_of front)
+commands_ended : (prefix : List ℕ) → commands_of (prefix ++ 10 ∷ []) ≡ commands_of prefix
+commands_ended prefix = commands_apart prefix [] ∙ ap (λ x. commands_of prefix ++ x) no_commands ∙ append-nil (commands_of prefix)
 
 -- commands after whole lines
 pub commands_after : (whole rest : List ℕ) → AreWhole whole → commands_of (whole ++ rest) ≡ commands_of whole ++ commands_of rest
 commands_after whole rest (inl none) = rw none (ap (λ x. x ++ commands_of rest) (sym no_commands))
-commands_after whole rest (inr (front, is)) = rw (is, append_assoc front (10 ∷ []) rest, commands_ended front) (commands_apart front rest)
+commands_after whole rest (inr (prefix, is)) = rw (is, append_assoc prefix (10 ∷ []) rest, commands_ended prefix) (commands_apart prefix rest)
 
 -- one more line
 pub commands_line : (whole line : List ℕ) → AreWhole whole → IsLine line → commands_of (whole ++ line) ≡ commands_of whole ++ not_empty (line ∷ [])
@@ -80,22 +80,22 @@ commands_whole_line whole line ends is =
 pub no_long_line : AreShort []
 no_long_line = All-cons (λ line. length line ≤ longest_command) [] [] (omega arith) (All-nil (λ line. length line ≤ longest_command))
 
-short_front : (front rest : List ℕ) → AreShort (front ++ 10 ∷ rest) → AreShort front
-short_front front rest all =
-    let lines : List (List ℕ) = text_lines front ++ text_lines rest in
-    let short : All (λ line. length line ≤ longest_command) lines = subst (λ l. All (λ line. length line ≤ longest_command) l) (lines_apart front rest) all in
-    subst (λ l. All (λ line. length line ≤ longest_command) l) (take_at (text_lines front) (text_lines rest) (length (text_lines front)) refl)
-    (All-take (λ line. length line ≤ longest_command) (length (text_lines front)) lines short)
+short_prefix : (prefix rest : List ℕ) → AreShort (prefix ++ 10 ∷ rest) → AreShort prefix
+short_prefix prefix rest all =
+    let lines : List (List ℕ) = text_lines prefix ++ text_lines rest in
+    let short : All (λ line. length line ≤ longest_command) lines = subst (λ l. All (λ line. length line ≤ longest_command) l) (lines_apart prefix rest) all in
+    subst (λ l. All (λ line. length line ≤ longest_command) l) (take_at (text_lines prefix) (text_lines rest) (length (text_lines prefix)) refl)
+    (All-take (λ line. length line ≤ longest_command) (length (text_lines prefix)) lines short)
 
-short_apart : (front rest : List ℕ) → AreShort front → AreShort rest → AreShort (front ++ 10 ∷ rest)
-short_apart front rest first second =
-    subst (λ l. All (λ line. length line ≤ longest_command) l) (sym (lines_apart front rest))
-    (All-append (λ line. length line ≤ longest_command) (text_lines front) (text_lines rest) first second)
+short_apart : (prefix rest : List ℕ) → AreShort prefix → AreShort rest → AreShort (prefix ++ 10 ∷ rest)
+short_apart prefix rest first second =
+    subst (λ l. All (λ line. length line ≤ longest_command) l) (sym (lines_apart prefix rest))
+    (All-append (λ line. length line ≤ longest_command) (text_lines prefix) (text_lines rest) first second)
 
 pub short_after : (whole rest : List ℕ) → AreWhole whole → AreShort whole → AreShort rest → AreShort (whole ++ rest)
 short_after whole rest (inl none) first second = rw none second
-short_after whole rest (inr (front, is)) first second =
-    rw (is, append_assoc front (10 ∷ []) rest) (short_apart front rest (short_front front [] (subst AreShort is first)) second)
+short_after whole rest (inr (prefix, is)) first second =
+    rw (is, append_assoc prefix (10 ∷ []) rest) (short_apart prefix rest (short_prefix prefix [] (subst AreShort is first)) second)
 
 pub short_line : (line : List ℕ) → IsPart line → AreShort line
 short_line line part =
@@ -118,5 +118,5 @@ count_line line is =
 pub newlines_of_line : (whole line : List ℕ) → IsLine line → count_by is_newline (whole ++ line) ≤ count_by is_newline whole
 newlines_of_line whole line is = let e = count_more whole line in let f = count_line line is in omega (arith, e, f)
 
-pub newlines_more : (front whole more : List ℕ) → count_by is_newline front ≤ count_by is_newline whole → count_by is_newline front ≤ count_by is_newline (whole ++ more)
-newlines_more front whole more le = let e = count_more whole more in omega (arith, e, le)
+pub newlines_more : (prefix whole more : List ℕ) → count_by is_newline prefix ≤ count_by is_newline whole → count_by is_newline prefix ≤ count_by is_newline (whole ++ more)
+newlines_more prefix whole more le = let e = count_more whole more in omega (arith, e, le)

@@ -1,12 +1,12 @@
 -- Lemmas on replies to the commands of a device.
 use Rattle.std.proofs.Common.{rules, ◌≡◌, ◌<◌, ◌≤◌, ◌+◌, ℕ, List, [], ◌∷◌, ◌++◌, length, Bool, true, false, cond, Option, refl, sym, ap, ◌∙◌, subst, append_assoc, append-nil, arith, inl, inr}
 use Rattle.std.proofs.Common.{length-append}
-use Rattle.bd_io_device.proofs.DevicesLemmas.{breaks_after, takes_both, takes_none}
+use Rattle.bd_io_device.proofs.DevicesLemmas.{write_fails_after, takes_both, takes_none}
 use Rattle.bd_io_device.specs.{Devices.greatest, declared.reading.Limits.Limits, declared.reading.ReadFault.ReadFault}
-use Rattle.bd_io_device.specs.Devices.{AreReads, BreaksWithin, Reader, TakesText, Writer, between}
+use Rattle.bd_io_device.specs.Devices.{AreReads, WriteFailsWithin, Reader, TakesText, Writer, between}
 use Rattle.bd_io_lines.specs.{declared.serving.ServeFault.ServeFault, LineBuffer.Buffered}
 use Rattle.bd_io_lines.specs.LineBuffer.{FailsToReadLine, FindsNoLine, GivesBeforeLast, GivesBytes, IsCause, IsLazy, ReadsLine, StopsReading}
-use Rattle.bd_io_lines.specs.Serving.{IsReadInTime, RepliesInTurn, ServesAll, ServesBefore, StarvesAt, StopsServing, StopsUnread}
+use Rattle.bd_io_lines.specs.Serving.{IsReadInTime, RepliesInTurn, ServesAll, ServesBefore, RunsOutAt, StopsServing, StopsUnread}
 use Rattle.bd_io_lines.specs.Lines.{AreShort, AreWhole, IsFirstLine, commands_of, is_empty_line, not_empty}
 use Rattle.std.specs.Prelude.{◌⊎◌}
 use Rattle.bd_io_lines.proofs.LinesLemmas.{commands_line, no_long_line, short_after, short_line, short_whole_line, commands_whole_line, newlines_more, newlines_of_line}
@@ -60,47 +60,47 @@ pub record Serving {R S : Type 0} (state : R → Reader) (gives : R → Option (
   pub text : List ℕ
   pub ends : lines.ended ≡ false → AreWhole whole
   pub short : AreShort whole
-  pub reads : GivesBytes state gives limits lines.left lines.ended (whole ++ lines.rest) old new
+  pub reads : GivesBytes state gives limits lines.remaining lines.ended (whole ++ lines.rest) old new
   pub in_time : IsReadInTime gives whole (whole ++ lines.rest) old new
   pub replied : RepliesInTurn replies s (commands_of whole) text t
   pub written : TakesText (between before after) text
 
 -- one more line is taken
-pub shrinks : (left less : ℕ) (held given line rest : List ℕ) (ended : Bool) → less + length given ≡ left → IsFirstLine (held ++ given) line rest ended
-    → less + length rest < left + length held
-shrinks left less held given line rest ended room (part, inl split) =
-    let size = ap length split in omega (arith, room, size, length-append held given, length-append line (10 ∷ rest))
-shrinks left less held given line rest ended room (part, inr (is, some, none, e)) =
-    let size = ap length is in let no = ap length none in omega (arith, room, size, some, no, length-append held given)
+pub shrinks : (remaining less : ℕ) (buffered given line rest : List ℕ) (ended : Bool) → less + length given ≡ remaining → IsFirstLine (buffered ++ given) line rest ended
+    → less + length rest < remaining + length buffered
+shrinks remaining less buffered given line rest ended capacity (part, inl split) =
+    let size = ap length split in omega (arith, capacity, size, length-append buffered given, length-append line (10 ∷ rest))
+shrinks remaining less buffered given line rest ended capacity (part, inr (is, some, none, e)) =
+    let size = ap length is in let no = ap length none in omega (arith, capacity, size, some, no, length-append buffered given)
 
-in_time_now : {R : Type 0} {gives : R → Option (List ℕ) → R → Type 0} (whole held given : List ℕ) (n : ℕ) (old mid new : R) → AreReads gives n old (whole ++ held) mid
-    → IsReadInTime gives whole (whole ++ held) old mid → IsLazy gives held given mid new → IsReadInTime gives whole (whole ++ (held ++ given)) old new
-in_time_now {R} {gives} whole held given n old mid new are before (inl (none, same)) =
-    subst (λ r. IsReadInTime gives whole (whole ++ (held ++ given)) old r) (sym same)
-    (subst (λ x. IsReadInTime gives whole x old mid) (sym (ap (λ x. whole ++ (held ++ x)) none ∙ ap (λ x. whole ++ x) (append-nil held))) before)
-in_time_now {R} {gives} whole held given n old mid new are before (inr (front, is, last)) = inr (
-  whole ++ (held ++ front),
-  newlines_of_line whole (held ++ front) is,
-  subst (λ x. GivesBeforeLast gives x old (whole ++ (held ++ given)) new) (append_assoc whole held front)
-      (subst (λ x. GivesBeforeLast gives ((whole ++ held) ++ front) old x new) (append_assoc whole held given)
-      (before_last_then n old mid new (whole ++ held) front given are last)),
+in_time_now : {R : Type 0} {gives : R → Option (List ℕ) → R → Type 0} (whole buffered given : List ℕ) (n : ℕ) (old mid new : R) → AreReads gives n old (whole ++ buffered) mid
+    → IsReadInTime gives whole (whole ++ buffered) old mid → IsLazy gives buffered given mid new → IsReadInTime gives whole (whole ++ (buffered ++ given)) old new
+in_time_now {R} {gives} whole buffered given n old mid new are before (inl (none, same)) =
+    subst (λ r. IsReadInTime gives whole (whole ++ (buffered ++ given)) old r) (sym same)
+    (subst (λ x. IsReadInTime gives whole x old mid) (sym (ap (λ x. whole ++ (buffered ++ x)) none ∙ ap (λ x. whole ++ x) (append-nil buffered))) before)
+in_time_now {R} {gives} whole buffered given n old mid new are before (inr (prefix, is, last)) = inr (
+  whole ++ (buffered ++ prefix),
+  newlines_of_line whole (buffered ++ prefix) is,
+  subst (λ x. GivesBeforeLast gives x old (whole ++ (buffered ++ given)) new) (append_assoc whole buffered prefix)
+      (subst (λ x. GivesBeforeLast gives ((whole ++ buffered) ++ prefix) old x new) (append_assoc whole buffered given)
+      (before_last_then n old mid new (whole ++ buffered) prefix given are last)),
 )
 
 in_time_after : {R : Type 0} {gives : R → Option (List ℕ) → R → Type 0} (whole more given : List ℕ) (old new : R) → IsReadInTime gives whole given old new
     → IsReadInTime gives (whole ++ more) given old new
 in_time_after {R} {gives} whole more given old new (inl none) = inl none
-in_time_after {R} {gives} whole more given old new (inr (front, few, last)) = inr (front, newlines_more front whole more few, last)
+in_time_after {R} {gives} whole more given old new (inr (prefix, few, last)) = inr (prefix, newlines_more prefix whole more few, last)
 
 module _ {R S : Type 0} (state : R → Reader) (gives : R → Option (List ℕ) → R → Type 0) (replies : S → List ℕ → List ℕ → S → Type 0) where
-  pub begins : (limits : Limits) (lines : Buffered) (old : R) (before : Writer) (s : S) → lines.left ≡ limits → (state old).calls ≤ greatest
+  pub begins : (limits : Limits) (lines : Buffered) (old : R) (before : Writer) (s : S) → lines.remaining ≡ limits → (state old).calls ≤ greatest
       → lines.ended ≡ false → lines.rest ≡ [] → Serving state gives replies limits lines old old before before s s
-  begins limits lines old before s left fit is none = subst (λ l. Serving state gives replies l lines old old before before s s) left record {
+  begins limits lines old before s remaining fit is none = subst (λ l. Serving state gives replies l lines old old before before s s) remaining record {
     whole = [];
     text = [];
     ends = λ _. inl refl;
     short = no_long_line;
-    reads = subst (λ b. GivesBytes state gives lines.left lines.left b lines.rest old old) (sym is)
-        (subst (λ x. GivesBytes state gives lines.left lines.left false x old old) (sym none) (gives_none lines.left old fit));
+    reads = subst (λ b. GivesBytes state gives lines.remaining lines.remaining b lines.rest old old) (sym is)
+        (subst (λ x. GivesBytes state gives lines.remaining lines.remaining false x old old) (sym none) (gives_none lines.remaining old fit));
     in_time = inl (none, refl);
     replied = nothing_replied replies s;
     written = takes_none before;
@@ -108,12 +108,12 @@ module _ {R S : Type 0} (state : R → Reader) (gives : R → Option (List ℕ) 
 
 module _ {R S : Type 0} {state : R → Reader} {gives : R → Option (List ℕ) → R → Type 0} {replies : S → List ℕ → List ℕ → S → Type 0}
     {limits : Limits} {lines : Buffered} {old mid : R} {before now : Writer} {s t : S} (so_far : Serving state gives replies limits lines old mid before now s t) where
-  gave : lines.ended ≡ false → GivesBytes state gives limits lines.left false (so_far.whole ++ lines.rest) old mid
-  gave going = subst (λ b. GivesBytes state gives limits lines.left b (so_far.whole ++ lines.rest) old mid) going so_far.reads
+  gave : lines.ended ≡ false → GivesBytes state gives limits lines.remaining false (so_far.whole ++ lines.rest) old mid
+  gave going = subst (λ b. GivesBytes state gives limits lines.remaining b (so_far.whole ++ lines.rest) old mid) going so_far.reads
 
-  serves_by : (left : Limits) (new : R) → GivesBytes state gives limits left true so_far.whole old new → ServesAll state gives replies limits old new (between before now) s t
-  serves_by left new reads = record {
-    left = left;
+  serves_by : (remaining : Limits) (new : R) → GivesBytes state gives limits remaining true so_far.whole old new → ServesAll state gives replies limits old new (between before now) s t
+  serves_by remaining new reads = record {
+    remaining = remaining;
     given = so_far.whole;
     text = so_far.text;
     short = so_far.short;
@@ -125,14 +125,14 @@ module _ {R S : Type 0} {state : R → Reader} {gives : R → Option (List ℕ) 
   -- the end was found before, or now
   pub serves_end : (next : Buffered) (new : R) → (lines.ended ≡ true) ⊎ (lines.ended ≡ false) → (lines.ended ≡ true → new ≡ mid)
       → FindsNoLine state gives lines next mid new → ServesAll state gives replies limits old new (between before now) s t
-  serves_end next new (inl over) same none = serves_by lines.left new (subst (λ r. GivesBytes state gives limits lines.left true so_far.whole old r) (sym (same over))
-      (subst (λ x. GivesBytes state gives limits lines.left true x old mid) (ap (λ x. so_far.whole ++ x) none.none.0 ∙ append-nil so_far.whole)
-      (subst (λ b. GivesBytes state gives limits lines.left b (so_far.whole ++ lines.rest) old mid) over so_far.reads)))
-  serves_end next new (inr going) same none = serves_by next.left new (subst (λ x. GivesBytes state gives limits next.left true x old new)
+  serves_end next new (inl over) same none = serves_by lines.remaining new (subst (λ r. GivesBytes state gives limits lines.remaining true so_far.whole old r) (sym (same over))
+      (subst (λ x. GivesBytes state gives limits lines.remaining true x old mid) (ap (λ x. so_far.whole ++ x) none.none.0 ∙ append-nil so_far.whole)
+      (subst (λ b. GivesBytes state gives limits lines.remaining b (so_far.whole ++ lines.rest) old mid) over so_far.reads)))
+  serves_end next new (inr going) same none = serves_by next.remaining new (subst (λ x. GivesBytes state gives limits next.remaining true x old new)
       (append-nil (so_far.whole ++ lines.rest) ∙ ap (λ x. so_far.whole ++ x) none.none.0 ∙ append-nil so_far.whole) (gives_then (gave going) (none.reads going)))
 
   -- a fault of reading came
-  pub stops_unread : (new : R) (fault : ReadFault) → lines.ended ≡ false → FailsToReadLine state gives lines.left lines.rest mid new fault
+  pub stops_unread : (new : R) (fault : ReadFault) → lines.ended ≡ false → FailsToReadLine state gives lines.remaining lines.rest mid new fault
       → StopsUnread state gives replies limits old new (between before now) s t fault
   stops_unread new fault going fails =
       let first = gave going in
@@ -146,16 +146,16 @@ module _ {R S : Type 0} {state : R → Reader} {gives : R → Option (List ℕ) 
         short = so_far.short;
         stops = subst (λ x. StopsReading state gives limits x old new fault) apart (stops_then first fails.stops);
         cause = subst (λ x. IsCause gives limits.bytes (lines.rest ++ fails.given) x old new fault) apart
-            (cause_then limits.bytes lines.left.bytes first.turns old mid new (so_far.whole ++ lines.rest) (lines.rest ++ fails.given) fails.given fault
-            first.reads first.room fails.cause);
+            (cause_then limits.bytes lines.remaining.bytes first.turns old mid new (so_far.whole ++ lines.rest) (lines.rest ++ fails.given) fails.given fault
+            first.reads first.capacity fails.cause);
         in_time = in_time_now so_far.whole lines.rest fails.given first.turns old mid new first.reads so_far.in_time fails.lazy;
         replied = so_far.replied;
         written = so_far.written;
       }
 
   module _ (going : lines.ended ≡ false) {next : Buffered} {new : R} (reads : ReadsLine state gives lines next mid new) where
-    gave_all : GivesBytes state gives limits next.left next.ended (so_far.whole ++ (lines.rest ++ reads.given)) old new
-    gave_all = subst (λ x. GivesBytes state gives limits next.left next.ended x old new) (append_assoc so_far.whole lines.rest reads.given)
+    gave_all : GivesBytes state gives limits next.remaining next.ended (so_far.whole ++ (lines.rest ++ reads.given)) old new
+    gave_all = subst (λ x. GivesBytes state gives limits next.remaining next.ended x old new) (append_assoc so_far.whole lines.rest reads.given)
         (gives_then (gave going) reads.reads)
 
     in_time_all : IsReadInTime gives so_far.whole (so_far.whole ++ (lines.rest ++ reads.given)) old new
@@ -168,7 +168,7 @@ module _ {R S : Type 0} {state : R → Reader} {gives : R → Option (List ℕ) 
       whole = so_far.whole;
       rest = lines.rest ++ reads.given;
       after = next.rest;
-      left = next.left;
+      remaining = next.remaining;
       ended = next.ended;
       ends = so_far.ends going;
       short = so_far.short;
@@ -190,7 +190,7 @@ module _ {R S : Type 0} {state : R → Reader} {gives : R → Option (List ℕ) 
             text = so_far.text ++ text;
             ends = ends;
             short = short_after so_far.whole more (so_far.ends going) so_far.short short;
-            reads = subst (λ x. GivesBytes state gives limits next.left next.ended x old new) all gave_all;
+            reads = subst (λ x. GivesBytes state gives limits next.remaining next.ended x old new) all gave_all;
             in_time = subst (λ x. IsReadInTime gives (so_far.whole ++ more) x old new) all
                 (in_time_after so_far.whole more (so_far.whole ++ (lines.rest ++ reads.given)) old new in_time_all);
             replied = subst (λ x. RepliesInTurn replies s x (so_far.text ++ text) u) (sym commands)
@@ -211,15 +211,15 @@ module _ {R S : Type 0} {state : R → Reader} {gives : R → Option (List ℕ) 
       goes_on = goes_by reads.line
 
     pub stops_answer : (stays : S → S → Type 0) (later : Writer) (u : S) (fault : ServeFault) → (fault ≡ serves.NoMemory) ⊎ (fault ≡ serves.Unwritten)
-        → (fault ≡ serves.NoMemory → (is_empty_line next.line ≡ false) × (later ≡ now) × StarvesAt stays replies t next.line u)
+        → (fault ≡ serves.NoMemory → (is_empty_line next.line ≡ false) × (later ≡ now) × RunsOutAt stays replies t next.line u)
         → (fault ≡ serves.Unwritten → (is_empty_line next.line ≡ false)
-        × ((reply : List ℕ) × replies t next.line reply u × BreaksWithin (between now later) (reply ++ 10 ∷ [])))
+        × ((reply : List ℕ) × replies t next.line reply u × WriteFailsWithin (between now later) (reply ++ 10 ∷ [])))
         → StopsServing state gives replies limits old new (between before later) s u stays fault
-    stops_answer stays later u fault (inl is) starved broke =
-        let e = starved is in
+    stops_answer stays later u fault (inl is) out_of_memory failed_write =
+        let e = out_of_memory is in
         subst (λ f. StopsServing state gives replies limits old new (between before later) s u stays f) (sym is)
         (next.line, so_far.text, t, serves_before e.0, subst (λ w. TakesText (between before w) so_far.text) (sym e.1) so_far.written, e.2)
-    stops_answer stays later u fault (inr is) starved broke =
-        let e = broke is in
+    stops_answer stays later u fault (inr is) out_of_memory failed_write =
+        let e = failed_write is in
         subst (λ f. StopsServing state gives replies limits old new (between before later) s u stays f) (sym is)
-        (next.line, so_far.text, e.1.0, t, serves_before e.0, e.1.1, breaks_after before now later so_far.text (e.1.0 ++ 10 ∷ []) so_far.written e.1.2)
+        (next.line, so_far.text, e.1.0, t, serves_before e.0, e.1.1, write_fails_after before now later so_far.text (e.1.0 ++ 10 ∷ []) so_far.written e.1.2)

@@ -9,7 +9,7 @@ use Rattle.bd_io_lines.specs.{Lines.IsFirstLine, Lines.IsLine, Lines.IsPart}
 -- the next line of a device, and how reading goes on
 pub record Buffered : Type 0 where
   -- what the device may still be asked for
-  pub left : Limits
+  pub remaining : Limits
   -- the line that was read last
   pub line : List ℕ
   -- the bytes that the device gave after it
@@ -31,18 +31,18 @@ module _ {R : Type 0} (gives : R → Option (List ℕ) → R → Type 0) where
 
   -- Reads gave this prefix, and one more read gave this part, or it failed and gave none.
   abbrev pub EndsByOneRead : List ℕ → List ℕ → R → R → Type 0
-  EndsByOneRead front part old new = (turns : ℕ) × (last : R) × AreReads gives turns old front last
+  EndsByOneRead prefix part old new = (turns : ℕ) × (last : R) × AreReads gives turns old prefix last
       × (gives last (Some part) new ⊎ ((part ≡ []) × gives last None new))
 
   -- Reads gave these bytes, and those before the last read gave this prefix.
   abbrev pub GivesBeforeLast : List ℕ → R → List ℕ → R → Type 0
-  GivesBeforeLast front old given new = (part : List ℕ) × (given ≡ front ++ part) × EndsByOneRead front part old new
+  GivesBeforeLast prefix old given new = (part : List ℕ) × (given ≡ prefix ++ part) × EndsByOneRead prefix part old new
 
   -- No read was made once the line had its newline:
   -- there was none, or the bytes before the last one are part of the line.
   abbrev pub IsLazy : List ℕ → List ℕ → R → R → Type 0
   IsLazy head given old new =
-      ((given ≡ []) × (new ≡ old)) ⊎ ((front : List ℕ) × IsLine (head ++ front) × GivesBeforeLast front old given new)
+      ((given ≡ []) × (new ≡ old)) ⊎ ((prefix : List ℕ) × IsLine (head ++ prefix) × GivesBeforeLast prefix old given new)
 
   -- Why the line that begins with these bytes was not read;
   -- the reader gave `given`, and may give `limit` bytes.
@@ -51,28 +51,28 @@ module _ {R : Type 0} (gives : R → Option (List ℕ) → R → Type 0) where
   IsCause limit bytes given old new ReadFault.TooLong =
       (((line : List ℕ) × (rest : List ℕ) × (bytes ≡ line ++ rest) × IsLine line × (longest_command < length line))
       × (length given ≤ limit))
-      ⊎ ((line : List ℕ) × (front : List ℕ) × (part : List ℕ) × (bytes ≡ line ++ part) × IsPart line
-      × (given ≡ front ++ part) × (length front ≤ limit) × (limit < length given) × EndsByOneRead front part old new)
+      ⊎ ((line : List ℕ) × (prefix : List ℕ) × (part : List ℕ) × (bytes ≡ line ++ part) × IsPart line
+      × (given ≡ prefix ++ part) × (length prefix ≤ limit) × (limit < length given) × EndsByOneRead prefix part old new)
   IsCause limit bytes given old new ReadFault.NoMemory = length given ≤ limit
   IsCause limit bytes given old new fault = IsPart bytes × (length given ≤ limit)
 
 -- For such a reader, and what contracts see of each of its states.
 module _ {R : Type 0} (state : R → Reader) (gives : R → Option (List ℕ) → R → Type 0) where
-  -- The reader gave these bytes, and what it may still be asked for fell from `limits` to `left`.
-  pub record GivesBytes (limits left : Limits) (ended : Bool) (given : List ℕ) (old new : R) : Type 0 where
+  -- The reader gave these bytes, and what it may still be asked for fell from `limits` to `remaining`.
+  pub record GivesBytes (limits remaining : Limits) (ended : Bool) (given : List ℕ) (old new : R) : Type 0 where
     pub turns : ℕ
-    pub gave : Consumes (state old).left (state new).left given
+    pub gave : Consumes (state old).remaining (state new).remaining given
     pub reads : ReadsTo gives ended turns old given new
-    pub room : left.bytes + length given ≡ limits.bytes
-    pub turned : left.turns + turns ≡ limits.turns
+    pub capacity : remaining.bytes + length given ≡ limits.bytes
+    pub turned : remaining.turns + turns ≡ limits.turns
     pub calls : (state new).calls ≡ after_more (state old).calls turns
-    pub well : (state new).failures ≡ (state old).failures
-    pub end : ended ≡ true → IsAtEnd (state new).left
+    pub no_failure : (state new).failures ≡ (state old).failures
+    pub end : ended ≡ true → IsAtEnd (state new).remaining
 
   -- the next line was read, and no block after the one that ends it
   pub record ReadsLine (before after : Buffered) (old new : R) : Type 0 where
     pub given : List ℕ
-    pub reads : GivesBytes before.left after.left after.ended given old new
+    pub reads : GivesBytes before.remaining after.remaining after.ended given old new
     pub line : IsFirstLine (before.rest ++ given) after.line after.rest after.ended
     pub lazy : IsLazy gives before.rest given old new
 
@@ -80,7 +80,7 @@ module _ {R : Type 0} (state : R → Reader) (gives : R → Option (List ℕ) �
   pub record FindsNoLine (before after : Buffered) (old new : R) : Type 0 where
     pub none : (before.rest ≡ []) × (after.line ≡ [])
     pub ended : after.ended ≡ true
-    pub reads : before.ended ≡ false → GivesBytes before.left after.left true [] old new
+    pub reads : before.ended ≡ false → GivesBytes before.remaining after.remaining true [] old new
 
   -- Reads gave these bytes, and ended in this fault of reading.
   abbrev pub LastRead : Limits → ℕ → R → List ℕ → R → ReadFault → Type 0
@@ -97,7 +97,7 @@ module _ {R : Type 0} (state : R → Reader) (gives : R → Option (List ℕ) �
   pub record StopsReading (limits : Limits) (given : List ℕ) (old new : R) (fault : ReadFault) : Type 0 where
     pub turns : ℕ
     pub within : turns ≤ limits.turns
-    pub gave : Consumes (state old).left (state new).left given
+    pub gave : Consumes (state old).remaining (state new).remaining given
     pub reads : LastRead limits turns old given new fault
     pub calls : (state new).calls ≤ after_more (state old).calls limits.turns
 

@@ -2,7 +2,7 @@
 use Rattle.std.specs.Prelude.{◌≡◌, ◌≤◌, ◌⊎◌, ℕ, List, [], ◌∷◌, ◌++◌, Bool, true, false, Option}
 use Rattle.std.specs.List.{count_by}
 use Rattle.bd_io_device.specs.declared.reading.{Limits.Limits, ReadFault.ReadFault}
-use Rattle.bd_io_device.specs.Devices.{BreaksAfter, Over, Reader, TakesText, Writer}
+use Rattle.bd_io_device.specs.Devices.{WriteFailsAfter, Over, Reader, TakesText, Writer}
 use Rattle.bd_io_lines.specs.Lines.{AreShort, AreWhole, IsFirstLine, commands_of, is_empty_line, is_newline}
 use Rattle.bd_io_lines.specs.LineBuffer.{GivesBeforeLast, GivesBytes, IsCause, StopsReading}
 use Rattle.bd_io_lines.specs.declared.serving.ServeFault.{ServeFault}
@@ -16,15 +16,15 @@ RepliesInTurn {S} replies s (command ∷ commands) text t =
 
 -- Memory ran out at this command: the state is unchanged, or it is one after the command,
 -- whose reply was not made.
-abbrev pub StarvesAt : {S : Type 0} → (S → S → Type 0) → (S → List ℕ → List ℕ → S → Type 0) → S → List ℕ → S → Type 0
-StarvesAt stays replies s command t = stays s t ⊎ ((reply : List ℕ) × replies s command reply t)
+abbrev pub RunsOutAt : {S : Type 0} → (S → S → Type 0) → (S → List ℕ → List ℕ → S → Type 0) → S → List ℕ → S → Type 0
+RunsOutAt stays replies s command t = stays s t ⊎ ((reply : List ℕ) × replies s command reply t)
 
 -- No reply was late: no read was made, or the reads before the last
 -- gave no more newlines than these lines have.
 abbrev pub IsReadInTime : {R : Type 0} → (R → Option (List ℕ) → R → Type 0) → List ℕ → List ℕ → R → R → Type 0
 IsReadInTime gives whole given old new = ((given ≡ []) × (new ≡ old))
-    ⊎ ((front : List ℕ) × (count_by is_newline front ≤ count_by is_newline whole)
-    × GivesBeforeLast gives front old given new)
+    ⊎ ((prefix : List ℕ) × (count_by is_newline prefix ≤ count_by is_newline whole)
+    × GivesBeforeLast gives prefix old given new)
 
 -- For a reader whose reads may give these bytes, and for the replies that a command may have.
 -- The reader goes from `old` to `new`.
@@ -35,11 +35,11 @@ module _ {R S : Type 0} (state : R → Reader) (gives : R → Option (List ℕ) 
     pub whole : List ℕ
     pub rest : List ℕ
     pub after : List ℕ
-    pub left : Limits
+    pub remaining : Limits
     pub ended : Bool
     pub ends : AreWhole whole
     pub short : AreShort whole
-    pub reads : GivesBytes state gives limits left ended (whole ++ rest) old new
+    pub reads : GivesBytes state gives limits remaining ended (whole ++ rest) old new
     pub in_time : IsReadInTime gives whole (whole ++ rest) old new
     pub line : IsFirstLine rest command after ended
     pub is_command : is_empty_line command ≡ false
@@ -48,11 +48,11 @@ module _ {R S : Type 0} (state : R → Reader) (gives : R → Option (List ℕ) 
   module _ (out : Over Writer) (s t : S) where
     -- The reader gave all its bytes, and the replies to all commands in them were written.
     pub record ServesAll : Type 0 where
-      pub left : Limits
+      pub remaining : Limits
       pub given : List ℕ
       pub text : List ℕ
       pub short : AreShort given
-      pub reads : GivesBytes state gives limits left true given old new
+      pub reads : GivesBytes state gives limits remaining true given old new
       pub replied : RepliesInTurn replies s (commands_of given) text t
       pub written : TakesText out text
 
@@ -77,8 +77,8 @@ module _ {R S : Type 0} (state : R → Reader) (gives : R → Option (List ℕ) 
     -- the reply to a command was not made
     StopsServing stays ServeFault.NoMemory =
         (command : List ℕ) × (text : List ℕ) × (mid : S) × ServesBefore s command text mid × TakesText out text
-        × StarvesAt stays replies mid command t
+        × RunsOutAt stays replies mid command t
     -- the reply to a command was not written
     StopsServing stays ServeFault.Unwritten =
         (command : List ℕ) × (text : List ℕ) × (reply : List ℕ) × (mid : S) × ServesBefore s command text mid
-        × replies mid command reply t × BreaksAfter out text (reply ++ 10 ∷ [])
+        × replies mid command reply t × WriteFailsAfter out text (reply ++ 10 ∷ [])

@@ -14,7 +14,7 @@ use std::marker::Model;
 #[derive(Drop)]
 pub struct LineBuffer {
     /// What the device may still be asked for.
-    left: Limits,
+    remaining: Limits,
     line: Vec<u8>,
     /// The bytes of the last read.
     block: Vec<u8>,
@@ -35,7 +35,7 @@ impl Model for LineBuffer {
     ghost Value = { Buffered };
 
     ghost view = { λ s. record {
-      left = s.left;
+      remaining = s.remaining;
       line = s.line.items;
       rest = drop s.start s.block.items;
       block = length s.block.items;
@@ -54,12 +54,12 @@ impl LineBuffer {
 
     /// No line yet. No memory is taken.
     pub fn new(alloc: Global, limits: Limits) -> LineBuffer
-        ensures empty { (result.left ≡ limits)
+        ensures empty { (result.remaining ≡ limits)
             × (result.line ≡ []) × (result.rest ≡ []) × (result.block ≡ 0) }
         ensures starts { (result.ended ≡ false) × (result.failed ≡ None) }
     {
         LineBuffer {
-            left: limits,
+            remaining: limits,
             line: Vec::new(alloc),
             block: Vec::new(alloc),
             start: 0,
@@ -76,7 +76,7 @@ impl LineBuffer {
     }
 
     /// How many bytes are held: those of a line and those of a read, at most 16,842,752.
-    pub fn held(&self) -> usize
+    pub fn buffered(&self) -> usize
         ensures { (result ≡ length self.now.line + self.now.block)
             × (result ≤ 16842752) }
     {
@@ -101,17 +101,17 @@ impl LineBuffer {
         ensures end { result ≡ Ok false →
             FindsNoLine R.state R.read_gives self.old self.new reader.old reader.new }
         ensures fails { self.old.failed ≡ None →
-            IfErr result (FailsToReadLine R.state R.read_gives self.old.left
+            IfErr result (FailsToReadLine R.state R.read_gives self.old.remaining
             self.old.rest reader.old reader.new) }
         // After the end no read is made.
-        ensures quiet { self.old.ended ≡ true →
-            (reader.new ≡ reader.old) × (self.new.left ≡ self.old.left) }
+        ensures no_read { self.old.ended ≡ true →
+            (reader.new ≡ reader.old) × (self.new.remaining ≡ self.old.remaining) }
         ensures ends { self.old.ended ≡ true → self.old.failed ≡ None → result ≡ Ok false }
         // After a fault each call answers it, and reads nothing.
         ensures again { IfSome self.old.failed (λ f. (result ≡ Err f) × (reader.new ≡ reader.old)) }
         ensures failed { IfErr result (λ f. (self.new.failed ≡ Some f)
             × (self.new.line ≡ [])) }
-        ensures works { OnOk result (self.new.failed ≡ None) }
+        ensures not_failed { OnOk result (self.new.failed ≡ None) }
     {
         self.line.clear();
         if let Some(fault) = self.failed {
@@ -132,10 +132,10 @@ impl LineBuffer {
             ReadsLine R.state R.read_gives self.old self.new reader.old reader.new }
         ensures end { result ≡ Ok false →
             FindsNoLine R.state R.read_gives self.old self.new reader.old reader.new }
-        ensures fails { IfErr result (FailsToReadLine R.state R.read_gives self.old.left
+        ensures fails { IfErr result (FailsToReadLine R.state R.read_gives self.old.remaining
             self.old.rest reader.old reader.new) }
-        ensures quiet { self.old.ended ≡ true →
-            (reader.new ≡ reader.old) × (self.new.left ≡ self.old.left) }
+        ensures no_read { self.old.ended ≡ true →
+            (reader.new ≡ reader.old) × (self.new.remaining ≡ self.old.remaining) }
         ensures ends { self.old.ended ≡ true → result ≡ Ok false }
         ensures state { self.new.failed ≡ self.old.failed }
     {
@@ -156,8 +156,8 @@ impl LineBuffer {
         ensures none { result ≡ Ok false →
             IsLine self.old.rest × (self.new.line ≡ self.old.line ++ self.old.rest)
             × (self.new.rest ≡ []) }
-        ensures kept { (self.new.left ≡ self.old.left) × (self.new.ended ≡ self.old.ended)
-            × (self.new.failed ≡ self.old.failed) }
+        ensures unchanged { (self.new.remaining ≡ self.old.remaining)
+            × (self.new.ended ≡ self.old.ended) × (self.new.failed ≡ self.old.failed) }
         ensures long { IsErrOf result ReadFault.TooLong → (part : List ℕ) × (rest : List ℕ)
             × IsLine part × (self.old.rest ≡ part ++ rest)
             × (longest_command < length self.old.line + length part) }
@@ -194,32 +194,32 @@ impl LineBuffer {
     fn fetch<R: Input>(&mut self, reader: &mut R) -> Result<(), ReadFault>
         requires drained { self.old.rest ≡ [] }
         requires part { IsLine self.old.line }
-        ensures gives { OnOk result (GivesBytes R.state R.read_gives self.old.left self.new.left
-            self.new.ended self.new.rest reader.old reader.new) }
+        ensures gives { OnOk result (GivesBytes R.state R.read_gives self.old.remaining
+            self.new.remaining self.new.ended self.new.rest reader.old reader.new) }
         ensures one { OnOk result
             (R.read_gives reader.old (Some self.new.rest) reader.new) }
-        ensures turned { OnOk result (self.new.left.turns < self.old.left.turns) }
+        ensures turned { OnOk result (self.new.remaining.turns < self.old.remaining.turns) }
         ensures fails { IfErr result (FailsToReadLine
-            R.state R.read_gives self.old.left self.old.line reader.old reader.new) }
-        ensures kept { (self.new.line ≡ self.old.line) × (self.new.failed ≡ self.old.failed) }
+            R.state R.read_gives self.old.remaining self.old.line reader.old reader.new) }
+        ensures unchanged { (self.new.line ≡ self.old.line) × (self.new.failed ≡ self.old.failed) }
     {
-        if self.left.turns == 0 {
+        if self.remaining.turns == 0 {
             return Err(ReadFault::TooManyTurns);
         }
-        let mut room = [0u8; 65536];
-        let Ok(n) = reader.read(&mut room) else {
+        let mut capacity = [0u8; 65536];
+        let Ok(n) = reader.read(&mut capacity) else {
             return Err(ReadFault::Device);
         };
-        if self.left.bytes < n as u64 {
+        if self.remaining.bytes < n as u64 {
             return Err(ReadFault::TooLong);
         }
         self.block.clear();
         self.start = 0;
-        if self.block.extend_from_slice(&room[..n]).is_err() {
+        if self.block.extend_from_slice(&capacity[..n]).is_err() {
             return Err(ReadFault::NoMemory);
         }
-        self.left.turns -= 1;
-        self.left.bytes -= n as u64;
+        self.remaining.turns -= 1;
+        self.remaining.bytes -= n as u64;
         self.ended = n == 0;
         Ok(())
     }

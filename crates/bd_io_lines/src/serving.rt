@@ -1,10 +1,10 @@
 //! A reply to each command of a device, written before a later read.
 
 ghost use Rattle.std.specs.Prelude.{◌≡◌, ◌++◌, ◌∷◌, [], None, false, IfErr, OnErr, OnOk, IsErrOf, List, ℕ, ◌⊎◌};
-ghost use Rattle.bd_io_device.specs.Devices.{BreaksWithin, TakesText, over};
+ghost use Rattle.bd_io_device.specs.Devices.{WriteFailsWithin, TakesText, over};
 ghost use Rattle.bd_io_lines.specs.Lines.{is_empty_line, not_empty};
-ghost use Rattle.bd_io_lines.specs.Serving.{RepliesInTurn, ServesAll, StarvesAt, StopsServing};
-ghost use Rattle.bd_io_lines.specs.declared.serving.ServeFault.TheVariants.{NoMemory as starved, Unread as unread, Unwritten as unwritten};
+ghost use Rattle.bd_io_lines.specs.Serving.{RepliesInTurn, ServesAll, RunsOutAt, StopsServing};
+ghost use Rattle.bd_io_lines.specs.declared.serving.ServeFault.TheVariants.{NoMemory as out_of_memory, Unread as unread, Unwritten as unwritten};
 
 use crate::line_buffer::LineBuffer;
 use bd_io_device::{DeviceFault, Input, Limits, Output, ReadFault, write_all};
@@ -24,8 +24,9 @@ pub trait Replier {
     fn reply(&mut self, command: &[u8], text: &mut Vec<u8>) -> Result<(), AllocError>
         ensures replies { OnOk result ((reply : List ℕ) × (text.new.items ≡ text.old.items ++ reply)
             × replies self.old command.now reply self.new) }
-        ensures kept { OnErr result (text.new.items ≡ text.old.items) }
-        ensures starved { OnErr result (StarvesAt stays replies self.old command.now self.new) };
+        ensures err { OnErr result (text.new.items ≡ text.old.items) }
+        ensures out_of_memory { OnErr result
+            (RunsOutAt stays replies self.old command.now self.new) };
 }
 
 /// Why not all commands of a device had a reply.
@@ -51,7 +52,7 @@ impl From<ReadFault> for ServeFault {
 }
 
 impl From<AllocError> for ServeFault {
-    ghost from_gives = { λ _ s. s ≡ starved };
+    ghost from_gives = { λ _ s. s ≡ out_of_memory };
 
     fn from(_error: AllocError) -> ServeFault {
         ServeFault::NoMemory
@@ -77,11 +78,11 @@ fn answer<O: Output, S: Replier>(
     ensures replied { OnOk result ((written : List ℕ)
         × RepliesInTurn S.replies session.old (not_empty (line.now ∷ [])) written session.new
         × TakesText (over O.state out.old out.new) written) }
-    ensures starved { IsErrOf result ServeFault.NoMemory → (is_empty_line line.now ≡ false)
-        × (out.new ≡ out.old) × StarvesAt S.stays S.replies session.old line.now session.new }
-    ensures broke { IsErrOf result ServeFault.Unwritten → (is_empty_line line.now ≡ false)
+    ensures out_of_memory { IsErrOf result ServeFault.NoMemory → (is_empty_line line.now ≡ false)
+        × (out.new ≡ out.old) × RunsOutAt S.stays S.replies session.old line.now session.new }
+    ensures failed_write { IsErrOf result ServeFault.Unwritten → (is_empty_line line.now ≡ false)
         × ((reply : List ℕ) × S.replies session.old line.now reply session.new
-        × BreaksWithin (over O.state out.old out.new) (reply ++ 10 ∷ [])) }
+        × WriteFailsWithin (over O.state out.old out.new) (reply ++ 10 ∷ [])) }
     ensures read { IfErr result (λ f. (f ≡ ServeFault.NoMemory) ⊎ (f ≡ ServeFault.Unwritten)) }
 {
     if is_empty_line(line) {

@@ -1,17 +1,17 @@
 -- Lemmas on what was written, what of it a device has, and what waits.
 use Rattle.std.proofs.Common.{◌≡◌, ℕ, List, [], ◌++◌, take, drop, Option, None, Some, refl, sym, ap, ◌∙◌, subst, append_assoc, append-nil, take-append-drop, ◌⊎◌}
 use Rattle.std.specs.{Prelude.◌≢◌, Prelude.Result, Prelude.Ok, Prelude.Err, Prelude.OnErr, Prelude.OnOk, Prelude.true, Prelude.false, Result.is_err}
-use Rattle.bd_io_device.proofs.DevicesLemmas.{breaks_first as first_breaks, breaks_second, takes_both, takes_none}
-use Rattle.bd_io_device.specs.Devices.{AreWrites, BreaksWithin, TakesText, no_write, more_writes, over}
+use Rattle.bd_io_device.proofs.DevicesLemmas.{write_fails_first as first_write_fails, write_fails_second, takes_both, takes_none}
+use Rattle.bd_io_device.specs.Devices.{AreWrites, WriteFailsWithin, TakesText, no_write, more_writes, over}
 use Rattle.bd_io_device.specs.declared.output.Output.{Ghosts as Output}
-use Rattle.bd_io_stdout.specs.Gathering.{AreTaken, Breaks, TakesAllBytes, none_taken, more_taken, Gathers, HandsOn}
-use Rattle.bd_io_stdout.specs.{declared.gathering.Fate.Fate, Gathering.Gathered}
-use Rattle.bd_io_stdout.specs.declared.gathering.Fate.TheVariants.{Kept, Lost, Told}
+use Rattle.bd_io_stdout.specs.Gathering.{AreTaken, WriteFails, TakesAllBytes, none_taken, more_taken, Gathers, HandsOn}
+use Rattle.bd_io_stdout.specs.{declared.gathering.WriteState.WriteState, Gathering.Gathered}
+use Rattle.bd_io_stdout.specs.declared.gathering.WriteState.TheVariants.{Intact, Lost, Reported}
 
-pub is_kept : (fate : Fate) → (fate ≢ Kept → ⊥) → fate ≡ Kept
-is_kept Kept none = refl
-is_kept Lost none = absurd (none (λ e. let bad : ⊥ = cc in bad))
-is_kept Told none = absurd (none (λ e. let bad : ⊥ = cc in bad))
+pub is_intact : (write_state : WriteState) → (write_state ≢ Intact → ⊥) → write_state ≡ Intact
+is_intact Intact none = refl
+is_intact Lost none = absurd (none (λ e. let bad : ⊥ = cc in bad))
+is_intact Reported none = absurd (none (λ e. let bad : ⊥ = cc in bad))
 
 -- what a row of writes took is a front of the bytes
 taken_of : {S : Type 0} {takes : S → List ℕ → Option ℕ → S → Type 0} {bytes : List ℕ} (s t : S) (rest : List ℕ) → AreWrites takes bytes s rest t
@@ -32,44 +32,44 @@ taken_append {S} {takes} s t u first second a (more_taken v w x taken text n all
 
 module _ {D : Type 0} (o : Output D) where
   pub TakesAllBytes-nil : (s : D) → TakesAllBytes o s [] s
-  TakesAllBytes-nil s = record { held = takes_none (o.state s); writes = none_taken s }
+  TakesAllBytes-nil s = record { contents = takes_none (o.state s); writes = none_taken s }
 
   -- writes in a row that left nothing over took all of the bytes
   pub TakesAllBytes-writes : (s t : D) (bytes : List ℕ) → TakesText (over o.state s t) bytes → AreWrites o.write_takes bytes s [] t → TakesAllBytes o s bytes t
-  TakesAllBytes-writes s t bytes held writes =
+  TakesAllBytes-writes s t bytes contents writes =
       let (taken, split, all) = taken_of s t [] writes in
       let P : List ℕ → Type 0 = λ l. AreTaken o.write_takes s l t in
-      record { held = held; writes = subst P (sym (split ∙ append-nil taken)) all }
+      record { contents = contents; writes = subst P (sym (split ∙ append-nil taken)) all }
 
   pub TakesAllBytes-trans : (s t u : D) (first second : List ℕ) → TakesAllBytes o s first t → TakesAllBytes o t second u → TakesAllBytes o s (first ++ second) u
   TakesAllBytes-trans s t u first second a b = record {
-    held = takes_both (o.state s) (o.state t) (o.state u) first second a.held b.held;
+    contents = takes_both (o.state s) (o.state t) (o.state u) first second a.contents b.contents;
     writes = taken_append s t u first second a.writes b.writes;
   }
 
   -- writes in a row of which the last one failed broke off within the bytes
-  pub Breaks-writes : (s t : D) (bytes : List ℕ) → BreaksWithin (over o.state s t) bytes
+  pub WriteFails-writes : (s t : D) (bytes : List ℕ) → WriteFailsWithin (over o.state s t) bytes
       → ((rest : List ℕ) × (last : D) × AreWrites o.write_takes bytes s rest last × (rest ≢ []) × (o.write_takes last rest None t ⊎ o.write_takes last rest (Some 0) t))
-      → Breaks o s bytes t
-  Breaks-writes s t bytes held (rest, last, writes, some, failed) =
+      → WriteFails o s bytes t
+  WriteFails-writes s t bytes contents (rest, last, writes, some, failed) =
       let (taken, split, all) = taken_of s last rest writes in
-      record { held = held; writes = (taken, rest, [], last, split ∙ ap (λ l. taken ++ l) (sym (append-nil rest)), all, some, failed) }
+      record { contents = contents; writes = (taken, rest, [], last, split ∙ ap (λ l. taken ++ l) (sym (append-nil rest)), all, some, failed) }
 
   -- more bytes that come after them
-  pub Breaks-more : (s t : D) (bytes more : List ℕ) → Breaks o s bytes t → Breaks o s (bytes ++ more) t
-  Breaks-more s t bytes more b =
+  pub WriteFails-more : (s t : D) (bytes more : List ℕ) → WriteFails o s bytes t → WriteFails o s (bytes ++ more) t
+  WriteFails-more s t bytes more b =
       let (taken, text, later, last, is, all, some, failed) = b.writes in
       record {
-        held = first_breaks (o.state s) (o.state t) bytes more b.held;
+        contents = first_write_fails (o.state s) (o.state t) bytes more b.contents;
         writes = (taken, text, later ++ more, last, ap (λ l. l ++ more) is ∙ (append_assoc taken (text ++ later) more ∙ ap (λ l. taken ++ l) (append_assoc text later more)), all, some, failed);
       }
 
   -- bytes before them that the device took
-  pub Breaks-after : (s t u : D) (first bytes : List ℕ) → TakesAllBytes o s first t → Breaks o t bytes u → Breaks o s (first ++ bytes) u
-  Breaks-after s t u first bytes a b =
+  pub WriteFails-after : (s t u : D) (first bytes : List ℕ) → TakesAllBytes o s first t → WriteFails o t bytes u → WriteFails o s (first ++ bytes) u
+  WriteFails-after s t u first bytes a b =
       let (taken, text, later, last, is, all, some, failed) = b.writes in
       record {
-        held = breaks_second (o.state s) (o.state t) (o.state u) first bytes a.held b.held;
+        contents = write_fails_second (o.state s) (o.state t) (o.state u) first bytes a.contents b.contents;
         writes = (first ++ taken, text, later, last, ap (λ l. first ++ l) is ∙ sym (append_assoc first taken (text ++ later)), taken_append s t last first taken a.writes all, some, failed);
       }
 
@@ -97,19 +97,19 @@ module _ {D : Type 0} {s t : Gathered D} where
   pub same_device : s ≡ t → s.device ≡ t.device
   same_device is = ap (λ v. v.device) is
 
-  pub same_fate : s ≡ t → s.fate ≡ t.fate
-  same_fate is = ap (λ v. v.fate) is
+  pub same_write_state : s ≡ t → s.write_state ≡ t.write_state
+  same_write_state is = ap (λ v. v.write_state) is
 
 module _ {D : Type 0} (o : Output D) where
   -- the bytes wait
-  pub gathers_held : (old new : Gathered D) (bytes : List ℕ) → new.device ≡ old.device → new.waiting ≡ old.waiting ++ bytes → Gathers o old bytes new
-  gathers_held old new bytes device waiting =
+  pub gathers_buffered : (old new : Gathered D) (bytes : List ℕ) → new.device ≡ old.device → new.waiting ≡ old.waiting ++ bytes → Gathers o old bytes new
+  gathers_buffered old new bytes device waiting =
       let same : TakesAllBytes o old.device [] new.device = subst (λ d. TakesAllBytes o old.device [] d) (sym device) (TakesAllBytes-nil o old.device) in
       ([], sym waiting, same)
 
   -- nothing was written
   pub gathers_none : (old new : Gathered D) → new.device ≡ old.device → new.waiting ≡ old.waiting → Gathers o old [] new
-  gathers_none old new device waiting = gathers_held old new [] device (waiting ∙ sym (append-nil old.waiting))
+  gathers_none old new device waiting = gathers_buffered old new [] device (waiting ∙ sym (append-nil old.waiting))
 
   -- the device took them
   pub gathers_written : (old new : Gathered D) (bytes : List ℕ) → old.waiting ≡ [] → new.waiting ≡ [] → TakesAllBytes o old.device bytes new.device
@@ -124,8 +124,8 @@ module _ {D : Type 0} (o : Output D) where
       (first ++ second, joined, TakesAllBytes-trans o old.device mid.device new.device first second a b)
 
   -- what was not held was handed on
-  pub gathers_handed : (old held handed : Gathered D) → held.device ≡ old.device → held.waiting ≡ old.waiting → Gathers o held [] handed → Gathers o old [] handed
-  gathers_handed old held handed device waiting rest = gathers_after old held handed [] (gathers_none old held device waiting) rest
+  pub gathers_handed : (old buffered handed : Gathered D) → buffered.device ≡ old.device → buffered.waiting ≡ old.waiting → Gathers o buffered [] handed → Gathers o old [] handed
+  gathers_handed old buffered handed device waiting rest = gathers_after old buffered handed [] (gathers_none old buffered device waiting) rest
 
   -- the device took all that waited
   pub takes_all : (old new : Gathered D) → Gathers o old [] new → new.waiting ≡ [] → TakesAllBytes o old.device old.waiting new.device
@@ -134,38 +134,38 @@ module _ {D : Type 0} (o : Output D) where
       subst (λ l. TakesAllBytes o old.device l new.device) (sym is) taken
 
   -- nothing waited
-  pub hands_none : (old new : Gathered D) → new.fate ≡ old.fate → new.device ≡ old.device → new.waiting ≡ old.waiting → HandsOn o old new
-  hands_none old new fate device waiting = record {
-    kept = λ e. (sym fate ∙ e, gathers_none old new device waiting);
-    broken = λ e not. absurd (not (fate ∙ e));
-    after_loss = λ _. (fate, device);
+  pub hands_none : (old new : Gathered D) → new.write_state ≡ old.write_state → new.device ≡ old.device → new.waiting ≡ old.waiting → HandsOn o old new
+  hands_none old new write_state device waiting = record {
+    intact = λ e. (sym write_state ∙ e, gathers_none old new device waiting);
+    write_failed = λ e not. absurd (not (write_state ∙ e));
+    after_loss = λ _. (write_state, device);
   }
 
-  pub hands_all : (old new : Gathered D) → old.fate ≡ Kept → new.fate ≡ Kept → new.waiting ≡ [] → TakesAllBytes o old.device old.waiting new.device
+  pub hands_all : (old new : Gathered D) → old.write_state ≡ Intact → new.write_state ≡ Intact → new.waiting ≡ [] → TakesAllBytes o old.device old.waiting new.device
       → HandsOn o old new
   hands_all old new before after none taken = record {
-    kept = λ _. (before, (old.waiting, append-nil old.waiting ∙ (sym (append-nil old.waiting) ∙ ap (λ l. old.waiting ++ l) (sym none)), taken));
-    broken = λ _ not. absurd (not after);
+    intact = λ _. (before, (old.waiting, append-nil old.waiting ∙ (sym (append-nil old.waiting) ∙ ap (λ l. old.waiting ++ l) (sym none)), taken));
+    write_failed = λ _ not. absurd (not after);
     after_loss = λ not. absurd (not before);
   }
 
-  pub hands_broken : (old new : Gathered D) → old.fate ≡ Kept → new.fate ≡ Lost → Breaks o old.device old.waiting new.device → HandsOn o old new
-  hands_broken old new before after breaks = record {
-    kept = λ e. let bad : Lost ≡ Kept = sym after ∙ e in absurd cc;
-    broken = λ _ _. (after, breaks);
+  pub hands_broken : (old new : Gathered D) → old.write_state ≡ Intact → new.write_state ≡ Lost → WriteFails o old.device old.waiting new.device → HandsOn o old new
+  hands_broken old new before after write_fails = record {
+    intact = λ e. let bad : Lost ≡ Intact = sym after ∙ e in absurd cc;
+    write_failed = λ _ _. (after, write_fails);
     after_loss = λ not. absurd (not before);
   }
 
   -- a write of what waited failed, so the bytes after it were not written either
-  pub breaks_first : (old mid : Gathered D) (bytes : List ℕ) (end : D) → mid.device ≡ old.device → mid.waiting ≡ old.waiting
-      → Breaks o mid.device mid.waiting end → Breaks o old.device (old.waiting ++ bytes) end
-  breaks_first old mid bytes end device waiting breaks =
-      let one = subst (λ d. Breaks o d mid.waiting end) device breaks in
-      let two = subst (λ l. Breaks o old.device l end) waiting one in
-      Breaks-more o old.device end old.waiting bytes two
+  pub write_fails_first : (old mid : Gathered D) (bytes : List ℕ) (end : D) → mid.device ≡ old.device → mid.waiting ≡ old.waiting
+      → WriteFails o mid.device mid.waiting end → WriteFails o old.device (old.waiting ++ bytes) end
+  write_fails_first old mid bytes end device waiting write_fails =
+      let one = subst (λ d. WriteFails o d mid.waiting end) device write_fails in
+      let two = subst (λ l. WriteFails o old.device l end) waiting one in
+      WriteFails-more o old.device end old.waiting bytes two
 
   -- a write of the bytes themselves failed
-  pub breaks_later : (old mid : Gathered D) (bytes : List ℕ) (end : D) → Gathers o old [] mid → mid.waiting ≡ [] → Breaks o mid.device bytes end
-      → Breaks o old.device (old.waiting ++ bytes) end
-  breaks_later old mid bytes end gathers none breaks =
-      Breaks-after o old.device mid.device end old.waiting bytes (takes_all old mid gathers none) breaks
+  pub write_fails_later : (old mid : Gathered D) (bytes : List ℕ) (end : D) → Gathers o old [] mid → mid.waiting ≡ [] → WriteFails o mid.device bytes end
+      → WriteFails o old.device (old.waiting ++ bytes) end
+  write_fails_later old mid bytes end gathers none write_fails =
+      WriteFails-after o old.device mid.device end old.waiting bytes (takes_all old mid gathers none) write_fails

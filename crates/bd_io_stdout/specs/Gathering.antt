@@ -1,15 +1,15 @@
 -- What was written, what of it a device has, and what waits.
 use Rattle.std.specs.Prelude.{◌≡◌, ◌≢◌, ◌<◌, ◌⊎◌, ℕ, List, [], ◌++◌, take, Option, None, Some}
-use Rattle.bd_io_device.specs.Devices.{BreaksWithin, TakesText, over}
+use Rattle.bd_io_device.specs.Devices.{WriteFailsWithin, TakesText, over}
 use Rattle.bd_io_device.specs.declared.output.Output.{Ghosts as Output}
-use Rattle.bd_io_stdout.specs.declared.gathering.Fate.{Fate}
-use Rattle.bd_io_stdout.specs.declared.gathering.Fate.TheVariants.{Kept, Lost}
+use Rattle.bd_io_stdout.specs.declared.gathering.WriteState.{WriteState}
+use Rattle.bd_io_stdout.specs.declared.gathering.WriteState.TheVariants.{Intact, Lost}
 
 -- the bytes that wait, the device that they wait for, and what became of the bytes before
 pub record Gathered (D : Type 0) : Type 0 where
   pub waiting : List ℕ
   pub device : D
-  pub fate : Fate
+  pub write_state : WriteState
 
 -- writes in a row led from one device to the other; each took some bytes, and joined in this order they are these
 pub data AreTaken {S : Type 0} (takes : S → List ℕ → Option ℕ → S → Type 0) : S → List ℕ → S → Type 0 where
@@ -19,13 +19,13 @@ pub data AreTaken {S : Type 0} (takes : S → List ℕ → Option ℕ → S → 
 
 -- the device took all of these bytes, in order, and no write failed
 pub record TakesAllBytes {D : Type 0} (o : Output D) (old : D) (bytes : List ℕ) (new : D) : Type 0 where
-  pub held : TakesText (over o.state old new) bytes
+  pub contents : TakesText (over o.state old new) bytes
   pub writes : AreTaken o.write_takes old bytes new
 
 -- the device took a prefix of these bytes; then a write of some that come next failed,
 -- and none was made after it
-pub record Breaks {D : Type 0} (o : Output D) (old : D) (bytes : List ℕ) (new : D) : Type 0 where
-  pub held : BreaksWithin (over o.state old new) bytes
+pub record WriteFails {D : Type 0} (o : Output D) (old : D) (bytes : List ℕ) (new : D) : Type 0 where
+  pub contents : WriteFailsWithin (over o.state old new) bytes
   pub writes : (taken : List ℕ) × (text : List ℕ) × (later : List ℕ) × (last : D)
       × (bytes ≡ taken ++ (text ++ later)) × AreTaken o.write_takes old taken last × (text ≢ [])
       × (o.write_takes last text None new ⊎ o.write_takes last text (Some 0) new)
@@ -39,6 +39,6 @@ Gathers o old bytes new = (handed : List ℕ) × (old.waiting ++ bytes ≡ hande
 
 -- bytes that waited were handed on, or a write of them failed; after a loss there is no write
 pub record HandsOn {D : Type 0} (o : Output D) (old new : Gathered D) : Type 0 where
-  pub kept : new.fate ≡ Kept → (old.fate ≡ Kept) × Gathers o old [] new
-  pub broken : old.fate ≡ Kept → new.fate ≢ Kept → (new.fate ≡ Lost) × Breaks o old.device old.waiting new.device
-  pub after_loss : old.fate ≢ Kept → (new.fate ≡ old.fate) × (new.device ≡ old.device)
+  pub intact : new.write_state ≡ Intact → (old.write_state ≡ Intact) × Gathers o old [] new
+  pub write_failed : old.write_state ≡ Intact → new.write_state ≢ Intact → (new.write_state ≡ Lost) × WriteFails o old.device old.waiting new.device
+  pub after_loss : old.write_state ≢ Intact → (new.write_state ≡ old.write_state) × (new.device ≡ old.device)

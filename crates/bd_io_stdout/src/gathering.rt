@@ -9,7 +9,7 @@
 ghost use Rattle.std.specs.Prelude.{◌≡◌, ◌≢◌, [], length, IfOk, None};
 ghost use Rattle.std.specs.Io.{WritesAtMost};
 ghost use Rattle.std.specs.Io.KnownBytes.{WriteAppends};
-ghost use Rattle.bd_io_stdout.specs.declared.gathering.Fate.TheVariants.{Kept};
+ghost use Rattle.bd_io_stdout.specs.declared.gathering.WriteState.TheVariants.{Intact};
 
 use bd_io_device::{DeviceFault, Output, write_all};
 use std::alloc::Global;
@@ -23,13 +23,13 @@ const GATHERED: usize = 65_536;
 
 /// What became of the bytes that were written.
 #[derive(Debug, Clone, Copy, PartialEq, Eq)]
-pub enum Fate {
+pub enum WriteState {
     /// They wait, or the device has them.
-    Kept,
+    Intact,
     /// The device refused some of them, and no write was answered by that yet.
     Lost,
     /// The device refused some of them, and a write failed by that: who made it tells it.
-    Told,
+    Reported,
 }
 
 /// What waits to be handed to a device.
@@ -37,71 +37,72 @@ pub enum Fate {
 pub struct Gathering<D: Output + Drop> {
     waiting: Vec<u8>,
     device: D,
-    fate: Fate,
+    write_state: WriteState,
 }
 
 /// A contract sees the bytes that wait, the device, and what became of the bytes before.
 impl<D: Output + Drop> Model for Gathering<D> {
     ghost use Rattle.std.specs.Prelude.{◌≡◌, ◌≢◌, ◌≤◌, [], length};
     ghost use Rattle.bd_io_stdout.specs.Gathering.{Gathered};
-    ghost use Rattle.bd_io_stdout.specs.declared.gathering.Fate.TheVariants.{Kept};
+    ghost use Rattle.bd_io_stdout.specs.declared.gathering.WriteState.TheVariants.{Intact};
 
     ghost Value = { Gathered D };
 
-    ghost view = { λ s. record { waiting = s.waiting.items; device = s.device; fate = s.fate } };
+    ghost view = { λ s.
+        record { waiting = s.waiting.items; device = s.device; write_state = s.write_state } };
 
     ghost invariant = { λ s. (length s.waiting.items ≤ 65536)
-        × (s.fate ≢ Kept → s.waiting.items ≡ []) };
+        × (s.write_state ≢ Intact → s.waiting.items ≡ []) };
 }
 
 impl<D: Output + Drop> Gathering<D> {
     ghost use Rattle.std.specs.Prelude.{◌++◌, IsErr, OnErr, OnOk, false, true};
     ghost use Rattle.std.specs.Io.{ReadsAtMost, WritesAtMost};
     ghost use Rattle.std.specs.Io.KnownBytes.{ReadConsumes, WriteAppends};
-    ghost use Rattle.bd_io_stdout.specs.Gathering.{Breaks};
+    ghost use Rattle.bd_io_stdout.specs.Gathering.{WriteFails};
     ghost use Rattle.bd_io_stdout.specs.Gathering.{Gathers, HandsOn};
-    ghost use Rattle.bd_io_stdout.specs.declared.gathering.Fate.TheVariants.{Lost, Told};
+    ghost use Rattle.bd_io_stdout.specs.declared.gathering.WriteState.TheVariants.{Lost, Reported};
 
     /// Nothing yet, for this device.
     pub fn new(alloc: Global, device: D) -> Gathering<D>
         ensures device { result.device ≡ device }
         ensures empty { result.waiting ≡ [] }
-        ensures kept { result.fate ≡ Kept }
+        ensures intact { result.write_state ≡ Intact }
     {
         Gathering {
             waiting: Vec::new(alloc),
             device,
-            fate: Fate::Kept,
+            write_state: WriteState::Intact,
         }
     }
 
     /// Hands on what waits, and tells what became of the bytes so far. After a loss nothing waits.
-    fn hand_on(&mut self) -> Fate
-        ensures fate { result ≡ self.new.fate }
+    fn hand_on(&mut self) -> WriteState
+        ensures write_state { result ≡ self.new.write_state }
         ensures handed { HandsOn D.Output self.old self.new }
         ensures empty { self.new.waiting ≡ [] }
     {
         if self.waiting.is_empty() {
-            return self.fate;
+            return self.write_state;
         }
         let written = write_all(&mut self.device, &self.waiting);
         self.waiting.clear();
         if written.is_err() {
-            self.fate = Fate::Lost;
-            return Fate::Lost;
+            self.write_state = WriteState::Lost;
+            return WriteState::Lost;
         }
-        self.fate
+        self.write_state
     }
 
     /// Lets bytes wait after those that do, where both fit, the bytes are few and there is memory for them; else it changes
     /// nothing.
-    fn holds(&mut self, bytes: &[u8]) -> bool
-        requires { self.old.fate ≡ Kept }
-        ensures held { result ≡ true →
+    fn buffers(&mut self, bytes: &[u8]) -> bool
+        requires { self.old.write_state ≡ Intact }
+        ensures buffered { result ≡ true →
             self.new.waiting ≡ self.old.waiting ++ bytes.now }
-        ensures not_held { result ≡ false → self.new.waiting ≡ self.old.waiting }
+        ensures not_buffered { result ≡ false → self.new.waiting ≡ self.old.waiting }
         ensures device { self.new.device ≡ self.old.device }
-        ensures fate { self.new.fate ≡ self.old.fate }
+        ensures write_state { self.new.write_state ≡ self.old.write_state }
     {
         bytes.len() < GATHERED
             && bytes.len() <= GATHERED - self.waiting.len()
@@ -111,24 +112,24 @@ impl<D: Output + Drop> Gathering<D> {
     /// Takes bytes after those that wait; these are handed on before, where both do not fit. The bytes go to the device
     /// themselves where they are many, or where there is no memory for them.
     fn gather(&mut self, bytes: &[u8]) -> Result<(), DeviceFault>
-        ensures gathered { OnOk result ((self.old.fate ≡ Kept)
-            × (self.new.fate ≡ Kept) × Gathers D.Output self.old bytes.now self.new) }
-        ensures broken { OnErr result (self.old.fate ≡ Kept →
-            Breaks D.Output self.old.device (self.old.waiting ++ bytes.now) self.new.device) }
+        ensures gathered { OnOk result ((self.old.write_state ≡ Intact)
+            × (self.new.write_state ≡ Intact) × Gathers D.Output self.old bytes.now self.new) }
+        ensures write_failed { OnErr result (self.old.write_state ≡ Intact →
+            WriteFails D.Output self.old.device (self.old.waiting ++ bytes.now) self.new.device) }
         ensures empty { OnErr result (self.new.waiting ≡ []) }
-        ensures after_loss { self.old.fate ≢ Kept → self.new.device ≡ self.old.device }
+        ensures after_loss { self.old.write_state ≢ Intact → self.new.device ≡ self.old.device }
     {
-        if self.fate != Fate::Kept {
+        if self.write_state != WriteState::Intact {
             return Err(DeviceFault);
         }
-        if self.holds(bytes) {
+        if self.buffers(bytes) {
             return Ok(());
         }
         let handed = self.hand_on();
-        if handed != Fate::Kept {
+        if handed != WriteState::Intact {
             return Err(DeviceFault);
         }
-        if self.holds(bytes) {
+        if self.buffers(bytes) {
             return Ok(());
         }
         write_all(&mut self.device, bytes)
@@ -136,16 +137,16 @@ impl<D: Output + Drop> Gathering<D> {
 
     /// The same; an error answers the bytes by the loss.
     fn take(&mut self, bytes: &[u8]) -> Result<(), DeviceFault>
-        ensures taken { OnOk result ((self.old.fate ≡ Kept)
-            × (self.new.fate ≡ Kept) × Gathers D.Output self.old bytes.now self.new) }
-        ensures broken { OnErr result (self.old.fate ≡ Kept →
-            Breaks D.Output self.old.device (self.old.waiting ++ bytes.now) self.new.device) }
-        ensures told { OnErr result (self.new.fate ≡ Told) }
-        ensures after_loss { self.old.fate ≢ Kept → self.new.device ≡ self.old.device }
+        ensures taken { OnOk result ((self.old.write_state ≡ Intact)
+            × (self.new.write_state ≡ Intact) × Gathers D.Output self.old bytes.now self.new) }
+        ensures write_failed { OnErr result (self.old.write_state ≡ Intact →
+            WriteFails D.Output self.old.device (self.old.waiting ++ bytes.now) self.new.device) }
+        ensures reported { OnErr result (self.new.write_state ≡ Reported) }
+        ensures after_loss { self.old.write_state ≢ Intact → self.new.device ≡ self.old.device }
     {
         let taken = self.gather(bytes);
         if taken.is_err() {
-            self.fate = Fate::Told;
+            self.write_state = WriteState::Reported;
         }
         taken
     }
@@ -153,19 +154,19 @@ impl<D: Output + Drop> Gathering<D> {
     /// Reads after all that waits was handed on. After a loss it fails and asks the reader for nothing, since that could wait
     /// for bytes that serve no one.
     #[tactic(auto, using(crate::proofs::GatheringLemmas::hands_none))]
-    fn read_after<R: Read>(&mut self, reader: &mut R, room: &mut [u8]) -> io::Result<usize>
+    fn read_after<R: Read>(&mut self, reader: &mut R, buffer: &mut [u8]) -> io::Result<usize>
         ensures handed { HandsOn D.Output self.old self.new }
         ensures empty { self.new.waiting ≡ [] }
-        ensures lost { self.new.fate ≢ Kept →
-            IsErr result × (reader.new ≡ reader.old) × (room.new ≡ room.old) }
-        ensures bound { ReadsAtMost result room.new }
+        ensures lost { self.new.write_state ≢ Intact →
+            IsErr result × (reader.new ≡ reader.old) × (buffer.new ≡ buffer.old) }
+        ensures bound { ReadsAtMost result buffer.new }
         ensures bytes { ReadConsumes
-            (R.remaining reader.old) (R.remaining reader.new) result room.new }
+            (R.remaining reader.old) (R.remaining reader.new) result buffer.new }
     {
-        if self.hand_on() != Fate::Kept {
+        if self.hand_on() != WriteState::Intact {
             return Err(refusal());
         }
-        reader.read(room)
+        reader.read(buffer)
     }
 
     /// Writes to another writer after all that waits was handed on. It fails and writes nothing while a loss is untold, so that
@@ -174,12 +175,13 @@ impl<D: Output + Drop> Gathering<D> {
     fn write_after<E: Write>(&mut self, writer: &mut E, bytes: &[u8]) -> io::Result<usize>
         ensures handed { HandsOn D.Output self.old self.new }
         ensures empty { self.new.waiting ≡ [] }
-        ensures untold { self.new.fate ≡ Lost → IsErr result × (writer.new ≡ writer.old) }
+        ensures unreported { self.new.write_state ≡ Lost →
+            IsErr result × (writer.new ≡ writer.old) }
         ensures bound { WritesAtMost result bytes.now }
         ensures bytes { WriteAppends
             (E.contents writer.old) (E.contents writer.new) result bytes.now }
     {
-        if self.hand_on() == Fate::Lost {
+        if self.hand_on() == WriteState::Lost {
             return Err(refusal());
         }
         writer.write(bytes)
@@ -195,10 +197,10 @@ fn refusal() -> io::Error {
 // said of the methods of `Gathering`.
 
 /// Hands on what waits, and tells what became of the bytes so far.
-pub fn hand_on<D: Output + Drop>(gathering: &RefCell<Gathering<D>>) -> Fate {
+pub fn hand_on<D: Output + Drop>(gathering: &RefCell<Gathering<D>>) -> WriteState {
     match gathering.try_borrow_mut() {
         Ok(mut gathering) => gathering.hand_on(),
-        Err(_) => Fate::Lost,
+        Err(_) => WriteState::Lost,
     }
 }
 
@@ -231,18 +233,18 @@ impl<D: Output + Drop> Write for GatheredOutput<'_, D> {
 
 /// An input: what waits is handed on before a read. After a loss a read fails and asks the system for nothing.
 #[derive(Drop)]
-pub struct TiedInput<'a, R: Read + Drop, D: Output + Drop> {
+pub struct FlushingInput<'a, R: Read + Drop, D: Output + Drop> {
     pub reader: R,
     pub gathering: &'a RefCell<Gathering<D>>,
 }
 
-impl<R: Read + Drop, D: Output + Drop> Read for TiedInput<'_, R, D> {
+impl<R: Read + Drop, D: Output + Drop> Read for FlushingInput<'_, R, D> {
     /// The bytes are those of the reader.
     ghost remaining = { λ s. R.remaining s.reader };
 
-    fn read(&mut self, room: &mut [u8]) -> io::Result<usize> {
+    fn read(&mut self, buffer: &mut [u8]) -> io::Result<usize> {
         match self.gathering.try_borrow_mut() {
-            Ok(mut gathering) => gathering.read_after(&mut self.reader, room),
+            Ok(mut gathering) => gathering.read_after(&mut self.reader, buffer),
             Err(_) => Err(refusal()),
         }
     }
@@ -250,12 +252,12 @@ impl<R: Read + Drop, D: Output + Drop> Read for TiedInput<'_, R, D> {
 
 /// Standard error: what waits is handed on before a write. A write fails while a loss is untold.
 #[derive(Drop)]
-pub struct TiedError<'a, E: Write + Drop, D: Output + Drop> {
+pub struct FlushingError<'a, E: Write + Drop, D: Output + Drop> {
     pub writer: E,
     pub gathering: &'a RefCell<Gathering<D>>,
 }
 
-impl<E: Write + Drop, D: Output + Drop> Write for TiedError<'_, E, D> {
+impl<E: Write + Drop, D: Output + Drop> Write for FlushingError<'_, E, D> {
     /// The bytes are those of the writer.
     ghost contents = { λ s. E.contents s.writer };
 

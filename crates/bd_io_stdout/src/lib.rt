@@ -11,12 +11,12 @@
 //!     gathering: &gathering,
 //! });
 //! assert!(rt; write_all(&mut out, b"a line\n").is_ok());
-//! assert!(rt; hand_on(&gathering) == Fate::Kept);
+//! assert!(rt; hand_on(&gathering) == WriteState::Intact);
 //! ```
 //!
-//! - `gathering`: `Gathering`, what waits to be written; `GatheredOutput`, `TiedInput` and `TiedError` over one.
+//! - `gathering`: `Gathering`, what waits to be written; `GatheredOutput`, `FlushingInput` and `FlushingError` over one.
 #![tactic(auto)]
 
 mod gathering;
 
-pub use gathering::{Fate, GatheredOutput, Gathering, TiedError, TiedInput, hand_on};
+pub use gathering::{FlushingError, FlushingInput, GatheredOutput, Gathering, WriteState, hand_on};

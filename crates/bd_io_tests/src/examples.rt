@@ -2,7 +2,7 @@
 use crate::numbered::Numbered;
 use bd_io_device::{Limits, MemoryInput, MemoryOutput, SystemOutput, read_all, write_all};
 use bd_io_lines::{LineBuffer, serve};
-use bd_io_stdout::{Fate, GatheredOutput, Gathering, hand_on};
+use bd_io_stdout::{GatheredOutput, Gathering, WriteState, hand_on};
 use std::cell::RefCell;
 use std::test::Fail;
 
@@ -32,8 +32,8 @@ fn replies(rt: HostRuntime) -> Result<(), Fail> {
         digit: b'1',
         last: b'9',
     };
-    let mut room = [0; 20];
-    let mut output = MemoryOutput::new(&mut room, 20, None);
+    let mut buffer = [0; 20];
+    let mut output = MemoryOutput::new(&mut buffer, 20, None);
     serve(rt.alloc(), limits, &mut input, &mut session, &mut output)?;
     assert!(rt; output.bytes() == b"1find\n2count\n".as_slice());
     Ok(())
@@ -63,5 +63,5 @@ fn gathered(rt: HostRuntime) {
         gathering: &gathering,
     });
     assert!(rt; write_all(&mut out, b"a line\n").is_ok());
-    assert!(rt; hand_on(&gathering) == Fate::Kept);
+    assert!(rt; hand_on(&gathering) == WriteState::Intact);
 }

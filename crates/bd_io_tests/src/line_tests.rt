@@ -43,12 +43,12 @@ fn each_line_in_its_order(rt: HostRuntime) {
 
 /// How many reads were made at each line, and at the end. One finds the end, and none is made after it.
 #[test]
-fn no_read_where_a_line_is_held(rt: HostRuntime) {
+fn no_read_if_a_line_is_buffered(rt: HostRuntime) {
     for (most, counts, end) in [(1, [2, 4, 6], 6), (3, [1, 2, 3], 3), (100, [1, 1, 2], 2)] {
         assert!(rt; most > 0);
         let mut input = MemoryInput::new(b"a\nb\nc", most, None);
         let mut lines = LineBuffer::new(rt.alloc(), AMPLE);
-        assert!(rt; input.calls() == 0 && lines.held() == 0);
+        assert!(rt; input.calls() == 0 && lines.buffered() == 0);
         for calls in counts {
             assert!(rt; lines.read_next(&mut input) == Ok(true), "{most} a read");
             assert!(rt; input.calls() == calls, "{most} a read");
@@ -77,7 +77,7 @@ fn a_line_of_the_limit_and_one_longer(rt: HostRuntime) -> Result<(), Fail> {
         let mut lines = LineBuffer::new(rt.alloc(), AMPLE);
         assert!(rt; lines.read_next(&mut input) == answer, "{most} a read");
         let is_whole = lines.line().len() == 16_777_216;
-        assert!(rt; is_whole == answer.is_ok() && lines.held() <= 16_842_752);
+        assert!(rt; is_whole == answer.is_ok() && lines.buffered() <= 16_842_752);
     }
     Ok(())
 }

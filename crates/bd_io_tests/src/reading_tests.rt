@@ -59,14 +59,14 @@ fn the_program_says_each_fault(rt: HostRuntime) {
 }
 
 #[test]
-fn a_room_is_filled(rt: HostRuntime) {
+fn a_buffer_is_filled(rt: HostRuntime) {
     let mut input = MemoryInput::new(b"hello, you", 2, None);
-    let mut room = [0; 5];
-    let filled = fill(&mut input, &mut room, AMPLE);
-    assert!(rt; matches!(filled, Ok(FillCounts { bytes: 5, turns: 3 })) && &room == b"hello");
-    let filled = fill_after(&mut input, &mut room, *b"well", 5, AMPLE);
-    assert!(rt; matches!(filled, Ok(FillCounts { bytes: 1, turns: 1 })) && &room == b"well,");
+    let mut buffer = [0; 5];
+    let filled = fill(&mut input, &mut buffer, AMPLE);
+    assert!(rt; matches!(filled, Ok(FillCounts { bytes: 5, turns: 3 })) && &buffer == b"hello");
+    let filled = fill_after(&mut input, &mut buffer, *b"well", 5, AMPLE);
+    assert!(rt; matches!(filled, Ok(FillCounts { bytes: 1, turns: 1 })) && &buffer == b"well,");
     // The device is at its end before the room is full.
-    let filled = fill(&mut input, &mut room, AMPLE);
-    assert!(rt; matches!(filled, Ok(FillCounts { bytes: 4, turns: 3 })) && &room == b" you,");
+    let filled = fill(&mut input, &mut buffer, AMPLE);
+    assert!(rt; matches!(filled, Ok(FillCounts { bytes: 4, turns: 3 })) && &buffer == b" you,");
 }

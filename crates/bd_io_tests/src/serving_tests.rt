@@ -29,8 +29,8 @@ fn a_reply_to_each_command(rt: HostRuntime) {
         for (most, size) in [(1, 1), (3, 2), (100, 100)] {
             assert!(rt; most > 0 && size > 0);
             let mut input = MemoryInput::new(commands, most, None);
-            let mut room = [0; 64];
-            let mut output = MemoryOutput::new(&mut room, size, None);
+            let mut buffer = [0; 64];
+            let mut output = MemoryOutput::new(&mut buffer, size, None);
             let mut session = Numbered {
                 digit: b'1',
                 last: b'9',
@@ -47,7 +47,7 @@ fn a_reply_to_each_command(rt: HostRuntime) {
 #[test]
 fn a_call_that_fails(rt: HostRuntime) {
     let replies = b"1ab\n2cd\n";
-    for (failing, bytes, turns, last, broken, fault, shown, calls) in [
+    for (failing, bytes, turns, last, write_failed, fault, printed, calls) in [
         // The replies to the lines that were whole stand, and no other.
         (Some(1), 1000, 1000, b'9', None, Unread(Device), 0, 1),
         (Some(3), 1000, 1000, b'9', None, Unread(Device), 0, 3),
@@ -68,18 +68,18 @@ fn a_call_that_fails(rt: HostRuntime) {
         (None, 1000, 1000, b'1', None, NoMemory, 0, 3),
         (None, 1000, 1000, b'2', None, NoMemory, 4, 7),
     ] {
-        assert!(rt; shown <= replies.len());
+        assert!(rt; printed <= replies.len());
         let limits = Limits { bytes, turns };
         let mut input = MemoryInput::new(TWO, 1, failing);
         let mut session = Numbered { digit: b'1', last };
-        let mut room = [0; 64];
-        let mut output = MemoryOutput::new(&mut room, 2, broken);
+        let mut buffer = [0; 64];
+        let mut output = MemoryOutput::new(&mut buffer, 2, write_failed);
         let result = serve(rt.alloc(), limits, &mut input, &mut session, &mut output);
-        assert!(rt; result == Err(fault), "{shown} bytes, {calls} reads");
+        assert!(rt; result == Err(fault), "{printed} bytes, {calls} reads");
         assert!(rt;
-            output.bytes() == &replies[..shown],
-            "{shown} bytes, {calls} reads"
+            output.bytes() == &replies[..printed],
+            "{printed} bytes, {calls} reads"
         );
-        assert!(rt; input.calls() == calls, "{shown} bytes, {calls} reads");
+        assert!(rt; input.calls() == calls, "{printed} bytes, {calls} reads");
     }
 }

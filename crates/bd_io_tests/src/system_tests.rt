@@ -18,27 +18,27 @@ fn reads_and_writes_by_the_system(rt: HostRuntime) -> Result<(), Fail> {
     let read = read_all(rt.alloc(), &mut input, LIMITS)?;
     assert!(rt; read.as_slice() == b"hello".as_slice());
 
-    let mut room = [0; 7];
-    let mut output = SystemOutput::new(room.as_mut_slice());
+    let mut buffer = [0; 7];
+    let mut output = SystemOutput::new(buffer.as_mut_slice());
     assert!(rt; write_all(&mut output, b"hello") == Ok(()));
     // Two bytes fit, and then a write takes none.
     assert!(rt; write_all(&mut output, b"you") == Err(DeviceFault));
     drop(output);
-    assert!(rt; &room == b"helloyo");
+    assert!(rt; &buffer == b"helloyo");
     Ok(())
 }
 
 /// Blocks are of four bytes.
 #[test]
-fn reads_what_is_held(rt: HostRuntime) -> Result<(), Fail> {
+fn reads_what_is_buffered(rt: HostRuntime) -> Result<(), Fail> {
     let reader = BufReader::with_capacity(rt.alloc(), 4, b"hello you".as_slice())?;
     let mut input = BufferedInput::new(reader);
-    let mut room = [0; 3];
-    assert!(rt; !input.read_held(&mut room));
-    assert!(rt; input.read(&mut room) == Ok(3) && &room == b"hel");
+    let mut buffer = [0; 3];
+    assert!(rt; !input.read_buffered(&mut buffer));
+    assert!(rt; input.read(&mut buffer) == Ok(3) && &buffer == b"hel");
     // One byte is held.
-    assert!(rt; !input.read_held(&mut room) && !input.read_held(&mut []));
-    assert!(rt; input.read_held(&mut room[..1]) && &room == b"lel");
+    assert!(rt; !input.read_buffered(&mut buffer) && !input.read_buffered(&mut []));
+    assert!(rt; input.read_buffered(&mut buffer[..1]) && &buffer == b"lel");
     let rest = read_all(rt.alloc(), &mut input, LIMITS)?;
     assert!(rt; rest.as_slice() == b"o you".as_slice());
     Ok(())
@@ -65,9 +65,9 @@ impl FailsOnce<'_> {
 }
 
 impl Read for FailsOnce<'_> {
-    fn read(&mut self, room: &mut [u8]) -> io::Result<usize> {
+    fn read(&mut self, buffer: &mut [u8]) -> io::Result<usize> {
         self.call()?;
-        Ok(room.len().min(1))
+        Ok(buffer.len().min(1))
     }
 }
 
@@ -84,7 +84,7 @@ impl Write for FailsOnce<'_> {
 
 /// The call that fails is the last, though the next one would work: it is made by the next read or write alone.
 #[test]
-fn asks_once_where_a_call_fails(rt: HostRuntime) {
+fn requests_once_where_a_call_fails(rt: HostRuntime) {
     for (failing, kind) in [
         (1, ErrorKind::Interrupted),
         (1, ErrorKind::WouldBlock),

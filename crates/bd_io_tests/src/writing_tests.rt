@@ -6,7 +6,7 @@ use bd_io_device::{Input, MemoryInput, MemoryOutput, Output, write_all};
 #[test]
 fn writes_until_a_call_fails(rt: HostRuntime) {
     let hello = b"hello";
-    for (size, most, failing, written, calls, has_room) in [
+    for (size, most, failing, written, calls, has_buffer) in [
         (8, 1, None, 5, 5, true),
         (8, 8, None, 5, 1, true),
         (3, 8, None, 3, 2, false),
@@ -14,14 +14,14 @@ fn writes_until_a_call_fails(rt: HostRuntime) {
         (8, 2, Some(Zero(2)), 2, 2, true),
     ] {
         assert!(rt; size <= 8 && most > 0 && written <= hello.len());
-        let mut room = [0; 8];
-        let mut output = MemoryOutput::new(&mut room[..size], most, failing);
+        let mut buffer = [0; 8];
+        let mut output = MemoryOutput::new(&mut buffer[..size], most, failing);
         let is_well = write_all(&mut output, b"").is_ok();
         let is_whole = write_all(&mut output, hello).is_ok();
         assert!(rt; is_well && is_whole == (written == 5) && output.bytes() == &hello[..written]);
         assert!(rt; output.calls() == calls && output.failures() == u64::from(written < 5));
-        assert!(rt; write_all(&mut output, &hello[written..]).is_ok() == has_room);
-        assert!(rt; !has_room || output.bytes() == hello.as_slice());
+        assert!(rt; write_all(&mut output, &hello[written..]).is_ok() == has_buffer);
+        assert!(rt; !has_buffer || output.bytes() == hello.as_slice());
     }
 }
 
@@ -32,8 +32,8 @@ fn part_by_part(rt: HostRuntime) {
     for (count, bytes) in [(3, b"hel"), (2, b"lol"), (0, b"lol")] {
         assert!(rt; input.read(&mut part) == Ok(count) && &part == bytes);
     }
-    let mut room = [0; 8];
-    let mut output = MemoryOutput::new(&mut room, 4, Some(Zero(2)));
+    let mut buffer = [0; 8];
+    let mut output = MemoryOutput::new(&mut buffer, 4, Some(Zero(2)));
     assert!(rt; output.write(b"hello") == Ok(4) && output.write(b"o") == Ok(0));
     assert!(rt; output.bytes() == b"hell".as_slice());
 }

@@ -8,9 +8,9 @@ use Rattle.std.proofs.lemmas.List.Elements.{All-nil, All-weaker}
 use Rattle.bd_value.specs.{View.kind_of, Order.equal, Tree.Tree, Tree.array}
 use Rattle.bd_value.specs.declared.node.Kind.TheVariants as kinds
 use Rattle.bd_path.specs.Key.{AddsKeys, AreKeysFrom, gives_new, is_new, stop_keys, distinct, end_keys, indexed_keys, with_key, with_keys}
-use Rattle.bd_path.specs.{Key.AreKeysAt, Key.AreKeysOf, Key.IsKeyAt, Key.key_trees, Reach.Names, declared.key.Key.Key, declared.walk.Stop.Stop}
-use Rattle.bd_path.specs.Walk.{Stops, stops, TakesStops, TakesOrEnds}
-use Rattle.bd_path.proofs.{SortLemmas.distinct_has, SortLemmas.equal_itself, SortLemmas.equal_on, WalkLemmas.at_more, WalkLemmas.keys_are}
+use Rattle.bd_path.specs.{Key.AreKeysAt, Key.AreKeysOf, Key.IsKeyAt, Key.key_trees, Reach.Names, declared.key.Key.Key, declared.path_walk.Stop.Stop}
+use Rattle.bd_path.specs.PathWalk.{Stops, stops, TakesStops, TakesOrEnds}
+use Rattle.bd_path.proofs.{SortLemmas.distinct_has, SortLemmas.equal_itself, SortLemmas.equal_on, PathWalkLemmas.at_more, PathWalkLemmas.keys_are}
 use Rattle.bd_path.proofs.ReachLemmas.{any_at, any_still as none_passes, found_from}
 
 -- what holds anyway holds on success
@@ -67,8 +67,8 @@ equal_there f xs ys k r is same = rw (any_map, ← same, is)
 pub equals_last : {A : Type 0} (f : A → Tree) (xs : List A) (i : ℕ) (x k : A) → slice_get xs i ≡ Some x → equal (f x) (f k) ≡ true → distinct (map f xs) ≡ distinct (map f xs ++ f k ∷ [])
 equals_last f xs i x k at e =
     let first = found_from (λ y. equal y (f k)) (map f xs) (any_map (λ y. equal y (f k)) f xs ∙ any_passes_from_place (λ y. equal (f y) (f k)) xs i x at e) in
-    let kept = distinct_has (map f xs) [] first.it first.is_in in
-    let any = any_at (λ y. equal y (f k)) (distinct (map f xs)) kept.it kept.is_in (equal_on kept.it first.it (f k) kept.same first.passes) in
+    let same_source = distinct_has (map f xs) [] first.it first.is_in in
+    let any = any_at (λ y. equal y (f k)) (distinct (map f xs)) same_source.it same_source.is_in (equal_on same_source.it first.it (f k) same_source.same first.passes) in
     rw (with_append [] (map f xs) (f k ∷ []), any)
 
 -- ---- the elements of an array
@@ -77,9 +77,9 @@ pub one_passed : (old new : List Tree) (t : Tree) (us vs all : List Tree) → di
 one_passed old new t us vs all is e so_far = rw (with_append [] new vs, is, ← with_append [] (old ++ t ∷ []) vs, append_assoc, ← e) so_far
 
 -- what a value gives that is no array
-pub own_key : (t : Tree) → (kind_of t ≡ kinds.Array → ⊥) → end_keys t ≡ t ∷ []
-own_key (array ts) n = absurd (n refl)
-own_key _ n = refl
+pub single_key : (t : Tree) → (kind_of t ≡ kinds.Array → ⊥) → end_keys t ≡ t ∷ []
+single_key (array ts) n = absurd (n refl)
+single_key _ n = refl
 
 -- ---- the keys of one more stop
 
@@ -97,25 +97,25 @@ module _ {N : Type 0} (tree : N → Tree) (source : N → List ℕ) (sparse : Bo
       → AreKeysFrom tree source sparse keys bytes (ss ++ s ∷ [])
   known_keys keys bytes ss s none are = record {
     listed = sym (flat_more sparse ss s ∙ ap (λ (ks : List Tree). with_keys ks (stop_keys sparse s)) (sym are.listed) ∙ none_added (distinct (key_trees tree keys)) (stop_keys sparse s) none);
-    kept = are.kept;
+    same_source = are.same_source;
     there = all_at_more ss (s ∷ []) keys are.there;
   }
 
-  module _ {F : Type 0} (items : F → List (Key N)) (bytes : List ℕ) (before after : F) (s : Stop Tree) (kept : AreKeysOf source bytes (items before) → AreKeysOf source bytes (items after)) where
+  module _ {F : Type 0} (items : F → List (Key N)) (bytes : List ℕ) (before after : F) (s : Stop Tree) (same_source : AreKeysOf source bytes (items before) → AreKeysOf source bytes (items after)) where
     takes_keys : AddsKeys tree (items before) (items after) (stop_keys sparse s) → ((ss : Stops) → AreKeysAt sparse (ss ++ s ∷ []) (items before) → AreKeysAt sparse (ss ++ s ∷ []) (items after))
         → TakesStops (λ f. AreKeysFrom tree source sparse (items f)) (λ f. gives_new sparse (key_trees tree (items f))) bytes before after (s ∷ [])
     takes_keys is there =
         let more = stop_keys sparse s in
         let old = distinct (key_trees tree (items before)) in
-        let told : distinct (key_trees tree (items after)) ≡ with_keys old more = is ∙ with_append [] (key_trees tree (items before)) more in
+        let fact : distinct (key_trees tree (items after)) ≡ with_keys old more = is ∙ with_append [] (key_trees tree (items before)) more in
         record {
           adds = λ ss are. record {
-            listed = told ∙ ap (λ (ks : List Tree). with_keys ks more) are.listed ∙ sym (flat_more sparse ss s);
-            kept = kept are.kept;
+            listed = fact ∙ ap (λ (ks : List Tree). with_keys ks more) are.listed ∙ sym (flat_more sparse ss s);
+            same_source = same_source are.same_source;
             there = there ss (all_at_more ss (s ∷ []) (items before) are.there);
           };
-          none_new = or_from _ _ (ap (λ (ks : List Tree). list_any (is_new ks) more) told ∙ all_added old more) refl;
-          still = λ z h. ap (λ (ks : List Tree). list_any (is_new ks) (stop_keys sparse z)) told ∙ none_still old more (stop_keys sparse z) h;
+          none_new = or_from _ _ (ap (λ (ks : List Tree). list_any (is_new ks) more) fact ∙ all_added old more) refl;
+          still = λ z h. ap (λ (ks : List Tree). list_any (is_new ks) (stop_keys sparse z)) fact ∙ none_still old more (stop_keys sparse z) h;
         }
 
     pub took : {E : Type 0} (r : Result (Unit {0}) E) (b : Bool) → b ≡ is_ok r → OnOk r (AddsKeys tree (items before) (items after) (stop_keys sparse s))
@@ -127,5 +127,5 @@ module _ {N : Type 0} (tree : N → Tree) (source : N → List ℕ) (sparse : Bo
   pub whole : {F : Type 0} (items : F → List (Key N)) (bytes : List ℕ) (before after : F) (t : Tree) (p : Names) (b : Bool) → items before ≡ []
       → TakesOrEnds (λ f. AreKeysFrom tree source sparse (items f)) (λ f. gives_new sparse (key_trees tree (items f))) (λ _. true) b bytes before after (stops t p) → b ≡ true
       → AreKeysFrom tree source sparse (items after) bytes (stops t p)
-  whole items bytes before after t p true none h e = h.adds [] (rw none (record { listed = refl; kept = All-nil _; there = All-nil _ }))
+  whole items bytes before after t p true none h e = h.adds [] (rw none (record { listed = refl; same_source = All-nil _; there = All-nil _ }))
   whole items bytes before after t p false none h e = absurd cc

@@ -1,4 +1,4 @@
 pub mod SortLemmas
 pub mod KeyLemmas
 pub mod ReachLemmas
-pub mod WalkLemmas
+pub mod PathWalkLemmas

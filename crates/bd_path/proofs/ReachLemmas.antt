@@ -85,10 +85,10 @@ module _ {A : Type 0} (g : Gathering A) where
   no_index [] r = refl
   no_index (e ∷ es) r = refl
 
-  pub past_index : (es : List Tree) (i : ℕ) (r : Names) → length es ≤ i → gathering_at g (items_of es) (Some i) r ≡ []
-  past_index [] i r l = refl
-  past_index (e ∷ es) zero r l = absurd (omega arith)
-  past_index (e ∷ es) (suc i) r l = past_index es i r (omega arith)
+  pub beyond_index : (es : List Tree) (i : ℕ) (r : Names) → length es ≤ i → gathering_at g (items_of es) (Some i) r ≡ []
+  beyond_index [] i r l = refl
+  beyond_index (e ∷ es) zero r l = absurd (omega arith)
+  beyond_index (e ∷ es) (suc i) r l = beyond_index es i r (omega arith)
 
   pub at_index : (es : List Tree) (i : ℕ) (u : Tree) (r : Names) → slice_get es i ≡ Some u → gathering_at g (items_of es) (Some i) r ≡ gathering g u r
   at_index [] i u r e = absurd cc

@@ -9,13 +9,13 @@ use Rattle.bd_value.specs.Tree as trees
 use Rattle.bd_value.specs.declared.node.Kind.TheVariants as kinds
 use Rattle.bd_value.proofs.OrderLemmas.{cmp_total}
 use Rattle.bd_path.specs.Key.{IsKeyAt, IsKeyOf, all_keys, distinct, end_keys, key_tree, keys, or_else, sparse_keys, stop_keys, with_key, with_keys}
-use Rattle.bd_path.specs.{Reach.End, Reach.Names, Reach.reach, declared.key.Key.Key, declared.sort.Dir.Dir, declared.walk.Stop.Stop, declared.walk.Stop.TheVariants.Value}
+use Rattle.bd_path.specs.{Reach.End, Reach.Names, Reach.reach, declared.key.Key.Key, declared.sort.Dir.Dir, declared.path_walk.Stop.Stop, declared.path_walk.Stop.TheVariants.Value}
 use Rattle.bd_path.specs.Sort.{IsEarliestFrom, SortPath, dir_cmp, earlier_key, earliest_key, gives_earlier, is_earlier, sort_cmp, sort_key}
-use Rattle.bd_path.specs.Walk.{Stops, TakesOrEnds, TakesStops, or_stop, stops}
+use Rattle.bd_path.specs.PathWalk.{Stops, TakesOrEnds, TakesStops, or_stop, stops}
 use Rattle.bd_path.specs.declared.sort.Dir.TheVariants.{Up, Down}
 use Rattle.bd_path.proofs.ReachLemmas.{In, any_still, found_from, in_left, in_right, scalar_is_no_array}
-use Rattle.bd_path.proofs.WalkLemmas as stop
-use Rattle.bd_path.proofs.WalkLemmas.{ends_are, keys_are, some_stop, stop_ends}
+use Rattle.bd_path.proofs.PathWalkLemmas as stop
+use Rattle.bd_path.proofs.PathWalkLemmas.{ends_are, keys_are, some_stop, stop_ends}
 
 -- the order of keys is total in either direction
 pub dir_total : (dir : Dir) → IsTotalOrder (dir_cmp dir)
@@ -154,32 +154,32 @@ module _ {N : Type 0} (tree : N → Tree) (source : N → List ℕ) (dir : Dir) 
     earliest = sym (flat_more dir ss s
         ∙ ap (λ e. earlier_key dir e (earliest_key dir (stop_keys false s))) (sym is.earliest)
         ∙ none_taken dir (option_map (key_tree tree) key) (stop_keys false s) none);
-    kept = is.kept;
+    same_source = is.same_source;
     there = IfSome_then key is.there (stop.at_more false ss (s ∷ []));
   }
 
   pub takes_earliest : (bytes : List ℕ) (before : Option (Key N)) (r k : Key N) (s : Stop Tree) → Some (key_tree tree k) ≡ earliest_key dir (stop_keys false s)
       → IsKeyOf source bytes k → IsKeyAt false (s ∷ []) k → Some (key_tree tree r) ≡ earlier_key dir (option_map (key_tree tree) before) (Some (key_tree tree k)) → (Some r ≡ before) ⊎ (r ≡ k)
       → TakesStops (IsEarliestFrom tree source dir) (λ f. gives_earlier dir (option_map (key_tree tree) f)) bytes before (Some r) (s ∷ [])
-  takes_earliest bytes before r k s is kept there taken either =
+  takes_earliest bytes before r k s is same_source there taken either =
       let more = stop_keys false s in
       let old = option_map (key_tree tree) before in
-      let told : Some (key_tree tree r) ≡ earlier_key dir old (earliest_key dir more) = taken ∙ ap (earlier_key dir old) is in
+      let fact : Some (key_tree tree r) ≡ earlier_key dir old (earliest_key dir more) = taken ∙ ap (earlier_key dir old) is in
       record {
         adds = λ ss are. record {
-          earliest = told ∙ ap (λ e. earlier_key dir e (earliest_key dir more)) are.earliest ∙ sym (flat_more dir ss s);
-          kept = of_either (IsKeyOf source bytes) r before k either are.kept kept;
+          earliest = fact ∙ ap (λ e. earlier_key dir e (earliest_key dir more)) are.earliest ∙ sym (flat_more dir ss s);
+          same_source = of_either (IsKeyOf source bytes) r before k either are.same_source same_source;
           there = of_either (IsKeyAt false (ss ++ s ∷ [])) r before k either (IfSome_then before are.there (stop.at_more false ss (s ∷ []))) (stop.at_last false ss (s ∷ []) k there);
         };
-        none_new = or_from _ _ (ap (λ e. list_any (is_earlier dir e) more) told ∙ all_taken dir old more) refl;
-        still = λ z h. ap (λ e. list_any (is_earlier dir e) (stop_keys false z)) told
+        none_new = or_from _ _ (ap (λ e. list_any (is_earlier dir e) more) fact ∙ all_taken dir old more) refl;
+        still = λ z h. ap (λ e. list_any (is_earlier dir e) (stop_keys false z)) fact
             ∙ any_still (is_earlier dir old) (is_earlier dir (earlier_key dir old (earliest_key dir more))) (one_still dir old (earliest_key dir more)) (stop_keys false z) h;
       }
 
   pub whole : (bytes : List ℕ) (key : Option (Key N)) (t : Tree) (p : Names) (b : Bool)
       → TakesOrEnds (IsEarliestFrom tree source dir)
       (λ f. gives_earlier dir (option_map (key_tree tree) f)) (λ _. false) b bytes None key (stops t p) → IsEarliestFrom tree source dir key bytes (stops t p)
-  whole bytes key t p true h = h.adds [] (record { earliest = refl; kept = tt; there = tt })
+  whole bytes key t p true h = h.adds [] (record { earliest = refl; same_source = tt; there = tt })
   whole bytes key t p false h = let none = no_ends (stops t p) in absurd cc
 
 -- ---- the keys of a path and what it reaches

@@ -3,8 +3,8 @@ use Rattle.std.specs.Prelude.{◌≡◌, ℕ, List, [], ◌∷◌, ◌++◌, Boo
 use Rattle.std.specs.List.{flat_map, list_any}
 use Rattle.bd_value.specs.Order.{equal}
 use Rattle.bd_value.specs.Tree.{Tree, leaf, null, undefined, array, no_items, list_of}
-use Rattle.bd_path.specs.{Reach.Gathering, Reach.Names, Reach.gathering, Walk.Stops, declared.key.Key.Key}
-use Rattle.bd_path.specs.{declared.walk.Stop.Stop, declared.walk.Stop.TheVariants.Value}
+use Rattle.bd_path.specs.{Reach.Gathering, Reach.Names, Reach.gathering, PathWalk.Stops, declared.key.Key.Key}
+use Rattle.bd_path.specs.{declared.path_walk.Stop.Stop, declared.path_walk.Stop.TheVariants.Value}
 use Rattle.bd_path.specs.declared.key.Key.TheVariants.{Node, Null, Undefined}
 
 -- the keys that a missing field gives: null, and in a sparse index none
@@ -123,5 +123,5 @@ gives_new sparse ks s = list_any (is_new (distinct ks)) (stop_keys sparse s)
 pub record AreKeysFrom {N : Type 0} (tree : N → Tree) (source : N → List ℕ) (sparse : Bool) (ks : List (Key N))
     (bytes : List ℕ) (ss : Stops) : Type 0 where
   pub listed : distinct (key_trees tree ks) ≡ distinct (flat_map (stop_keys sparse) ss)
-  pub kept : AreKeysOf source bytes ks
+  pub same_source : AreKeysOf source bytes ks
   pub there : AreKeysAt sparse ss ks

@@ -3,4 +3,4 @@ pub mod Path
 pub mod PathNames
 pub mod Reach
 pub mod Sort
-pub mod Walk
+pub mod PathWalk

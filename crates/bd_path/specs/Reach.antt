@@ -21,8 +21,8 @@ abbrev pub index_of : List ℕ → Option ℕ
 index_of name = if is_index name then Some (digits_value 10 name) else None
 
 -- the array index in a name, as the code keeps it: above 2^64 - 1 it counts as that
-abbrev pub held_index : List ℕ → Option ℕ
-held_index name = option_map (λ i. min i 18446744073709551615) (index_of name)
+abbrev pub bounded_index : List ℕ → Option ℕ
+bounded_index name = option_map (λ i. min i 18446744073709551615) (index_of name)
 
 -- whether a value is a document; an array is none
 abbrev pub is_document : Tree → Bool

@@ -5,8 +5,8 @@ use Rattle.std.specs.{List.flat_map, List.list_any, Ordering.is_lt, Ordering.ord
 use Rattle.std.specs.{declared.cmp.Ordering.Ordering, declared.cmp.Ordering.TheVariants.Equal}
 use Rattle.bd_value.specs.{Order.cmp, Tree.Tree, Tree.leaf, Tree.null}
 use Rattle.bd_path.specs.{Key.IsKeyAt, Key.IsKeyOf, Key.key_tree, Key.keys, Key.stop_keys, PathNames.names_of}
-use Rattle.bd_path.specs.{Reach.Names, Walk.Stops, declared.key.Key.Key, declared.path.Path.Path, declared.sort.Dir.Dir}
-use Rattle.bd_path.specs.{declared.sort.Dir.TheVariants.Up, declared.sort.Dir.TheVariants.Down, declared.walk.Stop.Stop}
+use Rattle.bd_path.specs.{Reach.Names, PathWalk.Stops, declared.key.Key.Key, declared.path.Path.Path, declared.sort.Dir.Dir}
+use Rattle.bd_path.specs.{declared.sort.Dir.TheVariants.Up, declared.sort.Dir.TheVariants.Down, declared.path_walk.Stop.Stop}
 
 -- the order of two keys in a direction of a sort: for 1 (Up) the comparison order, for -1 (Down) the reverse
 abbrev pub dir_cmp : Dir → Tree → Tree → Ordering
@@ -61,5 +61,5 @@ gives_earlier dir e s = list_any (is_earlier dir e) (stop_keys false s)
 pub record IsEarliestFrom {N : Type 0} (tree : N → Tree) (source : N → List ℕ) (dir : Dir) (key : Option (Key N))
     (bytes : List ℕ) (ss : Stops) : Type 0 where
   pub earliest : option_map (key_tree tree) key ≡ earliest_key dir (flat_map (stop_keys false) ss)
-  pub kept : IfSome key (IsKeyOf source bytes)
+  pub same_source : IfSome key (IsKeyOf source bytes)
   pub there : IfSome key (IsKeyAt false ss)

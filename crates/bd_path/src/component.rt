@@ -2,7 +2,7 @@
 
 ghost use Rattle.std.specs.Prelude.{◌≡◌, IfOk, string_bytes};
 ghost use Rattle.std.specs.Str.{all_ascii_digits};
-ghost use Rattle.bd_path.specs.Reach.{is_index, held_index};
+ghost use Rattle.bd_path.specs.Reach.{is_index, bounded_index};
 
 use bd_value::NoMemory;
 use std::alloc::Global;
@@ -14,7 +14,7 @@ pub struct Component {
     /// None where the name is no index; the greatest number where it is past every array.
     pub index: Option<usize>,
 
-    ghost known: { index ≡ held_index (string_bytes name) },
+    ghost known: { index ≡ bounded_index (string_bytes name) },
 }
 
 impl Component {
@@ -53,7 +53,7 @@ fn are_digits(bytes: &[u8]) -> bool
 
 /// The index that a name is; the greatest number for one past every array.
 fn index_of(name: &str) -> Option<usize>
-    ensures { result ≡ held_index name.now }
+    ensures { result ≡ bounded_index name.now }
 {
     if !is_index(name.as_bytes()) {
         return None;

@@ -10,10 +10,10 @@ ghost use Rattle.bd_value.specs.declared.node.Kind.TheVariants as kinds;
 ghost use Rattle.bd_path.specs.Key.{AddsKeys, AreKeysAt, AreKeysFrom, AreKeysOf, IsKeyAt, IsKeyOf, distinct, end_keys, gives_new, indexed_keys};
 ghost use Rattle.bd_path.specs.Key.{is_empty_array, is_no_value, key_tree, key_trees, keys, missing_key, sparse_keys as sparse_keys_of, with_key};
 ghost use Rattle.bd_path.specs.PathNames.{names_of};
-ghost use Rattle.bd_path.specs.Walk.{IsStopOf, Stops, TakesOrEnds, stop_tree, stops};
+ghost use Rattle.bd_path.specs.PathWalk.{IsStopOf, Stops, TakesOrEnds, stop_tree, stops};
 
 use crate::path::Path;
-use crate::walk::{Gatherer, Stop, walk};
+use crate::path_walk::{Gatherer, Stop, path_walk};
 use bd_value::{Kind, NoMemory, Reading, Tree, Value, compare_nodes, to_value};
 use std::alloc::{AllocError, Global};
 use std::cmp::Ordering;
@@ -34,8 +34,8 @@ pub enum Key<N> {
 pub fn key_nodes<N: Reading>(alloc: Global, doc: N, path: &Path) -> Result<Vec<Key<N>>, NoMemory>
     ensures trees { IfOk result (λ ks.
         key_trees N.tree ks.items ≡ keys (N.tree doc) (names_of path.now)) }
-    ensures kept { IfOk result (λ ks. AreKeysOf N.source (N.source doc) ks.items) }
-    ensures there { IfOk result (λ ks.
+    ensures same_source { IfOk result (λ ks. AreKeysOf N.source (N.source doc) ks.items) }
+    ensures at_stops { IfOk result (λ ks.
         AreKeysAt false (stops (N.tree doc) (names_of path.now)) ks.items) }
 {
     let all = all_key_nodes(alloc, doc, path, false)?;
@@ -46,8 +46,8 @@ pub fn key_nodes<N: Reading>(alloc: Global, doc: N, path: &Path) -> Result<Vec<K
 pub fn sparse_keys<N: Reading>(alloc: Global, doc: N, path: &Path) -> Result<Vec<Key<N>>, NoMemory>
     ensures trees { IfOk result (λ ks.
         key_trees N.tree ks.items ≡ sparse_keys_of (N.tree doc) (names_of path.now)) }
-    ensures kept { IfOk result (λ ks. AreKeysOf N.source (N.source doc) ks.items) }
-    ensures there { IfOk result (λ ks.
+    ensures same_source { IfOk result (λ ks. AreKeysOf N.source (N.source doc) ks.items) }
+    ensures at_stops { IfOk result (λ ks.
         AreKeysAt true (stops (N.tree doc) (names_of path.now)) ks.items) }
 {
     let all = all_key_nodes(alloc, doc, path, true)?;
@@ -65,13 +65,13 @@ pub fn all_key_nodes<N: Reading>(
 ) -> Result<Vec<Key<N>>, NoMemory>
     ensures distinct { IfOk result (λ ks. distinct (key_trees N.tree ks.items)
         ≡ indexed_keys sparse (N.tree doc) (names_of path.now)) }
-    ensures kept { IfOk result (λ ks. AreKeysOf N.source (N.source doc) ks.items) }
-    ensures there { IfOk result (λ ks.
+    ensures same_source { IfOk result (λ ks. AreKeysOf N.source (N.source doc) ks.items) }
+    ensures at_stops { IfOk result (λ ks.
         AreKeysAt sparse (stops (N.tree doc) (names_of path.now)) ks.items) }
 {
     let mut all = Vec::new(alloc);
     let gatherer = KeyGatherer { sparse };
-    if !walk(&gatherer, &mut all, doc, path) {
+    if !path_walk(&gatherer, &mut all, doc, path) {
         return Err(AllocError);
     }
     Ok(all)
@@ -123,9 +123,9 @@ impl<N: Reading> Gatherer<N> for KeyGatherer {
 fn add_missing<N: Reading>(sparse: bool, keys: &mut Vec<Key<N>>) -> Result<(), NoMemory>
     ensures added { OnOk result
         (AddsKeys N.tree keys.old.items keys.new.items (missing_key sparse)) }
-    ensures kept { (bytes : List ℕ) →
+    ensures same_source { (bytes : List ℕ) →
         AreKeysOf N.source bytes keys.old.items → AreKeysOf N.source bytes keys.new.items }
-    ensures there { OnOk result ((ss : Stops) → list_any is_no_value ss ≡ true →
+    ensures at_stops { OnOk result ((ss : Stops) → list_any is_no_value ss ≡ true →
         AreKeysAt sparse ss keys.old.items → AreKeysAt sparse ss keys.new.items) }
 {
     if sparse {
@@ -138,9 +138,9 @@ fn add_missing<N: Reading>(sparse: bool, keys: &mut Vec<Key<N>>) -> Result<(), N
 fn add_end<N: Reading>(node: N, keys: &mut Vec<Key<N>>) -> Result<(), NoMemory>
     ensures added { OnOk result
         (AddsKeys N.tree keys.old.items keys.new.items (end_keys (N.tree node))) }
-    ensures kept { AreKeysOf N.source (N.source node) keys.old.items →
+    ensures same_source { AreKeysOf N.source (N.source node) keys.old.items →
         AreKeysOf N.source (N.source node) keys.new.items }
-    ensures there { OnOk result ((sparse : Bool) (ss : Stops) →
+    ensures at_stops { OnOk result ((sparse : Bool) (ss : Stops) →
         (is_empty_array (Stop.Value (N.tree node)) ≡ true → list_any is_empty_array ss ≡ true) →
         AreKeysAt sparse ss keys.old.items → AreKeysAt sparse ss keys.new.items) }
 {
@@ -158,15 +158,15 @@ fn add_elements<N: Reading>(node: N, keys: &mut Vec<Key<N>>) -> Result<(), NoMem
     requires { kind_of (N.tree node) ≡ kinds.Array }
     ensures added { OnOk result
         (AddsKeys N.tree keys.old.items keys.new.items (elements_in (N.tree node))) }
-    ensures kept { AreKeysOf N.source (N.source node) keys.old.items →
+    ensures same_source { AreKeysOf N.source (N.source node) keys.old.items →
         AreKeysOf N.source (N.source node) keys.new.items }
-    ensures there { (sparse : Bool) (ss : Stops) →
+    ensures at_stops { (sparse : Bool) (ss : Stops) →
         AreKeysAt sparse ss keys.old.items → AreKeysAt sparse ss keys.new.items }
 {
-    let mut left = node.parts();
-    while let Some(next) = N::next(&left) {
+    let mut remaining = node.parts();
+    while let Some(next) = N::next(&remaining) {
         add_next(keys, Key::Node(next.1))?;
-        left = next.2;
+        remaining = next.2;
     }
     Ok(())
 }
@@ -175,9 +175,9 @@ fn add_elements<N: Reading>(node: N, keys: &mut Vec<Key<N>>) -> Result<(), NoMem
 fn add_next<N: Reading>(keys: &mut Vec<Key<N>>, key: Key<N>) -> Result<(), NoMemory>
     ensures added { OnOk result
         (AddsKeys N.tree keys.old.items keys.new.items (key_tree N.tree key ∷ [])) }
-    ensures kept { (bytes : List ℕ) → AreKeysOf N.source bytes keys.old.items →
+    ensures same_source { (bytes : List ℕ) → AreKeysOf N.source bytes keys.old.items →
         IsKeyOf N.source bytes key → AreKeysOf N.source bytes keys.new.items }
-    ensures there { (sparse : Bool) (ss : Stops) → AreKeysAt sparse ss keys.old.items →
+    ensures at_stops { (sparse : Bool) (ss : Stops) → AreKeysAt sparse ss keys.old.items →
         IsKeyAt sparse ss key → AreKeysAt sparse ss keys.new.items }
 {
     match keys.last() {
@@ -193,9 +193,9 @@ fn add_next<N: Reading>(keys: &mut Vec<Key<N>>, key: Key<N>) -> Result<(), NoMem
 fn distinct_keys<N: Reading>(alloc: Global, all: &[Key<N>]) -> Result<Vec<Key<N>>, NoMemory>
     ensures trees { IfOk result (λ ks.
         key_trees N.tree ks.items ≡ distinct (key_trees N.tree all.now)) }
-    ensures kept { (bytes : List ℕ) →
+    ensures same_source { (bytes : List ℕ) →
         AreKeysOf N.source bytes all.now → IfOk result (λ ks. AreKeysOf N.source bytes ks.items) }
-    ensures there { (sparse : Bool) (ss : Stops) →
+    ensures at_stops { (sparse : Bool) (ss : Stops) →
         AreKeysAt sparse ss all.now → IfOk result (λ ks. AreKeysAt sparse ss ks.items) }
 {
     let mut keys = Vec::new(alloc);
@@ -209,9 +209,9 @@ fn distinct_keys<N: Reading>(alloc: Global, all: &[Key<N>]) -> Result<Vec<Key<N>
 fn add_key<N: Reading>(keys: &mut Vec<Key<N>>, key: Key<N>) -> Result<(), NoMemory>
     ensures added { OnOk result (key_trees N.tree keys.new.items
         ≡ with_key (key_trees N.tree keys.old.items) (key_tree N.tree key)) }
-    ensures kept { (bytes : List ℕ) → AreKeysOf N.source bytes keys.old.items →
+    ensures same_source { (bytes : List ℕ) → AreKeysOf N.source bytes keys.old.items →
         IsKeyOf N.source bytes key → AreKeysOf N.source bytes keys.new.items }
-    ensures there { (sparse : Bool) (ss : Stops) → AreKeysAt sparse ss keys.old.items →
+    ensures at_stops { (sparse : Bool) (ss : Stops) → AreKeysAt sparse ss keys.old.items →
         IsKeyAt sparse ss key → AreKeysAt sparse ss keys.new.items }
 {
     if has_equal(keys, key) {

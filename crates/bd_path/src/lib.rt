@@ -14,8 +14,8 @@
 //! ```
 //!
 //! - `path`, `component`: `Path`, a text cut into its components: `specs/Path.antt`.
-//! - `walk`: `any_end`, whether a value that the path reaches passes a test: `specs/Reach.antt`; the one walk down a path, for
-//!   whatever gathers what it leads to, into each value once from each position of the path: `specs/Walk.antt`.
+//! - `path_walk`: `any_end`, whether a value that the path reaches passes a test: `specs/Reach.antt`; the one walk down a path, for
+//!   whatever gathers what it leads to, into each value once from each position of the path: `specs/PathWalk.antt`.
 //! - `key`: the keys of a document on a path, as nodes of the document; they are always there: `specs/Key.antt`.
 //! - `sort`: the key of a document in a sort, found with no list of keys, and the order of two documents by several paths, which
 //!   is total: `specs/Sort.antt`.
@@ -26,12 +26,12 @@ mod component;
 mod key;
 mod laws;
 mod path;
+mod path_walk;
 mod sort;
-mod walk;
 
 pub use component::Component;
 pub use key::{Key, all_key_nodes, compare_keys, key_nodes, key_value, keys, sparse_keys};
 pub use laws::{keys_are_there, sorts_order_all_documents, sparse_keys_are_the_rest};
 pub use path::{Path, PathFault};
+pub use path_walk::{EndTest, Visits, any_end, is_document};
 pub use sort::{Dir, compare_in, compare_sort, sort_key, sort_key_node};
-pub use walk::{EndTest, Visits, any_end, is_document};

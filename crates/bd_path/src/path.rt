@@ -17,8 +17,8 @@ pub struct Path {
     text: String,
     components: Vec<Component>,
 
-    ghost cut: { component_names components.items ≡ components_of (string_bytes text) },
-    ghost few: { length components.items ≤ most_names },
+    ghost split_path: { component_names components.items ≡ components_of (string_bytes text) },
+    ghost within_limit: { length components.items ≤ most_names },
 }
 
 impl Path {
@@ -32,7 +32,7 @@ impl Path {
         ensures fault { IfErr result (λ fault. (fault ≡ faults.NoMemory)
             ⊎ (path_of text.now ≡ Err fault)) }
     {
-        let names = cut(alloc, text)?;
+        let names = split_path(alloc, text)?;
         if names.len() > MOST_NAMES {
             return Err(PathFault::TooLong);
         }
@@ -85,7 +85,7 @@ impl Path {
 }
 
 /// The names between the full stops of a text. It fails only if memory runs out.
-fn cut(alloc: Global, text: &str) -> Result<Vec<&str>, NoMemory>
+fn split_path(alloc: Global, text: &str) -> Result<Vec<&str>, NoMemory>
     ensures { IfOk result (λ v. map (λ name. name.now) v.items ≡ components_of text.now) }
 {
     text.split('.').collect(alloc)

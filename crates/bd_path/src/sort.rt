@@ -5,11 +5,11 @@ ghost use Rattle.bd_value.specs.View.{tree_of};
 ghost use Rattle.bd_path.specs.Key.{IsKeyAt, IsKeyOf, end_keys, key_tree};
 ghost use Rattle.bd_path.specs.PathNames.{names_of};
 ghost use Rattle.bd_path.specs.Sort.{IsEarliestFrom, dir_cmp, earlier_key, earliest_key, gives_earlier, sort_cmp, sort_key, sort_paths};
-ghost use Rattle.bd_path.specs.Walk.{IsStopOf, TakesOrEnds, stop_tree, stops};
+ghost use Rattle.bd_path.specs.PathWalk.{IsStopOf, TakesOrEnds, stop_tree, stops};
 
 use crate::key::{Key, compare_keys, key_value};
 use crate::path::Path;
-use crate::walk::{Gatherer, Stop, walk};
+use crate::path_walk::{Gatherer, Stop, path_walk};
 use bd_value::{Kind, NoMemory, Reading, Value};
 use std::alloc::Global;
 use std::cmp::Ordering;
@@ -44,12 +44,12 @@ pub fn compare_sort<M: Reading, N: Reading>(a: M, b: N, sort: &[(Path, Dir)]) ->
 /// MongoDB manual, "Sort by an array field".
 pub fn sort_key_node<N: Reading>(doc: N, path: &Path, dir: Dir) -> Key<N>
     ensures tree { key_tree N.tree result ≡ sort_key dir (N.tree doc) (names_of path.now) }
-    ensures kept { IsKeyOf N.source (N.source doc) result }
-    ensures there { IsKeyAt false (stops (N.tree doc) (names_of path.now)) result }
+    ensures same_source { IsKeyOf N.source (N.source doc) result }
+    ensures at_stops { IsKeyAt false (stops (N.tree doc) (names_of path.now)) result }
 {
     let mut earliest = None;
     let gatherer = EarliestGatherer { dir };
-    let _whole = walk(&gatherer, &mut earliest, doc, path);
+    let _whole = path_walk(&gatherer, &mut earliest, doc, path);
     match earliest {
         Some(key) => key,
         None => Key::Null,
@@ -108,17 +108,17 @@ impl<N: Reading> Gatherer<N> for EarliestGatherer {
 /// A value, or the earliest of the elements of an array.
 fn earliest_end<N: Reading>(node: N, dir: Dir) -> Key<N>
     ensures tree { Some (key_tree N.tree result) ≡ earliest_key dir (end_keys (N.tree node)) }
-    ensures kept { IsKeyOf N.source (N.source node) result }
-    ensures there { IsKeyAt false (Stop.Value (N.tree node) ∷ []) result }
+    ensures same_source { IsKeyOf N.source (N.source node) result }
+    ensures at_stops { IsKeyAt false (Stop.Value (N.tree node) ∷ []) result }
 {
     let Kind::Array = node.kind() else {
         return Key::Node(node);
     };
     let mut earliest = None;
-    let mut left = node.parts();
-    while let Some(next) = N::next(&left) {
+    let mut remaining = node.parts();
+    while let Some(next) = N::next(&remaining) {
         earliest = Some(earlier(dir, earliest, Key::Node(next.1)));
-        left = next.2;
+        remaining = next.2;
     }
     match earliest {
         Some(key) => key,

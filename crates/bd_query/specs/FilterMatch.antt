@@ -10,10 +10,10 @@ use Rattle.bd_query.specs.declared.filter_match.Body.TheVariants.{Operators, Fil
 
 -- whether an element meets the body of `$elemMatch`:
 -- all operators hold of it, or it is a document that matches the filter
-abbrev pub suits : Body → Tree → Bool
-suits (Operators os) t = all_accept (operators_from (map operator_tree os.now)) t
-suits (Filters fs) t = is_document t && all_match (filters_from (map filter_tree fs.now)) t
+abbrev pub matches_element : Body → Tree → Bool
+matches_element (Operators os) t = all_accept (operators_from (map operator_tree os.now)) t
+matches_element (Filters fs) t = is_document t && all_match (filters_from (map filter_tree fs.now)) t
 
 -- whether an end of a path is an array with an element that meets the body of `$elemMatch`
-abbrev pub is_suited : Body → End → Bool
-is_suited body = is_value (λ t. list_any (suits body) (elements_in t))
+abbrev pub is_matching : Body → End → Bool
+is_matching body = is_value (λ t. list_any (matches_element body) (elements_in t))

@@ -9,8 +9,8 @@ ghost use Rattle.bd_value.specs.declared.node.Kind.TheVariants as kinds;
 ghost use Rattle.bd_path.specs.Path.{component_names};
 ghost use Rattle.bd_path.specs.PathNames.{names_of};
 ghost use Rattle.bd_path.specs.Reach.{document_gathering, ends, index_gathering, reach};
-ghost use Rattle.bd_path.specs.Walk.{GathersNone};
-ghost use Rattle.bd_query.specs.FilterMatch.{is_suited, suits};
+ghost use Rattle.bd_path.specs.PathWalk.{GathersNone};
+ghost use Rattle.bd_query.specs.FilterMatch.{is_matching, matches_element};
 ghost use Rattle.bd_query_filter.specs.Filter.{filters_from, operators_from, filter_tree, operator_tree};
 ghost use Rattle.bd_query_filter.specs.FilterMatch.{accepts, all_accept, all_hold, all_match, holds, matches, some_match};
 
@@ -103,36 +103,36 @@ fn holds<N: Reading>(operator: &Operator, path: &Path, node: N) -> bool
 /// Whether an element of an array that a path reaches suits the body of `$elemMatch`.
 #[cycle(matching)]
 fn reaches_suited<N: Reading>(node: N, path: &Path, body: &Body) -> bool
-    ensures { result ≡ list_any (is_suited body.now) (reach (N.tree node) (names_of path.now)) }
+    ensures { result ≡ list_any (is_matching body.now) (reach (N.tree node) (names_of path.now)) }
 {
     let path = path.components();
-    any_end_suits(node, 0, &Visits::Nowhere, &Walk { path, body: &*body })
+    any_end_matches(node, 0, &Visits::Nowhere, &PathWalk { path, body: &*body })
 }
 
 /// Whether an element of an array at an end of the rest of a path suits the body of `$elemMatch`, from a component on.
 ///
 /// It goes down as `any_end` does. A test of an end can't come back to the operators: it would be called by its own walk.
 #[cycle(matching)]
-fn any_end_suits<N: Reading>(node: N, k: usize, walked: &Visits, walk: &Walk) -> bool
-    requires few { length walk.now.path.now ≤ most_names }
-    requires at { k ≤ length walk.now.path.now }
-    requires vain { GathersNone (is_suited walk.now.body.now) ends
-        (N.tree node) (component_names walk.now.path.now) walked.now }
-    ensures { result ≡ list_any (is_suited walk.now.body.now)
-        (reach (N.tree node) (drop k (component_names walk.now.path.now))) }
+fn any_end_matches<N: Reading>(node: N, k: usize, visits: &Visits, path_walk: &PathWalk) -> bool
+    requires within_limit { length path_walk.now.path.now ≤ most_names }
+    requires at { k ≤ length path_walk.now.path.now }
+    requires visited { GathersNone (is_matching path_walk.now.body.now) ends
+        (N.tree node) (component_names path_walk.now.path.now) visits.now }
+    ensures { result ≡ list_any (is_matching path_walk.now.body.now)
+        (reach (N.tree node) (drop k (component_names path_walk.now.path.now))) }
 {
-    let path = walk.path;
-    if walked.has(k) {
+    let path = path_walk.path;
+    if visits.has(k) {
         return false;
     }
     if k == path.len() {
-        return any_suits(node, walk.body);
+        return any_matches_element(node, path_walk.body);
     }
     match node.kind() {
-        Kind::Doc => any_end_suits_in_field(node, k, walked, walk),
+        Kind::Doc => any_end_matches_in_field(node, k, visits, path_walk),
         Kind::Array => {
-            any_end_suits_in_documents(node, k, walked, walk)
-                || any_end_suits_at_index(node, k, walked, walk)
+            any_end_matches_in_documents(node, k, visits, path_walk)
+                || any_end_matches_at_index(node, k, visits, path_walk)
         }
         _ => false,
     }
@@ -140,21 +140,26 @@ fn any_end_suits<N: Reading>(node: N, k: usize, walked: &Visits, walk: &Walk) ->
 
 /// The same in the field of a document.
 #[cycle(matching)]
-fn any_end_suits_in_field<N: Reading>(node: N, k: usize, walked: &Visits, walk: &Walk) -> bool
-    requires few { length walk.now.path.now ≤ most_names }
-    requires at { k < length walk.now.path.now }
+fn any_end_matches_in_field<N: Reading>(
+    node: N,
+    k: usize,
+    visits: &Visits,
+    path_walk: &PathWalk,
+) -> bool
+    requires within_limit { length path_walk.now.path.now ≤ most_names }
+    requires at { k < length path_walk.now.path.now }
     requires kind { kind_of (N.tree node) ≡ kinds.Doc }
-    requires vain { GathersNone (is_suited walk.now.body.now) ends
-        (N.tree node) (component_names walk.now.path.now) walked.now }
-    ensures { result ≡ list_any (is_suited walk.now.body.now)
-        (reach (N.tree node) (drop k (component_names walk.now.path.now))) }
+    requires visited { GathersNone (is_matching path_walk.now.body.now) ends
+        (N.tree node) (component_names path_walk.now.path.now) visits.now }
+    ensures { result ≡ list_any (is_matching path_walk.now.body.now)
+        (reach (N.tree node) (drop k (component_names path_walk.now.path.now))) }
 {
-    let path = walk.path;
+    let path = path_walk.path;
     let name = path[k].name.as_str();
     match node.first(name) {
         Some(value) => {
-            let inside = walked.at_field(path, name);
-            any_end_suits(value, k + 1, &inside, walk)
+            let inside = visits.at_field(path, name);
+            any_end_matches(value, k + 1, &inside, path_walk)
         }
         None => false,
     }
@@ -162,27 +167,32 @@ fn any_end_suits_in_field<N: Reading>(node: N, k: usize, walked: &Visits, walk: 
 
 /// The same in the documents of an array.
 #[cycle(matching)]
-fn any_end_suits_in_documents<N: Reading>(node: N, k: usize, walked: &Visits, walk: &Walk) -> bool
-    requires few { length walk.now.path.now ≤ most_names }
-    requires at { k < length walk.now.path.now }
+fn any_end_matches_in_documents<N: Reading>(
+    node: N,
+    k: usize,
+    visits: &Visits,
+    path_walk: &PathWalk,
+) -> bool
+    requires within_limit { length path_walk.now.path.now ≤ most_names }
+    requires at { k < length path_walk.now.path.now }
     requires kind { kind_of (N.tree node) ≡ kinds.Array }
-    requires vain { GathersNone (is_suited walk.now.body.now) ends
-        (N.tree node) (component_names walk.now.path.now) walked.now }
-    ensures { result ≡ list_any (is_suited walk.now.body.now)
-        (document_gathering ends (N.tree node) (drop k (component_names walk.now.path.now))) }
+    requires visited { GathersNone (is_matching path_walk.now.body.now) ends
+        (N.tree node) (component_names path_walk.now.path.now) visits.now }
+    ensures { result ≡ list_any (is_matching path_walk.now.body.now)
+        (document_gathering ends (N.tree node) (drop k (component_names path_walk.now.path.now))) }
 {
-    let mut left = node.parts();
+    let mut remaining = node.parts();
     for i in 0..usize::MAX {
-        let Some(next) = N::next(&left) else {
+        let Some(next) = N::next(&remaining) else {
             return false;
         };
         if is_document(next.1) {
-            let inside = walked.at_document(walk.path, i);
-            if any_end_suits(next.1, k, &inside, walk) {
+            let inside = visits.at_document(path_walk.path, i);
+            if any_end_matches(next.1, k, &inside, path_walk) {
                 return true;
             }
         }
-        left = next.2;
+        remaining = next.2;
     }
     // Nothing is left: an array has no more elements than can be counted.
     let _count = node.len();
@@ -191,23 +201,28 @@ fn any_end_suits_in_documents<N: Reading>(node: N, k: usize, walked: &Visits, wa
 
 /// The same in the element of an array whose index the component is, where there is one, after its documents.
 #[cycle(matching)]
-fn any_end_suits_at_index<N: Reading>(node: N, k: usize, walked: &Visits, walk: &Walk) -> bool
-    requires few { length walk.now.path.now ≤ most_names }
-    requires at { k < length walk.now.path.now }
+fn any_end_matches_at_index<N: Reading>(
+    node: N,
+    k: usize,
+    visits: &Visits,
+    path_walk: &PathWalk,
+) -> bool
+    requires within_limit { length path_walk.now.path.now ≤ most_names }
+    requires at { k < length path_walk.now.path.now }
     requires kind { kind_of (N.tree node) ≡ kinds.Array }
-    requires vain { GathersNone (is_suited walk.now.body.now) ends
-        (N.tree node) (component_names walk.now.path.now) walked.now }
-    requires documents { list_any (is_suited walk.now.body.now) (document_gathering ends
-        (N.tree node) (drop k (component_names walk.now.path.now))) ≡ false }
-    ensures { result ≡ list_any (is_suited walk.now.body.now)
-        (index_gathering ends (N.tree node) (drop k (component_names walk.now.path.now))) }
+    requires visited { GathersNone (is_matching path_walk.now.body.now) ends
+        (N.tree node) (component_names path_walk.now.path.now) visits.now }
+    requires documents { list_any (is_matching path_walk.now.body.now) (document_gathering ends
+        (N.tree node) (drop k (component_names path_walk.now.path.now))) ≡ false }
+    ensures { result ≡ list_any (is_matching path_walk.now.body.now)
+        (index_gathering ends (N.tree node) (drop k (component_names path_walk.now.path.now))) }
 {
-    let path = walk.path;
+    let path = path_walk.path;
     match path[k].index {
         Some(i) if i < node.len() => {
             let element = node.element(i);
-            let inside = walked.at_index(path, k, i, is_document(element));
-            any_end_suits(element, k + 1, &inside, walk)
+            let inside = visits.at_index(path, k, i, is_document(element));
+            any_end_matches(element, k + 1, &inside, path_walk)
         }
         _ => false,
     }
@@ -215,25 +230,25 @@ fn any_end_suits_at_index<N: Reading>(node: N, k: usize, walked: &Visits, walk: 
 
 /// Whether an element of an array suits the body of `$elemMatch`.
 #[cycle(matching)]
-fn any_suits<N: Reading>(node: N, body: &Body) -> bool
-    ensures { result ≡ list_any (suits body.now) (elements_in (N.tree node)) }
+fn any_matches_element<N: Reading>(node: N, body: &Body) -> bool
+    ensures { result ≡ list_any (matches_element body.now) (elements_in (N.tree node)) }
 {
     let Kind::Array = node.kind() else {
         return false;
     };
-    let mut left = node.parts();
-    while let Some(next) = N::next(&left) {
-        if suits(next.1, body) {
+    let mut remaining = node.parts();
+    while let Some(next) = N::next(&remaining) {
+        if matches_element(next.1, body) {
             return true;
         }
-        left = next.2;
+        remaining = next.2;
     }
     false
 }
 
 #[cycle(matching)]
-fn suits<N: Reading>(element: N, body: &Body) -> bool
-    ensures { result ≡ suits body.now (N.tree element) }
+fn matches_element<N: Reading>(element: N, body: &Body) -> bool
+    ensures { result ≡ matches_element body.now (N.tree element) }
 {
     match body {
         Body::Operators(operators) => all_accept(operators, element),
@@ -273,8 +288,11 @@ fn accepts<N: Reading>(operator: &Operator, element: N) -> bool
         Operator::Exists(exists) => *exists,
         Operator::Type(kinds) => KindTest(kinds).test(element),
         Operator::Not(operators) => !all_accept(operators, element),
-        Operator::ElemMatch(operators) => any_suits(element, &Body::Operators(operators)),
-        Operator::ElemMatchDocument(filters) => any_suits(element, &Body::Filters(filters)),
+        Operator::ElemMatch(operators) => any_matches_element(element, &Body::Operators(operators)),
+        Operator::ElemMatchDocument(filters) => any_matches_element(
+            element,
+            &Body::Filters(filters),
+        ),
     }
 }
 
@@ -289,7 +307,7 @@ pub(crate) enum Body<'a> {
 
 /// The components of a path, and what is asked of the elements of the arrays that it reaches.
 #[derive(Clone, Copy)]
-pub(crate) struct Walk<'a> {
+pub(crate) struct PathWalk<'a> {
     path: &'a [Component],
     body: &'a Body<'a>,
 }

@@ -96,12 +96,12 @@ pub(crate) fn any_element<N: Reading, T: ValueTest>(node: N, test: &T) -> bool
     let Kind::Array = node.kind() else {
         return false;
     };
-    let mut left = node.parts();
-    while let Some(next) = N::next(&left) {
+    let mut remaining = node.parts();
+    while let Some(next) = N::next(&remaining) {
         if test.test(next.1) {
             return true;
         }
-        left = next.2;
+        remaining = next.2;
     }
     false
 }

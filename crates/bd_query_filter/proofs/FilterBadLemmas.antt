@@ -40,15 +40,15 @@ each_agrees name (Ok x) (Ok xs) IsBad AreBad h k = λ r e. elim e [ inl a ↦ h 
 each_agrees name (Ok x) (Err r) IsBad AreBad h k = inr k
 each_agrees name (Err r) rest IsBad AreBad h k = inl (r, refl, h)
 
-inside_agrees : {A : Type 0} (room : ℕ) (part : Result A Refusal) (IsBad : Refusals)
-    → Agrees part IsBad → Agrees (inner_part room part) (BreaksInside room IsBad)
+inside_agrees : {A : Type 0} (depth_left : ℕ) (part : Result A Refusal) (IsBad : Refusals)
+    → Agrees part IsBad → Agrees (inner_part depth_left part) (BreaksInside depth_left IsBad)
 inside_agrees zero part IsBad h = refl
-inside_agrees (suc room) part IsBad h = h
+inside_agrees (suc depth_left) part IsBad h = h
 
 -- a level more, read as something
-level_agrees : {A B : Type 0} (room : ℕ) (f : A → B) (part : Result A Refusal) (IsBad : Refusals)
-    → Agrees part IsBad → Agrees (inner_part room (read_as f part)) (BreaksInside room IsBad)
-level_agrees room f part IsBad h = inside_agrees room (read_as f part) IsBad (as_agrees f part IsBad h)
+level_agrees : {A B : Type 0} (depth_left : ℕ) (f : A → B) (part : Result A Refusal) (IsBad : Refusals)
+    → Agrees part IsBad → Agrees (inner_part depth_left (read_as f part)) (BreaksInside depth_left IsBad)
+level_agrees depth_left f part IsBad h = inside_agrees depth_left (read_as f part) IsBad (as_agrees f part IsBad h)
 
 -- ---- one rule
 
@@ -125,69 +125,69 @@ element_form false part (Err r) AreBad AreOthersBad h k = inr (refl, k)
 -- ---- a whole document
 
 mutual
-  pairs_agree : (room : ℕ) (fs : Fields) → Agrees (filters_of room fs) (HasBadPair room fs)
-  pairs_agree room no_fields = λ r e. e
-  pairs_agree room (field n t fs) =
+  pairs_agree : (depth_left : ℕ) (fs : Fields) → Agrees (filters_of depth_left fs) (HasBadPair depth_left fs)
+  pairs_agree depth_left no_fields = λ r e. e
+  pairs_agree depth_left (field n t fs) =
       let w = word_of n in
-      let one = pair_agrees w n (operand_filters room t) (path_operators room t) (AreBadFilters room t) (IsBadValue room t) (logical_agrees room t) (value_agrees room t) in
-      each_agrees n (pair_filter w (path_of n) (operand_filters room t) (path_operators room t)) (filters_of room fs)
-      (IsBadPair w n (AreBadFilters room t) (IsBadValue room t)) (HasBadPair room fs) one (pairs_agree room fs)
+      let one = pair_agrees w n (operand_filters depth_left t) (path_operators depth_left t) (AreBadFilters depth_left t) (IsBadValue depth_left t) (logical_agrees depth_left t) (value_agrees depth_left t) in
+      each_agrees n (pair_filter w (path_of n) (operand_filters depth_left t) (path_operators depth_left t)) (filters_of depth_left fs)
+      (IsBadPair w n (AreBadFilters depth_left t) (IsBadValue depth_left t)) (HasBadPair depth_left fs) one (pairs_agree depth_left fs)
 
-  logical_agrees : (room : ℕ) (t : Tree) → Agrees (operand_filters room t) (AreBadFilters room t)
-  logical_agrees room (array no_items) = refl
-  logical_agrees room (array (item t ts)) = members_agree room 0 (item t ts)
-  logical_agrees room (leaf s) = refl
-  logical_agrees room (doc fs) = refl
-  logical_agrees room (code_scope s fs) = refl
+  logical_agrees : (depth_left : ℕ) (t : Tree) → Agrees (operand_filters depth_left t) (AreBadFilters depth_left t)
+  logical_agrees depth_left (array no_items) = refl
+  logical_agrees depth_left (array (item t ts)) = members_agree depth_left 0 (item t ts)
+  logical_agrees depth_left (leaf s) = refl
+  logical_agrees depth_left (doc fs) = refl
+  logical_agrees depth_left (code_scope s fs) = refl
 
-  members_agree : (room i : ℕ) (ts : Items) → Agrees (member_filters room i ts) (HasBadMember room i ts)
-  members_agree room i no_items = λ r e. e
-  members_agree room i (item t ts) =
-      each_agrees (decimal i) (member_filter room t) (member_filters room (i + 1) ts) (IsBadMember room t) (HasBadMember room (i + 1) ts)
-      (member_agrees room t) (members_agree room (i + 1) ts)
+  members_agree : (depth_left i : ℕ) (ts : Items) → Agrees (member_filters depth_left i ts) (HasBadMember depth_left i ts)
+  members_agree depth_left i no_items = λ r e. e
+  members_agree depth_left i (item t ts) =
+      each_agrees (decimal i) (member_filter depth_left t) (member_filters depth_left (i + 1) ts) (IsBadMember depth_left t) (HasBadMember depth_left (i + 1) ts)
+      (member_agrees depth_left t) (members_agree depth_left (i + 1) ts)
 
-  member_agrees : (room : ℕ) (t : Tree) → Agrees (member_filter room t) (IsBadMember room t)
-  member_agrees room (leaf s) = refl
-  member_agrees room (doc fs) =
-      level_agrees room (λ xs. all_of (filters_from xs)) (filters_of (room - 1) fs) (HasBadPair (room - 1) fs) (pairs_agree (room - 1) fs)
-  member_agrees room (array ts) = refl
-  member_agrees room (code_scope s fs) = refl
+  member_agrees : (depth_left : ℕ) (t : Tree) → Agrees (member_filter depth_left t) (IsBadMember depth_left t)
+  member_agrees depth_left (leaf s) = refl
+  member_agrees depth_left (doc fs) =
+      level_agrees depth_left (λ xs. all_of (filters_from xs)) (filters_of (depth_left - 1) fs) (HasBadPair (depth_left - 1) fs) (pairs_agree (depth_left - 1) fs)
+  member_agrees depth_left (array ts) = refl
+  member_agrees depth_left (code_scope s fs) = refl
 
-  value_agrees : (room : ℕ) (t : Tree) → Agrees (path_operators room t) (IsBadValue room t)
-  value_agrees room (leaf s) = itself_agrees (path_operators room (leaf s))
-  value_agrees room (doc fs) =
-      value_form (first_is_operator fs) (operators_of room fs) (equals (doc fs) ∷ []) (HasBadOperator room fs) (operators_agree room fs)
-  value_agrees room (array ts) = itself_agrees (path_operators room (array ts))
-  value_agrees room (code_scope s fs) = itself_agrees (path_operators room (code_scope s fs))
+  value_agrees : (depth_left : ℕ) (t : Tree) → Agrees (path_operators depth_left t) (IsBadValue depth_left t)
+  value_agrees depth_left (leaf s) = itself_agrees (path_operators depth_left (leaf s))
+  value_agrees depth_left (doc fs) =
+      value_form (first_is_operator fs) (operators_of depth_left fs) (equals (doc fs) ∷ []) (HasBadOperator depth_left fs) (operators_agree depth_left fs)
+  value_agrees depth_left (array ts) = itself_agrees (path_operators depth_left (array ts))
+  value_agrees depth_left (code_scope s fs) = itself_agrees (path_operators depth_left (code_scope s fs))
 
-  operators_agree : (room : ℕ) (fs : Fields) → Agrees (operators_of room fs) (HasBadOperator room fs)
-  operators_agree room no_fields = λ r e. e
-  operators_agree room (field n t fs) =
+  operators_agree : (depth_left : ℕ) (fs : Fields) → Agrees (operators_of depth_left fs) (HasBadOperator depth_left fs)
+  operators_agree depth_left no_fields = λ r e. e
+  operators_agree depth_left (field n t fs) =
       let w = word_of n in
-      let one = operator_agrees w t (not_operator room t) (element_operator room t) (IsBadNot room t) (IsBadElemMatch room t) (not_agrees room t) (element_agrees room t) in
-      each_agrees n (operator_of w t (not_operator room t) (element_operator room t)) (operators_of room fs)
-      (IsBadOperator w t (IsBadNot room t) (IsBadElemMatch room t)) (HasBadOperator room fs) one (operators_agree room fs)
+      let one = operator_agrees w t (not_operator depth_left t) (element_operator depth_left t) (IsBadNot depth_left t) (IsBadElemMatch depth_left t) (not_agrees depth_left t) (element_agrees depth_left t) in
+      each_agrees n (operator_of w t (not_operator depth_left t) (element_operator depth_left t)) (operators_of depth_left fs)
+      (IsBadOperator w t (IsBadNot depth_left t) (IsBadElemMatch depth_left t)) (HasBadOperator depth_left fs) one (operators_agree depth_left fs)
 
-  not_agrees : (room : ℕ) (t : Tree) → Agrees (not_operator room t) (IsBadNot room t)
-  not_agrees room (leaf s) = itself_agrees (not_operator room (leaf s))
-  not_agrees room (doc fs) =
+  not_agrees : (depth_left : ℕ) (t : Tree) → Agrees (not_operator depth_left t) (IsBadNot depth_left t)
+  not_agrees depth_left (leaf s) = itself_agrees (not_operator depth_left (leaf s))
+  not_agrees depth_left (doc fs) =
       let f : List Operator → Operator = λ xs. negates (operators_from xs) in
-      not_form (first_is_operator fs) (inner_part room (read_as f (operators_of (room - 1) fs))) (BreaksInside room (HasBadOperator (room - 1) fs))
-      (level_agrees room f (operators_of (room - 1) fs) (HasBadOperator (room - 1) fs) (operators_agree (room - 1) fs))
-  not_agrees room (array ts) = refl
-  not_agrees room (code_scope s fs) = refl
+      not_form (first_is_operator fs) (inner_part depth_left (read_as f (operators_of (depth_left - 1) fs))) (BreaksInside depth_left (HasBadOperator (depth_left - 1) fs))
+      (level_agrees depth_left f (operators_of (depth_left - 1) fs) (HasBadOperator (depth_left - 1) fs) (operators_agree (depth_left - 1) fs))
+  not_agrees depth_left (array ts) = refl
+  not_agrees depth_left (code_scope s fs) = refl
 
-  element_agrees : (room : ℕ) (t : Tree) → Agrees (element_operator room t) (IsBadElemMatch room t)
-  element_agrees room (leaf s) = refl
-  element_agrees room (doc fs) =
+  element_agrees : (depth_left : ℕ) (t : Tree) → Agrees (element_operator depth_left t) (IsBadElemMatch depth_left t)
+  element_agrees depth_left (leaf s) = refl
+  element_agrees depth_left (doc fs) =
       let f : List Operator → Operator = λ xs. has_element (operators_from xs) in
       let g : List Filter → Operator = λ xs. has_document (filters_from xs) in
-      element_form (has_value_form fs) (inner_part room (read_as f (operators_of (room - 1) fs))) (inner_part room (read_as g (filters_of (room - 1) fs)))
-      (BreaksInside room (HasBadOperator (room - 1) fs)) (BreaksInside room (HasBadPair (room - 1) fs))
-      (level_agrees room f (operators_of (room - 1) fs) (HasBadOperator (room - 1) fs) (operators_agree (room - 1) fs))
-      (level_agrees room g (filters_of (room - 1) fs) (HasBadPair (room - 1) fs) (pairs_agree (room - 1) fs))
-  element_agrees room (array ts) = refl
-  element_agrees room (code_scope s fs) = refl
+      element_form (has_value_form fs) (inner_part depth_left (read_as f (operators_of (depth_left - 1) fs))) (inner_part depth_left (read_as g (filters_of (depth_left - 1) fs)))
+      (BreaksInside depth_left (HasBadOperator (depth_left - 1) fs)) (BreaksInside depth_left (HasBadPair (depth_left - 1) fs))
+      (level_agrees depth_left f (operators_of (depth_left - 1) fs) (HasBadOperator (depth_left - 1) fs) (operators_agree (depth_left - 1) fs))
+      (level_agrees depth_left g (filters_of (depth_left - 1) fs) (HasBadPair (depth_left - 1) fs) (pairs_agree (depth_left - 1) fs))
+  element_agrees depth_left (array ts) = refl
+  element_agrees depth_left (code_scope s fs) = refl
 
 document_agrees : (d : Doc) → Agrees (filter_of d) (IsBadAt d)
 document_agrees d =

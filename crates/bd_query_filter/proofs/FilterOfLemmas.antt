@@ -8,13 +8,13 @@ use Rattle.bd_value.specs.Tree.{Tree, leaf, doc, array, code_scope, Doc, Fields,
 use Rattle.bd_value.specs.Tree.{items_of-list_of}
 use Rattle.bd_value.specs.Tree as trees
 use Rattle.bd_value.specs.declared.node.Kind.TheVariants as kinds
-use Rattle.bd_query_filter.specs.Fault.{Refusal, refusal_of, StopsAt, TellsMisfit, deeper}
+use Rattle.bd_query_filter.specs.Fault.{Refusal, refusal_of, StopsAt, ReportsMisfit, deeper}
 use Rattle.bd_query_filter.specs.{declared.fault.FilterFault.FilterFault, declared.fault.Stop.Stop, declared.filter.Filter.Filter, declared.filter.Filter.TheVariants.And, declared.filter.Operator.Operator}
 use Rattle.bd_query_filter.specs.{declared.filter.Operator.TheVariants.Not, declared.filter.Operator.TheVariants.ElemMatch}
 use Rattle.bd_query_filter.specs.{declared.filter.Operator.TheVariants.ElemMatchDocument}
 use Rattle.bd_query_filter.specs.FilterOf.{all_kinds, element_operator, filter_of, filters_of, has_operators, has_value_form, is_bound, is_regex, member_filter}
 use Rattle.bd_query_filter.specs.FilterOf.{member_filters, member_values, members_of, inner_part, not_operator, operand_filters, operand_kinds, operators_of, path_operators}
-use Rattle.bd_query_filter.specs.FilterOf.{read_as, read_at, unless_left_out}
+use Rattle.bd_query_filter.specs.FilterOf.{read_as, read_at, unless_omitted}
 use Rattle.bd_query_filter.specs.Filter.{all_of, filters_from, has_document, has_element, negates, operators_from, has_type, filter_tree, operator_tree}
 use Rattle.bd_query_filter.specs.declared.fault.FilterFaultKind.TheVariants as faults
 use Rattle.bd_query_filter.specs.declared.fault.Stop.TheVariants as stops
@@ -42,9 +42,9 @@ pub none_read : {A B : Type 0} (view : A → B) (xs : List A) (whole : Result (L
 none_read view xs whole none = ap (λ ys. joined (map view ys) whole) none ∙ none_yet whole
 
 -- one more part was read, before those still to be read
-pub one_read : {A B : Type 0} (view : A → B) (xs ys : List A) (x : A) (name : List ℕ) (part : Result B Refusal) (left rest whole : Result (List B) Refusal)
-    → ys ≡ xs ++ x ∷ [] → part ≡ Ok (view x) → left ≡ read_at name part rest → joined (map view xs) left ≡ whole → joined (map view ys) rest ≡ whole
-one_read view xs ys x name part left rest whole pushed is next so_far =
+pub one_read : {A B : Type 0} (view : A → B) (xs ys : List A) (x : A) (name : List ℕ) (part : Result B Refusal) (remaining rest whole : Result (List B) Refusal)
+    → ys ≡ xs ++ x ∷ [] → part ≡ Ok (view x) → remaining ≡ read_at name part rest → joined (map view xs) remaining ≡ whole → joined (map view ys) rest ≡ whole
+one_read view xs ys x name part remaining rest whole pushed is next so_far =
     ap (λ zs. joined (map view zs) rest) pushed ∙ ap (λ zs. joined zs rest) (map_push view xs x) ∙ sym (one_more (map view xs) name (view x) rest)
     ∙ sym (ap (joined (map view xs)) (next ∙ ap (λ p. read_at name p rest) is)) ∙ so_far
 
@@ -53,22 +53,22 @@ pub all_read : {B : Type 0} (xs : List B) (rest whole : Result (List B) Refusal)
 all_read xs rest whole so_far none = sym so_far ∙ ap (joined xs) none ∙ no_more xs
 
 -- a part that is refused under a name is the refusal of all
-pub refused : {A : Type 0} (xs : List A) (name : List ℕ) (part : Result A Refusal) (left rest whole : Result (List A) Refusal) (stop result : Stop)
-    → left ≡ read_at name part rest → joined xs left ≡ whole → ((r : Refusal) → TellsMisfit stop r → TellsMisfit result (deeper name r))
+pub refused : {A : Type 0} (xs : List A) (name : List ℕ) (part : Result A Refusal) (remaining rest whole : Result (List A) Refusal) (stop result : Stop)
+    → remaining ≡ read_at name part rest → joined xs remaining ≡ whole → ((r : Refusal) → ReportsMisfit stop r → ReportsMisfit result (deeper name r))
     → StopsAt stop part → StopsAt result whole
-refused xs name part left rest whole stop stops.NoMemory next is tells at = tt
-refused xs name part left rest whole stops.NoMemory (stops.Fault f) next is tells at =
-    let one = tells (record { kind = faults.Path; place = [] }) tt in
-    let other = tells (record { kind = faults.TooDeep; place = [] }) tt in
+refused xs name part remaining rest whole stop stops.NoMemory next is reports at = tt
+refused xs name part remaining rest whole stops.NoMemory (stops.Fault f) next is reports at =
+    let one = reports (record { kind = faults.Path; place = [] }) tt in
+    let other = reports (record { kind = faults.TooDeep; place = [] }) tt in
     let same : faults.Path ≡ faults.TooDeep = ap (λ (r : Refusal). r.kind) one ∙ sym (ap (λ (r : Refusal). r.kind) other) in
     absurd cc
-refused xs name part left rest whole (stops.Fault k) (stops.Fault f) next is tells at =
-    sym is ∙ ap (joined xs) (next ∙ ap (λ p. read_at name p rest) at) ∙ ap (λ r. Err r) (tells (refusal_of k) refl)
+refused xs name part remaining rest whole (stops.Fault k) (stops.Fault f) next is reports at =
+    sym is ∙ ap (joined xs) (next ∙ ap (λ p. read_at name p rest) at) ∙ ap (λ r. Err r) (reports (refusal_of k) refl)
 
 -- ---- operands that are values
 
 pub ordered_is : (t : Tree) → kind_of t ≢ kinds.Regex → kind_of t ≢ kinds.MinKey → kind_of t ≢ kinds.MaxKey
-    → unless_left_out (is_regex t || is_bound t) t ≡ Ok t
+    → unless_omitted (is_regex t || is_bound t) t ≡ Ok t
 ordered_is (leaf (trees.regex p o)) regex least greatest = absurd (regex refl)
 ordered_is (leaf trees.min_key) regex least greatest = absurd (least refl)
 ordered_is (leaf trees.max_key) regex least greatest = absurd (greatest refl)
@@ -95,64 +95,64 @@ pub refused_for : {A B : Type 0} (f : A → B) (part : Result A Refusal) (whole 
     → whole ≡ read_as f part → StopsAt stop part → stop ≡ stops.Fault fault → whole ≡ Err (refusal_of fault)
 refused_for f part whole stop fault is at e = subst (λ s. StopsAt s whole) e (stops_as f part whole stop is at)
 
-with_room : {A : Type 0} (room : ℕ) (part : Result A Refusal) → room ≢ 0 → inner_part room part ≡ part
-with_room zero part some = absurd (some refl)
-with_room (suc room) part some = refl
+with_depth_left : {A : Type 0} (depth_left : ℕ) (part : Result A Refusal) → depth_left ≢ 0 → inner_part depth_left part ≡ part
+with_depth_left zero part some = absurd (some refl)
+with_depth_left (suc depth_left) part some = refl
 
 -- the fields of a document in hand
 fields_are : {A : Type 0} (f : Fields → A) (fs : Fields) (ps : Doc) → AreParts (doc fs) ps → f fs ≡ f (fields_of ps)
 fields_are f fs ps are = ap f (sym (fields_of-pairs_of fs) ∙ ap fields_of (sym are))
 
 -- those of one a level down
-inner_is : {A B : Type 0} (room : ℕ) (f : A → B) (g : Fields → Result A Refusal) (fs : Fields) (ps : Doc) → AreParts (doc fs) ps → room ≢ 0
-    → inner_part room (read_as f (g fs)) ≡ read_as f (g (fields_of ps))
-inner_is room f g fs ps are some = with_room room (read_as f (g fs)) some ∙ fields_are (λ gs. read_as f (g gs)) fs ps are
+inner_is : {A B : Type 0} (depth_left : ℕ) (f : A → B) (g : Fields → Result A Refusal) (fs : Fields) (ps : Doc) → AreParts (doc fs) ps → depth_left ≢ 0
+    → inner_part depth_left (read_as f (g fs)) ≡ read_as f (g (fields_of ps))
+inner_is depth_left f g fs ps are some = with_depth_left depth_left (read_as f (g fs)) some ∙ fields_are (λ gs. read_as f (g gs)) fs ps are
 
-pub operators_are : (room : ℕ) (t : Tree) (ps : Doc) → has_operators t ≡ true → AreParts t ps → path_operators room t ≡ operators_of room (fields_of ps)
-operators_are room (leaf s) ps has are = absurd are
-operators_are room (doc fs) ps has are = rw has (fields_are (operators_of room) fs ps are)
-operators_are room (array ts) ps has are = absurd cc
-operators_are room (code_scope s fs) ps has are = absurd are
+pub operators_are : (depth_left : ℕ) (t : Tree) (ps : Doc) → has_operators t ≡ true → AreParts t ps → path_operators depth_left t ≡ operators_of depth_left (fields_of ps)
+operators_are depth_left (leaf s) ps has are = absurd are
+operators_are depth_left (doc fs) ps has are = rw has (fields_are (operators_of depth_left) fs ps are)
+operators_are depth_left (array ts) ps has are = absurd cc
+operators_are depth_left (code_scope s fs) ps has are = absurd are
 
-pub negation_is : (room : ℕ) (t : Tree) (ps : Doc) → has_operators t ≡ true → AreParts t ps → room ≢ 0
-    → not_operator room t ≡ read_as (λ xs. negates (operators_from xs)) (operators_of (room - 1) (fields_of ps))
-negation_is room (leaf s) ps has are some = absurd are
-negation_is room (doc fs) ps has are some = rw has (inner_is room (λ xs. negates (operators_from xs)) (operators_of (room - 1)) fs ps are some)
-negation_is room (array ts) ps has are some = absurd cc
-negation_is room (code_scope s fs) ps has are some = absurd are
+pub negation_is : (depth_left : ℕ) (t : Tree) (ps : Doc) → has_operators t ≡ true → AreParts t ps → depth_left ≢ 0
+    → not_operator depth_left t ≡ read_as (λ xs. negates (operators_from xs)) (operators_of (depth_left - 1) (fields_of ps))
+negation_is depth_left (leaf s) ps has are some = absurd are
+negation_is depth_left (doc fs) ps has are some = rw has (inner_is depth_left (λ xs. negates (operators_from xs)) (operators_of (depth_left - 1)) fs ps are some)
+negation_is depth_left (array ts) ps has are some = absurd cc
+negation_is depth_left (code_scope s fs) ps has are some = absurd are
 
-pub member_is : (room : ℕ) (t : Tree) (ps : Doc) → kind_of t ≡ kinds.Doc → AreParts t ps → room ≢ 0
-    → member_filter room t ≡ read_as (λ xs. all_of (filters_from xs)) (filters_of (room - 1) (fields_of ps))
-member_is room (leaf s) ps is are some = absurd are
-member_is room (doc fs) ps is are some = inner_is room (λ xs. all_of (filters_from xs)) (filters_of (room - 1)) fs ps are some
-member_is room (array ts) ps is are some = absurd cc
-member_is room (code_scope s fs) ps is are some = absurd are
+pub member_is : (depth_left : ℕ) (t : Tree) (ps : Doc) → kind_of t ≡ kinds.Doc → AreParts t ps → depth_left ≢ 0
+    → member_filter depth_left t ≡ read_as (λ xs. all_of (filters_from xs)) (filters_of (depth_left - 1) (fields_of ps))
+member_is depth_left (leaf s) ps is are some = absurd are
+member_is depth_left (doc fs) ps is are some = inner_is depth_left (λ xs. all_of (filters_from xs)) (filters_of (depth_left - 1)) fs ps are some
+member_is depth_left (array ts) ps is are some = absurd cc
+member_is depth_left (code_scope s fs) ps is are some = absurd are
 
-element_form : (room : ℕ) (fs : Fields) (ps : Doc) (b : Bool) → AreParts (doc fs) ps → has_value_form fs ≡ b → room ≢ 0
-    → element_operator room (doc fs) ≡ (if b then read_as (λ xs. has_element (operators_from xs)) (operators_of (room - 1) (fields_of ps))
-    else read_as (λ xs. has_document (filters_from xs)) (filters_of (room - 1) (fields_of ps)))
-element_form room fs ps true are form some = rw form (inner_is room (λ xs. has_element (operators_from xs)) (operators_of (room - 1)) fs ps are some)
-element_form room fs ps false are form some = rw form (inner_is room (λ xs. has_document (filters_from xs)) (filters_of (room - 1)) fs ps are some)
+element_form : (depth_left : ℕ) (fs : Fields) (ps : Doc) (b : Bool) → AreParts (doc fs) ps → has_value_form fs ≡ b → depth_left ≢ 0
+    → element_operator depth_left (doc fs) ≡ (if b then read_as (λ xs. has_element (operators_from xs)) (operators_of (depth_left - 1) (fields_of ps))
+    else read_as (λ xs. has_document (filters_from xs)) (filters_of (depth_left - 1) (fields_of ps)))
+element_form depth_left fs ps true are form some = rw form (inner_is depth_left (λ xs. has_element (operators_from xs)) (operators_of (depth_left - 1)) fs ps are some)
+element_form depth_left fs ps false are form some = rw form (inner_is depth_left (λ xs. has_document (filters_from xs)) (filters_of (depth_left - 1)) fs ps are some)
 
-pub element_is : (room : ℕ) (t : Tree) (ps : Doc) (b : Bool) → kind_of t ≡ kinds.Doc → AreParts t ps → has_value_form (fields_of ps) ≡ b → room ≢ 0
-    → element_operator room t ≡ (if b then read_as (λ xs. has_element (operators_from xs)) (operators_of (room - 1) (fields_of ps))
-    else read_as (λ xs. has_document (filters_from xs)) (filters_of (room - 1) (fields_of ps)))
-element_is room (leaf s) ps b is are form some = absurd are
-element_is room (doc fs) ps b is are form some = element_form room fs ps b are (fields_are has_value_form fs ps are ∙ form) some
-element_is room (array ts) ps b is are form some = absurd cc
-element_is room (code_scope s fs) ps b is are form some = absurd are
+pub element_is : (depth_left : ℕ) (t : Tree) (ps : Doc) (b : Bool) → kind_of t ≡ kinds.Doc → AreParts t ps → has_value_form (fields_of ps) ≡ b → depth_left ≢ 0
+    → element_operator depth_left t ≡ (if b then read_as (λ xs. has_element (operators_from xs)) (operators_of (depth_left - 1) (fields_of ps))
+    else read_as (λ xs. has_document (filters_from xs)) (filters_of (depth_left - 1) (fields_of ps)))
+element_is depth_left (leaf s) ps b is are form some = absurd are
+element_is depth_left (doc fs) ps b is are form some = element_form depth_left fs ps b are (fields_are has_value_form fs ps are ∙ form) some
+element_is depth_left (array ts) ps b is are form some = absurd cc
+element_is depth_left (code_scope s fs) ps b is are form some = absurd are
 
-some_members : (room : ℕ) (ts : Items) → length (list_of ts) ≢ 0 → operand_filters room (array ts) ≡ member_filters room 0 ts
-some_members room no_items some = absurd (some refl)
-some_members room (item t ts) some = refl
+some_members : (depth_left : ℕ) (ts : Items) → length (list_of ts) ≢ 0 → operand_filters depth_left (array ts) ≡ member_filters depth_left 0 ts
+some_members depth_left no_items some = absurd (some refl)
+some_members depth_left (item t ts) some = refl
 
-pub operand_is : (room : ℕ) (t : Tree) (ps : Doc) → kind_of t ≡ kinds.Array → AreParts t ps → length_of t ≢ 0
-    → operand_filters room t ≡ member_filters room 0 (items_of (values_of ps))
-operand_is room (leaf s) ps is are some = absurd are
-operand_is room (doc fs) ps is are some = absurd cc
-operand_is room (array ts) ps is are some =
-    some_members room ts some ∙ ap (member_filters room 0) (sym (items_of-list_of ts) ∙ ap items_of (sym are))
-operand_is room (code_scope s fs) ps is are some = absurd are
+pub operand_is : (depth_left : ℕ) (t : Tree) (ps : Doc) → kind_of t ≡ kinds.Array → AreParts t ps → length_of t ≢ 0
+    → operand_filters depth_left t ≡ member_filters depth_left 0 (items_of (values_of ps))
+operand_is depth_left (leaf s) ps is are some = absurd are
+operand_is depth_left (doc fs) ps is are some = absurd cc
+operand_is depth_left (array ts) ps is are some =
+    some_members depth_left ts some ∙ ap (member_filters depth_left 0) (sym (items_of-list_of ts) ∙ ap items_of (sym are))
+operand_is depth_left (code_scope s fs) ps is are some = absurd are
 
 -- ---- the operand of `$type`
 

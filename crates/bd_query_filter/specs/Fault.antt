@@ -44,13 +44,13 @@ abbrev pub refusal_of : FilterFault → Refusal
 refusal_of f = record { kind = f.kind; place = map string_bytes f.place.items }
 
 -- The fault in memory says that memory ran out, and has the empty path.
-abbrev pub IsStarved : FilterFault → Type 0
-IsStarved f = (f.kind ≡ kinds.NoMemory) × (f.place.items ≡ [])
+abbrev pub IsOutOfMemory : FilterFault → Type 0
+IsOutOfMemory f = (f.kind ≡ kinds.NoMemory) × (f.place.items ≡ [])
 
 -- Reading stopped at this refusal, or memory ran out.
-abbrev pub TellsMisfit : Stop → Refusal → Type 0
-TellsMisfit stops.NoMemory r = Unit {0}
-TellsMisfit (stops.Fault f) r = r ≡ refusal_of f
+abbrev pub ReportsMisfit : Stop → Refusal → Type 0
+ReportsMisfit stops.NoMemory r = Unit {0}
+ReportsMisfit (stops.Fault f) r = r ≡ refusal_of f
 
 -- This part of a filter is refused, and reading stopped at that refusal; or memory ran out.
 abbrev pub StopsAt : {B : Type 0} → Stop → Result B Refusal → Type 0

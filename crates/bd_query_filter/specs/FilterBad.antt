@@ -25,7 +25,7 @@ BreaksUnder name IsBad r = (inner : Refusal) × (r ≡ deeper name inner) × IsB
 -- or of the part itself, which is too deep if no level is left.
 abbrev pub BreaksInside : ℕ → (Refusal → Type 0) → Refusal → Type 0
 BreaksInside zero IsBad r = BreaksHere faults.TooDeep r
-BreaksInside room IsBad r = IsBad r
+BreaksInside depth_left IsBad r = IsBad r
 
 -- Some member of the array of `$in`, `$nin` or `$all`, from this position on, is refused.
 abbrev pub HasBadElement : ℕ → Items → Refusal → Type 0
@@ -44,7 +44,7 @@ IsBadPlain p t r = plain_operator p t ≡ Err r
 abbrev pub IsBadPair : Word → List ℕ → (Refusal → Type 0) → (Refusal → Type 0) → Refusal → Type 0
 IsBadPair (words.Logical l) name AreBad IsBad r = AreBad r
 IsBadPair words.Field name AreBad IsBad r = (IsTrue (is_err (path_of name)) × BreaksHere faults.Path r) ⊎ IsBad r
-IsBadPair words.LeftOut name AreBad IsBad r = BreaksHere faults.NotInProfile r
+IsBadPair words.Omitted name AreBad IsBad r = BreaksHere faults.NotInProfile r
 IsBadPair w name AreBad IsBad r = BreaksHere faults.UnknownOperator r
 
 -- A pair among operators is refused, by what its name is:
@@ -53,56 +53,56 @@ abbrev pub IsBadOperator : Word → Tree → (Refusal → Type 0) → (Refusal �
 IsBadOperator (words.Plain p) t InNot InElemMatch r = IsBadPlain p t r
 IsBadOperator words.Not t InNot InElemMatch r = InNot r
 IsBadOperator words.ElemMatch t InNot InElemMatch r = InElemMatch r
-IsBadOperator words.LeftOut t InNot InElemMatch r = BreaksHere faults.NotInProfile r
+IsBadOperator words.Omitted t InNot InElemMatch r = BreaksHere faults.NotInProfile r
 IsBadOperator words.Field t InNot InElemMatch r = BreaksHere faults.MixedOperators r
 IsBadOperator w t InNot InElemMatch r = BreaksHere faults.UnknownOperator r
 
 abbrev mutual
-  -- Some pair of a document is refused; `room` more levels may be inside.
+  -- Some pair of a document is refused; `depth_left` more levels may be inside.
   pub HasBadPair : ℕ → Fields → Refusal → Type 0
-  HasBadPair room no_fields r = ⊥
-  HasBadPair room (field n t fs) r =
-      BreaksUnder n (IsBadPair (word_of n) n (AreBadFilters room t) (IsBadValue room t)) r ⊎ HasBadPair room fs r
+  HasBadPair depth_left no_fields r = ⊥
+  HasBadPair depth_left (field n t fs) r =
+      BreaksUnder n (IsBadPair (word_of n) n (AreBadFilters depth_left t) (IsBadValue depth_left t)) r ⊎ HasBadPair depth_left fs r
 
   -- The operand of `$and`, `$or` or `$nor` is refused: it is no array, or empty, or some member is refused.
   pub AreBadFilters : ℕ → Tree → Refusal → Type 0
-  AreBadFilters room (array (item t ts)) r = HasBadMember room 0 (item t ts) r
-  AreBadFilters room t r = BreaksHere faults.BadOperand r
+  AreBadFilters depth_left (array (item t ts)) r = HasBadMember depth_left 0 (item t ts) r
+  AreBadFilters depth_left t r = BreaksHere faults.BadOperand r
 
   -- Some member of the array of `$and`, `$or` or `$nor`, from this position on, is refused.
   pub HasBadMember : ℕ → ℕ → Items → Refusal → Type 0
-  HasBadMember room i no_items r = ⊥
-  HasBadMember room i (item t ts) r = BreaksUnder (decimal i) (IsBadMember room t) r ⊎ HasBadMember room (i + 1) ts r
+  HasBadMember depth_left i no_items r = ⊥
+  HasBadMember depth_left i (item t ts) r = BreaksUnder (decimal i) (IsBadMember depth_left t) r ⊎ HasBadMember depth_left (i + 1) ts r
 
   -- a member of `$and`, `$or` or `$nor`: it is no document, too deep, or a pair in it breaks a rule
   pub IsBadMember : ℕ → Tree → Refusal → Type 0
-  IsBadMember room (doc fs) r = BreaksInside room (HasBadPair (room - 1) fs) r
-  IsBadMember room t r = BreaksHere faults.BadOperand r
+  IsBadMember depth_left (doc fs) r = BreaksInside depth_left (HasBadPair (depth_left - 1) fs) r
+  IsBadMember depth_left t r = BreaksHere faults.BadOperand r
 
   -- The value of a path is refused: some operator in it,
   -- or a value to equal that may not be there, a regular expression.
   pub IsBadValue : ℕ → Tree → Refusal → Type 0
-  IsBadValue room (doc fs) r = IsTrue (first_is_operator fs) × HasBadOperator room fs r
-  IsBadValue room t r = path_operators room t ≡ Err r
+  IsBadValue depth_left (doc fs) r = IsTrue (first_is_operator fs) × HasBadOperator depth_left fs r
+  IsBadValue depth_left t r = path_operators depth_left t ≡ Err r
 
-  -- some pair among the operators of a path breaks a rule; `room` more levels may be inside
+  -- some pair among the operators of a path breaks a rule; `depth_left` more levels may be inside
   pub HasBadOperator : ℕ → Fields → Refusal → Type 0
-  HasBadOperator room no_fields r = ⊥
-  HasBadOperator room (field n t fs) r =
-      BreaksUnder n (IsBadOperator (word_of n) t (IsBadNot room t) (IsBadElemMatch room t)) r ⊎ HasBadOperator room fs r
+  HasBadOperator depth_left no_fields r = ⊥
+  HasBadOperator depth_left (field n t fs) r =
+      BreaksUnder n (IsBadOperator (word_of n) t (IsBadNot depth_left t) (IsBadElemMatch depth_left t)) r ⊎ HasBadOperator depth_left fs r
 
   -- The operand of `$not` is refused: it must be a document of operators, which is a level further in.
   pub IsBadNot : ℕ → Tree → Refusal → Type 0
-  IsBadNot room (doc fs) r = (IsFalse (first_is_operator fs) × BreaksHere faults.BadOperand r)
-      ⊎ (IsTrue (first_is_operator fs) × BreaksInside room (HasBadOperator (room - 1) fs) r)
-  IsBadNot room t r = not_operator room t ≡ Err r
+  IsBadNot depth_left (doc fs) r = (IsFalse (first_is_operator fs) × BreaksHere faults.BadOperand r)
+      ⊎ (IsTrue (first_is_operator fs) × BreaksInside depth_left (HasBadOperator (depth_left - 1) fs) r)
+  IsBadNot depth_left t r = not_operator depth_left t ≡ Err r
 
   -- The operand of `$elemMatch` is refused: it must be a document,
   -- of operators or of the pairs of a filter, a level further in.
   pub IsBadElemMatch : ℕ → Tree → Refusal → Type 0
-  IsBadElemMatch room (doc fs) r = (IsTrue (has_value_form fs) × BreaksInside room (HasBadOperator (room - 1) fs) r)
-      ⊎ (IsFalse (has_value_form fs) × BreaksInside room (HasBadPair (room - 1) fs) r)
-  IsBadElemMatch room t r = BreaksHere faults.BadOperand r
+  IsBadElemMatch depth_left (doc fs) r = (IsTrue (has_value_form fs) × BreaksInside depth_left (HasBadOperator (depth_left - 1) fs) r)
+      ⊎ (IsFalse (has_value_form fs) × BreaksInside depth_left (HasBadPair (depth_left - 1) fs) r)
+  IsBadElemMatch depth_left t r = BreaksHere faults.BadOperand r
 
 -- A pair or a member of the document breaks this rule at this path;
 -- a filter has 50 levels at most, the top is level 1.

@@ -55,12 +55,12 @@ has_operators (doc fs) = first_is_operator fs
 has_operators t = false
 
 -- the operand, or the refusal `not in the profile` if it is recognised but not supported
-abbrev pub unless_left_out : Bool → Tree → Result Tree Refusal
-unless_left_out left_out t = if left_out then refuse faults.NotInProfile else Ok t
+abbrev pub unless_omitted : Bool → Tree → Result Tree Refusal
+unless_omitted omitted t = if omitted then refuse faults.NotInProfile else Ok t
 
 -- a member of `$in`, `$nin` or `$all`: any value but a regular expression and a document of operators
 abbrev pub member_value : Tree → Result Tree Refusal
-member_value t = unless_left_out (is_regex t || has_operators t) t
+member_value t = unless_omitted (is_regex t || has_operators t) t
 
 -- the members of `$in`, `$nin` or `$all` from this position on, or the first refusal among them
 abbrev pub member_values : ℕ → Items → Result (List Tree) Refusal
@@ -111,8 +111,8 @@ or_bad_operand (Some x) = Ok x
 -- no regular expression but after `$eq`, and no MinKey or MaxKey after `$gt`, `$gte`, `$lt`, `$lte`
 abbrev pub plain_operator : PlainOperator → Tree → Result Operator Refusal
 plain_operator plain.Equal t = Ok (equals t)
-plain_operator plain.NotEqual t = read_as (λ v. negation_of (equals v)) (unless_left_out (is_regex t) t)
-plain_operator (plain.Order r) t = read_as (compares r) (unless_left_out (is_regex t || is_bound t) t)
+plain_operator plain.NotEqual t = read_as (λ v. negation_of (equals v)) (unless_omitted (is_regex t) t)
+plain_operator (plain.Order r) t = read_as (compares r) (unless_omitted (is_regex t || is_bound t) t)
 plain_operator plain.In t = read_as is_in (members_of t)
 plain_operator plain.NotIn t = read_as (λ vs. negation_of (is_in vs)) (members_of t)
 plain_operator plain.All t = read_as has_all (members_of t)
@@ -131,7 +131,7 @@ logical_filter logical.Nor fs = none_of (filters_from fs)
 -- a part that is a level further in, or the refusal `too deep` if no level is left
 abbrev pub inner_part : {A : Type 0} → ℕ → Result A Refusal → Result A Refusal
 inner_part zero part = refuse faults.TooDeep
-inner_part room part = part
+inner_part depth_left part = part
 
 -- whether `$elemMatch` has operators for an element if its body begins with this name
 abbrev pub is_value_form : Word → Bool
@@ -152,7 +152,7 @@ abbrev pub pair_filter : Word → Result Names PathFault → Result (List Filter
 pair_filter (words.Logical l) path filters operators = read_as (logical_filter l) filters
 pair_filter words.Field (Err fault) filters operators = refuse faults.Path
 pair_filter words.Field (Ok path) filters operators = read_as (λ os. at_path path (operators_from os)) operators
-pair_filter words.LeftOut path filters operators = refuse faults.NotInProfile
+pair_filter words.Omitted path filters operators = refuse faults.NotInProfile
 pair_filter w path filters operators = refuse faults.UnknownOperator
 
 -- the operator of a pair among operators, by what its name is
@@ -160,62 +160,62 @@ abbrev pub operator_of : Word → Tree → Result Operator Refusal → Result Op
 operator_of (words.Plain p) t inverse element = plain_operator p t
 operator_of words.Not t inverse element = inverse
 operator_of words.ElemMatch t inverse element = element
-operator_of words.LeftOut t inverse element = refuse faults.NotInProfile
+operator_of words.Omitted t inverse element = refuse faults.NotInProfile
 operator_of words.Field t inverse element = refuse faults.MixedOperators
 operator_of w t inverse element = refuse faults.UnknownOperator
 
 abbrev mutual
   -- the filters of the pairs of a document, in order, or the first refusal;
-  -- `room` more levels may be inside
+  -- `depth_left` more levels may be inside
   pub filters_of : ℕ → Fields → Result (List Filter) Refusal
-  filters_of room no_fields = Ok []
-  filters_of room (field n t fs) =
-      read_at n (pair_filter (word_of n) (path_of n) (operand_filters room t) (path_operators room t))
-      (filters_of room fs)
+  filters_of depth_left no_fields = Ok []
+  filters_of depth_left (field n t fs) =
+      read_at n (pair_filter (word_of n) (path_of n) (operand_filters depth_left t) (path_operators depth_left t))
+      (filters_of depth_left fs)
 
   -- the filters of `$and`, `$or` or `$nor`: their operand is an array that is not empty
   pub operand_filters : ℕ → Tree → Result (List Filter) Refusal
-  operand_filters room (array (item t ts)) = member_filters room 0 (item t ts)
-  operand_filters room t = refuse faults.BadOperand
+  operand_filters depth_left (array (item t ts)) = member_filters depth_left 0 (item t ts)
+  operand_filters depth_left t = refuse faults.BadOperand
 
   -- the filters of `$and`, `$or` or `$nor` from this position on, or the first refusal among them
   pub member_filters : ℕ → ℕ → Items → Result (List Filter) Refusal
-  member_filters room i no_items = Ok []
-  member_filters room i (item t ts) = read_at (decimal i) (member_filter room t) (member_filters room (i + 1) ts)
+  member_filters depth_left i no_items = Ok []
+  member_filters depth_left i (item t ts) = read_at (decimal i) (member_filter depth_left t) (member_filters depth_left (i + 1) ts)
 
   -- one member of `$and`, `$or` or `$nor`: a document, which is a level further in
   pub member_filter : ℕ → Tree → Result Filter Refusal
-  member_filter room (doc fs) = inner_part room (read_as (λ xs. all_of (filters_from xs)) (filters_of (room - 1) fs))
-  member_filter room t = refuse faults.BadOperand
+  member_filter depth_left (doc fs) = inner_part depth_left (read_as (λ xs. all_of (filters_from xs)) (filters_of (depth_left - 1) fs))
+  member_filter depth_left t = refuse faults.BadOperand
 
   -- the operators in the value of a path: those of a document of operators, else equality with the value
   pub path_operators : ℕ → Tree → Result (List Operator) Refusal
-  path_operators room (doc fs) = if first_is_operator fs then operators_of room fs else Ok (equals (doc fs) ∷ [])
-  path_operators room t = read_as (λ v. equals v ∷ []) (unless_left_out (is_regex t) t)
+  path_operators depth_left (doc fs) = if first_is_operator fs then operators_of depth_left fs else Ok (equals (doc fs) ∷ [])
+  path_operators depth_left t = read_as (λ v. equals v ∷ []) (unless_omitted (is_regex t) t)
 
-  -- the operators of a path, in order, or the first refusal among them; `room` more levels may be inside
+  -- the operators of a path, in order, or the first refusal among them; `depth_left` more levels may be inside
   pub operators_of : ℕ → Fields → Result (List Operator) Refusal
-  operators_of room no_fields = Ok []
-  operators_of room (field n t fs) =
-      read_at n (operator_of (word_of n) t (not_operator room t) (element_operator room t)) (operators_of room fs)
+  operators_of depth_left no_fields = Ok []
+  operators_of depth_left (field n t fs) =
+      read_at n (operator_of (word_of n) t (not_operator depth_left t) (element_operator depth_left t)) (operators_of depth_left fs)
 
   -- `$not`: a document of operators, a level further in;
   -- the manual has a regular expression there too, which is not supported
   pub not_operator : ℕ → Tree → Result Operator Refusal
-  not_operator room (doc fs) =
+  not_operator depth_left (doc fs) =
       if first_is_operator fs
-      then inner_part room (read_as (λ xs. negates (operators_from xs)) (operators_of (room - 1) fs))
+      then inner_part depth_left (read_as (λ xs. negates (operators_from xs)) (operators_of (depth_left - 1) fs))
       else refuse faults.BadOperand
-  not_operator room t = if is_regex t then refuse faults.NotInProfile else refuse faults.BadOperand
+  not_operator depth_left t = if is_regex t then refuse faults.NotInProfile else refuse faults.BadOperand
 
   -- `$elemMatch`: operators for an element, or a filter for an element that is a document;
   -- its body is a level further in
   pub element_operator : ℕ → Tree → Result Operator Refusal
-  element_operator room (doc fs) =
-      if has_value_form fs then inner_part room
-      (read_as (λ xs. has_element (operators_from xs)) (operators_of (room - 1) fs))
-      else inner_part room (read_as (λ xs. has_document (filters_from xs)) (filters_of (room - 1) fs))
-  element_operator room t = refuse faults.BadOperand
+  element_operator depth_left (doc fs) =
+      if has_value_form fs then inner_part depth_left
+      (read_as (λ xs. has_element (operators_from xs)) (operators_of (depth_left - 1) fs))
+      else inner_part depth_left (read_as (λ xs. has_document (filters_from xs)) (filters_of (depth_left - 1) fs))
+  element_operator depth_left t = refuse faults.BadOperand
 
 -- the filter that a document describes, or its first refusal;
 -- a filter has 50 levels at most, the top is level 1

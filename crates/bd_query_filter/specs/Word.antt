@@ -33,8 +33,8 @@ query_operators =
     ∷ (codes "$not", words.Not) ∷ (codes "$elemMatch", words.ElemMatch) ∷ []
 
 -- the names that are recognised but not supported: operators of the manual, and the names of a DBRef
-abbrev pub left_out_names : List (List ℕ)
-left_out_names =
+abbrev pub omitted_names : List (List ℕ)
+omitted_names =
     codes "$regex" ∷ codes "$options" ∷ codes "$mod" ∷ codes "$expr" ∷ codes "$where"
     ∷ codes "$text" ∷ codes "$jsonSchema"
     ∷ codes "$comment" ∷ codes "$geoWithin" ∷ codes "$geoIntersects" ∷ codes "$near"
@@ -43,8 +43,8 @@ left_out_names =
     ∷ codes "$id" ∷ codes "$db" ∷ []
 
 -- whether a name is recognised but not supported
-unfoldable pub is_left_out : List ℕ → Bool
-is_left_out name = list_any (λ left_out. bytes_eq left_out name) left_out_names
+unfoldable pub is_omitted : List ℕ → Bool
+is_omitted name = list_any (λ omitted. bytes_eq omitted name) omitted_names
 
 -- the supported operator with this name, if there is one
 unfoldable pub known_operator : List ℕ → Option Word
@@ -55,7 +55,7 @@ known_operator name = option_map (λ row. row.1) (find (λ row. bytes_eq row.0 n
 unfoldable pub word_of : List ℕ → Word
 word_of name =
     if begins_with_dollar name
-    then unwrap_or (known_operator name) (if is_left_out name then words.LeftOut else words.Unknown)
+    then unwrap_or (known_operator name) (if is_omitted name then words.Omitted else words.Unknown)
     else words.Field
 
 -- the types of `$type` (MongoDB manual, "$type"): number, name, and kinds. Doubles and decimals have none.

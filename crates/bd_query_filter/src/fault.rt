@@ -1,7 +1,7 @@
 //! Why a document is no filter, and where.
 
 ghost use Rattle.std.specs.Prelude.{◌≡◌, []};
-ghost use Rattle.bd_query_filter.specs.Fault.{Refusal, TellsMisfit, deeper, filter_fault_number, filter_fault_words};
+ghost use Rattle.bd_query_filter.specs.Fault.{Refusal, ReportsMisfit, deeper, filter_fault_number, filter_fault_words};
 ghost use Rattle.bd_query_filter.specs.declared.fault.Stop.TheVariants.{NoMemory};
 
 use std::alloc::{AllocError, AllocFailed, Global};
@@ -78,7 +78,7 @@ pub enum Stop {
 
 /// A fault of the part itself.
 pub(crate) fn stop_at(alloc: Global, kind: FilterFaultKind) -> Stop
-    ensures { TellsMisfit result (record { kind = kind; place = [] }) }
+    ensures { ReportsMisfit result (record { kind = kind; place = [] }) }
 {
     let place = Vec::new(alloc);
     Stop::Fault(FilterFault { kind, place })
@@ -86,7 +86,7 @@ pub(crate) fn stop_at(alloc: Global, kind: FilterFaultKind) -> Stop
 
 /// The stop as it is seen from one name up.
 pub(crate) fn under(alloc: Global, name: &str, stop: Stop) -> Stop
-    ensures { (r : Refusal) → TellsMisfit stop r → TellsMisfit result (deeper name.now r) }
+    ensures { (r : Refusal) → ReportsMisfit stop r → ReportsMisfit result (deeper name.now r) }
 {
     let Stop::Fault(mut fault) = stop else {
         return Stop::NoMemory;

@@ -4,13 +4,13 @@ ghost use Rattle.std.specs.Prelude.{◌≡◌, ◌⊎◌, map, IfOk, IfErr, Ok, 
 ghost use Rattle.bd_value.specs.View.{pairs};
 ghost use Rattle.bd_path.specs.Path.{path_of};
 ghost use Rattle.bd_value.specs.Tree.{Doc, fields_of, items_of, values_of};
-ghost use Rattle.bd_query_filter.specs.Fault.{IsStarved, ReadsPart, refusal_of};
+ghost use Rattle.bd_query_filter.specs.Fault.{IsOutOfMemory, ReadsPart, refusal_of};
 ghost use Rattle.bd_query_filter.specs.Filter as filters;
 ghost use Rattle.bd_query_filter.specs.Filter.{filter_tree, operator_tree};
 ghost use Rattle.bd_query_filter.specs.FilterBad.{IsBadAt};
 ghost use Rattle.bd_query_filter.specs.FilterOf.{element_operator, filter_of, filters_of, has_value_form, member_filter, member_filters, not_operator};
 ghost use Rattle.bd_query_filter.specs.FilterOf.{operand_filters, operator_of, operators_of, pair_filter, path_operators};
-ghost use Rattle.bd_query_filter.specs.Word.{begins_with_dollar, is_left_out, known_operator, word_of};
+ghost use Rattle.bd_query_filter.specs.Word.{begins_with_dollar, is_omitted, known_operator, word_of};
 
 use crate::fault::{FilterFault, FilterFaultKind, Stop, stop_at, under};
 use crate::filter::{Filter, Operator};
@@ -30,9 +30,10 @@ use std::alloc::Global;
 /// where no memory was given.
 pub fn parse(alloc: Global, document: &Document) -> Result<Filter, FilterFault>
     ensures filter { IfOk result (λ f. filter_of (pairs document.now) ≡ Ok (filter_tree f)) }
-    ensures fault { IfErr result (λ f. IsStarved f
+    ensures fault { IfErr result (λ f. IsOutOfMemory f
         ⊎ (filter_of (pairs document.now) ≡ Err (refusal_of f))) }
-    ensures bad { IfErr result (λ f. IsStarved f ⊎ IsBadAt (pairs document.now) (refusal_of f)) }
+    ensures bad { IfErr result (λ f. IsOutOfMemory f
+        ⊎ IsBadAt (pairs document.now) (refusal_of f)) }
 {
     match read_filters::<Tree<'_>>(alloc, MOST_FILTER_LEVELS - 1, Tree::Doc(document).parts()) {
         Ok(filters) => Ok(Filter::And(filters)),
@@ -46,31 +47,39 @@ pub fn parse(alloc: Global, document: &Document) -> Result<Filter, FilterFault>
 
 /// The filters of the pairs of a document.
 #[cycle(parse)]
-fn read_filters<N: Reading>(alloc: Global, room: u32, pairs: N::Rest) -> Result<Vec<Filter>, Stop>
+fn read_filters<N: Reading>(
+    alloc: Global,
+    depth_left: u32,
+    pairs: N::Rest,
+) -> Result<Vec<Filter>, Stop>
     ensures { ReadsPart (λ fs.
-        map filter_tree fs.items) result (filters_of room (fields_of (N.left pairs))) }
+        map filter_tree fs.items) result (filters_of depth_left (fields_of (N.remaining pairs))) }
 {
     let mut filters = Vec::new(alloc);
-    let mut left = pairs;
-    while let Some(next) = N::next(&left) {
-        match read_pair(alloc, room, next.0, next.1) {
+    let mut remaining = pairs;
+    while let Some(next) = N::next(&remaining) {
+        match read_pair(alloc, depth_left, next.0, next.1) {
             Ok(filter) => filters.push(filter)?,
             Err(stop) => return Err(under(alloc, next.0, stop)),
         }
-        left = next.2;
+        remaining = next.2;
     }
     Ok(filters)
 }
 
 #[cycle(parse)]
-fn read_pair<N: Reading>(alloc: Global, room: u32, name: &str, value: N) -> Result<Filter, Stop>
-    ensures { ReadsPart filter_tree result
-        (pair_filter (word_of name.now) (path_of name.now) (operand_filters room (N.tree value))
-        (path_operators room (N.tree value))) }
+fn read_pair<N: Reading>(
+    alloc: Global,
+    depth_left: u32,
+    name: &str,
+    value: N,
+) -> Result<Filter, Stop>
+    ensures { ReadsPart filter_tree result (pair_filter (word_of name.now) (path_of name.now)
+        (operand_filters depth_left (N.tree value)) (path_operators depth_left (N.tree value))) }
 {
     match Word::from_name(name) {
         Word::Logical(logical) => {
-            let filters = read_operand(alloc, room, value)?;
+            let filters = read_operand(alloc, depth_left, value)?;
             Ok(match logical {
                 LogicalOperator::And => Filter::And(filters),
                 LogicalOperator::Or => Filter::Or(filters),
@@ -79,22 +88,22 @@ fn read_pair<N: Reading>(alloc: Global, room: u32, name: &str, value: N) -> Resu
         }
         Word::Field => match Path::parse(alloc, name) {
             Ok(path) => {
-                let operators = read_value(alloc, room, value)?;
+                let operators = read_value(alloc, depth_left, value)?;
                 Ok(Filter::Field { path, operators })
             }
             Err(PathFault::NoMemory) => Err(Stop::NoMemory),
             Err(_) => Err(stop_at(alloc, FilterFaultKind::Path)),
         },
-        Word::LeftOut => Err(stop_at(alloc, FilterFaultKind::NotInProfile)),
+        Word::Omitted => Err(stop_at(alloc, FilterFaultKind::NotInProfile)),
         _ => Err(stop_at(alloc, FilterFaultKind::UnknownOperator)),
     }
 }
 
 /// The filters of the operand of `$and`, `$or` and `$nor`.
 #[cycle(parse)]
-fn read_operand<N: Reading>(alloc: Global, room: u32, operand: N) -> Result<Vec<Filter>, Stop>
+fn read_operand<N: Reading>(alloc: Global, depth_left: u32, operand: N) -> Result<Vec<Filter>, Stop>
     ensures { ReadsPart (λ fs.
-        map filter_tree fs.items) result (operand_filters room (N.tree operand)) }
+        map filter_tree fs.items) result (operand_filters depth_left (N.tree operand)) }
 {
     let Kind::Array = operand.kind() else {
         return Err(stop_at(alloc, FilterFaultKind::BadOperand));
@@ -102,48 +111,52 @@ fn read_operand<N: Reading>(alloc: Global, room: u32, operand: N) -> Result<Vec<
     if operand.len() == 0 {
         return Err(stop_at(alloc, FilterFaultKind::BadOperand));
     }
-    read_members::<N>(alloc, room, operand.parts())
+    read_members::<N>(alloc, depth_left, operand.parts())
 }
 
 #[cycle(parse)]
-fn read_members<N: Reading>(alloc: Global, room: u32, members: N::Rest) -> Result<Vec<Filter>, Stop>
+fn read_members<N: Reading>(
+    alloc: Global,
+    depth_left: u32,
+    members: N::Rest,
+) -> Result<Vec<Filter>, Stop>
     ensures { ReadsPart (λ fs. map filter_tree fs.items) result
-        (member_filters room 0 (items_of (values_of (N.left members)))) }
+        (member_filters depth_left 0 (items_of (values_of (N.remaining members)))) }
 {
     let mut filters = Vec::new(alloc);
-    let mut left = members;
-    while let Some(next) = N::next(&left) {
-        match read_member(alloc, room, next.1) {
+    let mut remaining = members;
+    while let Some(next) = N::next(&remaining) {
+        match read_member(alloc, depth_left, next.1) {
             Ok(filter) => filters.push(filter)?,
             Err(stop) => return Err(under_index(alloc, filters.len(), stop)),
         }
-        left = next.2;
+        remaining = next.2;
     }
     Ok(filters)
 }
 
 #[cycle(parse)]
-fn read_member<N: Reading>(alloc: Global, room: u32, member: N) -> Result<Filter, Stop>
-    ensures { ReadsPart filter_tree result (member_filter room (N.tree member)) }
+fn read_member<N: Reading>(alloc: Global, depth_left: u32, member: N) -> Result<Filter, Stop>
+    ensures { ReadsPart filter_tree result (member_filter depth_left (N.tree member)) }
 {
     let Kind::Doc = member.kind() else {
         return Err(stop_at(alloc, FilterFaultKind::BadOperand));
     };
-    if room == 0 {
+    if depth_left == 0 {
         return Err(stop_at(alloc, FilterFaultKind::TooDeep));
     }
-    let filters = read_filters::<N>(alloc, room - 1, member.parts())?;
+    let filters = read_filters::<N>(alloc, depth_left - 1, member.parts())?;
     Ok(Filter::And(filters))
 }
 
 /// The operators that the value of a path stands for.
 #[cycle(parse)]
-fn read_value<N: Reading>(alloc: Global, room: u32, value: N) -> Result<Vec<Operator>, Stop>
+fn read_value<N: Reading>(alloc: Global, depth_left: u32, value: N) -> Result<Vec<Operator>, Stop>
     ensures { ReadsPart (λ os.
-        map operator_tree os.items) result (path_operators room (N.tree value)) }
+        map operator_tree os.items) result (path_operators depth_left (N.tree value)) }
 {
     if has_operators(value) {
-        return read_operators::<N>(alloc, room, value.parts());
+        return read_operators::<N>(alloc, depth_left, value.parts());
     }
     let operand = plain_value(alloc, value)?;
     let mut operators = Vec::new(alloc);
@@ -154,20 +167,20 @@ fn read_value<N: Reading>(alloc: Global, room: u32, value: N) -> Result<Vec<Oper
 #[cycle(parse)]
 fn read_operators<N: Reading>(
     alloc: Global,
-    room: u32,
+    depth_left: u32,
     pairs: N::Rest,
 ) -> Result<Vec<Operator>, Stop>
-    ensures { ReadsPart (λ os.
-        map operator_tree os.items) result (operators_of room (fields_of (N.left pairs))) }
+    ensures { ReadsPart (λ os. map operator_tree os.items) result
+        (operators_of depth_left (fields_of (N.remaining pairs))) }
 {
     let mut operators = Vec::new(alloc);
-    let mut left = pairs;
-    while let Some(next) = N::next(&left) {
-        match read_operator(alloc, room, next.0, next.1) {
+    let mut remaining = pairs;
+    while let Some(next) = N::next(&remaining) {
+        match read_operator(alloc, depth_left, next.0, next.1) {
             Ok(operator) => operators.push(operator)?,
             Err(stop) => return Err(under(alloc, next.0, stop)),
         }
-        left = next.2;
+        remaining = next.2;
     }
     Ok(operators)
 }
@@ -175,33 +188,33 @@ fn read_operators<N: Reading>(
 #[cycle(parse)]
 fn read_operator<N: Reading>(
     alloc: Global,
-    room: u32,
+    depth_left: u32,
     name: &str,
     operand: N,
 ) -> Result<Operator, Stop>
     ensures { ReadsPart operator_tree result
-        (operator_of (word_of name.now) (N.tree operand) (not_operator room (N.tree operand))
-        (element_operator room (N.tree operand))) }
+        (operator_of (word_of name.now) (N.tree operand) (not_operator depth_left (N.tree operand))
+        (element_operator depth_left (N.tree operand))) }
 {
     match Word::from_name(name) {
         Word::Plain(plain) => plain_operator(alloc, plain, operand),
-        Word::Not => read_not(alloc, room, operand),
-        Word::ElemMatch => read_elem_match(alloc, room, operand),
-        Word::LeftOut => Err(stop_at(alloc, FilterFaultKind::NotInProfile)),
+        Word::Not => read_not(alloc, depth_left, operand),
+        Word::ElemMatch => read_elem_match(alloc, depth_left, operand),
+        Word::Omitted => Err(stop_at(alloc, FilterFaultKind::NotInProfile)),
         Word::Field => Err(stop_at(alloc, FilterFaultKind::MixedOperators)),
         _ => Err(stop_at(alloc, FilterFaultKind::UnknownOperator)),
     }
 }
 
 #[cycle(parse)]
-fn read_not<N: Reading>(alloc: Global, room: u32, operand: N) -> Result<Operator, Stop>
-    ensures { ReadsPart operator_tree result (not_operator room (N.tree operand)) }
+fn read_not<N: Reading>(alloc: Global, depth_left: u32, operand: N) -> Result<Operator, Stop>
+    ensures { ReadsPart operator_tree result (not_operator depth_left (N.tree operand)) }
 {
     if has_operators(operand) {
-        if room == 0 {
+        if depth_left == 0 {
             return Err(stop_at(alloc, FilterFaultKind::TooDeep));
         }
-        let operators = read_operators::<N>(alloc, room - 1, operand.parts())?;
+        let operators = read_operators::<N>(alloc, depth_left - 1, operand.parts())?;
         return Ok(Operator::Not(operators));
     }
     match operand.kind() {
@@ -211,27 +224,27 @@ fn read_not<N: Reading>(alloc: Global, room: u32, operand: N) -> Result<Operator
 }
 
 #[cycle(parse)]
-fn read_elem_match<N: Reading>(alloc: Global, room: u32, operand: N) -> Result<Operator, Stop>
-    ensures { ReadsPart operator_tree result (element_operator room (N.tree operand)) }
+fn read_elem_match<N: Reading>(alloc: Global, depth_left: u32, operand: N) -> Result<Operator, Stop>
+    ensures { ReadsPart operator_tree result (element_operator depth_left (N.tree operand)) }
 {
     let Kind::Doc = operand.kind() else {
         return Err(stop_at(alloc, FilterFaultKind::BadOperand));
     };
-    if room == 0 {
+    if depth_left == 0 {
         return Err(stop_at(alloc, FilterFaultKind::TooDeep));
     }
     let parts = operand.parts();
     if is_value_form::<N>(&parts) {
-        let operators = read_operators::<N>(alloc, room - 1, parts)?;
+        let operators = read_operators::<N>(alloc, depth_left - 1, parts)?;
         return Ok(Operator::ElemMatch(operators));
     }
-    let filters = read_filters::<N>(alloc, room - 1, parts)?;
+    let filters = read_filters::<N>(alloc, depth_left - 1, parts)?;
     Ok(Operator::ElemMatchDocument(filters))
 }
 
 /// Whether the body of `$elemMatch` is operators for an element, and no filter.
 fn is_value_form<N: Reading>(pairs: &N::Rest) -> bool
-    ensures { result ≡ has_value_form (fields_of (N.left pairs.now)) }
+    ensures { result ≡ has_value_form (fields_of (N.remaining pairs.now)) }
 {
     let Some((name, _, _)) = N::next(pairs) else {
         return false;
@@ -251,7 +264,7 @@ pub enum Word {
     /// `$elemMatch`
     ElemMatch,
     /// An operator of the manual that is left out.
-    LeftOut,
+    Omitted,
     /// Another name that begins with a dollar sign.
     Unknown,
     /// A path.
@@ -312,7 +325,7 @@ impl Word {
         }
         match known_operator(name) {
             Some(word) => word,
-            None if is_left_out(name) => Word::LeftOut,
+            None if is_omitted(name) => Word::Omitted,
             None => Word::Unknown,
         }
     }
@@ -336,7 +349,7 @@ pub(crate) fn begins_with_dollar(name: &str) -> bool
 }
 
 /// The operators of the manual that are left out, and the parts of a DBRef.
-const LEFT_OUT: [&str; 19] = [
+const OMITTED: [&str; 19] = [
     "$regex",
     "$options",
     "$mod",
@@ -359,9 +372,9 @@ const LEFT_OUT: [&str; 19] = [
 ];
 
 /// Whether it is the name of an operator of the manual that is left out, or a part of a DBRef.
-#[tactic(auto, unfolding(crate::specs::Word::is_left_out))]
-fn is_left_out(name: &str) -> bool
-    ensures { result ≡ is_left_out name.now }
+#[tactic(auto, unfolding(crate::specs::Word::is_omitted))]
+fn is_omitted(name: &str) -> bool
+    ensures { result ≡ is_omitted name.now }
 {
-    LEFT_OUT.contains(&name)
+    OMITTED.contains(&name)
 }

@@ -3,11 +3,11 @@
 ghost use Rattle.std.specs.Prelude.{◌≡◌, ◌||◌, ◌++◌, decimal, map, option_map};
 ghost use Rattle.bd_value.specs.View.{kind_of, tree_of};
 ghost use Rattle.bd_value.specs.Tree.{values_of, items_of};
-ghost use Rattle.bd_query_filter.specs.Fault.{ReadsPart, Refusal, TellsMisfit, deeper};
+ghost use Rattle.bd_query_filter.specs.Fault.{ReadsPart, Refusal, ReportsMisfit, deeper};
 ghost use Rattle.bd_query_filter.specs.Filter.{compares, operator_tree};
 ghost use Rattle.bd_query_filter.specs.FilterMatch.{relates};
 ghost use Rattle.bd_query_filter.specs.FilterOf.{all_kinds, has_operators, is_bound, is_regex, member_value, member_values, members_of, operand_kinds};
-ghost use Rattle.bd_query_filter.specs.FilterOf.{or_bad_operand, plain_operator, size_value, truth_value, type_kinds, unless_left_out};
+ghost use Rattle.bd_query_filter.specs.FilterOf.{or_bad_operand, plain_operator, size_value, truth_value, type_kinds, unless_omitted};
 ghost use Rattle.bd_query_filter.specs.Word.{kinds_named, kinds_numbered};
 
 use crate::fault::{FilterFaultKind, Stop, stop_at, under};
@@ -53,7 +53,7 @@ fn comparing(relation: Relation, operand: Value) -> Operator
 /// A value that is no regular expression, in memory.
 pub(crate) fn plain_value<N: Reading>(alloc: Global, operand: N) -> Result<Value, Stop>
     ensures { ReadsPart tree_of result
-        (unless_left_out (is_regex (N.tree operand)) (N.tree operand)) }
+        (unless_omitted (is_regex (N.tree operand)) (N.tree operand)) }
 {
     if operand.kind() == Kind::Regex {
         return Err(stop_at(alloc, FilterFaultKind::NotInProfile));
@@ -63,7 +63,7 @@ pub(crate) fn plain_value<N: Reading>(alloc: Global, operand: N) -> Result<Value
 
 /// A value that is above some and below others, and no regular expression.
 pub(crate) fn ordered_value<N: Reading>(alloc: Global, operand: N) -> Result<Value, Stop>
-    ensures { ReadsPart tree_of result (unless_left_out (is_regex (N.tree operand)
+    ensures { ReadsPart tree_of result (unless_omitted (is_regex (N.tree operand)
         || is_bound (N.tree operand)) (N.tree operand)) }
 {
     match operand.kind() {
@@ -106,20 +106,21 @@ pub(crate) fn members_of<N: Reading>(alloc: Global, operand: N) -> Result<Vec<Va
         return Err(stop_at(alloc, FilterFaultKind::BadOperand));
     };
     let mut members = Vec::new(alloc);
-    let mut left = operand.parts();
-    while let Some(next) = N::next(&left) {
+    let mut remaining = operand.parts();
+    while let Some(next) = N::next(&remaining) {
         match member_value(alloc, next.1) {
             Ok(value) => members.push(value)?,
             Err(stop) => return Err(under_index(alloc, members.len(), stop)),
         }
-        left = next.2;
+        remaining = next.2;
     }
     Ok(members)
 }
 
 /// The stop as it is seen from the array, of the member at an index.
 pub(crate) fn under_index(alloc: Global, index: usize, stop: Stop) -> Stop
-    ensures { (r : Refusal) → TellsMisfit stop r → TellsMisfit result (deeper (decimal index) r) }
+    ensures { (r : Refusal) →
+        ReportsMisfit stop r → ReportsMisfit result (deeper (decimal index) r) }
 {
     match index.to_string(alloc) {
         Ok(name) => under(alloc, &name, stop),
@@ -174,12 +175,12 @@ fn add_members<N: Reading>(
 ) -> Result<(), Stop>
     ensures { ReadsPart (λ _. kinds.new.items) result
         (or_bad_operand (option_map (λ more. kinds.old.items ++ more)
-        (all_kinds (items_of (values_of (N.left members)))))) }
+        (all_kinds (items_of (values_of (N.remaining members)))))) }
 {
-    let mut left = members;
-    while let Some(next) = N::next(&left) {
+    let mut remaining = members;
+    while let Some(next) = N::next(&remaining) {
         add_type(alloc, next.1, kinds)?;
-        left = next.2;
+        remaining = next.2;
     }
     Ok(())
 }

@@ -41,7 +41,7 @@ fn count_inside(
     let bounds = given.expect(rt, line);
     let mut inside = 0u64;
     for key in keys {
-        inside = inside.saturating_add(u64::from(bounds.holds(Tree::Value(key))));
+        inside = inside.saturating_add(u64::from(bounds.contains(Tree::Value(key))));
     }
     inside
 }

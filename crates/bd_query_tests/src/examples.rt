@@ -3,7 +3,7 @@ use crate::index_samples::{read_documents, read_filter};
 use bd_extjson::read_doc;
 use bd_index::Index;
 use bd_index_bounds::Bounds;
-use bd_index_prefix::{Front, compare_fronts};
+use bd_index_prefix::{Prefix, compare_prefixes};
 use bd_path::{Dir, Path, sort_key, sort_key_node};
 use bd_query::matches;
 use bd_query_filter::{FilterFaultKind, parse};
@@ -50,8 +50,8 @@ fn between_four_and_six(rt: HostRuntime) -> Result<(), Fail> {
     let filter = parse(alloc, &query)?;
     let path = Path::parse(alloc, "a")?;
     let bounds = Bounds::of(alloc, &filter, &path, false)?;
-    assert!(rt; matches!(&bounds, Some(b) if b.holds(Tree::Value(&Value::Int32(5)))));
-    assert!(rt; matches!(&bounds, Some(b) if !b.holds(Tree::Value(&Value::Int32(9)))));
+    assert!(rt; matches!(&bounds, Some(b) if b.contains(Tree::Value(&Value::Int32(5)))));
+    assert!(rt; matches!(&bounds, Some(b) if !b.contains(Tree::Value(&Value::Int32(9)))));
     Ok(())
 }
 
@@ -76,8 +76,8 @@ fn seven_before_nine(rt: HostRuntime) -> Result<(), Fail> {
         return Err("two documents".into());
     }
     let path = Path::parse(alloc, "a")?;
-    let seven = Front::of(sort_key_node(dump.document(0).value(), &path, Dir::Up));
-    let nine = Front::of(sort_key_node(dump.document(1).value(), &path, Dir::Up));
-    assert!(rt; compare_fronts(seven, nine) == Some(Ordering::Less));
+    let seven = Prefix::of(sort_key_node(dump.document(0).value(), &path, Dir::Up));
+    let nine = Prefix::of(sort_key_node(dump.document(1).value(), &path, Dir::Up));
+    assert!(rt; compare_prefixes(seven, nine) == Some(Ordering::Less));
     Ok(())
 }

@@ -14,7 +14,7 @@ fn is_match(rt: &impl Abort, alloc: Global, filter: &Filter, text: &str) -> bool
 }
 
 /// Whether the document of a line matches a filter as the word after it tells.
-fn is_as_told(rt: &impl Abort, alloc: Global, filter: &Filter, line: &str) -> bool {
+fn is_as_reported(rt: &impl Abort, alloc: Global, filter: &Filter, line: &str) -> bool {
     let (document, wanted) = line.split_once(" | ").expect(rt, line);
     wanted.parse::<bool>() == Ok(is_match(rt, alloc, filter, document))
 }
@@ -53,7 +53,7 @@ const ABOVE_FOUR_OR_EMPTY: &str = r#"{"a":{"b":5}} | true
 fn takes_filters_made_by_hand(rt: HostRuntime) {
     let filter = above_four_or_empty(&rt, rt.alloc());
     for line in ABOVE_FOUR_OR_EMPTY.lines() {
-        assert!(rt; is_as_told(&rt, rt.alloc(), &filter, line), "{line}");
+        assert!(rt; is_as_reported(&rt, rt.alloc(), &filter, line), "{line}");
     }
 }
 
@@ -123,7 +123,7 @@ pub(crate) fn split_filter<'a>(rt: &impl Abort, alloc: Global, line: &'a str) ->
 fn looks_at_documents_in_memory(rt: HostRuntime) {
     for line in IN_MEMORY.lines() {
         let (filter, rest) = split_filter(&rt, rt.alloc(), line);
-        assert!(rt; is_as_told(&rt, rt.alloc(), &filter, rest), "{line}");
+        assert!(rt; is_as_reported(&rt, rt.alloc(), &filter, rest), "{line}");
     }
     // No row sees it come.
     assert!(rt; FilterFaultKind::NoMemory.words() == "no memory");

@@ -17,7 +17,7 @@ fn is_a_7(path: &Path) -> bool {
 }
 
 #[test]
-fn cuts_and_copies_a_path(rt: HostRuntime) -> Result<(), Fail> {
+fn splits_and_copies_a_path(rt: HostRuntime) -> Result<(), Fail> {
     let path = Path::parse(rt.alloc(), "a.7")?;
     assert!(rt; is_a_7(&path));
     let copy = path.try_copy(rt.alloc())?;
@@ -27,7 +27,7 @@ fn cuts_and_copies_a_path(rt: HostRuntime) -> Result<(), Fail> {
 
 /// No text is refused because memory runs out here.
 #[test]
-fn tells_why_a_text_is_no_path(rt: HostRuntime) -> Result<(), Fail> {
+fn reports_why_a_text_is_no_path(rt: HostRuntime) -> Result<(), Fail> {
     let alloc = rt.alloc();
     let fault = match Path::parse(alloc, "a..b") {
         Ok(_) => return Err("no path was wanted".into()),

@@ -1,8 +1,8 @@
 -- A tree fits where its parts do.
 use Rattle.std.proofs.Common.{◌≡◌, ◌⊎◌, ℕ, List, inl, inr, [], ◌∷◌, Some, None, refl, ap, subst, ◌∙◌}
-use Rattle.bd_value.specs.Tree.{Scalar, Own, own, own_of, Tree, leaf, doc, array, code_scope, Items, no_items, item, Fields, no_fields, field, Doc, fields_of, items_of, fields_of-pairs_of, items_of-list_of}
+use Rattle.bd_value.specs.Tree.{Scalar, Leaf, scalar_leaf, leaf_of, Tree, leaf, doc, array, code_scope, Items, no_items, item, Fields, no_fields, field, Doc, fields_of, items_of, fields_of-pairs_of, items_of-list_of}
 use Rattle.bd_value.specs.Tree.{text, symbol, regex, db_pointer, code, values_of, scope_of, AreParts}
-use Rattle.bd_value.specs.Fits.{FieldsFit, Fits, FitsTypes, ItemsFit, OwnFits, ScalarFits, TreeFits}
+use Rattle.bd_value.specs.Fits.{FieldsFit, Fits, FitsTypes, ItemsFit, LeafFits, ScalarFits, TreeFits}
 use Rattle.bd_value.specs.View.{kind_of}
 use Rattle.bd_value.specs.declared.node.Kind.TheVariants as kinds
 
@@ -16,9 +16,9 @@ module _ (IsSuch : List ℕ → Type 0) where
   parts_fit (array ts) ps are fits = subst (ItemsFit IsSuch) (ap items_of are ∙ items_of-list_of ts) (values_fit ps fits)
   parts_fit _ ps are fits = absurd are
 
-  pub leaf_fits : (t : Tree) (o : Own) → own_of t ≡ Some o → scope_of t ≡ None → OwnFits IsSuch o → TreeFits IsSuch t
-  leaf_fits (leaf s) o own_is scope_is fits = let is : o ≡ own s = cc in subst (OwnFits IsSuch) is fits
-  leaf_fits _ o own_is scope_is fits = absurd cc
+  pub leaf_fits : (t : Tree) (o : Leaf) → leaf_of t ≡ Some o → scope_of t ≡ None → LeafFits IsSuch o → TreeFits IsSuch t
+  leaf_fits (leaf s) o leaf_is scope_is fits = let is : o ≡ scalar_leaf s = cc in subst (LeafFits IsSuch) is fits
+  leaf_fits _ o leaf_is scope_is fits = absurd cc
 
 -- what fits with texts of one kind fits with those of another that they all are
 module _ (P Q : List ℕ → Type 0) (so : (s : List ℕ) → P s → Q s) where
@@ -49,7 +49,7 @@ module _ (P Q : List ℕ → Type 0) (so : (s : List ℕ) → P s → Q s) where
 pub fits_types : (t : Tree) → Fits t → FitsTypes t
 fits_types = fits_with _ _ (λ s utf8. tt)
 
-pub no_own : (t : Tree) → own_of t ≡ None → (kind_of t ≡ kinds.Doc) ⊎ (kind_of t ≡ kinds.Array)
-no_own (doc fs) e = inl refl
-no_own (array ts) e = inr refl
-no_own _ e = absurd cc
+pub no_leaf : (t : Tree) → leaf_of t ≡ None → (kind_of t ≡ kinds.Doc) ⊎ (kind_of t ≡ kinds.Array)
+no_leaf (doc fs) e = inl refl
+no_leaf (array ts) e = inr refl
+no_leaf _ e = absurd cc

@@ -5,19 +5,19 @@ use Rattle.std.specs.Ordering.{ordering_index, ordering_then, then_cmp, on, orde
 use Rattle.std.specs.Cmp.{IsTotalOrder}
 use Rattle.std.specs.Cmp.Lexicographic.{slice_cmp}
 use Rattle.std.proofs.lemmas.Cmp.{nat_cmp_total, int_cmp_total, nat_list_cmp_total, on_total, then_total, lists_total, ranked}
-use Rattle.bd_value.specs.Tree.{Scalar, min_key, Own, Tree, leaf, doc, array, code_scope, Items, no_items, item, Fields, no_fields, field, Doc, Pair}
-use Rattle.bd_value.specs.Tree.{fields_of, items_of, pairs_of, list_of, values_of, scope_of, own_of, AreParts}
+use Rattle.bd_value.specs.Tree.{Scalar, min_key, Leaf, Tree, leaf, doc, array, code_scope, Items, no_items, item, Fields, no_fields, field, Doc, Pair}
+use Rattle.bd_value.specs.Tree.{fields_of, items_of, pairs_of, list_of, values_of, scope_of, leaf_of, AreParts}
 use Rattle.bd_value.specs.View.{kind_of}
-use Rattle.bd_value.specs.Order.{class_of, class_of_kind, class_rank, bytes_cmp, class_cmp, cmp, fields_cmp, fields_in, items_cmp, items_in, Rank, rank_cmp, rank_in, own_rank, same_class_cmp}
+use Rattle.bd_value.specs.Order.{class_of, class_of_kind, class_rank, bytes_cmp, class_cmp, cmp, fields_cmp, fields_in, items_cmp, items_in, Rank, rank_cmp, rank_in, leaf_rank, same_class_cmp}
 use Rattle.bd_value.specs.declared.node.Kind.{Kind}
 use Rattle.bd_value.specs.declared.node.Kind.TheVariants as kinds
 use Rattle.bd_value.specs.declared.node.Class.TheVariants as classes
 use Rattle.bd_value.proofs.PartsLemmas.{doc_is, array_is}
 
-pub rank_of_own : (t : Tree) (o : Own) → Some o ≡ own_of t → own_rank o ≡ rank_in t
-rank_of_own (leaf s) o is = cc
-rank_of_own (code_scope s fs) o is = cc
-rank_of_own _ o is = absurd cc
+pub rank_of_leaf : (t : Tree) (o : Leaf) → Some o ≡ leaf_of t → leaf_rank o ≡ rank_in t
+rank_of_leaf (leaf s) o is = cc
+rank_of_leaf (code_scope s fs) o is = cc
+rank_of_leaf _ o is = absurd cc
 
 pub equal_then : (o : Ordering) → false ≡ not (ordering_index o == ordering_index Equal) → o ≡ Equal
 equal_then Less h = absurd cc
@@ -48,19 +48,19 @@ arrays_cmp t u ps qs kind class first second =
 
 -- ---- code with scope
 
-own_code_is : (t : Tree) → kind_of t ≡ kinds.CodeScope → (v : Tree) (ps : Doc) → scope_of t ≡ Some v → AreParts v ps → (code : List ℕ) × (t ≡ code_scope code (fields_of ps))
-own_code_is (code_scope s fs) kind v ps scope are =
+code_leaf_is : (t : Tree) → kind_of t ≡ kinds.CodeScope → (v : Tree) (ps : Doc) → scope_of t ≡ Some v → AreParts v ps → (code : List ℕ) × (t ≡ code_scope code (fields_of ps))
+code_leaf_is (code_scope s fs) kind v ps scope are =
     let inside : v ≡ doc fs = cc in
     let same : doc fs ≡ doc (fields_of ps) = sym inside ∙ doc_is v ps (ap kind_of inside) are in
     let fields : fs ≡ fields_of ps = cc in
     (s, ap (code_scope s) fields)
-own_code_is _ kind v ps scope are = absurd cc
+code_leaf_is _ kind v ps scope are = absurd cc
 
 pub scopes_cmp : (t u v w : Tree) (ps qs : Doc) → kind_of t ≡ kinds.CodeScope → kind_of u ≡ kinds.CodeScope → scope_of t ≡ Some v → scope_of u ≡ Some w
     → AreParts v ps → AreParts w qs → rank_cmp (rank_in t) (rank_in u) ≡ Equal → fields_cmp (fields_of ps) (fields_of qs) ≡ same_class_cmp t u
 scopes_cmp t u v w ps qs kind other first second a b same =
-    let x = own_code_is t kind v ps first a in
-    let y = own_code_is u other w qs second b in
+    let x = code_leaf_is t kind v ps first a in
+    let y = code_leaf_is u other w qs second b in
     let codes : rank_cmp (rank_in (code_scope x.0 (fields_of ps))) (rank_in (code_scope y.0 (fields_of qs))) ≡ Equal = sym (ap₂ (λ (p q : Tree). rank_cmp (rank_in p) (rank_in q)) x.1 y.1) ∙ same in
     sym (ap₂ same_class_cmp x.1 y.1 ∙ ap (λ o. ordering_then o (fields_cmp (fields_of ps) (fields_of qs))) codes)
 

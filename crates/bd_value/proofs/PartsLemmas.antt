@@ -1,7 +1,7 @@
 -- What a value is made of.
 use Rattle.std.proofs.Common.{◌≡◌, ℕ, ◌+◌, ◌<◌, suc, List, [], ◌∷◌, Some, max, refl, sym, ap, ap₂, ◌∙◌, arith}
 use Rattle.bd_value.specs.Tree.{Tree, doc, array, code_scope, Doc, fields_of, items_of, fields_of-pairs_of, items_of-list_of, tree_size, fields_size, items_size}
-use Rattle.bd_value.specs.Tree.{own_code, own_of, values_of, scope_of, AreParts, depth, fields_depth, items_depth}
+use Rattle.bd_value.specs.Tree.{code_leaf, leaf_of, values_of, scope_of, AreParts, depth, fields_depth, items_depth}
 use Rattle.bd_value.specs.View.{kind_of}
 use Rattle.bd_value.specs.declared.node.Kind.TheVariants as kinds
 
@@ -17,15 +17,15 @@ array_is (array ts) ps is are = ap array (sym (ap items_of are ∙ items_of-list
 array_is (doc fs) ps is are = absurd cc
 array_is _ ps is are = absurd are
 
-pub code_is : (t u : Tree) (c : List ℕ) (ps : Doc) → own_of t ≡ Some (own_code c) → scope_of t ≡ Some u → AreParts u ps → t ≡ code_scope c (fields_of ps)
-code_is (code_scope s fs) u c ps own scope are =
+pub code_is : (t u : Tree) (c : List ℕ) (ps : Doc) → leaf_of t ≡ Some (code_leaf c) → scope_of t ≡ Some u → AreParts u ps → t ≡ code_scope c (fields_of ps)
+code_is (code_scope s fs) u c ps scalar_leaf scope are =
     let code : s ≡ c = cc in
     let inside : u ≡ doc fs = cc in
     let kind : kind_of u ≡ kinds.Doc = ap kind_of inside in
     let same : doc fs ≡ doc (fields_of ps) = sym inside ∙ doc_is u ps kind are in
     let fields : fs ≡ fields_of ps = cc in
     ap₂ code_scope code fields
-code_is _ u c ps own scope are = absurd cc
+code_is _ u c ps scalar_leaf scope are = absurd cc
 
 -- ---- the inside is smaller
 

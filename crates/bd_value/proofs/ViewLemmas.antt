@@ -7,7 +7,7 @@ use Rattle.std.specs.declared.alloc.Global.{Global}
 use Rattle.std.proofs.lemmas.Option.{slice_get-map, slice_get-get_or}
 use Rattle.std.proofs.lemmas.List.{length-map}
 use Rattle.bd_value.specs.Tree.{Tree, doc, array, code_scope, Doc, Pair, fields_of, items_of, list_of, pairs_of-fields_of, pairs_in, elements_in, length_of, scope_of, values_of, AreParts, first_of}
-use Rattle.bd_value.specs.View.{tree_of, pair_of, pairs, pairs_step, tree_step, held}
+use Rattle.bd_value.specs.View.{tree_of, pair_of, pairs, pairs_step, tree_step, node_tree}
 use Rattle.bd_value.specs.declared.document.Value.{Value}
 use Rattle.bd_value.specs.declared.document.Value.TheVariants as values
 use Rattle.bd_value.specs.declared.document.Value.TheFolds as folds
@@ -78,15 +78,15 @@ list_of-items_of [] = refl
 list_of-items_of (t ∷ ts) = ap (λ (x : List Tree). t ∷ x) (list_of-items_of ts)
 
 -- a node over a document in memory stands for the tree of its pairs
-pub is_doc : (s : node.Tree) (v : Bor Value) (d : Document) → s ≡ nodes.Value v → v.now ≡ values.Doc d → held s ≡ doc (fields_of (pairs d))
-is_doc s v d is e = ap held is ∙ ap tree_of e ∙ tree_of-Doc d
+pub is_doc : (s : node.Tree) (v : Bor Value) (d : Document) → s ≡ nodes.Value v → v.now ≡ values.Doc d → node_tree s ≡ doc (fields_of (pairs d))
+is_doc s v d is e = ap node_tree is ∙ ap tree_of e ∙ tree_of-Doc d
 
 -- a node over an array in memory stands for the tree of its values
-pub is_array : (s : node.Tree) (v : Bor Value) (xs : Vec Value Global) → s ≡ nodes.Value v → v.now ≡ values.Array xs → held s ≡ array (items_of (map tree_of xs.items))
-is_array s v xs is e = ap held is ∙ ap tree_of e ∙ tree_of-Array xs
+pub is_array : (s : node.Tree) (v : Bor Value) (xs : Vec Value Global) → s ≡ nodes.Value v → v.now ≡ values.Array xs → node_tree s ≡ array (items_of (map tree_of xs.items))
+is_array s v xs is e = ap node_tree is ∙ ap tree_of e ∙ tree_of-Array xs
 
-pub scope_is : (s : node.Tree) (v : Bor Value) (code : String Global) (d : Document) → s ≡ nodes.Value v → v.now ≡ values.CodeScope code d → Some (doc (fields_of (pairs d))) ≡ scope_of (held s)
-scope_is s v code d is e = sym (ap (λ t. scope_of (held t)) is ∙ ap (λ x. scope_of (tree_of x)) e ∙ ap scope_of (tree_of-CodeScope code d))
+pub scope_is : (s : node.Tree) (v : Bor Value) (code : String Global) (d : Document) → s ≡ nodes.Value v → v.now ≡ values.CodeScope code d → Some (doc (fields_of (pairs d))) ≡ scope_of (node_tree s)
+scope_is s v code d is e = sym (ap (λ t. scope_of (node_tree t)) is ∙ ap (λ x. scope_of (tree_of x)) e ∙ ap scope_of (tree_of-CodeScope code d))
 
 -- ---- a document
 

@@ -4,7 +4,7 @@
 use Rattle.std.specs.Prelude.{◌≡◌, ◌<◌, ◌^◌, ℕ, List, length, slice_index, IsUtf8, [], ◌∷◌, Bool, false, ◌&&◌, ◌||◌}
 use Rattle.std.specs.Prelude.{◌==◌}
 use Rattle.std.specs.{Int.w32, Int.w64, Int.RustNames.FitsSigned}
-use Rattle.bd_value.specs.Tree.{own_code, own, Own, Scalar, int32, int64, text, symbol, binary, object_id, date}
+use Rattle.bd_value.specs.Tree.{code_leaf, scalar_leaf, Leaf, Scalar, int32, int64, text, symbol, binary, object_id, date}
 use Rattle.bd_value.specs.Tree.{timestamp, regex, db_pointer, code, Tree, leaf, doc, array, code_scope, Items, no_items}
 use Rattle.bd_value.specs.Tree.{item, Fields, no_fields, field, Doc}
 
@@ -53,9 +53,9 @@ module _ (IsSuch : List ℕ → Type 0) where
     FieldsFit (field n t fs) = IsSuch n × (TreeFits t × FieldsFit fs)
 
   -- The scalar, or the code of code with scope, fits its BSON type.
-  abbrev pub OwnFits : Own → Type 0
-  OwnFits (own s) = ScalarFits s
-  OwnFits (own_code s) = IsSuch s
+  abbrev pub LeafFits : Leaf → Type 0
+  LeafFits (scalar_leaf s) = ScalarFits s
+  LeafFits (code_leaf s) = IsSuch s
 
 -- A value fits its BSON types, and its names, texts and codes are UTF-8: so does each value in memory.
 abbrev pub Fits : Tree → Type 0
@@ -105,6 +105,6 @@ zero_in_parts named [] = false
 zero_in_parts named (p ∷ ps) = (named && has_zero p.0) || (zero_in p.1 || zero_in_parts named ps)
 
 -- whether the scalar has a zero in a `cstring`; false for the code of code with scope, which is a `string`
-abbrev pub zero_in_own : Own → Bool
-zero_in_own (own s) = zero_in_scalar s
-zero_in_own (own_code s) = false
+abbrev pub zero_in_leaf : Leaf → Bool
+zero_in_leaf (scalar_leaf s) = zero_in_scalar s
+zero_in_leaf (code_leaf s) = false

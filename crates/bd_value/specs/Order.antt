@@ -3,7 +3,7 @@ use Rattle.std.specs.Prelude.{ℕ, ℤ, pos, Bool, ◌+◌, ◌==◌, List, [], 
 use Rattle.std.specs.{Cmp.Lexicographic.slice_cmp, declared.cmp.Ordering.Ordering}
 use Rattle.std.specs.declared.cmp.Ordering.TheVariants.{Less, Equal, Greater}
 use Rattle.std.specs.Ordering.{nat_cmp, int_cmp, ordering_then, is_eq}
-use Rattle.bd_value.specs.Tree.{Own, own, own_code, Scalar, int32, int64, text, symbol, binary, object_id, boolean}
+use Rattle.bd_value.specs.Tree.{Leaf, scalar_leaf, code_leaf, Scalar, int32, int64, text, symbol, binary, object_id, boolean}
 use Rattle.bd_value.specs.Tree.{date, timestamp, regex, db_pointer, code, Tree, leaf, doc, array, code_scope, Items}
 use Rattle.bd_value.specs.Tree.{no_items, item, Fields, no_fields, field}
 use Rattle.bd_value.specs.{View.kind_of, declared.node.Kind.Kind, declared.node.Class.Class}
@@ -99,9 +99,9 @@ scalar_rank (code s) = by_bytes s []
 scalar_rank _ = by_number (pos 0)
 
 -- what a scalar, or the code of code with scope, is compared by within its class
-abbrev pub own_rank : Own → Rank
-own_rank (own s) = scalar_rank s
-own_rank (own_code s) = by_bytes s []
+abbrev pub leaf_rank : Leaf → Rank
+leaf_rank (scalar_leaf s) = scalar_rank s
+leaf_rank (code_leaf s) = by_bytes s []
 
 -- the rank that one in memory stands for, wherever its bytes are
 abbrev pub rank_view : memory.Rank → Rank

@@ -111,15 +111,15 @@ scope_of (code_scope s fs) = Some (doc fs)
 scope_of _ = None
 
 -- what a value holds besides other values: a scalar, or the code of code with scope
-pub data Own : Type 0 where
-  own : Scalar → Own
-  own_code : List ℕ → Own
+pub data Leaf : Type 0 where
+  scalar_leaf : Scalar → Leaf
+  code_leaf : List ℕ → Leaf
 
 -- the scalar that a value is, or the code of code with scope; None for a document and an array
-abbrev pub own_of : Tree → Option Own
-own_of (leaf s) = Some (own s)
-own_of (code_scope s fs) = Some (own_code s)
-own_of _ = None
+abbrev pub leaf_of : Tree → Option Leaf
+leaf_of (leaf s) = Some (scalar_leaf s)
+leaf_of (code_scope s fs) = Some (code_leaf s)
+leaf_of _ = None
 
 -- the values of fields, without their names
 abbrev pub values_of : Doc → List Tree
@@ -132,16 +132,16 @@ AreParts (array ts) ps = values_of ps ≡ list_of ts
 AreParts _ ps = ⊥
 
 -- The value is a document or an array.
-abbrev pub HoldsParts : Tree → Type 0
-HoldsParts (leaf s) = ⊥
-HoldsParts (code_scope s fs) = ⊥
-HoldsParts _ = Unit {0}
+abbrev pub HasParts : Tree → Type 0
+HasParts (leaf s) = ⊥
+HasParts (code_scope s fs) = ⊥
+HasParts _ = Unit {0}
 
 -- The value is a scalar or code with scope, so neither a document nor an array.
-abbrev pub HoldsNoParts : Tree → Type 0
-HoldsNoParts (doc fs) = ⊥
-HoldsNoParts (array ts) = ⊥
-HoldsNoParts _ = Unit {0}
+abbrev pub HasNoParts : Tree → Type 0
+HasNoParts (doc fs) = ⊥
+HasNoParts (array ts) = ⊥
+HasNoParts _ = Unit {0}
 
 -- the value of the first field of that name; None if there is none
 abbrev pub first_of : List ℕ → Doc → Option Tree

@@ -5,9 +5,9 @@
 
 ghost use Rattle.std.specs.Prelude.{◌≡◌, ◌<◌, ◌++◌, [], ◌∷◌, length, map, min, slice_get, Some, None, IfSome, IfNone};
 ghost use Rattle.std.specs.Prelude.{IfOk, IsUtf8, OnOk, OnErr, string_bytes, IsTrue, ◌↔◌};
-ghost use Rattle.bd_value.specs.Tree.{doc, fields_of, values_of, HoldsNoParts, own_of, first_of, depth as depth_in, fields_depth};
-ghost use Rattle.bd_value.specs.View.{tree_of, pair_of, pairs, seen};
-ghost use Rattle.bd_value.specs.Fits.{AreBytes, Fits, FieldsFit, IsId, OwnFits, has_zero};
+ghost use Rattle.bd_value.specs.Tree.{doc, fields_of, values_of, HasNoParts, leaf_of, first_of, depth as depth_in, fields_depth};
+ghost use Rattle.bd_value.specs.View.{tree_of, pair_of, pairs, view_of};
+ghost use Rattle.bd_value.specs.Fits.{AreBytes, Fits, FieldsFit, IsId, LeafFits, has_zero};
 
 use crate::node::{Kind, Reading, Scalar, Tree};
 use std::alloc::{AllocError, Global};
@@ -183,7 +183,7 @@ pub fn depth_of<N: Reading>(node: N) -> u64
 /// The depth of the deepest of these values.
 #[cycle(nesting)]
 fn deepest<N: Reading>(values: N::Rest) -> u64
-    ensures { result ≡ min (fields_depth (fields_of (N.left values))) 18446744073709551615 }
+    ensures { result ≡ min (fields_depth (fields_of (N.remaining values))) 18446744073709551615 }
 {
     let mut deepest = 0;
     let mut rest = values;
@@ -202,7 +202,7 @@ pub fn to_value<N: Reading>(alloc: Global, node: N) -> Result<Value, NoMemory>
     match node.kind() {
         Kind::Doc => Ok(Value::Doc(to_document::<N>(alloc, node.parts())?)),
         Kind::Array => Ok(Value::Array(to_items::<N>(alloc, node.parts())?)),
-        _ => own_value(alloc, node),
+        _ => leaf_value(alloc, node),
     }
 }
 
@@ -216,7 +216,7 @@ pub fn try_copy(alloc: Global, value: &Value) -> Result<Value, NoMemory>
 /// The document of these pairs, in memory. It fails only if memory runs out.
 #[cycle(copying)]
 pub fn to_document<N: Reading>(alloc: Global, fields: N::Rest) -> Result<Document, NoMemory>
-    ensures { IfOk result (λ d. pairs d ≡ N.left fields) }
+    ensures { IfOk result (λ d. pairs d ≡ N.remaining fields) }
 {
     let mut copied = Document::new(alloc);
     let mut rest = fields;
@@ -231,7 +231,7 @@ pub fn to_document<N: Reading>(alloc: Global, fields: N::Rest) -> Result<Documen
 /// The values of these elements.
 #[cycle(copying)]
 fn to_items<N: Reading>(alloc: Global, items: N::Rest) -> Result<Vec<Value>, NoMemory>
-    ensures { IfOk result (λ v. map tree_of v.items ≡ values_of (N.left items)) }
+    ensures { IfOk result (λ v. map tree_of v.items ≡ values_of (N.remaining items)) }
 {
     let mut copied = Vec::new(alloc);
     let mut rest = items;
@@ -244,17 +244,17 @@ fn to_items<N: Reading>(alloc: Global, items: N::Rest) -> Result<Vec<Value>, NoM
 
 /// What is neither a document nor an array.
 #[cycle(copying)]
-fn own_value<N: Reading>(alloc: Global, node: N) -> Result<Value, NoMemory>
-    requires { HoldsNoParts (N.tree node) }
+fn leaf_value<N: Reading>(alloc: Global, node: N) -> Result<Value, NoMemory>
+    requires { HasNoParts (N.tree node) }
     ensures { IfOk result (λ v. tree_of v ≡ N.tree node) }
 {
-    let Some(own) = node.leaf() else {
+    let Some(scalar_leaf) = node.leaf() else {
         unreachable!()
     };
     let Some(scope) = node.scope() else {
-        return scalar_value(alloc, own);
+        return scalar_value(alloc, scalar_leaf);
     };
-    let Scalar::CodeScope(code) = own else {
+    let Scalar::CodeScope(code) = scalar_leaf else {
         unreachable!()
     };
     let code = String::from_str(alloc, code)?;
@@ -263,7 +263,7 @@ fn own_value<N: Reading>(alloc: Global, node: N) -> Result<Value, NoMemory>
 
 /// A scalar in memory. Code with scope gets an empty scope.
 fn scalar_value(alloc: Global, scalar: Scalar<'_>) -> Result<Value, NoMemory>
-    ensures { IfOk result (λ v. own_of (tree_of v) ≡ Some (seen scalar.entry)) }
+    ensures { IfOk result (λ v. leaf_of (tree_of v) ≡ Some (view_of scalar.entry)) }
 {
     Ok(match scalar {
         Scalar::MinKey => Value::MinKey,
@@ -334,8 +334,8 @@ pub fn node_fits<N: Reading>(node: N)
     match node.kind() {
         Kind::Doc | Kind::Array => parts_fit::<N>(node.parts()),
         _ => {
-            if let Some(own) = node.leaf() {
-                scalar_fits(own);
+            if let Some(scalar_leaf) = node.leaf() {
+                scalar_fits(scalar_leaf);
             }
             if let Some(scope) = node.scope() {
                 node_fits(scope);
@@ -347,7 +347,7 @@ pub fn node_fits<N: Reading>(node: N)
 /// These names and values fit.
 #[cycle(fits)]
 fn parts_fit<N: Reading>(values: N::Rest)
-    ensures { FieldsFit IsUtf8 (fields_of (N.left values)) }
+    ensures { FieldsFit IsUtf8 (fields_of (N.remaining values)) }
 {
     let mut rest = values;
     while let Some((_, node, after)) = N::next(&rest) {
@@ -358,7 +358,7 @@ fn parts_fit<N: Reading>(values: N::Rest)
 
 /// Every scalar fits.
 fn scalar_fits(scalar: Scalar<'_>)
-    ensures { OwnFits IsUtf8 (seen scalar.entry) }
+    ensures { LeafFits IsUtf8 (view_of scalar.entry) }
 {
     match scalar {
         Scalar::Binary { payload, .. } => bytes_fit(payload),

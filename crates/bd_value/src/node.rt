@@ -2,8 +2,8 @@
 
 ghost use Rattle.std.specs.Prelude.{◌≡◌, ◌<◌, Some, None, Option, option_map, length, slice_get, List, ℕ, [], ◌∷◌, IfSome, IfNone};
 ghost use Rattle.bd_value.specs.Tree as trees;
-ghost use Rattle.bd_value.specs.Tree.{pairs_in, elements_in, length_of, scope_of, own_of, first_of, HoldsParts, AreParts};
-ghost use Rattle.bd_value.specs.View.{tree_of, pairs, seen, held, parts_held, kind_of};
+ghost use Rattle.bd_value.specs.Tree.{pairs_in, elements_in, length_of, scope_of, leaf_of, first_of, HasParts, AreParts};
+ghost use Rattle.bd_value.specs.View.{tree_of, pairs, view_of, node_tree, node_parts, kind_of};
 
 use crate::document::{Document, Value};
 
@@ -20,7 +20,7 @@ pub trait Reading: Copy {
     /// The bytes that it stands in. A tree in memory has none.
     ghost source: { Self → List ℕ };
     /// The names and the trees that are left. The names of an array's elements are any.
-    ghost left: { Self.Rest → trees.Doc };
+    ghost remaining: { Self.Rest → trees.Doc };
     /// The bytes that they stand in.
     ghost rest_source: { Self.Rest → List ℕ };
 
@@ -31,12 +31,12 @@ pub trait Reading: Copy {
     /// What it holds besides other values: of code with scope the code. Documents and arrays have none. It lives as long
     /// as the node is held.
     fn leaf(&self) -> Option<Scalar<'_>>
-        ensures { option_map seen result ≡ own_of (tree self.now) };
+        ensures { option_map view_of result ≡ leaf_of (tree self.now) };
 
     /// The scope of code with scope.
     fn scope(self) -> Option<Self>
         ensures scope { option_map tree result ≡ scope_of (tree self) }
-        ensures kept { IfSome result (λ n. source n ≡ source self) };
+        ensures same_source { IfSome result (λ n. source n ≡ source self) };
 
     /// How many pairs a document has, or elements an array; else 0.
     fn len(self) -> usize
@@ -47,45 +47,46 @@ pub trait Reading: Copy {
         requires { i < length (pairs_in (tree self.now)) }
         ensures field { slice_get (pairs_in (tree self.now)) i
             ≡ Some (result.0.now, tree result.1) }
-        ensures kept { source result.1 ≡ source self.now };
+        ensures same_source { source result.1 ≡ source self.now };
 
     /// The element of an array at an index, counted from 0.
     fn element(self, i: usize) -> Self
         requires { i < length (elements_in (tree self)) }
         ensures element { slice_get (elements_in (tree self)) i ≡ Some (tree result) }
-        ensures kept { source result ≡ source self };
+        ensures same_source { source result ≡ source self };
 
     /// The value of the first pair of that name of a document; none where no pair has it, or it is no document.
     fn first(self, name: &str) -> Option<Self>
         ensures first { option_map tree result ≡ first_of name.now (pairs_in (tree self)) }
-        ensures kept { IfSome result (λ n. source n ≡ source self) };
+        ensures same_source { IfSome result (λ n. source n ≡ source self) };
 
     /// All pairs of a document, or elements of an array.
     fn parts(self) -> Self::Rest
-        requires { HoldsParts (tree self) }
-        ensures parts { AreParts (tree self) (left result) }
-        ensures kept { rest_source result ≡ source self };
+        requires { HasParts (tree self) }
+        ensures parts { AreParts (tree self) (remaining result) }
+        ensures same_source { rest_source result ≡ source self };
 
     /// The next of them: its name, its value, and those after it.
     fn next(rest: &Self::Rest) -> Option<(&str, Self, Self::Rest)>
-        ensures some { IfSome result (λ x. left rest.now ≡ (x.0.now, tree x.1) ∷ left x.2) }
-        ensures kept { IfSome result (λ x. source x.1 ≡ rest_source rest.now) }
+        ensures some { IfSome result (λ x.
+            remaining rest.now ≡ (x.0.now, tree x.1) ∷ remaining x.2) }
+        ensures same_source { IfSome result (λ x. source x.1 ≡ rest_source rest.now) }
         ensures rest { IfSome result (λ x. rest_source x.2 ≡ rest_source rest.now) }
-        ensures none { IfNone result (left rest.now ≡ []) };
+        ensures none { IfNone result (remaining rest.now ≡ []) };
 }
 
 /// The reading of a value whose texts live as long as what holds it.
 pub trait Node<'a>: Reading {
     /// What it holds besides other values: of code with scope the code. Documents and arrays have none.
     fn scalar(self) -> Option<Scalar<'a>>
-        ensures { option_map seen result ≡ own_of (Self.tree self) };
+        ensures { option_map view_of result ≡ leaf_of (Self.tree self) };
 
     /// The name and the value of the pair of a document at an index, counted from 0.
     fn pair(self, i: usize) -> (&'a str, Self)
         requires { i < length (pairs_in (Self.tree self)) }
         ensures pair { slice_get (pairs_in (Self.tree self)) i
             ≡ Some (result.0.now, Self.tree result.1) }
-        ensures kept { Self.source result.1 ≡ Self.source self };
+        ensures same_source { Self.source result.1 ≡ Self.source self };
 }
 
 /// What a value is, without what it holds: the nineteen kinds, in the order of `Value`.
@@ -208,7 +209,7 @@ impl Value {
 
     /// What it holds besides other values: of code with scope the code. Documents and arrays have none.
     pub fn scalar(&self) -> Option<Scalar<'_>>
-        ensures { option_map seen result ≡ own_of (tree_of self.now) }
+        ensures { option_map view_of result ≡ leaf_of (tree_of self.now) }
     {
         Some(match self {
             Value::MinKey => Scalar::MinKey,
@@ -253,7 +254,7 @@ pub enum TreeParts<'a> {
 
 /// The value of the first pair of that name.
 fn first_in<'a>(document: &'a Document, name: &str) -> Option<Tree<'a>>
-    ensures { option_map held result ≡ first_of name.now (pairs document.now) }
+    ensures { option_map node_tree result ≡ first_of name.now (pairs document.now) }
 {
     match document.first(name) {
         Some(value) => Some(Tree::Value(value)),
@@ -264,7 +265,7 @@ fn first_in<'a>(document: &'a Document, name: &str) -> Option<Tree<'a>>
 /// The name and the value of the pair at an index.
 fn pair_in<'a>(document: &'a Document, i: usize) -> (&'a str, Tree<'a>)
     requires { i < length (pairs document.now) }
-    ensures { slice_get (pairs document.now) i ≡ Some (result.0.now, held result.1) }
+    ensures { slice_get (pairs document.now) i ≡ Some (result.0.now, node_tree result.1) }
 {
     let (name, value) = document.pair(i);
     (name, Tree::Value(value))
@@ -273,11 +274,11 @@ fn pair_in<'a>(document: &'a Document, i: usize) -> (&'a str, Tree<'a>)
 impl<'a> Reading for Tree<'a> {
     type Rest = TreeParts<'a>;
 
-    ghost tree = { held };
+    ghost tree = { node_tree };
 
     ghost source = { λ _. [] };
 
-    ghost left = { parts_held };
+    ghost remaining = { node_parts };
 
     ghost rest_source = { λ _. [] };
 

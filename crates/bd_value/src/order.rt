@@ -3,9 +3,9 @@
 ghost use Rattle.std.specs.Prelude.{◌≡◌};
 ghost use Rattle.std.specs.declared.cmp.Ordering.TheVariants.{Less, Equal, Greater};
 ghost use Rattle.bd_value.specs.Order.{class_of, class_of_kind, class_cmp, cmp, equal, fields_cmp, items_cmp, pair_cmp, same_class_cmp};
-ghost use Rattle.bd_value.specs.Order.{rank_cmp, rank_in, rank_view, binary_size, by_bytes, by_number, own_rank};
-ghost use Rattle.bd_value.specs.Tree.{fields_of, items_of, values_of, HoldsNoParts};
-ghost use Rattle.bd_value.specs.View.{tree_of, kind_of, seen};
+ghost use Rattle.bd_value.specs.Order.{rank_cmp, rank_in, rank_view, binary_size, by_bytes, by_number, leaf_rank};
+ghost use Rattle.bd_value.specs.Tree.{fields_of, items_of, values_of, HasNoParts};
+ghost use Rattle.bd_value.specs.View.{tree_of, kind_of, view_of};
 ghost use Rattle.bd_value.specs.declared.node.Kind.TheVariants as kinds;
 
 use crate::document::Value;
@@ -88,7 +88,7 @@ fn compare_within<M: Reading, N: Reading>(a: M, b: N) -> Ordering
         Kind::Doc => compare_documents::<M, N>(a.parts(), b.parts()),
         Kind::Array => compare_arrays::<M, N>(a.parts(), b.parts()),
         Kind::CodeScope => compare_scopes(a, b),
-        _ => compare_own(a, b),
+        _ => compare_leaves(a, b),
     }
 }
 
@@ -109,11 +109,11 @@ fn compare_pairs<M: Reading, N: Reading>(m: &str, a: M, n: &str, b: N) -> Orderi
 /// The order of two documents.
 #[cycle(order)]
 fn compare_documents<M: Reading, N: Reading>(first: M::Rest, second: N::Rest) -> Ordering
-    ensures { result ≡ fields_cmp (fields_of (M.left first)) (fields_of (N.left second)) }
+    ensures { result ≡ fields_cmp (fields_of (M.remaining first)) (fields_of (N.remaining second)) }
 {
-    let mut left = first;
+    let mut remaining = first;
     let mut right = second;
-    while let Some((m, a, left_after)) = M::next(&left) {
+    while let Some((m, a, remaining_after)) = M::next(&remaining) {
         let Some((n, b, right_after)) = N::next(&right) else {
             return Ordering::Greater;
         };
@@ -121,7 +121,7 @@ fn compare_documents<M: Reading, N: Reading>(first: M::Rest, second: N::Rest) ->
         if order != Ordering::Equal {
             return order;
         }
-        left = left_after;
+        remaining = remaining_after;
         right = right_after;
     }
     match N::next(&right) {
@@ -133,12 +133,12 @@ fn compare_documents<M: Reading, N: Reading>(first: M::Rest, second: N::Rest) ->
 /// The order of two arrays.
 #[cycle(order)]
 fn compare_arrays<M: Reading, N: Reading>(first: M::Rest, second: N::Rest) -> Ordering
-    ensures { result
-        ≡ items_cmp (items_of (values_of (M.left first))) (items_of (values_of (N.left second))) }
+    ensures { result ≡ items_cmp
+        (items_of (values_of (M.remaining first))) (items_of (values_of (N.remaining second))) }
 {
-    let mut left = first;
+    let mut remaining = first;
     let mut right = second;
-    while let Some((_, a, left_after)) = M::next(&left) {
+    while let Some((_, a, remaining_after)) = M::next(&remaining) {
         let Some((_, b, right_after)) = N::next(&right) else {
             return Ordering::Greater;
         };
@@ -146,7 +146,7 @@ fn compare_arrays<M: Reading, N: Reading>(first: M::Rest, second: N::Rest) -> Or
         if order != Ordering::Equal {
             return order;
         }
-        left = left_after;
+        remaining = remaining_after;
         right = right_after;
     }
     match N::next(&right) {
@@ -162,7 +162,7 @@ fn compare_scopes<M: Reading, N: Reading>(a: M, b: N) -> Ordering
     requires second { kind_of (N.tree b) ≡ kinds.CodeScope }
     ensures { result ≡ same_class_cmp (M.tree a) (N.tree b) }
 {
-    let order = compare_own(a, b);
+    let order = compare_leaves(a, b);
     if order != Ordering::Equal {
         return order;
     }
@@ -176,9 +176,9 @@ fn compare_scopes<M: Reading, N: Reading>(a: M, b: N) -> Ordering
 }
 
 /// The order of what two values of one class hold besides other values.
-fn compare_own<M: Reading, N: Reading>(a: M, b: N) -> Ordering
-    requires first { HoldsNoParts (M.tree a) }
-    requires second { HoldsNoParts (N.tree b) }
+fn compare_leaves<M: Reading, N: Reading>(a: M, b: N) -> Ordering
+    requires first { HasNoParts (M.tree a) }
+    requires second { HasNoParts (N.tree b) }
     ensures { result ≡ rank_cmp (rank_in (M.tree a)) (rank_in (N.tree b)) }
 {
     let Some(first) = a.leaf() else {
@@ -242,7 +242,7 @@ fn binary_size(subtype: u8, payload: &[u8]) -> u64
 
 /// What a scalar is compared by; of code with scope, its code.
 fn rank_of<'a>(scalar: &'a Scalar<'a>) -> Rank<'a>
-    ensures { rank_view result ≡ own_rank (seen scalar.now) }
+    ensures { rank_view result ≡ leaf_rank (view_of scalar.now) }
 {
     match scalar {
         Scalar::MinKey | Scalar::Undefined | Scalar::Null | Scalar::MaxKey => by_number(0),

@@ -7,8 +7,8 @@ use Rattle.bd_bson_view.specs.declared.raw_parts.ElementType.TheVariants.{Kept, 
 use Rattle.bd_bson_view.specs.declared.raw_parts.Holder.{Holder}
 use Rattle.bd_bson_view.specs.declared.raw_parts.Holder.TheVariants as holders
 use Rattle.bd_bson_view.specs.{Spelling.type_at, Spelling.number, Sizes.number_of, Unique.number_length}
-use Rattle.bd_wide.specs.Rewritten.{◌>>=◌, Writes, Others, Nested, fixed, counted, first_zero, two_texts, size_at, front, least, holder_least, part_of, path_of, separator, scope_at, IsElement, AreElements, IsBody, IsScoped, IsNested, IsRewritten}
-use Rattle.bd_wide.proofs.WalkLemmas.{Turn, to_turn, none_only, no_turn, ScopeTurn, to_scope}
+use Rattle.bd_wide.specs.Rewritten.{◌>>=◌, Writes, Others, Nested, fixed, counted, first_zero, two_texts, size_at, first_element, least, holder_least, part_of, path_of, separator, scope_at, IsElement, AreElements, IsBody, IsScoped, IsNested, IsRewritten}
+use Rattle.bd_wide.proofs.RewriteLemmas.{Turn, to_turn, none_only, no_turn, ScopeTurn, to_scope}
 
 -- ---- sizes
 
@@ -73,30 +73,30 @@ size_fits (Kept _) bytes n is = let e : 0 ≡ n = cc in (omega arith, omega arit
 
 -- ---- the element at the front
 
-abbrev pub FrontFits : ℕ → ElementType × ℕ × ℕ → Type 0
-FrontFits all x = (2 ≤ x.1) × (least x.0 ≤ x.2) × (x.1 + x.2 ≤ all)
+abbrev pub FirstElementFits : ℕ → ElementType × ℕ × ℕ → Type 0
+FirstElementFits all x = (2 ≤ x.1) × (least x.0 ≤ x.2) × (x.1 + x.2 ≤ all)
 
 sized : (all : ℕ) (t : ElementType) (k : ℕ) (r : Option ℕ) (x : ElementType × ℕ × ℕ) → ((n : ℕ) → r ≡ Some n → (least t ≤ n) × (k + 2 + n ≤ all))
-    → (r >>= λ n. Some (t, k + 2, n)) ≡ Some x → FrontFits all x
+    → (r >>= λ n. Some (t, k + 2, n)) ≡ Some x → FirstElementFits all x
 sized all t k None x h is = absurd cc
 sized all t k (Some n) x h is =
     let same : (t, k + 2, n) ≡ x = cc in
     let f = h n refl in
     let two : 2 ≤ k + 2 = omega arith in
-    subst (FrontFits all) same (two, f.0, f.1)
+    subst (FirstElementFits all) same (two, f.0, f.1)
 
 named : (all : ℕ) (t : Option ElementType) (r : Option ℕ) (size : ElementType → ℕ → Option ℕ) (x : ElementType × ℕ × ℕ)
     → ((t : ElementType) (k n : ℕ) → r ≡ Some k → size t k ≡ Some n → (least t ≤ n) × (k + 2 + n ≤ all))
-    → (t >>= λ type. r >>= λ k. size type k >>= λ n. Some (type, k + 2, n)) ≡ Some x → FrontFits all x
+    → (t >>= λ type. r >>= λ k. size type k >>= λ n. Some (type, k + 2, n)) ≡ Some x → FirstElementFits all x
 named all None r size x h is = absurd cc
 named all (Some t) None size x h is = absurd cc
 named all (Some t) (Some k) size x h is = sized all t k (size t k) x (λ n e. h t k n refl e) is
 
 -- the element at the start of bytes fits into them, and its value is not shorter than its type asks
-pub front_fits : (bytes : List ℕ) (x : ElementType × ℕ × ℕ) → front bytes ≡ Some x → FrontFits (length bytes) x
-unfolding front
-front_fits [] x is = absurd cc
-front_fits (b ∷ bytes) x is = named (length (b ∷ bytes)) (type_at b) (first_zero bytes) (λ type k. size_at type (drop (k + 1) bytes)) x
+pub first_element_fits : (bytes : List ℕ) (x : ElementType × ℕ × ℕ) → first_element bytes ≡ Some x → FirstElementFits (length bytes) x
+unfolding first_element
+first_element_fits [] x is = absurd cc
+first_element_fits (b ∷ bytes) x is = named (length (b ∷ bytes)) (type_at b) (first_zero bytes) (λ type k. size_at type (drop (k + 1) bytes)) x
     (λ t k n at size.
     let a = position-Some (λ c. c == 0) bytes k 0 at in
     let f = size_fits t (drop (k + 1) bytes) n size in
@@ -130,33 +130,33 @@ element_keeps Is others keeps f below path (Kept kinds.Array) head value new two
 element_keeps Is others keeps f below path (Kept kinds.CodeScope) head value new two some h = headed_keeps (f holders.CodeScope (path ++ separator holders.CodeScope) value) head value new (λ v. below holders.CodeScope (path ++ separator holders.CodeScope) value v some) h
 element_keeps Is others keeps f below path (Kept _) head value new two some h = same_keeps head value new h
 
-elements_keep : (Is : Writes) (others : Others) → Keeps Is others → (f : Nested) → KeepsNested f → (own : List ℕ → List ℕ) (n : ℕ) (bytes new : List ℕ) → AreElements Is others f own n bytes new → length new ≡ length bytes
-elements_keep Is others keeps f below own zero bytes new h = ap (λ xs. length xs) (no_turn Is others f own bytes new h)
-elements_keep Is others keeps f below own (suc n) [] new h = ap (λ xs. length xs) (none_only Is others f own (suc n) new h)
-elements_keep Is others keeps f below own (suc n) (b ∷ bytes) new h =
+elements_keep : (Is : Writes) (others : Others) → Keeps Is others → (f : Nested) → KeepsNested f → (path_in : List ℕ → List ℕ) (n : ℕ) (bytes new : List ℕ) → AreElements Is others f path_in n bytes new → length new ≡ length bytes
+elements_keep Is others keeps f below path_in zero bytes new h = ap (λ xs. length xs) (no_turn Is others f path_in bytes new h)
+elements_keep Is others keeps f below path_in (suc n) [] new h = ap (λ xs. length xs) (none_only Is others f path_in (suc n) new h)
+elements_keep Is others keeps f below path_in (suc n) (b ∷ bytes) new h =
     let all : List ℕ = b ∷ bytes in
-    let here : (r : Option (ElementType × ℕ × ℕ)) → front all ≡ r → Turn Is others f own n all r new → length new ≡ length all = elim [
+    let here : (r : Option (ElementType × ℕ × ℕ)) → first_element all ≡ r → Turn Is others f path_in n all r new → length new ≡ length all = elim [
       | None ↦ λ is t. ap (λ xs. length xs) t ∙ keeps.rest all
       | Some x ↦ λ is t.
-          let fits = front_fits all x is in
+          let fits = first_element_fits all x is in
           let head : List ℕ = take x.1 all in
           let value : List ℕ = take x.2 (drop x.1 all) in
           let rest : List ℕ = drop x.2 (drop x.1 all) in
           let hs : length head ≡ x.1 = length-take-le x.1 all (omega (arith, fits.2)) in
           let vs : length value ≡ x.2 = length-take-le x.2 (drop x.1 all) (omega (arith, fits.2, length-drop x.1 all)) in
-          let one = element_keeps Is others keeps f below (own head) x.0 head value t.0 (omega (arith, hs, fits.0)) (omega (arith, vs, fits.1)) t.2 in
-          let two = elements_keep Is others keeps f below own n rest t.1 t.3 in
+          let one = element_keeps Is others keeps f below (path_in head) x.0 head value t.0 (omega (arith, hs, fits.0)) (omega (arith, vs, fits.1)) t.2 in
+          let two = elements_keep Is others keeps f below path_in n rest t.1 t.3 in
           omega (arith, ap (λ xs. length xs) t.4, length-append t.0 t.1, one, two, hs, vs, fits.2, length-drop x.2 (drop x.1 all), length-drop x.1 all)
     ] in
-    here (front all) refl (to_turn Is others f own n b bytes new h)
+    here (first_element all) refl (to_turn Is others f path_in n b bytes new h)
 
-body_keeps : (Is : Writes) (others : Others) → Keeps Is others → (f : Nested) → KeepsNested f → (own : List ℕ → List ℕ) (value new : List ℕ) → 5 ≤ length value → IsBody Is others f own value new → length new ≡ length value
+body_keeps : (Is : Writes) (others : Others) → Keeps Is others → (f : Nested) → KeepsNested f → (path_in : List ℕ → List ℕ) (value new : List ℕ) → 5 ≤ length value → IsBody Is others f path_in value new → length new ≡ length value
 unfolding IsBody
-body_keeps Is others keeps f below own value new some h =
+body_keeps Is others keeps f below path_in value new some h =
     let inner : List ℕ = take (length value - 5) (drop 4 value) in
     let last : List ℕ = drop (length value - 1) value in
     let i : length inner ≡ length value - 5 = length-take-le (length value - 5) (drop 4 value) (omega (arith, length-drop 4 value)) in
-    let n : length h.0 ≡ length inner = elements_keep Is others keeps f below own (length inner) inner h.0 h.1 in
+    let n : length h.0 ≡ length inner = elements_keep Is others keeps f below path_in (length inner) inner h.0 h.1 in
     omega (arith, ap (λ xs. length xs) h.2, length-append (number (length h.0 + 5)) (h.0 ++ last), number_length (length h.0 + 5), length-append h.0 last, length-drop (length value - 1) value, i, n)
 
 scope_cases : (count size n at : ℕ) (b : Bool) → (count == 0 || nat_lt size (8 + count + 5) || not (n == size - (8 + count))) ≡ b → (if b then None else Some (8 + count)) ≡ Some at → (8 ≤ at) × (at + 5 ≤ size)
@@ -185,13 +185,13 @@ scoped_keeps document below value new h =
     ] in
     cases (scope_at value) refl (to_scope document value new h)
 
-nested_keeps : (Is : Writes) (others : Others) → Keeps Is others → (room : ℕ) → KeepsNested (IsNested Is others room)
+nested_keeps : (Is : Writes) (others : Others) → Keeps Is others → (depth_left : ℕ) → KeepsNested (IsNested Is others depth_left)
 unfolding IsNested holder_least
 nested_keeps Is others keeps zero h path value new some is = ap (λ xs. length xs) is
-nested_keeps Is others keeps (suc room) holders.Document path value new some is = body_keeps Is others keeps (IsNested Is others room) (nested_keeps Is others keeps room) (path_of false path) value new some is
-nested_keeps Is others keeps (suc room) holders.Array path value new some is = body_keeps Is others keeps (IsNested Is others room) (nested_keeps Is others keeps room) (path_of true path) value new some is
-nested_keeps Is others keeps (suc room) holders.CodeScope path value new some is =
-    scoped_keeps (IsNested Is others room holders.Document path) (λ v n h. nested_keeps Is others keeps room holders.Document path v n h) value new is
+nested_keeps Is others keeps (suc depth_left) holders.Document path value new some is = body_keeps Is others keeps (IsNested Is others depth_left) (nested_keeps Is others keeps depth_left) (path_of false path) value new some is
+nested_keeps Is others keeps (suc depth_left) holders.Array path value new some is = body_keeps Is others keeps (IsNested Is others depth_left) (nested_keeps Is others keeps depth_left) (path_of true path) value new some is
+nested_keeps Is others keeps (suc depth_left) holders.CodeScope path value new some is =
+    scoped_keeps (IsNested Is others depth_left holders.Document path) (λ v n h. nested_keeps Is others keeps depth_left holders.Document path v n h) value new is
 
 pub long_enough : (bytes : List ℕ) → nat_lt (length bytes) 5 ≡ false → 5 ≤ length bytes
 long_enough bytes at = grind (arith, nat_tests)

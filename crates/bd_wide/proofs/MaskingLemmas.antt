@@ -14,72 +14,72 @@ use Rattle.bd_bson_view.specs.{Spelling.type_at, Spelling.number, Unique.number_
 use Rattle.bd_wide.specs.Changes.{Stays}
 use Rattle.bd_wide.specs.Mask.{IsMasked, masked_element, masked_others}
 use Rattle.bd_wide.specs.Masking.{HasPlain, IsFirstOf, IsPlain, MasksBody, MasksElement, MasksElements, MasksNested, MasksScoped, plain_size}
-use Rattle.bd_wide.specs.Rewritten.{◌>>=◌, Adds, Nested, fixed, first_zero, front, least, part_of, path_of, scope_at, separator, size_at, AreElements, IsBody, IsElement, IsNested, IsRewritten}
+use Rattle.bd_wide.specs.Rewritten.{◌>>=◌, Adds, Nested, fixed, first_zero, first_element, least, part_of, path_of, scope_at, separator, size_at, AreElements, IsBody, IsElement, IsNested, IsRewritten}
 use Rattle.bd_wide.specs.declared.element.Part.TheVariants as parts
 use borrow.Rule.Slice.PartMut.{put_mid, put_same}
 use Rattle.bd_wide.proofs.LengthLemmas.{WholeTurn}
 use Rattle.bd_wide.proofs.RunLemmas.{after_type, stays_as_it_is}
-use Rattle.bd_wide.proofs.WalkLemmas.{Comes, ScopeTurn, below, ends, from_scope, none, part_of_element, stepped}
+use Rattle.bd_wide.proofs.RewriteLemmas.{Comes, ScopeTurn, below, ends, from_scope, none, part_of_element, stepped}
 
 abbrev Below : ℕ → Nested
-Below room = IsNested IsMasked masked_others room
+Below depth_left = IsNested IsMasked masked_others depth_left
 
 -- ---- elements: those before a place are masked, those from there on are as they were
 
-pub record MasksUpTo (room : ℕ) (old now : List ℕ) (at : ℕ) : Type 0 where
-  pub comes : (own : List ℕ → List ℕ) → Comes IsMasked masked_others (IsNested IsMasked masked_others room) own old (drop at old) [] (take at now)
+pub record MasksUpTo (depth_left : ℕ) (old now : List ℕ) (at : ℕ) : Type 0 where
+  pub comes : (path_in : List ℕ → List ℕ) → Comes IsMasked masked_others (IsNested IsMasked masked_others depth_left) path_in old (drop at old) [] (take at now)
   pub rest : drop at now ≡ drop at old
   pub inside : at ≤ length old
   pub as_long : length now ≡ length old
 
-pub masks_none : (room : ℕ) (old : List ℕ) → MasksUpTo room old old 0
-masks_none room old = record {
-  comes = λ own more h. (more, h, refl);
+pub masks_none : (depth_left : ℕ) (old : List ℕ) → MasksUpTo depth_left old old 0
+masks_none depth_left old = record {
+  comes = λ path_in more h. (more, h, refl);
   rest = refl;
   inside = omega arith;
   as_long = refl;
 }
 
 -- one more
-masks_one : (room : ℕ) (old now new sub : List ℕ) (at size : ℕ) → MasksUpTo room old now at → IsFirstOf room (drop at now) sub size
-    → new ≡ take at now ++ sub → MasksUpTo room old new (at + size)
-masks_one room old now new sub at size m f is =
+masks_one : (depth_left : ℕ) (old now new sub : List ℕ) (at size : ℕ) → MasksUpTo depth_left old now at → IsFirstOf depth_left (drop at now) sub size
+    → new ≡ take at now ++ sub → MasksUpTo depth_left old new (at + size)
+masks_one depth_left old now new sub at size m f is =
     let rest : List ℕ = drop at now in
     let after : List ℕ = drop size rest in
     let here : length (take at now) ≡ at = length-take-le at now (omega (arith, m.inside, m.as_long)) in
     let done : List ℕ = take at now ++ f.one in
     let long : length done ≡ at + size = omega (arith, length-append (take at now) f.one, here, f.as_long) in
     let whole : new ≡ done ++ after = is ∙ ap (λ x. take at now ++ x) f.written ∙ sym (append_assoc (take at now) f.one after) in
-    let cut : take (at + size) new ≡ done = ap (λ x. take (at + size) x) whole ∙ take_at done after (at + size) long in
-    let left : drop (at + size) new ≡ after = ap (λ x. drop (at + size) x) whole ∙ drop_at done after (at + size) long in
+    let splits : take (at + size) new ≡ done = ap (λ x. take (at + size) x) whole ∙ take_at done after (at + size) long in
+    let remaining : drop (at + size) new ≡ after = ap (λ x. drop (at + size) x) whole ∙ drop_at done after (at + size) long in
     let same : after ≡ drop (at + size) old = ap (λ x. drop size x) m.rest ∙ drop-drop size at old in
     let fits : at + size ≤ length old = omega (arith, f.inside, length-drop at now, m.as_long, m.inside) in
-    let first : Some (f.type, f.head, f.value) ≡ front (drop at old) = sym f.is_first ∙ ap (λ x. front x) m.rest in
+    let first : Some (f.type, f.head, f.value) ≡ first_element (drop at old) = sym f.is_first ∙ ap (λ x. first_element x) m.rest in
     let parts : drop (at + size) old ≡ drop f.value (drop f.head rest) = sym same ∙ ap (λ n. drop n rest) f.whole ∙ sym (drop-drop f.value f.head rest) in
     record {
-      comes = λ own.
-          let next = stepped IsMasked masked_others (Below room) own old [] (take at now) done (drop at old) (take f.head rest) (drop f.head rest) (take f.value (drop f.head rest)) (drop (at + size) old)
-          (own (take f.head rest)) f.type f.head f.value (m.comes own) first (ap (λ x. take f.head x) m.rest) (ap (λ x. drop f.head x) m.rest) refl parts refl
-          (f.one, f.masked (own (take f.head rest)), refl) in
-          subst (λ (x : List ℕ). Comes IsMasked masked_others (Below room) own old (drop (at + size) old) [] x) (sym cut) next;
-      rest = left ∙ same;
+      comes = λ path_in.
+          let next = stepped IsMasked masked_others (Below depth_left) path_in old [] (take at now) done (drop at old) (take f.head rest) (drop f.head rest) (take f.value (drop f.head rest)) (drop (at + size) old)
+          (path_in (take f.head rest)) f.type f.head f.value (m.comes path_in) first (ap (λ x. take f.head x) m.rest) (ap (λ x. drop f.head x) m.rest) refl parts refl
+          (f.one, f.masked (path_in (take f.head rest)), refl) in
+          subst (λ (x : List ℕ). Comes IsMasked masked_others (Below depth_left) path_in old (drop (at + size) old) [] x) (sym splits) next;
+      rest = remaining ∙ same;
       inside = fits;
       as_long = omega (arith, ap (λ xs. length xs) whole, length-append done after, long, length-drop size rest, length-drop at now, m.as_long, m.inside, f.inside);
     }
 
-rest_masked : (room : ℕ) (own : List ℕ → List ℕ) (rest : List ℕ) → front rest ≡ None → AreElements IsMasked masked_others (Below room) own (length rest) rest (masked_others rest)
-rest_masked room own [] is = none IsMasked masked_others (Below room) own 0
-rest_masked room own (b ∷ bytes) is = ends IsMasked masked_others (Below room) own (b ∷ bytes) (omega arith) (sym is)
+rest_masked : (depth_left : ℕ) (path_in : List ℕ → List ℕ) (rest : List ℕ) → first_element rest ≡ None → AreElements IsMasked masked_others (Below depth_left) path_in (length rest) rest (masked_others rest)
+rest_masked depth_left path_in [] is = none IsMasked masked_others (Below depth_left) path_in 0
+rest_masked depth_left path_in (b ∷ bytes) is = ends IsMasked masked_others (Below depth_left) path_in (b ∷ bytes) (omega arith) (sym is)
 
 -- all
-masks_all : (room : ℕ) (old now new sub : List ℕ) (at : ℕ) → MasksUpTo room old now at → front (drop at now) ≡ None → sub ≡ masked_others (drop at now)
-    → new ≡ take at now ++ sub → MasksElements room old new
-masks_all room old now new sub at m nothing is whole = λ own.
+masks_all : (depth_left : ℕ) (old now new sub : List ℕ) (at : ℕ) → MasksUpTo depth_left old now at → first_element (drop at now) ≡ None → sub ≡ masked_others (drop at now)
+    → new ≡ take at now ++ sub → MasksElements depth_left old new
+masks_all depth_left old now new sub at m nothing is whole = λ path_in.
     let rest : List ℕ = drop at old in
-    let told : front rest ≡ None = sym (ap (λ x. front x) m.rest) ∙ nothing in
-    let all = m.comes own (masked_others rest) (rest_masked room own rest told) in
+    let fact : first_element rest ≡ None = sym (ap (λ x. first_element x) m.rest) ∙ nothing in
+    let all = m.comes path_in (masked_others rest) (rest_masked depth_left path_in rest fact) in
     let same : all.0 ≡ new = sym all.2 ∙ ap (λ x. take at now ++ masked_others x) (sym m.rest) ∙ ap (λ x. take at now ++ x) (sym is) ∙ sym whole in
-    subst (λ (x : List ℕ). AreElements IsMasked masked_others (Below room) own (length old) old x) same all.1
+    subst (λ (x : List ℕ). AreElements IsMasked masked_others (Below depth_left) path_in (length old) old x) same all.1
 
 -- what stands from a place on
 
@@ -92,20 +92,20 @@ part_length at xs = ap (λ x. length x) (part_whole at xs) ∙ length-drop at xs
 put_end : (at : ℕ) (xs ys : List ℕ) → put_mid at (length xs - at) xs ys ≡ take at xs ++ ys
 put_end at xs ys = ap (λ z. take at xs ++ (ys ++ z)) (drop_all (length xs - at) (drop at xs) (omega (arith, length-drop at xs))) ∙ ap (λ z. take at xs ++ z) (append-nil ys)
 
-pub masks_next : (room : ℕ) (old now sub : List ℕ) (at size : ℕ) → MasksUpTo room old now at → IsFirstOf room (take (length now - at) (drop at now)) sub size
-    → MasksUpTo room old (put_mid at (length now - at) now sub) (at + size)
-masks_next room old now sub at size m f =
-    masks_one room old now (put_mid at (length now - at) now sub) sub at size m (subst (λ (x : List ℕ). IsFirstOf room x sub size) (part_whole at now) f) (put_end at now sub)
+pub masks_next : (depth_left : ℕ) (old now sub : List ℕ) (at size : ℕ) → MasksUpTo depth_left old now at → IsFirstOf depth_left (take (length now - at) (drop at now)) sub size
+    → MasksUpTo depth_left old (put_mid at (length now - at) now sub) (at + size)
+masks_next depth_left old now sub at size m f =
+    masks_one depth_left old now (put_mid at (length now - at) now sub) sub at size m (subst (λ (x : List ℕ). IsFirstOf depth_left x sub size) (part_whole at now) f) (put_end at now sub)
 
-pub masks_end : (room : ℕ) (old now sub last : List ℕ) (at : ℕ) → MasksUpTo room old now at
-    → (front (take (length now - at) (drop at now)) ≡ None) × (sub ≡ take (length now - at) (drop at now))
+pub masks_end : (depth_left : ℕ) (old now sub last : List ℕ) (at : ℕ) → MasksUpTo depth_left old now at
+    → (first_element (take (length now - at) (drop at now)) ≡ None) × (sub ≡ take (length now - at) (drop at now))
     → (let after = put_mid at (length now - at) now sub in last ≡ masked_others (take (length after - at) (drop at after)))
-    → (let after = put_mid at (length now - at) now sub in MasksElements room old (put_mid at (length after - at) after last))
-masks_end room old now sub last at m nothing is =
+    → (let after = put_mid at (length now - at) now sub in MasksElements depth_left old (put_mid at (length after - at) after last))
+masks_end depth_left old now sub last at m nothing is =
     let same : put_mid at (length now - at) now sub ≡ now = ap (λ s. put_mid at (length now - at) now s) nothing.1 ∙ put_same at (length now - at) now in
-    let here : last ≡ masked_others (take (length now - at) (drop at now)) → MasksElements room old (put_mid at (length now - at) now last) = λ is.
-    masks_all room old now (put_mid at (length now - at) now last) last at m (ap (λ x. front x) (sym (part_whole at now)) ∙ nothing.0) (is ∙ ap (λ x. masked_others x) (part_whole at now)) (put_end at now last) in
-    subst (λ (x : List ℕ). last ≡ masked_others (take (length x - at) (drop at x)) → MasksElements room old (put_mid at (length x - at) x last)) (sym same) here is
+    let here : last ≡ masked_others (take (length now - at) (drop at now)) → MasksElements depth_left old (put_mid at (length now - at) now last) = λ is.
+    masks_all depth_left old now (put_mid at (length now - at) now last) last at m (ap (λ x. first_element x) (sym (part_whole at now)) ∙ nothing.0) (is ∙ ap (λ x. masked_others x) (part_whole at now)) (put_end at now last) in
+    subst (λ (x : List ℕ). last ≡ masked_others (take (length x - at) (drop at x)) → MasksElements depth_left old (put_mid at (length x - at) x last)) (sym same) here is
 
 -- ---- what holds values
 
@@ -120,11 +120,11 @@ after_count value sized at four same =
     let e : 4 + (at - 4) ≡ at = omega (arith, four) in
     ap (λ k. drop k sized) (sym e) ∙ sym (drop-drop (at - 4) 4 sized) ∙ ap (λ x. drop (at - 4) x) same ∙ drop-drop (at - 4) 4 value ∙ ap (λ k. drop k value) e
 
-pub masks_body : (room : ℕ) (value sized sub : List ℕ) → 5 ≤ length value → sized ≡ number (length value) ++ drop 4 value
-    → MasksElements room (take (length value - 1 - 4) (drop 4 sized)) sub → length sub ≡ length (take (length value - 1 - 4) (drop 4 sized))
-    → MasksBody room value (put_mid 4 (length value - 1 - 4) sized sub)
+pub masks_body : (depth_left : ℕ) (value sized sub : List ℕ) → 5 ≤ length value → sized ≡ number (length value) ++ drop 4 value
+    → MasksElements depth_left (take (length value - 1 - 4) (drop 4 sized)) sub → length sub ≡ length (take (length value - 1 - 4) (drop 4 sized))
+    → MasksBody depth_left value (put_mid 4 (length value - 1 - 4) sized sub)
 unfolding IsBody
-masks_body room value sized sub some is masked long = λ own.
+masks_body depth_left value sized sub some is masked long = λ path_in.
     let n : ℕ = length value in
     let c = count_first n value sized is in
     let e : n - 1 - 4 ≡ n - 5 = omega arith in
@@ -133,71 +133,71 @@ masks_body room value sized sub some is masked long = λ own.
     let f : 4 + (n - 1 - 4) ≡ n - 1 = omega (arith, some) in
     let last : drop (n - 1 - 4) (drop 4 sized) ≡ drop (n - 1) value = ap (λ x. drop (n - 1 - 4) x) c.1 ∙ drop-drop (n - 1 - 4) 4 value ∙ ap (λ m. drop m value) f in (
       sub,
-      subst (λ (x : List ℕ). AreElements IsMasked masked_others (Below room) own (length x) x sub) mine (masked own),
+      subst (λ (x : List ℕ). AreElements IsMasked masked_others (Below depth_left) path_in (length x) x sub) mine (masked path_in),
       ap₂ (λ (a x : List ℕ). a ++ (sub ++ x)) (c.0 ∙ ap (λ k. number k) (sym size)) last,
     )
 
-masks_scoped : (room : ℕ) (value sized sub new : List ℕ) (at : ℕ) → Some at ≡ scope_at value → 8 ≤ at → at + 5 ≤ length value → sized ≡ number (length value) ++ drop 4 value
-    → MasksNested room holders.Document (drop at sized) sub → length sub ≡ length (drop at sized) → new ≡ take at sized ++ sub → MasksScoped room value new
-masks_scoped room value sized sub new at told eight fits is masked long whole = λ path.
+masks_scoped : (depth_left : ℕ) (value sized sub new : List ℕ) (at : ℕ) → Some at ≡ scope_at value → 8 ≤ at → at + 5 ≤ length value → sized ≡ number (length value) ++ drop 4 value
+    → MasksNested depth_left holders.Document (drop at sized) sub → length sub ≡ length (drop at sized) → new ≡ take at sized ++ sub → MasksScoped depth_left value new
+masks_scoped depth_left value sized sub new at fact eight fits is masked long whole = λ path.
     let n : ℕ = length value in
-    let document : List ℕ → List ℕ → Type 0 = Below room holders.Document path in
+    let document : List ℕ → List ℕ → Type 0 = Below depth_left holders.Document path in
     let code : List ℕ = take (at - 4) (drop 4 value) in
     let c = count_first n value sized is in
     let e : 4 + (at - 4) ≡ at = omega (arith, eight) in
-    let left : drop at sized ≡ drop at value = after_count value sized at (omega (arith, eight)) c.1 in
+    let remaining : drop at sized ≡ drop at value = after_count value sized at (omega (arith, eight)) c.1 in
     let begun : take at sized ≡ number n ++ code = ap (λ k. take k sized) (sym e) ∙ take-add 4 (at - 4) sized ∙ ap₂ (λ (a x : List ℕ). a ++ take (at - 4) x) c.0 c.1 in
-    let size : at + length sub ≡ n = omega (arith, long, ap (λ xs. length xs) left, length-drop at value, fits) in
-    let scope : document (drop at value) sub = subst (λ (x : List ℕ). document x sub) left (masked path) in
-    from_scope document value new (subst (λ (o : Option ℕ). ScopeTurn document value new o) told
+    let size : at + length sub ≡ n = omega (arith, long, ap (λ xs. length xs) remaining, length-drop at value, fits) in
+    let scope : document (drop at value) sub = subst (λ (x : List ℕ). document x sub) remaining (masked path) in
+    from_scope document value new (subst (λ (o : Option ℕ). ScopeTurn document value new o) fact
     (sub, scope, whole ∙ ap (λ x. x ++ sub) begun ∙ append_assoc (number n) code sub ∙ ap (λ k. number k ++ (code ++ sub)) (sym size)))
 
-pub masks_scope : (room : ℕ) (value sized sub : List ℕ) (at : ℕ) → Some at ≡ scope_at value → 8 ≤ at → at + 5 ≤ length value → sized ≡ number (length value) ++ drop 4 value
-    → MasksNested room holders.Document (take (length sized - at) (drop at sized)) sub → length sub ≡ length (take (length sized - at) (drop at sized))
-    → MasksScoped room value (put_mid at (length sized - at) sized sub)
-masks_scope room value sized sub at told eight fits is masked long =
-    masks_scoped room value sized sub (put_mid at (length sized - at) sized sub) at told eight fits is
-    (subst (λ (x : List ℕ). MasksNested room holders.Document x sub) (part_whole at sized) masked) (long ∙ ap (λ xs. length xs) (part_whole at sized)) (put_end at sized sub)
+pub masks_scope : (depth_left : ℕ) (value sized sub : List ℕ) (at : ℕ) → Some at ≡ scope_at value → 8 ≤ at → at + 5 ≤ length value → sized ≡ number (length value) ++ drop 4 value
+    → MasksNested depth_left holders.Document (take (length sized - at) (drop at sized)) sub → length sub ≡ length (take (length sized - at) (drop at sized))
+    → MasksScoped depth_left value (put_mid at (length sized - at) sized sub)
+masks_scope depth_left value sized sub at fact eight fits is masked long =
+    masks_scoped depth_left value sized sub (put_mid at (length sized - at) sized sub) at fact eight fits is
+    (subst (λ (x : List ℕ). MasksNested depth_left holders.Document x sub) (part_whole at sized) masked) (long ∙ ap (λ xs. length xs) (part_whole at sized)) (put_end at sized sub)
 
-pub scope_stays : (room : ℕ) (value new : List ℕ) → None ≡ scope_at value → new ≡ value → MasksScoped room value new
-scope_stays room value new told is = λ path.
-    let document : List ℕ → List ℕ → Type 0 = Below room holders.Document path in
-    from_scope document value new (subst (λ (o : Option ℕ). ScopeTurn document value new o) told is)
+pub scope_stays : (depth_left : ℕ) (value new : List ℕ) → None ≡ scope_at value → new ≡ value → MasksScoped depth_left value new
+scope_stays depth_left value new fact is = λ path.
+    let document : List ℕ → List ℕ → Type 0 = Below depth_left holders.Document path in
+    from_scope document value new (subst (λ (o : Option ℕ). ScopeTurn document value new o) fact is)
 
-pub deepest_stays : (room : ℕ) (holder : Holder) (value new : List ℕ) → room ≡ 0 → new ≡ value → MasksNested room holder value new
+pub deepest_stays : (depth_left : ℕ) (holder : Holder) (value new : List ℕ) → depth_left ≡ 0 → new ≡ value → MasksNested depth_left holder value new
 unfolding IsNested
-deepest_stays room holder value new deep is = λ path. subst (λ (r : ℕ). IsNested IsMasked masked_others r holder path value new) (sym deep) is
+deepest_stays depth_left holder value new deep is = λ path. subst (λ (r : ℕ). IsNested IsMasked masked_others r holder path value new) (sym deep) is
 
-pub masks_document : (room : ℕ) (value new : List ℕ) → 0 < room → MasksBody (room - 1) value new → MasksNested room holders.Document value new
-masks_document room value new some h = λ path. (below IsMasked masked_others room path value new some).0 (h (path_of false path))
+pub masks_document : (depth_left : ℕ) (value new : List ℕ) → 0 < depth_left → MasksBody (depth_left - 1) value new → MasksNested depth_left holders.Document value new
+masks_document depth_left value new some h = λ path. (below IsMasked masked_others depth_left path value new some).0 (h (path_of false path))
 
-pub masks_array : (room : ℕ) (value new : List ℕ) → 0 < room → MasksBody (room - 1) value new → MasksNested room holders.Array value new
-masks_array room value new some h = λ path. (below IsMasked masked_others room path value new some).1 (h (path_of true path))
+pub masks_array : (depth_left : ℕ) (value new : List ℕ) → 0 < depth_left → MasksBody (depth_left - 1) value new → MasksNested depth_left holders.Array value new
+masks_array depth_left value new some h = λ path. (below IsMasked masked_others depth_left path value new some).1 (h (path_of true path))
 
-pub masks_code : (room : ℕ) (value new : List ℕ) → 0 < room → MasksScoped (room - 1) value new → MasksNested room holders.CodeScope value new
-masks_code room value new some h = λ path. (below IsMasked masked_others room path value new some).2 (h path)
+pub masks_code : (depth_left : ℕ) (value new : List ℕ) → 0 < depth_left → MasksScoped (depth_left - 1) value new → MasksNested depth_left holders.CodeScope value new
+masks_code depth_left value new some h = λ path. (below IsMasked masked_others depth_left path value new some).2 (h path)
 
 -- ---- one element
 
-pub element_stays : (room : ℕ) (t : ElementType) (k : ℕ) (old new : List ℕ) → None ≡ part_of t → new ≡ old → MasksElement room t k old new
-element_stays room t k old new told is = λ path. part_of_element IsMasked (Below room) path t None (take k old) (drop k old) new told (is ∙ sym (take-append-drop k old))
+pub element_stays : (depth_left : ℕ) (t : ElementType) (k : ℕ) (old new : List ℕ) → None ≡ part_of t → new ≡ old → MasksElement depth_left t k old new
+element_stays depth_left t k old new fact is = λ path. part_of_element IsMasked (Below depth_left) path t None (take k old) (drop k old) new fact (is ∙ sym (take-append-drop k old))
 
-pub element_number : (room : ℕ) (t : ElementType) (k : ℕ) (old new : List ℕ) → Some parts.Number ≡ part_of t → new ≡ masked_element t (take k old) (drop k old) → MasksElement room t k old new
-element_number room t k old new told is = λ path. part_of_element IsMasked (Below room) path t (Some parts.Number) (take k old) (drop k old) new told is
+pub element_number : (depth_left : ℕ) (t : ElementType) (k : ℕ) (old new : List ℕ) → Some parts.Number ≡ part_of t → new ≡ masked_element t (take k old) (drop k old) → MasksElement depth_left t k old new
+element_number depth_left t k old new fact is = λ path. part_of_element IsMasked (Below depth_left) path t (Some parts.Number) (take k old) (drop k old) new fact is
 
-element_values : (room : ℕ) (t : ElementType) (holder : Holder) (k : ℕ) (old sub new : List ℕ) → Some (parts.Values holder) ≡ part_of t → MasksNested room holder (drop k old) sub
-    → new ≡ take k old ++ sub → MasksElement room t k old new
-element_values room t holder k old sub new told masked is = λ path.
-    part_of_element IsMasked (Below room) path t (Some (parts.Values holder)) (take k old) (drop k old) new told (sub, masked (path ++ separator holder), is)
+element_values : (depth_left : ℕ) (t : ElementType) (holder : Holder) (k : ℕ) (old sub new : List ℕ) → Some (parts.Values holder) ≡ part_of t → MasksNested depth_left holder (drop k old) sub
+    → new ≡ take k old ++ sub → MasksElement depth_left t k old new
+element_values depth_left t holder k old sub new fact masked is = λ path.
+    part_of_element IsMasked (Below depth_left) path t (Some (parts.Values holder)) (take k old) (drop k old) new fact (sub, masked (path ++ separator holder), is)
 
-pub element_inside : (room : ℕ) (t : ElementType) (holder : Holder) (k : ℕ) (old sub : List ℕ) → Some (parts.Values holder) ≡ part_of t
-    → MasksNested room holder (take (length old - k) (drop k old)) sub → MasksElement room t k old (put_mid k (length old - k) old sub)
-element_inside room t holder k old sub told masked =
-    element_values room t holder k old sub (put_mid k (length old - k) old sub) told (subst (λ (x : List ℕ). MasksNested room holder x sub) (part_whole k old) masked) (put_end k old sub)
+pub element_inside : (depth_left : ℕ) (t : ElementType) (holder : Holder) (k : ℕ) (old sub : List ℕ) → Some (parts.Values holder) ≡ part_of t
+    → MasksNested depth_left holder (take (length old - k) (drop k old)) sub → MasksElement depth_left t k old (put_mid k (length old - k) old sub)
+element_inside depth_left t holder k old sub fact masked =
+    element_values depth_left t holder k old sub (put_mid k (length old - k) old sub) fact (subst (λ (x : List ℕ). MasksNested depth_left holder x sub) (part_whole k old) masked) (put_end k old sub)
 
-pub first_any : (room : ℕ) (old sub new : List ℕ) (t : ElementType) (k n : ℕ) → Some (t, k, n) ≡ front old → 2 ≤ k → k + n ≤ length old
-    → MasksElement room t k (take (k + n) old) sub → length sub ≡ length (take (k + n) old) → new ≡ sub ++ drop (k + n) old → IsFirstOf room old new (k + n)
-first_any room old sub new t k n told two fits masked long is =
+pub first_any : (depth_left : ℕ) (old sub new : List ℕ) (t : ElementType) (k n : ℕ) → Some (t, k, n) ≡ first_element old → 2 ≤ k → k + n ≤ length old
+    → MasksElement depth_left t k (take (k + n) old) sub → length sub ≡ length (take (k + n) old) → new ≡ sub ++ drop (k + n) old → IsFirstOf depth_left old new (k + n)
+first_any depth_left old sub new t k n fact two fits masked long is =
     let head : take k (take (k + n) old) ≡ take k old = take-take k (k + n) old (omega arith) in
     let value : drop k (take (k + n) old) ≡ take n (drop k old) = drop-take k n old in
     record {
@@ -205,12 +205,12 @@ first_any room old sub new t k n told two fits masked long is =
       head = k;
       value = n;
       one = sub;
-      is_first = sym told;
+      is_first = sym fact;
       whole = refl;
       most = omega (arith, two);
       inside = fits;
-      masked = λ path. subst (λ (x : List ℕ). IsElement IsMasked (Below room) path t x (take n (drop k old)) sub) head
-          (subst (λ (x : List ℕ). IsElement IsMasked (Below room) path t (take k (take (k + n) old)) x sub) value (masked path));
+      masked = λ path. subst (λ (x : List ℕ). IsElement IsMasked (Below depth_left) path t x (take n (drop k old)) sub) head
+          (subst (λ (x : List ℕ). IsElement IsMasked (Below depth_left) path t (take k (take (k + n) old)) x sub) value (masked path));
       as_long = long ∙ length-take-le (k + n) old fits;
       written = is;
     }
@@ -249,14 +249,14 @@ plain_stays kinds.Timestamp n is = inl refl
 plain_stays kinds.Int64 n is = inr (refl, λ path head value. refl)
 plain_stays kind n is = absurd cc
 
-double_is : (room : ℕ) (path head value new : List ℕ) → new ≡ masked_element Double head value → IsElement IsMasked (Below room) path Double head value new
+double_is : (depth_left : ℕ) (path head value new : List ℕ) → new ≡ masked_element Double head value → IsElement IsMasked (Below depth_left) path Double head value new
 unfolding part_of
-double_is room path head value new is = part_of_element IsMasked (Below room) path Double (Some parts.Number) head value new refl is
+double_is depth_left path head value new is = part_of_element IsMasked (Below depth_left) path Double (Some parts.Number) head value new refl is
 
-front_told : (b : ℕ) (rest : List ℕ) (t : ElementType) (k n : ℕ) → type_at b ≡ Some t → first_zero rest ≡ Some k → size_at t (drop (k + 1) rest) ≡ Some n
-    → front (b ∷ rest) ≡ Some (t, k + 2, n)
-unfolding front
-front_told b rest t k n p q r = ap (λ (o : Option ElementType). o >>= λ type. first_zero rest >>= λ j. size_at type (drop (j + 1) rest) >>= λ m. Some (type, j + 2, m)) p
+prefix_reported : (b : ℕ) (rest : List ℕ) (t : ElementType) (k n : ℕ) → type_at b ≡ Some t → first_zero rest ≡ Some k → size_at t (drop (k + 1) rest) ≡ Some n
+    → first_element (b ∷ rest) ≡ Some (t, k + 2, n)
+unfolding first_element
+prefix_reported b rest t k n p q r = ap (λ (o : Option ElementType). o >>= λ type. first_zero rest >>= λ j. size_at type (drop (j + 1) rest) >>= λ m. Some (type, j + 2, m)) p
     ∙ ap (λ (o : Option ℕ). o >>= λ j. size_at t (drop (j + 1) rest) >>= λ m. Some (t, j + 2, m)) q ∙ ap (λ (o : Option ℕ). o >>= λ m. Some (t, k + 2, m)) r
 
 -- the bytes of an element, by its head and its value
@@ -279,50 +279,50 @@ pub plain_is : (b k n m : ℕ) (bytes rest : List ℕ) → bytes ≡ b ∷ rest 
     → (b ≡ 1 → m ≡ 18) → (b ≢ 1 → m ≡ b) → IsPlain m (k + 2 + n) bytes
 plain_is b k n m bytes rest is plain zero_at fits double other =
     let value_fits : n ≤ length (drop (k + 1) rest) = omega (arith, fits, length-drop (k + 1) rest) in
-    let told : front bytes ≡ Some (plain.type, k + 2, n) = ap (λ x. front x) is ∙ front_told b rest plain.type k n plain.told (sym zero_at) (plain_fits plain.type (drop (k + 1) rest) n plain.plain value_fits) in
+    let fact : first_element bytes ≡ Some (plain.type, k + 2, n) = ap (λ x. first_element x) is ∙ prefix_reported b rest plain.type k n plain.fact (sym zero_at) (plain_fits plain.type (drop (k + 1) rest) n plain.plain value_fits) in
     let long : k + 2 + n ≤ length bytes = omega (arith, fits, ap (λ xs. length xs) is) in
     let head : List ℕ = take (k + 2) bytes in
     let value : List ℕ = take n (drop (k + 2) bytes) in
     let tail : drop 1 (take (k + 2 + n) bytes) ≡ drop 1 head ++ value = nameless bytes (k + 2) n (omega arith) (omega (arith, long)) in
     let all : take (k + 2 + n) bytes ≡ b ∷ drop 1 (take (k + 2 + n) bytes) = begins_so b rest (k + 2 + n) bytes is (omega arith) in
-    let one : (room : ℕ) (path : List ℕ) → ((b ≡ 1) × (plain.type ≡ Double)) ⊎ ((b ≢ 1) × ((kind : Kind) × (plain.type ≡ Kept kind)))
-    → IsElement IsMasked (Below room) path plain.type head value (m ∷ drop 1 (take (k + 2 + n) bytes)) = λ room path. elim [
-      | inl e ↦ subst (λ (t : ElementType). IsElement IsMasked (Below room) path t head value (m ∷ drop 1 (take (k + 2 + n) bytes))) (sym e.1)
-          (double_is room path head value (m ∷ drop 1 (take (k + 2 + n) bytes)) (ap₂ (λ (x : ℕ) (xs : List ℕ). x ∷ xs) (double e.0) tail))
-      | inr e ↦ subst (λ (x : List ℕ). IsElement IsMasked (Below room) path plain.type head value x) (sym (element_is bytes (k + 2) n) ∙ all ∙ ap (λ x. x ∷ drop 1 (take (k + 2 + n) bytes)) (sym (other e.0)))
-          (stays_as_it_is IsMasked (Below room) path plain.type head value (subst (λ (t : ElementType). Stays IsMasked t) (sym e.1.1) (plain_stays e.1.0 n (ap (λ t. plain_size t) (sym e.1.1) ∙ plain.plain))))
+    let one : (depth_left : ℕ) (path : List ℕ) → ((b ≡ 1) × (plain.type ≡ Double)) ⊎ ((b ≢ 1) × ((kind : Kind) × (plain.type ≡ Kept kind)))
+    → IsElement IsMasked (Below depth_left) path plain.type head value (m ∷ drop 1 (take (k + 2 + n) bytes)) = λ depth_left path. elim [
+      | inl e ↦ subst (λ (t : ElementType). IsElement IsMasked (Below depth_left) path t head value (m ∷ drop 1 (take (k + 2 + n) bytes))) (sym e.1)
+          (double_is depth_left path head value (m ∷ drop 1 (take (k + 2 + n) bytes)) (ap₂ (λ (x : ℕ) (xs : List ℕ). x ∷ xs) (double e.0) tail))
+      | inr e ↦ subst (λ (x : List ℕ). IsElement IsMasked (Below depth_left) path plain.type head value x) (sym (element_is bytes (k + 2) n) ∙ all ∙ ap (λ x. x ∷ drop 1 (take (k + 2 + n) bytes)) (sym (other e.0)))
+          (stays_as_it_is IsMasked (Below depth_left) path plain.type head value (subst (λ (t : ElementType). Stays IsMasked t) (sym e.1.1) (plain_stays e.1.0 n (ap (λ t. plain_size t) (sym e.1.1) ∙ plain.plain))))
     ] in
     record {
       type = plain.type;
       head = k + 2;
       value = n;
-      is_first = told;
+      is_first = fact;
       whole = refl;
       most = omega arith;
       inside = long;
-      masked = λ room path. one room path plain.kind;
+      masked = λ depth_left path. one depth_left path plain.kind;
     }
 
 set_first : (xs : List ℕ) (x : ℕ) → 0 < length xs → slice_set xs 0 x ≡ x ∷ drop 1 xs
 set_first [] x some = absurd (omega (arith, some))
 set_first (y ∷ ys) x some = refl
 
-pub first_plain : (room : ℕ) (old : List ℕ) (byte size : ℕ) → IsPlain byte size old → IsFirstOf room old (slice_set old 0 byte) size
-first_plain room old byte size p =
+pub first_plain : (depth_left : ℕ) (old : List ℕ) (byte size : ℕ) → IsPlain byte size old → IsFirstOf depth_left old (slice_set old 0 byte) size
+first_plain depth_left old byte size p =
     let is : slice_set old 0 byte ≡ byte ∷ drop 1 old = set_first old byte (omega (arith, p.most, p.inside)) in
-    let cut : List ℕ = take size old in
-    let long : length cut ≡ size = length-take-le size old p.inside in
+    let splits : List ℕ = take size old in
+    let long : length splits ≡ size = length-take-le size old p.inside in
     record {
       type = p.type;
       head = p.head;
       value = p.value;
-      one = byte ∷ drop 1 cut;
+      one = byte ∷ drop 1 splits;
       is_first = p.is_first;
       whole = p.whole;
       most = p.most;
       inside = p.inside;
-      masked = p.masked room;
-      as_long = omega (arith, length-drop 1 cut, long, p.most);
+      masked = p.masked depth_left;
+      as_long = omega (arith, length-drop 1 splits, long, p.most);
       written = is ∙ ap (λ xs. byte ∷ xs) (after_type size old (omega (arith, p.most)) p.inside);
     }
 
@@ -342,8 +342,8 @@ decimal_at (suc (suc j)) (b ∷ t) seven new two fits is whole =
     let e : suc (suc j) - 1 ≡ suc j = omega arith in
     let f : suc (suc j) + 4 ≡ suc (suc j + 4) = omega arith in
     let begun : take (suc (suc j) - 1) seven ≡ 7 ∷ take j t = ap (λ m. take m seven) e ∙ ap (λ x. take (suc j) x) is in
-    let left : drop (suc (suc j) + 4) seven ≡ rest = ap (λ m. drop m seven) f ∙ ap (λ x. drop (suc (suc j + 4)) x) is ∙ sym (drop-drop 4 (suc j) t) in
-    whole ∙ ap₂ (λ (a x : List ℕ). a ++ ((codes "####" ++ 0 ∷ []) ++ x)) begun left ∙ ap (λ x. 7 ∷ (x ++ (codes "####" ++ 0 ∷ rest))) (sym name)
+    let remaining : drop (suc (suc j) + 4) seven ≡ rest = ap (λ m. drop m seven) f ∙ ap (λ x. drop (suc (suc j + 4)) x) is ∙ sym (drop-drop 4 (suc j) t) in
+    whole ∙ ap₂ (λ (a x : List ℕ). a ++ ((codes "####" ++ 0 ∷ []) ++ x)) begun remaining ∙ ap (λ x. 7 ∷ (x ++ (codes "####" ++ 0 ∷ rest))) (sym name)
 
 pub decimal_fits : (t : ElementType) (k n : ℕ) → t ≡ Decimal128 → k + least t ≤ n → k + 16 ≤ n
 unfolding least

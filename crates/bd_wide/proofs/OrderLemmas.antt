@@ -33,25 +33,25 @@ numbered_ok P one two three four out t n at P_is single fits p q r is =
     let F : List ℕ = tag ++ long n in
     let i : List ℕ = drop at one in
     let whole : four ≡ one ++ (F ++ t) = r ∙ ap (λ x. x ++ t) (q ∙ ap (λ x. x ++ long n) p ∙ append_assoc one tag (long n)) ∙ append_assoc one F t in
-    let front : take at four ≡ take at P = ap (take at) whole ∙ take-append-le at one (F ++ t) (omega (arith, fits)) ∙ sym (ap (take at) P_is ∙ take-append-le at one t (omega (arith, fits))) in
+    let prefix : take at four ≡ take at P = ap (take at) whole ∙ take-append-le at one (F ++ t) (omega (arith, fits)) ∙ sym (ap (take at) P_is ∙ take-append-le at one t (omega (arith, fits))) in
     let deep : drop (at + 4) one ≡ drop 4 i = ap (λ n. drop n one) {x = at + 4} (omega arith) ∙ sym (drop-drop 4 at one) in
     let back : drop (at + 4) four ≡ drop 4 i ++ (F ++ t) = ap (drop (at + 4)) whole ∙ drop-append-le (at + 4) one (F ++ t) fits ∙ ap (λ x. x ++ (F ++ t)) deep in
     let count : length four - at ≡ length i + 13 = omega (arith, ap (λ xs. length xs) whole, length-append one (F ++ t), length-append F t, length-append tag (long n), long_length n, single, fits, length-drop at one) in
     let document : drop at P ≡ i ++ t = ap (drop at) P_is ∙ drop-append-le at one t (omega (arith, fits)) in
-    is ∙ (λ k. front k ++ (number (count k) ++ back k)) ∙ sym (ap (λ d. take at P ++ numbered n d) document ∙ ap (λ x. take at P ++ x) (numbered_split n i t single))
+    is ∙ (λ k. prefix k ++ (number (count k) ++ back k)) ∙ sym (ap (λ d. take at P ++ numbered n d) document ∙ ap (λ x. take at P ++ x) (numbered_split n i t single))
 
 -- ---- a document stays one
 
-body_some : (Is : Writes) (others : Others) (f : Nested) (own : List ℕ → List ℕ) (value new : List ℕ) → 5 ≤ length value → IsBody Is others f own value new → 5 ≤ length new
+body_some : (Is : Writes) (others : Others) (f : Nested) (path_in : List ℕ → List ℕ) (value new : List ℕ) → 5 ≤ length value → IsBody Is others f path_in value new → 5 ≤ length new
 unfolding IsBody
-body_some Is others f own value new some h =
+body_some Is others f path_in value new some h =
     let last : List ℕ = drop (length value - 1) value in
     omega (arith, some, ap (λ xs. length xs) h.2, length-append (number (length h.0 + 5)) (h.0 ++ last), number_length (length h.0 + 5), length-append h.0 last, length-drop (length value - 1) value)
 
-nested_some : (Is : Writes) (others : Others) (room : ℕ) (path value new : List ℕ) → 5 ≤ length value → IsNested Is others room holders.Document path value new → 5 ≤ length new
+nested_some : (Is : Writes) (others : Others) (depth_left : ℕ) (path value new : List ℕ) → 5 ≤ length value → IsNested Is others depth_left holders.Document path value new → 5 ≤ length new
 unfolding IsNested
 nested_some Is others zero path value new some h = omega (arith, some, ap (λ xs. length xs) h)
-nested_some Is others (suc room) path value new some h = body_some Is others _ _ value new some h
+nested_some Is others (suc depth_left) path value new some h = body_some Is others _ _ value new some h
 
 pub rewritten_some : (Is : Writes) (others : Others) (bytes new : List ℕ) → 5 ≤ length bytes → IsRewritten Is others bytes new → 5 ≤ length new
 rewritten_some Is others bytes new some h =
@@ -65,12 +65,12 @@ rewritten_some Is others bytes new some h =
 pub numbered_here : (paths : List OrderPath) (n at : ℕ) (bytes old mid out : List ℕ) → at ≡ length old → Adds (IsRewritten (IsOrdered paths) (λ others. others) bytes) old mid
     → out ≡ take at mid ++ numbered n (drop at mid) → Adds (IsNumbered paths n bytes) old out
 numbered_here paths n at bytes old mid out here h is =
-    let front : take at mid ≡ old = ap (take at) h.2 ∙ take_at old h.0 at (sym here) in
+    let prefix : take at mid ≡ old = ap (take at) h.2 ∙ take_at old h.0 at (sym here) in
     let back : drop at mid ≡ h.0 = ap (drop at) h.2 ∙ drop_at old h.0 at (sym here) in
-    (numbered n h.0, (h.0, h.1, refl), is ∙ ap₂ (λ (a d : List ℕ). a ++ numbered n d) front back)
+    (numbered n h.0, (h.0, h.1, refl), is ∙ ap₂ (λ (a d : List ℕ). a ++ numbered n d) prefix back)
 
-pub room_for_number : (paths : List OrderPath) (bytes old mid : List ℕ) (at : ℕ) → at ≡ length old → 5 ≤ length bytes → Adds (IsRewritten (IsOrdered paths) (λ others. others) bytes) old mid → at + 5 ≤ length mid
-room_for_number paths bytes old mid at here some h =
+pub depth_left_for_number : (paths : List OrderPath) (bytes old mid : List ℕ) (at : ℕ) → at ≡ length old → 5 ≤ length bytes → Adds (IsRewritten (IsOrdered paths) (λ others. others) bytes) old mid → at + 5 ≤ length mid
+depth_left_for_number paths bytes old mid at here some h =
     let five = rewritten_some (IsOrdered paths) (λ others. others) bytes h.0 some h.1 in
     omega (arith, here, five, ap (λ xs. length xs) h.2, length-append old h.0)
 
@@ -85,14 +85,14 @@ err_numbered (Err e) at old mid out new here h is = subst (λ (x : List ℕ). St
 
 -- ---- the power of ten at the end of a word
 
-pub power_read : (left : ℕ) (word : List ℕ) → 0 < left → ends_with_power word (left - 1) ≡ true → path_read left word ≡ (take (length word - (left - 1 + 2)) word, Some (left - 1))
+pub power_read : (remaining : ℕ) (word : List ℕ) → 0 < remaining → ends_with_power word (remaining - 1) ≡ true → path_read remaining word ≡ (take (length word - (remaining - 1 + 2)) word, Some (remaining - 1))
 power_read zero word some is = absurd (omega arith)
 power_read (suc n) word some is =
     let s : suc n - 1 ≡ n = omega arith in
     let here : ends_with_power word n ≡ true = sym (ap (ends_with_power word) s) ∙ is in
     ap (λ b. if b then (take (length word - (n + 2)) word, Some n) else path_read n word) here ∙ ap (λ (k : ℕ). (take (length word - (k + 2)) word, Some k)) (sym s)
 
-pub power_passed : (left : ℕ) (word : List ℕ) → 0 < left → ends_with_power word (left - 1) ≡ false → path_read left word ≡ path_read (left - 1) word
+pub power_passed : (remaining : ℕ) (word : List ℕ) → 0 < remaining → ends_with_power word (remaining - 1) ≡ false → path_read remaining word ≡ path_read (remaining - 1) word
 power_passed zero word some is = absurd (omega arith)
 power_passed (suc n) word some is =
     let s : suc n - 1 ≡ n = omega arith in

@@ -4,8 +4,8 @@ use Rattle.std.proofs.lemmas.List.{take-append-drop}
 use Rattle.bd_bson_view.specs.declared.raw_parts.ElementType.{ElementType}
 use Rattle.bd_wide.specs.declared.element.Part.TheVariants as parts
 use Rattle.bd_wide.specs.Changes.{Retypes, Stays}
-use Rattle.bd_wide.specs.Rewritten.{Writes, Others, Nested, front, part_of, IsElement}
-use Rattle.bd_wide.proofs.WalkLemmas.{Comes, stepped, part_of_element}
+use Rattle.bd_wide.specs.Rewritten.{Writes, Others, Nested, first_element, part_of, IsElement}
+use Rattle.bd_wide.proofs.RewriteLemmas.{Comes, stepped, part_of_element}
 
 -- the bytes of a run before the rest
 abbrev pub before : List ℕ → List ℕ → List ℕ
@@ -21,14 +21,14 @@ pub nothing_before : (run rest out : List ℕ) → length run - length rest ≡ 
 nothing_before run rest out none = sym (append-nil out) ∙ ap (λ n. out ++ take n run) (sym none)
 
 -- a run begins where all before it is written
-pub comes_anew : (Is : Writes) (others : Others) (nested : Nested) (own : List ℕ → List ℕ) (bytes rest old out : List ℕ)
-    → Comes Is others nested own bytes rest old out → Comes Is others nested own bytes rest old (out ++ before rest rest)
-comes_anew Is others nested own bytes rest old out comes =
-    subst (λ x. Comes Is others nested own bytes rest old x) (sym (append-nil out) ∙ ap (λ x. out ++ x) (sym (before_itself rest))) comes
+pub comes_anew : (Is : Writes) (others : Others) (nested : Nested) (path_in : List ℕ → List ℕ) (bytes rest old out : List ℕ)
+    → Comes Is others nested path_in bytes rest old out → Comes Is others nested path_in bytes rest old (out ++ before rest rest)
+comes_anew Is others nested path_in bytes rest old out comes =
+    subst (λ x. Comes Is others nested path_in bytes rest old x) (sym (append-nil out) ∙ ap (λ x. out ++ x) (sym (before_itself rest))) comes
 
-pub comes_flushed : (Is : Writes) (others : Others) (nested : Nested) (own : List ℕ → List ℕ) (bytes rest old out now run : List ℕ)
-    → Comes Is others nested own bytes rest old (out ++ before run rest) → now ≡ out ++ before run rest → Comes Is others nested own bytes rest old now
-comes_flushed Is others nested own bytes rest old out now run comes is = subst (λ x. Comes Is others nested own bytes rest old x) (sym is) comes
+pub comes_flushed : (Is : Writes) (others : Others) (nested : Nested) (path_in : List ℕ → List ℕ) (bytes rest old out now run : List ℕ)
+    → Comes Is others nested path_in bytes rest old (out ++ before run rest) → now ≡ out ++ before run rest → Comes Is others nested path_in bytes rest old now
+comes_flushed Is others nested path_in bytes rest old out now run comes is = subst (λ x. Comes Is others nested path_in bytes rest old x) (sym is) comes
 
 -- an element that stays is one more of the run
 pub stays_as_it_is : (Is : Writes) (nested : Nested) (path : List ℕ) (t : ElementType) (head value : List ℕ) → Stays Is t → IsElement Is nested path t head value (head ++ value)
@@ -38,29 +38,29 @@ stays_as_it_is Is nested path t head value (inr number) = part_of_element Is nes
 element_parts : (rest : List ℕ) (k n : ℕ) → rest ≡ (take k rest ++ take n (drop k rest)) ++ drop n (drop k rest)
 element_parts rest k n = sym (append_assoc (take k rest) (take n (drop k rest)) (drop n (drop k rest)) ∙ ap (λ x. take k rest ++ x) (take-append-drop n (drop k rest)) ∙ take-append-drop k rest)
 
-longer_run : (run rest one left : List ℕ) → run ≡ before run rest ++ rest → rest ≡ one ++ left → run ≡ (before run rest ++ one) ++ left
-longer_run run rest one left whole is = whole ∙ ap (λ x. before run rest ++ x) is ∙ sym (append_assoc (before run rest) one left)
+longer_run : (run rest one remaining : List ℕ) → run ≡ before run rest ++ rest → rest ≡ one ++ remaining → run ≡ (before run rest ++ one) ++ remaining
+longer_run run rest one remaining whole is = whole ∙ ap (λ x. before run rest ++ x) is ∙ sym (append_assoc (before run rest) one remaining)
 
-before_cut : (run all left : List ℕ) → run ≡ all ++ left → before run left ≡ all
-before_cut run all left is =
-    let size : length run - length left ≡ length all = omega (arith, ap (λ xs. length xs) is, length-append all left) in
-    ap (λ x. take (length run - length left) x) is ∙ take_at all left (length run - length left) (sym size)
+before_splits : (run all remaining : List ℕ) → run ≡ all ++ remaining → before run remaining ≡ all
+before_splits run all remaining is =
+    let size : length run - length remaining ≡ length all = omega (arith, ap (λ xs. length xs) is, length-append all remaining) in
+    ap (λ x. take (length run - length remaining) x) is ∙ take_at all remaining (length run - length remaining) (sym size)
 
-pub run_goes_on : (Is : Writes) (others : Others) (nested : Nested) (own : List ℕ → List ℕ) (bytes old out run rest head more value left : List ℕ) (t : ElementType) (k n : ℕ)
-    → Comes Is others nested own bytes rest old (out ++ before run rest) → run ≡ before run rest ++ rest → Some (t, k, n) ≡ front rest → Stays Is t
-    → head ≡ take k rest → more ≡ drop k rest → value ≡ take n more → left ≡ drop n more
-    → Comes Is others nested own bytes left old (out ++ before run left) × (run ≡ before run left ++ left)
-run_goes_on Is others nested own bytes old out run rest head more value left t k n comes whole is stays p q r s =
+pub run_goes_on : (Is : Writes) (others : Others) (nested : Nested) (path_in : List ℕ → List ℕ) (bytes old out run rest head more value remaining : List ℕ) (t : ElementType) (k n : ℕ)
+    → Comes Is others nested path_in bytes rest old (out ++ before run rest) → run ≡ before run rest ++ rest → Some (t, k, n) ≡ first_element rest → Stays Is t
+    → head ≡ take k rest → more ≡ drop k rest → value ≡ take n more → remaining ≡ drop n more
+    → Comes Is others nested path_in bytes remaining old (out ++ before run remaining) × (run ≡ before run remaining ++ remaining)
+run_goes_on Is others nested path_in bytes old out run rest head more value remaining t k n comes whole is stays p q r s =
     let one : List ℕ = take k rest ++ take n (drop k rest) in
     let after : List ℕ = drop n (drop k rest) in
     let all : run ≡ (before run rest ++ one) ++ after = longer_run run rest one after whole (element_parts rest k n) in
-    let cut : before run after ≡ before run rest ++ one = before_cut run (before run rest ++ one) after all in
-    let next = stepped Is others nested own bytes old (out ++ before run rest) ((out ++ before run rest) ++ one) rest (take k rest) (drop k rest) (take n (drop k rest)) after (own (take k rest)) t k n
-    comes is refl refl refl refl refl (one, stays_as_it_is Is nested (own (take k rest)) t (take k rest) (take n (drop k rest)) stays, refl) in
-    let same : after ≡ left = sym (s ∙ ap (drop n) q) in
-    let written : (out ++ before run rest) ++ one ≡ out ++ before run after = append_assoc out (before run rest) one ∙ ap (λ x. out ++ x) (sym cut) in
-    subst (λ (l : List ℕ). Comes Is others nested own bytes l old (out ++ before run l) × (run ≡ before run l ++ l)) same
-    (subst (λ (x : List ℕ). Comes Is others nested own bytes after old x) written next, all ∙ ap (λ x. x ++ after) (sym cut))
+    let splits : before run after ≡ before run rest ++ one = before_splits run (before run rest ++ one) after all in
+    let next = stepped Is others nested path_in bytes old (out ++ before run rest) ((out ++ before run rest) ++ one) rest (take k rest) (drop k rest) (take n (drop k rest)) after (path_in (take k rest)) t k n
+    comes is refl refl refl refl refl (one, stays_as_it_is Is nested (path_in (take k rest)) t (take k rest) (take n (drop k rest)) stays, refl) in
+    let same : after ≡ remaining = sym (s ∙ ap (drop n) q) in
+    let written : (out ++ before run rest) ++ one ≡ out ++ before run after = append_assoc out (before run rest) one ∙ ap (λ x. out ++ x) (sym splits) in
+    subst (λ (l : List ℕ). Comes Is others nested path_in bytes l old (out ++ before run l) × (run ≡ before run l ++ l)) same
+    (subst (λ (x : List ℕ). Comes Is others nested path_in bytes after old x) written next, all ∙ ap (λ x. x ++ after) (sym splits))
 
 -- one that gets another type ends the run before its type, and begins one after it
 pub after_type : (k : ℕ) (rest : List ℕ) → 1 ≤ k → k ≤ length rest → drop 1 rest ≡ drop 1 (take k rest) ++ drop k rest
@@ -68,20 +68,20 @@ after_type k [] some fits = absurd (omega (arith, some, fits))
 after_type zero (b ∷ bytes) some fits = absurd (omega (arith, some))
 after_type (suc k) (b ∷ bytes) some fits = sym (take-append-drop k bytes)
 
-pub run_retyped : (Is : Writes) (others : Others) (nested : Nested) (own : List ℕ → List ℕ) (bytes old begun now run rest more left : List ℕ) (t : ElementType) (k n byte : ℕ)
-    → Comes Is others nested own bytes rest old begun → Some (t, k, n) ≡ front rest → (part_of t ≡ Some parts.Number) × Retypes Is t byte → 2 ≤ k → k + n ≤ length rest
-    → more ≡ drop k rest → left ≡ drop n more → run ≡ drop 1 rest → now ≡ begun ++ (byte ∷ [])
-    → Comes Is others nested own bytes left old (now ++ before run left) × (run ≡ before run left ++ left)
-run_retyped Is others nested own bytes old begun now run rest more left t k n byte comes is number two fits q s cut added =
+pub run_retyped : (Is : Writes) (others : Others) (nested : Nested) (path_in : List ℕ → List ℕ) (bytes old begun now run rest more remaining : List ℕ) (t : ElementType) (k n byte : ℕ)
+    → Comes Is others nested path_in bytes rest old begun → Some (t, k, n) ≡ first_element rest → (part_of t ≡ Some parts.Number) × Retypes Is t byte → 2 ≤ k → k + n ≤ length rest
+    → more ≡ drop k rest → remaining ≡ drop n more → run ≡ drop 1 rest → now ≡ begun ++ (byte ∷ [])
+    → Comes Is others nested path_in bytes remaining old (now ++ before run remaining) × (run ≡ before run remaining ++ remaining)
+run_retyped Is others nested path_in bytes old begun now run rest more remaining t k n byte comes is number two fits q s splits added =
     let head : List ℕ = take k rest in
     let value : List ℕ = take n (drop k rest) in
     let after : List ℕ = drop n (drop k rest) in
     let tail : List ℕ = drop 1 head ++ value in
-    let same : left ≡ after = s ∙ ap (drop n) q in
-    let all : run ≡ tail ++ left = cut ∙ after_type k rest (omega (arith, two)) (omega (arith, fits))
+    let same : remaining ≡ after = s ∙ ap (drop n) q in
+    let all : run ≡ tail ++ remaining = splits ∙ after_type k rest (omega (arith, two)) (omega (arith, fits))
     ∙ ap (λ x. drop 1 head ++ x) (sym (take-append-drop n (drop k rest))) ∙ sym (append_assoc (drop 1 head) value after) ∙ ap (λ x. tail ++ x) (sym same) in
-    let here : before run left ≡ tail = before_cut run tail left all in
-    let element : IsElement Is nested (own head) t head value (byte ∷ tail) = part_of_element Is nested (own head) t (Some parts.Number) head value (byte ∷ tail) (sym number.0) (number.1 (own head) head value) in
-    let next = stepped Is others nested own bytes old begun (begun ++ (byte ∷ tail)) rest head (drop k rest) value left (own head) t k n comes is refl refl refl same refl (byte ∷ tail, element, refl) in
-    let written : begun ++ (byte ∷ tail) ≡ now ++ before run left = sym (ap₂ (λ (x y : List ℕ). x ++ y) added here ∙ append_assoc begun (byte ∷ []) tail) in
-    (subst (λ (x : List ℕ). Comes Is others nested own bytes left old x) written next, all ∙ ap (λ x. x ++ left) (sym here))
+    let here : before run remaining ≡ tail = before_splits run tail remaining all in
+    let element : IsElement Is nested (path_in head) t head value (byte ∷ tail) = part_of_element Is nested (path_in head) t (Some parts.Number) head value (byte ∷ tail) (sym number.0) (number.1 (path_in head) head value) in
+    let next = stepped Is others nested path_in bytes old begun (begun ++ (byte ∷ tail)) rest head (drop k rest) value remaining (path_in head) t k n comes is refl refl refl same refl (byte ∷ tail, element, refl) in
+    let written : begun ++ (byte ∷ tail) ≡ now ++ before run remaining = sym (ap₂ (λ (x y : List ℕ). x ++ y) added here ∙ append_assoc begun (byte ∷ []) tail) in
+    (subst (λ (x : List ℕ). Comes Is others nested path_in bytes remaining old x) written next, all ∙ ap (λ x. x ++ remaining) (sym here))

@@ -8,12 +8,12 @@ use Rattle.bd_bson_view.specs.declared.raw_parts.ElementType.TheVariants.{Kept, 
 use Rattle.bd_bson_view.specs.declared.raw_parts.Holder.{Holder}
 use Rattle.bd_bson_view.specs.declared.raw_parts.Holder.TheVariants as holders
 use Rattle.bd_bson_view.specs.{Spelling.type_at, Spelling.number, Sizes.number_of}
-use Rattle.bd_wide.specs.Rewritten.{◌>>=◌, Writes, Others, Nested, counted, first_zero, size_at, front, least, holder_least, part_of, path_of, separator, scope_at, IsElement, AreElements, IsBody, IsScoped, IsNested, IsRewritten}
+use Rattle.bd_wide.specs.Rewritten.{◌>>=◌, Writes, Others, Nested, counted, first_zero, size_at, first_element, least, holder_least, part_of, path_of, separator, scope_at, IsElement, AreElements, IsBody, IsScoped, IsNested, IsRewritten}
 use Rattle.bd_wide.specs.Refused.{Refused, Refuses, Element, first_of_two, first_refused, refused_body, refused_element, refused_elements, refused_nested, refused_scope}
-use Rattle.bd_wide.proofs.WalkLemmas.{Turn, to_turn, none_only, no_turn, ScopeTurn, to_scope}
+use Rattle.bd_wide.proofs.RewriteLemmas.{Turn, to_turn, none_only, no_turn, ScopeTurn, to_scope}
 use Rattle.bd_wide.proofs.FindLemmas.{turned}
 use Rattle.bd_wide.proofs.FindLemmas as finds
-use Rattle.bd_wide.proofs.LengthLemmas.{front_fits, counted_fits, scope_inside, long_enough, to_whole, WholeTurn}
+use Rattle.bd_wide.proofs.LengthLemmas.{first_element_fits, counted_fits, scope_inside, long_enough, to_whole, WholeTurn}
 
 abbrev pub IsBytes : List ℕ → Type 0
 IsBytes bytes = (i : ℕ) → get_or bytes i 0 < 256
@@ -24,14 +24,14 @@ bytes_drop n bytes h i = rw get_or-drop (h (n + i))
 bytes_take : (n : ℕ) (bytes : List ℕ) → IsBytes bytes → IsBytes (take n bytes)
 bytes_take n bytes h i = elim (cases_lt i n) [
   | inl inside ↦ rw (get_or-take n bytes i 0 inside) (h i)
-  | inr past ↦ rw (get_or_past (take n bytes) i 0 (omega (arith, length-take n bytes))) (omega arith)
+  | inr beyond ↦ rw (get_or_past (take n bytes) i 0 (omega (arith, length-take n bytes))) (omega arith)
 ]
 
 -- ---- a writer that keeps what is not refused
 
 -- A number that is not refused stays as it is, and so does what cannot be passed on.
 pub record Same (Is : Writes) (others : Others) (refuses : Refuses) : Type 0 where
-  pub element : (room : ℕ) (path : List ℕ) (t : ElementType) (head value new : List ℕ) → refuses room path t value ≡ None → Is path t head value new → new ≡ head ++ value
+  pub element : (depth_left : ℕ) (path : List ℕ) (t : ElementType) (head value new : List ℕ) → refuses depth_left path t value ≡ None → Is path t head value new → new ≡ head ++ value
   pub rest : (bytes : List ℕ) → others bytes ≡ bytes
 
 -- what holds values and counts its bytes stays as it is
@@ -67,8 +67,8 @@ counted_same : (low : ℕ) (bytes : List ℕ) (n : ℕ) → 4 ≤ low → counte
 counted_same low bytes n big is =
     let fits = counted_fits low 0 bytes n is in
     let long : length (take n bytes) ≡ n = length-take-le n bytes fits.1 in
-    let front : take 4 (take n bytes) ≡ take 4 bytes = take-take 4 n bytes (omega (arith, fits.0)) in
-    ap (from_le_bytes w32) front ∙ counted_is low bytes n is ∙ sym long
+    let prefix : take 4 (take n bytes) ≡ take 4 bytes = take-take 4 n bytes (omega (arith, fits.0)) in
+    ap (from_le_bytes w32) prefix ∙ counted_is low bytes n is ∙ sym long
 
 size_counts : (t : ElementType) (bytes : List ℕ) (n : ℕ) → size_at t bytes ≡ Some n → Counts t (take n bytes)
 unfolding size_at
@@ -90,10 +90,10 @@ named None r bytes all x e is = absurd cc
 named (Some t) None bytes all x e is = absurd cc
 named (Some t) (Some k) bytes all x e is = sized t k (size_at t (drop (k + 1) bytes)) (drop (k + 1) bytes) all x (λ n h. size_counts t (drop (k + 1) bytes) n h) (e k) is
 
-front_counts : (bytes : List ℕ) (x : ElementType × ℕ × ℕ) → front bytes ≡ Some x → Counts x.0 (take x.2 (drop x.1 bytes))
-unfolding front
-front_counts [] x is = absurd cc
-front_counts (b ∷ bytes) x is =
+first_element_counts : (bytes : List ℕ) (x : ElementType × ℕ × ℕ) → first_element bytes ≡ Some x → Counts x.0 (take x.2 (drop x.1 bytes))
+unfolding first_element
+first_element_counts [] x is = absurd cc
+first_element_counts (b ∷ bytes) x is =
     named (type_at b) (first_zero bytes) bytes (b ∷ bytes) x (λ k. ap (λ n. drop n (b ∷ bytes)) {x = k + 2} {y = suc (k + 1)} (omega arith)) is
 
 -- ---- elements
@@ -102,46 +102,46 @@ headed_same : (f : List ℕ → Type 0) (head value new : List ℕ) → ((v : Li
 headed_same f head value new below h = h.2 ∙ ap (λ v. head ++ v) (below h.0 h.1)
 
 element_same : (Is : Writes) (others : Others) (refuses : Refuses) → Same Is others refuses → (f : Nested) (g : Holder → List ℕ → ℕ → List ℕ → Option Refused) → SameNested f g
-    → (room : ℕ) (t : ElementType) (path : List ℕ) (at k : ℕ) (head value new : List ℕ) → least t ≤ length value → Counts t value → IsBytes value
-    → refused_element (refuses room) g t path at k value ≡ None → IsElement Is f path t head value new → new ≡ head ++ value
+    → (depth_left : ℕ) (t : ElementType) (path : List ℕ) (at k : ℕ) (head value new : List ℕ) → least t ≤ length value → Counts t value → IsBytes value
+    → refused_element (refuses depth_left) g t path at k value ≡ None → IsElement Is f path t head value new → new ≡ head ++ value
 unfolding IsElement refused_element part_of least holder_least
-element_same Is others refuses same f g below room Double path at k head value new some counts fits clear h = same.element room path Double head value new (none_mapped _ _ clear) h
-element_same Is others refuses same f g below room Decimal128 path at k head value new some counts fits clear h = same.element room path Decimal128 head value new (none_mapped _ _ clear) h
-element_same Is others refuses same f g below room (Kept kinds.Int32) path at k head value new some counts fits clear h = same.element room path (Kept kinds.Int32) head value new (none_mapped _ _ clear) h
-element_same Is others refuses same f g below room (Kept kinds.Int64) path at k head value new some counts fits clear h = same.element room path (Kept kinds.Int64) head value new (none_mapped _ _ clear) h
-element_same Is others refuses same f g below room (Kept kinds.Doc) path at k head value new some counts fits clear h =
+element_same Is others refuses same f g below depth_left Double path at k head value new some counts fits clear h = same.element depth_left path Double head value new (none_mapped _ _ clear) h
+element_same Is others refuses same f g below depth_left Decimal128 path at k head value new some counts fits clear h = same.element depth_left path Decimal128 head value new (none_mapped _ _ clear) h
+element_same Is others refuses same f g below depth_left (Kept kinds.Int32) path at k head value new some counts fits clear h = same.element depth_left path (Kept kinds.Int32) head value new (none_mapped _ _ clear) h
+element_same Is others refuses same f g below depth_left (Kept kinds.Int64) path at k head value new some counts fits clear h = same.element depth_left path (Kept kinds.Int64) head value new (none_mapped _ _ clear) h
+element_same Is others refuses same f g below depth_left (Kept kinds.Doc) path at k head value new some counts fits clear h =
     let inner : List ℕ = path ++ separator holders.Document in
     headed_same (f holders.Document inner value) head value new (λ v. below holders.Document inner (at + k) value v some counts fits clear) h
-element_same Is others refuses same f g below room (Kept kinds.Array) path at k head value new some counts fits clear h =
+element_same Is others refuses same f g below depth_left (Kept kinds.Array) path at k head value new some counts fits clear h =
     let inner : List ℕ = path ++ separator holders.Array in
     headed_same (f holders.Array inner value) head value new (λ v. below holders.Array inner (at + k) value v some counts fits clear) h
-element_same Is others refuses same f g below room (Kept kinds.CodeScope) path at k head value new some counts fits clear h =
+element_same Is others refuses same f g below depth_left (Kept kinds.CodeScope) path at k head value new some counts fits clear h =
     let inner : List ℕ = path ++ separator holders.CodeScope in
     headed_same (f holders.CodeScope inner value) head value new (λ v. below holders.CodeScope inner (at + k) value v some counts fits clear) h
-element_same Is others refuses same f g below room (Kept _) path at k head value new some counts fits clear h = h
+element_same Is others refuses same f g below depth_left (Kept _) path at k head value new some counts fits clear h = h
 
 elements_same : (Is : Writes) (others : Others) (refuses : Refuses) → Same Is others refuses → (f : Nested) (g : Holder → List ℕ → ℕ → List ℕ → Option Refused) → SameNested f g
-    → (room : ℕ) (own : List ℕ → List ℕ) (n at : ℕ) (bytes new : List ℕ) → IsBytes bytes → refused_elements (refused_element (refuses room) g) own n at bytes ≡ None
-    → AreElements Is others f own n bytes new → new ≡ bytes
-elements_same Is others refuses same f g below room own zero at bytes new fits clear h = no_turn Is others f own bytes new h
-elements_same Is others refuses same f g below room own (suc n) at [] new fits clear h = none_only Is others f own (suc n) new h
-elements_same Is others refuses same f g below room own (suc n) at (b ∷ bytes) new fits clear h =
+    → (depth_left : ℕ) (path_in : List ℕ → List ℕ) (n at : ℕ) (bytes new : List ℕ) → IsBytes bytes → refused_elements (refused_element (refuses depth_left) g) path_in n at bytes ≡ None
+    → AreElements Is others f path_in n bytes new → new ≡ bytes
+elements_same Is others refuses same f g below depth_left path_in zero at bytes new fits clear h = no_turn Is others f path_in bytes new h
+elements_same Is others refuses same f g below depth_left path_in (suc n) at [] new fits clear h = none_only Is others f path_in (suc n) new h
+elements_same Is others refuses same f g below depth_left path_in (suc n) at (b ∷ bytes) new fits clear h =
     let all : List ℕ = b ∷ bytes in
-    let element : Element = refused_element (refuses room) g in
-    let here : (r : Option (ElementType × ℕ × ℕ)) → front all ≡ r → finds.Turn element own n at all r ≡ None → Turn Is others f own n all r new → new ≡ all = elim [
+    let element : Element = refused_element (refuses depth_left) g in
+    let here : (r : Option (ElementType × ℕ × ℕ)) → first_element all ≡ r → finds.Turn element path_in n at all r ≡ None → Turn Is others f path_in n all r new → new ≡ all = elim [
       | None ↦ λ is none t. t ∙ same.rest all
       | Some x ↦ λ is none t.
           let apart = first_none _ _ none in
           let rest : List ℕ = drop x.1 all in
-          let fit = front_fits all x is in
+          let fit = first_element_fits all x is in
           let vs : length (take x.2 rest) ≡ x.2 = length-take-le x.2 rest (omega (arith, fit.2, length-drop x.1 all)) in
           let valued : IsBytes (take x.2 rest) = bytes_take x.2 rest (bytes_drop x.1 all fits) in
-          let one = element_same Is others refuses same f g below room x.0 (own (take x.1 all)) at x.1 (take x.1 all) (take x.2 rest) t.0 (omega (arith, vs, fit.1)) (front_counts all x is) valued apart.0 t.2 in
-          let two = elements_same Is others refuses same f g below room own n (at + x.1 + x.2) (drop x.2 rest) t.1 (bytes_drop x.2 rest (bytes_drop x.1 all fits)) apart.1 t.3 in
+          let one = element_same Is others refuses same f g below depth_left x.0 (path_in (take x.1 all)) at x.1 (take x.1 all) (take x.2 rest) t.0 (omega (arith, vs, fit.1)) (first_element_counts all x is) valued apart.0 t.2 in
+          let two = elements_same Is others refuses same f g below depth_left path_in n (at + x.1 + x.2) (drop x.2 rest) t.1 (bytes_drop x.2 rest (bytes_drop x.1 all fits)) apart.1 t.3 in
           t.4 ∙ ap₂ (λ (a c : List ℕ). a ++ c) one two ∙ append_assoc (take x.1 all) (take x.2 rest) (drop x.2 rest)
           ∙ ap (λ l. take x.1 all ++ l) (take-append-drop x.2 rest) ∙ take-append-drop x.1 all
     ] in
-    here (front all) refl (sym (turned element own n at b bytes) ∙ clear) (to_turn Is others f own n b bytes new h)
+    here (first_element all) refl (sym (turned element path_in n at b bytes) ∙ clear) (to_turn Is others f path_in n b bytes new h)
 
 -- ---- documents, arrays and code with scope
 
@@ -150,15 +150,15 @@ unfolding number
 number_back value some fits = le_bytes_4 (take 4 value) _ (length-take-le 4 value some) (bytes_take 4 value fits) refl
 
 body_same : (Is : Writes) (others : Others) (refuses : Refuses) → Same Is others refuses → (f : Nested) (g : Holder → List ℕ → ℕ → List ℕ → Option Refused) → SameNested f g
-    → (room : ℕ) (own : List ℕ → List ℕ) (at : ℕ) (value new : List ℕ) → 5 ≤ length value → number_of value ≡ length value → IsBytes value
-    → refused_body (refused_element (refuses room) g) own at value ≡ None → IsBody Is others f own value new → new ≡ value
+    → (depth_left : ℕ) (path_in : List ℕ → List ℕ) (at : ℕ) (value new : List ℕ) → 5 ≤ length value → number_of value ≡ length value → IsBytes value
+    → refused_body (refused_element (refuses depth_left) g) path_in at value ≡ None → IsBody Is others f path_in value new → new ≡ value
 unfolding IsBody refused_body
-body_same Is others refuses same f g below room own at value new some counts fits clear h =
+body_same Is others refuses same f g below depth_left path_in at value new some counts fits clear h =
     let rest : List ℕ = drop 4 value in
     let inner : List ℕ = take (length value - 5) rest in
     let last : List ℕ = drop (length value - 1) value in
     let i : length inner ≡ length value - 5 = length-take-le (length value - 5) rest (omega (arith, length-drop 4 value)) in
-    let body : h.0 ≡ inner = elements_same Is others refuses same f g below room own (length inner) (at + 4) inner h.0 (bytes_take (length value - 5) rest (bytes_drop 4 value fits)) clear h.1 in
+    let body : h.0 ≡ inner = elements_same Is others refuses same f g below depth_left path_in (length inner) (at + 4) inner h.0 (bytes_take (length value - 5) rest (bytes_drop 4 value fits)) clear h.1 in
     let size : length h.0 + 5 ≡ number_of value = omega (arith, ap (λ xs. length xs) body, i, counts) in
     let end : drop (length value - 5) rest ≡ last = drop-drop (length value - 5) 4 value ∙ ap (λ n. drop n value) (omega arith) in
     h.2 ∙ (λ t. number (size t) ++ (body t ++ last)) ∙ ap₂ (λ (a c : List ℕ). a ++ (inner ++ c)) (number_back value (omega (arith, some)) fits) (sym end)
@@ -203,15 +203,15 @@ scoped_same document g below at value new some counts fits clear h =
     ] in
     cases (scope_at value) refl (sym (scope_found g at value) ∙ clear) (to_scope document value new h)
 
-nested_same : (Is : Writes) (others : Others) (refuses : Refuses) → Same Is others refuses → (room : ℕ) → SameNested (IsNested Is others room) (refused_nested refuses room)
+nested_same : (Is : Writes) (others : Others) (refuses : Refuses) → Same Is others refuses → (depth_left : ℕ) → SameNested (IsNested Is others depth_left) (refused_nested refuses depth_left)
 unfolding IsNested refused_nested holder_least
 nested_same Is others refuses same zero h path at value new some counts fits clear is = is
-nested_same Is others refuses same (suc room) holders.Document path at value new some counts fits clear is =
-    body_same Is others refuses same (IsNested Is others room) (refused_nested refuses room) (nested_same Is others refuses same room) room (path_of false path) at value new some counts fits clear is
-nested_same Is others refuses same (suc room) holders.Array path at value new some counts fits clear is =
-    body_same Is others refuses same (IsNested Is others room) (refused_nested refuses room) (nested_same Is others refuses same room) room (path_of true path) at value new some counts fits clear is
-nested_same Is others refuses same (suc room) holders.CodeScope path at value new some counts fits clear is =
-    scoped_same (IsNested Is others room holders.Document path) (refused_nested refuses room holders.Document path) (λ a v n s c b e i. nested_same Is others refuses same room holders.Document path a v n s c b e i) at value new some counts fits clear is
+nested_same Is others refuses same (suc depth_left) holders.Document path at value new some counts fits clear is =
+    body_same Is others refuses same (IsNested Is others depth_left) (refused_nested refuses depth_left) (nested_same Is others refuses same depth_left) depth_left (path_of false path) at value new some counts fits clear is
+nested_same Is others refuses same (suc depth_left) holders.Array path at value new some counts fits clear is =
+    body_same Is others refuses same (IsNested Is others depth_left) (refused_nested refuses depth_left) (nested_same Is others refuses same depth_left) depth_left (path_of true path) at value new some counts fits clear is
+nested_same Is others refuses same (suc depth_left) holders.CodeScope path at value new some counts fits clear is =
+    scoped_same (IsNested Is others depth_left holders.Document path) (refused_nested refuses depth_left holders.Document path) (λ a v n s c b e i. nested_same Is others refuses same depth_left holders.Document path a v n s c b e i) at value new some counts fits clear is
 
 -- a document in which no number is refused stays as it is
 pub rewritten_same : (Is : Writes) (others : Others) (refuses : Refuses) → Same Is others refuses → (bytes new : List ℕ) → number_of bytes ≡ length bytes → IsBytes bytes

@@ -14,8 +14,8 @@ use Rattle.bd_bson_view.specs.Sizes.{number_of, size_of}
 use Rattle.bd_bson_view.specs.Sound.{Sound, extent_is}
 use Rattle.bd_bson_view.specs.Unique.{type_is, number_length, number_after, string_number, string_length, regex_whole, zero_place, scalar_size}
 use Rattle.bd_bson_view.proofs.ValueAtLemmas as values
-use Rattle.bd_wide.specs.Rewritten.{◌>>=◌, Writes, Others, Nested, fixed, counted, first_zero, two_texts, size_at, front, part_of, path_of, scope_at, IsElement, AreElements, IsBody, IsScoped, IsNested, IsRewritten}
-use Rattle.bd_wide.proofs.WalkLemmas.{Turn, to_turn, none_only, no_turn, ScopeTurn, to_scope}
+use Rattle.bd_wide.specs.Rewritten.{◌>>=◌, Writes, Others, Nested, fixed, counted, first_zero, two_texts, size_at, first_element, part_of, path_of, scope_at, IsElement, AreElements, IsBody, IsScoped, IsNested, IsRewritten}
+use Rattle.bd_wide.proofs.RewriteLemmas.{Turn, to_turn, none_only, no_turn, ScopeTurn, to_scope}
 use Rattle.bd_wide.proofs.LengthLemmas.{to_whole, WholeTurn}
 use Rattle.bd_wide.proofs.SameLemmas.{scope_count}
 
@@ -76,7 +76,7 @@ scalar_there _ v r h = rw h refl
 -- as many as stand for the value
 size_is : (t : Tree) (v r : List ℕ) → IsValue t v → length v ≤ longest_document → size_of (kind_of t) (v ++ r) ≡ length v
 size_is t v r h short =
-    let s : Sound (kind_of t) (v ++ r) = record { tree = t; begins = record { value = v; after = r; spells = h; typed = refl; cut = refl; short = short } } in
+    let s : Sound (kind_of t) (v ++ r) = record { tree = t; begins = record { value = v; after = r; spells = h; typed = refl; splits = refl; short = short } } in
     values.size_at (kind_of t) (v ++ r) s ∙ extent_is s s
 
 size_there : (t : Tree) (v r : List ℕ) → IsValue t v → length v ≤ longest_document → size_at (Kept (kind_of t)) (v ++ r) ≡ Some (length v)
@@ -97,10 +97,10 @@ size_there (code_scope s fs) v r h short =
 
 -- ---- the element at the front
 
-front_there : (t : Tree) (name v r : List ℕ) → IsName name → IsValue t v → length v ≤ longest_document
-    → front (type_byte (kind_of t) ∷ (name ++ 0 ∷ (v ++ r))) ≡ Some (Kept (kind_of t), length name + 2, length v)
-unfolding front
-front_there t name v r named h short =
+first_element_there : (t : Tree) (name v r : List ℕ) → IsName name → IsValue t v → length v ≤ longest_document
+    → first_element (type_byte (kind_of t) ∷ (name ++ 0 ∷ (v ++ r))) ≡ Some (Kept (kind_of t), length name + 2, length v)
+unfolding first_element
+first_element_there t name v r named h short =
     let tail : List ℕ = name ++ 0 ∷ (v ++ r) in
     let after : drop (length name + 1) tail ≡ v ++ r =
     ap (drop (length name + 1)) (sym (append_assoc name (0 ∷ []) (v ++ r))) ∙ drop_at (name ++ 0 ∷ []) (v ++ r) (length name + 1) (length-append name (0 ∷ [])) in
@@ -117,64 +117,64 @@ KeepsOthers Is = (path : List ℕ) (kind : Kind) (head value new : List ℕ) →
 module _ (Is : Writes) (others : Others) (keeps : KeepsOthers Is) where
   -- elements that stay as they are, at each level
   abbrev Stay : List ℕ → Type 0
-  Stay bytes = (room n : ℕ) (own : List ℕ → List ℕ) (new : List ℕ) → AreElements Is others (IsNested Is others room) own n bytes new → new ≡ bytes
+  Stay bytes = (depth_left n : ℕ) (path_in : List ℕ → List ℕ) (new : List ℕ) → AreElements Is others (IsNested Is others depth_left) path_in n bytes new → new ≡ bytes
 
   none_stay : (bytes : List ℕ) → bytes ≡ [] → Stay bytes
-  none_stay bytes nil room n own new h = none_only Is others (IsNested Is others room) own n new (subst (λ (x : List ℕ). AreElements Is others (IsNested Is others room) own n x new) nil h) ∙ sym nil
+  none_stay bytes nil depth_left n path_in new h = none_only Is others (IsNested Is others depth_left) path_in n new (subst (λ (x : List ℕ). AreElements Is others (IsNested Is others depth_left) path_in n x new) nil h) ∙ sym nil
 
   first_stays : (t : Tree) (name value rest bytes : List ℕ) → IsName name → IsValue t value → length value ≤ longest_document
-      → ((room : ℕ) (path head new : List ℕ) → IsElement Is (IsNested Is others room) path (Kept (kind_of t)) head value new → new ≡ head ++ value)
+      → ((depth_left : ℕ) (path head new : List ℕ) → IsElement Is (IsNested Is others depth_left) path (Kept (kind_of t)) head value new → new ≡ head ++ value)
       → Stay rest → bytes ≡ element t name value ++ rest → Stay bytes
-  first_stays t name value rest bytes named spells short one two is room zero own new h = no_turn Is others (IsNested Is others room) own bytes new h
-  first_stays t name value rest bytes named spells short one two is room (suc n) own new h =
-      let nested : Nested = IsNested Is others room in
+  first_stays t name value rest bytes named spells short one two is depth_left zero path_in new h = no_turn Is others (IsNested Is others depth_left) path_in bytes new h
+  first_stays t name value rest bytes named spells short one two is depth_left (suc n) path_in new h =
+      let nested : Nested = IsNested Is others depth_left in
       let tail : List ℕ = name ++ 0 ∷ (value ++ rest) in
       let b : ℕ = type_byte (kind_of t) in
       let head : List ℕ = b ∷ (name ++ 0 ∷ []) in
       let k : ℕ = length name + 2 in
       let whole : bytes ≡ b ∷ tail = is ∙ ap (λ (x : List ℕ). b ∷ x) (append_assoc name (0 ∷ value) rest) in
-      let cut : b ∷ tail ≡ head ++ (value ++ rest) = ap (λ (x : List ℕ). b ∷ x) (sym (append_assoc name (0 ∷ []) (value ++ rest))) in
+      let splits : b ∷ tail ≡ head ++ (value ++ rest) = ap (λ (x : List ℕ). b ∷ x) (sym (append_assoc name (0 ∷ []) (value ++ rest))) in
       let long : length head ≡ k = omega (arith, length-append name (0 ∷ [])) in
-      let begun = to_turn Is others nested own n b tail new (subst (λ (x : List ℕ). AreElements Is others nested own (suc n) x new) whole h) in
-      let turn = subst (λ o. Turn Is others nested own n (b ∷ tail) o new) (front_there t name value rest named spells short) begun in
-      let headed : take k (b ∷ tail) ≡ head = ap (take k) cut ∙ take_at head (value ++ rest) k long in
-      let after : drop k (b ∷ tail) ≡ value ++ rest = ap (drop k) cut ∙ drop_at head (value ++ rest) k long in
+      let begun = to_turn Is others nested path_in n b tail new (subst (λ (x : List ℕ). AreElements Is others nested path_in (suc n) x new) whole h) in
+      let turn = subst (λ o. Turn Is others nested path_in n (b ∷ tail) o new) (first_element_there t name value rest named spells short) begun in
+      let headed : take k (b ∷ tail) ≡ head = ap (take k) splits ∙ take_at head (value ++ rest) k long in
+      let after : drop k (b ∷ tail) ≡ value ++ rest = ap (drop k) splits ∙ drop_at head (value ++ rest) k long in
       let valued : take (length value) (drop k (b ∷ tail)) ≡ value = ap (take (length value)) after ∙ take_at value rest (length value) refl in
-      let left : drop (length value) (drop k (b ∷ tail)) ≡ rest = ap (drop (length value)) after ∙ drop_at value rest (length value) refl in
-      let path : List ℕ = own (take k (b ∷ tail)) in
+      let remaining : drop (length value) (drop k (b ∷ tail)) ≡ rest = ap (drop (length value)) after ∙ drop_at value rest (length value) refl in
+      let path : List ℕ = path_in (take k (b ∷ tail)) in
       let first : turn.0 ≡ head ++ value =
-      one room path head turn.0 (subst (λ (x : List ℕ). IsElement Is nested path (Kept (kind_of t)) x value turn.0) headed
+      one depth_left path head turn.0 (subst (λ (x : List ℕ). IsElement Is nested path (Kept (kind_of t)) x value turn.0) headed
       (subst (λ (x : List ℕ). IsElement Is nested path (Kept (kind_of t)) (take k (b ∷ tail)) x turn.0) valued turn.2)) in
-      let second : turn.1 ≡ rest = two room n own turn.1 (subst (λ (x : List ℕ). AreElements Is others nested own n x turn.1) left turn.3) in
-      turn.4 ∙ ap₂ (λ (x y : List ℕ). x ++ y) first second ∙ append_assoc head value rest ∙ sym cut ∙ sym whole
+      let second : turn.1 ≡ rest = two depth_left n path_in turn.1 (subst (λ (x : List ℕ). AreElements Is others nested path_in n x turn.1) remaining turn.3) in
+      turn.4 ∙ ap₂ (λ (x y : List ℕ). x ++ y) first second ∙ append_assoc head value rest ∙ sym splits ∙ sym whole
 
   -- ---- documents, arrays and code with scope
 
-  body_stays : (room : ℕ) (own : List ℕ → List ℕ) (body new : List ℕ) → Stay body → IsBody Is others (IsNested Is others room) own (framed body) new → new ≡ framed body
+  body_stays : (depth_left : ℕ) (path_in : List ℕ → List ℕ) (body new : List ℕ) → Stay body → IsBody Is others (IsNested Is others depth_left) path_in (framed body) new → new ≡ framed body
   unfolding IsBody
-  body_stays room own body new stay h =
+  body_stays depth_left path_in body new stay h =
       let value : List ℕ = framed body in
       let size : length value ≡ length body + 5 = values.framed_length body in
       let inner : take (length value - 5) (drop 4 value) ≡ body =
       ap (take (length value - 5)) (number_after (length body + 5) (body ++ 0 ∷ [])) ∙ take_at body (0 ∷ []) (length value - 5) (omega (arith, size)) in
-      let same : h.0 ≡ body = stay room (length (take (length value - 5) (drop 4 value))) own h.0
-      (subst (λ (x : List ℕ). AreElements Is others (IsNested Is others room) own (length (take (length value - 5) (drop 4 value))) x h.0) inner h.1) in
+      let same : h.0 ≡ body = stay depth_left (length (take (length value - 5) (drop 4 value))) path_in h.0
+      (subst (λ (x : List ℕ). AreElements Is others (IsNested Is others depth_left) path_in (length (take (length value - 5) (drop 4 value))) x h.0) inner h.1) in
       let last : drop (length value - 1) value ≡ 0 ∷ [] =
       ap (drop (length value - 1)) (sym (append_assoc (number (length body + 5)) body (0 ∷ [])))
       ∙ drop_at (number (length body + 5) ++ body) (0 ∷ []) (length value - 1) (omega (arith, size, length-append (number (length body + 5)) body, number_length (length body + 5))) in
       h.2 ∙ ap₂ (λ (x y : List ℕ). number (length x + 5) ++ (x ++ y)) same last
 
-  document_stays : (room : ℕ) (path body value new : List ℕ) → Stay body → value ≡ framed body → IsNested Is others room holders.Document path value new → new ≡ value
+  document_stays : (depth_left : ℕ) (path body value new : List ℕ) → Stay body → value ≡ framed body → IsNested Is others depth_left holders.Document path value new → new ≡ value
   unfolding IsNested
   document_stays zero path body value new stay is h = h
-  document_stays (suc room) path body value new stay is h =
-      body_stays room (path_of false path) body new stay (subst (λ (x : List ℕ). IsBody Is others (IsNested Is others room) (path_of false path) x new) is h) ∙ sym is
+  document_stays (suc depth_left) path body value new stay is h =
+      body_stays depth_left (path_of false path) body new stay (subst (λ (x : List ℕ). IsBody Is others (IsNested Is others depth_left) (path_of false path) x new) is h) ∙ sym is
 
-  array_stays : (room : ℕ) (path body value new : List ℕ) → Stay body → value ≡ framed body → IsNested Is others room holders.Array path value new → new ≡ value
+  array_stays : (depth_left : ℕ) (path body value new : List ℕ) → Stay body → value ≡ framed body → IsNested Is others depth_left holders.Array path value new → new ≡ value
   unfolding IsNested
   array_stays zero path body value new stay is h = h
-  array_stays (suc room) path body value new stay is h =
-      body_stays room (path_of true path) body new stay (subst (λ (x : List ℕ). IsBody Is others (IsNested Is others room) (path_of true path) x new) is h) ∙ sym is
+  array_stays (suc depth_left) path body value new stay is h =
+      body_stays depth_left (path_of true path) body new stay (subst (λ (x : List ℕ). IsBody Is others (IsNested Is others depth_left) (path_of true path) x new) is h) ∙ sym is
 
   scope_begins : (value : List ℕ) (at : ℕ) → scope_at value ≡ Some at → 8 + number_of (drop 4 value) ≡ at
   unfolding scope_at
@@ -182,10 +182,10 @@ module _ (Is : Writes) (others : Others) (keeps : KeepsOthers Is) where
       let count : ℕ = number_of (drop 4 value) in
       (scope_count count (length value) (number_of (drop (8 + count) value)) at (count == 0 || nat_lt (length value) (8 + count + 5) || not (number_of (drop (8 + count) value) == length value - (8 + count))) refl h).1
 
-  scoped_stays : (room : ℕ) (path code body new : List ℕ) → Stay body → IsText code
-      → IsScoped (IsNested Is others room holders.Document path) (scoped code (framed body)) new → new ≡ scoped code (framed body)
-  scoped_stays room path code body new stay text h =
-      let document : List ℕ → List ℕ → Type 0 = IsNested Is others room holders.Document path in
+  scoped_stays : (depth_left : ℕ) (path code body new : List ℕ) → Stay body → IsText code
+      → IsScoped (IsNested Is others depth_left holders.Document path) (scoped code (framed body)) new → new ≡ scoped code (framed body)
+  scoped_stays depth_left path code body new stay text h =
+      let document : List ℕ → List ℕ → Type 0 = IsNested Is others depth_left holders.Document path in
       let scope : List ℕ = framed body in
       let value : List ℕ = scoped code scope in
       let count : List ℕ = number (length (string code ++ scope) + 4) in
@@ -194,41 +194,41 @@ module _ (Is : Writes) (others : Others) (keeps : KeepsOthers Is) where
         | None ↦ λ is t. t
         | Some k ↦ λ is t.
             let at : k ≡ 8 + (length code + 1) = sym (scope_begins value k is) ∙ ap (λ (n : ℕ). 8 + n) (ap number_of rest ∙ string_number code scope text.1) in
-            let cut : drop k value ≡ scope = ap (drop k) (sym (append_assoc count (string code) scope))
+            let splits : drop k value ≡ scope = ap (drop k) (sym (append_assoc count (string code) scope))
             ∙ drop_at (count ++ string code) scope k (omega (arith, at, length-append count (string code), number_length (length (string code ++ scope) + 4), string_length code)) in
-            let same : t.0 ≡ scope = document_stays room path body scope t.0 stay refl (subst (λ (x : List ℕ). document x t.0) cut t.1) in
-            let front : take (k - 4) (drop 4 value) ≡ string code = ap (take (k - 4)) rest ∙ take_at (string code) scope (k - 4) (omega (arith, at, string_length code)) in
+            let same : t.0 ≡ scope = document_stays depth_left path body scope t.0 stay refl (subst (λ (x : List ℕ). document x t.0) splits t.1) in
+            let prefix : take (k - 4) (drop 4 value) ≡ string code = ap (take (k - 4)) rest ∙ take_at (string code) scope (k - 4) (omega (arith, at, string_length code)) in
             let size : k + length t.0 ≡ length (string code ++ scope) + 4 = omega (arith, at, ap (λ (x : List ℕ). length x) same, length-append (string code) scope, string_length code) in
-            t.2 ∙ ap₂ (λ (n : ℕ) (x : List ℕ). number n ++ x) size (ap₂ (λ (x y : List ℕ). x ++ y) front same)
+            t.2 ∙ ap₂ (λ (n : ℕ) (x : List ℕ). number n ++ x) size (ap₂ (λ (x y : List ℕ). x ++ y) prefix same)
       ] in
       cases (scope_at value) refl (to_scope document value new h)
 
-  code_stays : (room : ℕ) (path code body value new : List ℕ) → Stay body → IsText code → value ≡ scoped code (framed body) → IsNested Is others room holders.CodeScope path value new → new ≡ value
+  code_stays : (depth_left : ℕ) (path code body value new : List ℕ) → Stay body → IsText code → value ≡ scoped code (framed body) → IsNested Is others depth_left holders.CodeScope path value new → new ≡ value
   unfolding IsNested
   code_stays zero path code body value new stay text is h = h
-  code_stays (suc room) path code body value new stay text is h =
-      scoped_stays room path code body new stay text (subst (λ (x : List ℕ). IsScoped (IsNested Is others room holders.Document path) x new) is h) ∙ sym is
+  code_stays (suc depth_left) path code body value new stay text is h =
+      scoped_stays depth_left path code body new stay text (subst (λ (x : List ℕ). IsScoped (IsNested Is others depth_left holders.Document path) x new) is h) ∙ sym is
 
   -- ---- values
 
-  leaf_element : (a : Scalar) (room : ℕ) (path head value new : List ℕ) → IsElement Is (IsNested Is others room) path (Kept (scalar_kind a)) head value new → new ≡ head ++ value
+  leaf_element : (a : Scalar) (depth_left : ℕ) (path head value new : List ℕ) → IsElement Is (IsNested Is others depth_left) path (Kept (scalar_kind a)) head value new → new ≡ head ++ value
   unfolding IsElement part_of
-  leaf_element (trees.int32 z) room path head value new h = keeps path kinds.Int32 head value new h
-  leaf_element (trees.int64 z) room path head value new h = keeps path kinds.Int64 head value new h
-  leaf_element _ room path head value new h = h
+  leaf_element (trees.int32 z) depth_left path head value new h = keeps path kinds.Int32 head value new h
+  leaf_element (trees.int64 z) depth_left path head value new h = keeps path kinds.Int64 head value new h
+  leaf_element _ depth_left path head value new h = h
 
-  doc_element : (room : ℕ) (path head body value new : List ℕ) → Stay body → value ≡ framed body → IsElement Is (IsNested Is others room) path (Kept kinds.Doc) head value new → new ≡ head ++ value
+  doc_element : (depth_left : ℕ) (path head body value new : List ℕ) → Stay body → value ≡ framed body → IsElement Is (IsNested Is others depth_left) path (Kept kinds.Doc) head value new → new ≡ head ++ value
   unfolding IsElement part_of
-  doc_element room path head body value new stay is h = h.2 ∙ ap (λ (x : List ℕ). head ++ x) (document_stays room _ body value h.0 stay is h.1)
+  doc_element depth_left path head body value new stay is h = h.2 ∙ ap (λ (x : List ℕ). head ++ x) (document_stays depth_left _ body value h.0 stay is h.1)
 
-  array_element : (room : ℕ) (path head body value new : List ℕ) → Stay body → value ≡ framed body → IsElement Is (IsNested Is others room) path (Kept kinds.Array) head value new → new ≡ head ++ value
+  array_element : (depth_left : ℕ) (path head body value new : List ℕ) → Stay body → value ≡ framed body → IsElement Is (IsNested Is others depth_left) path (Kept kinds.Array) head value new → new ≡ head ++ value
   unfolding IsElement part_of
-  array_element room path head body value new stay is h = h.2 ∙ ap (λ (x : List ℕ). head ++ x) (array_stays room _ body value h.0 stay is h.1)
+  array_element depth_left path head body value new stay is h = h.2 ∙ ap (λ (x : List ℕ). head ++ x) (array_stays depth_left _ body value h.0 stay is h.1)
 
-  code_element : (room : ℕ) (path head code body value new : List ℕ) → Stay body → IsText code → value ≡ scoped code (framed body)
-      → IsElement Is (IsNested Is others room) path (Kept kinds.CodeScope) head value new → new ≡ head ++ value
+  code_element : (depth_left : ℕ) (path head code body value new : List ℕ) → Stay body → IsText code → value ≡ scoped code (framed body)
+      → IsElement Is (IsNested Is others depth_left) path (Kept kinds.CodeScope) head value new → new ≡ head ++ value
   unfolding IsElement part_of
-  code_element room path head code body value new stay text is h = h.2 ∙ ap (λ (x : List ℕ). head ++ x) (code_stays room _ code body value h.0 stay text is h.1)
+  code_element depth_left path head code body value new stay text is h = h.2 ∙ ap (λ (x : List ℕ). head ++ x) (code_stays depth_left _ code body value h.0 stay text is h.1)
 
   body_short : (body value : List ℕ) → value ≡ framed body → length value ≤ longest_document → length body ≤ longest_document
   body_short body value is short = omega (arith, ap (λ (x : List ℕ). length x) is, values.framed_length body)
@@ -245,14 +245,14 @@ module _ (Is : Writes) (others : Others) (keeps : KeepsOthers Is) where
 
   mutual
     value_stays : (t : Tree) (value : List ℕ) → IsValue t value → length value ≤ longest_document
-        → (room : ℕ) (path head new : List ℕ) → IsElement Is (IsNested Is others room) path (Kept (kind_of t)) head value new → new ≡ head ++ value
-    value_stays (leaf a) value v short room path head new h = leaf_element a room path head value new h
-    value_stays (doc fs) value v short room path head new h =
-        doc_element room path head v.0 value new (fields_stay fs v.0 v.1 (body_short v.0 value v.2 short)) v.2 h
-    value_stays (array ts) value v short room path head new h =
-        array_element room path head v.0 value new (items_stay ts v.0 v.1 (body_short v.0 value v.2 short)) v.2 h
-    value_stays (code_scope s fs) value v short room path head new h =
-        code_element room path head s v.0 value new (fields_stay fs v.0 v.1 (code_short s v.0 value v.2 short)) v.3 v.2 h
+        → (depth_left : ℕ) (path head new : List ℕ) → IsElement Is (IsNested Is others depth_left) path (Kept (kind_of t)) head value new → new ≡ head ++ value
+    value_stays (leaf a) value v short depth_left path head new h = leaf_element a depth_left path head value new h
+    value_stays (doc fs) value v short depth_left path head new h =
+        doc_element depth_left path head v.0 value new (fields_stay fs v.0 v.1 (body_short v.0 value v.2 short)) v.2 h
+    value_stays (array ts) value v short depth_left path head new h =
+        array_element depth_left path head v.0 value new (items_stay ts v.0 v.1 (body_short v.0 value v.2 short)) v.2 h
+    value_stays (code_scope s fs) value v short depth_left path head new h =
+        code_element depth_left path head s v.0 value new (fields_stay fs v.0 v.1 (code_short s v.0 value v.2 short)) v.3 v.2 h
 
     fields_stay : (fs : Fields) (bytes : List ℕ) → AreFields fs bytes → length bytes ≤ longest_document → Stay bytes
     fields_stay no_fields bytes f short = none_stay bytes f

@@ -3,16 +3,16 @@ use Rattle.std.proofs.Common.{◌≡◌, ℕ, ◌+◌, ◌-◌, List, [], ◌∷
 use Rattle.bd_bson_view.specs.{Spelling.number, Spelling.string, Spelling.framed, Unique.number_length}
 use Rattle.bd_wide.specs.Rewritten.{Adds}
 use Rattle.bd_wide.specs.Wrap.{wrapper}
-use Rattle.bd_wide.proofs.WalkLemmas.{sealed}
+use Rattle.bd_wide.proofs.RewriteLemmas.{sealed}
 
 pub patched : (old rest out : List ℕ) (at n : ℕ) → out ≡ (old ++ number 0) ++ rest → at ≡ length old
     → take at out ++ (number n ++ drop (at + 4) out) ≡ old ++ (number n ++ rest)
 patched old rest out at n is here =
     let whole : out ≡ old ++ (number 0 ++ rest) = is ∙ append_assoc old (number 0) rest in
     let size : length (old ++ number 0) ≡ at + 4 = omega (arith, here, length-append old (number 0), number_length 0) in
-    let front : take at out ≡ old = ap (take at) whole ∙ take_at old (number 0 ++ rest) at (sym here) in
+    let prefix : take at out ≡ old = ap (take at) whole ∙ take_at old (number 0 ++ rest) at (sym here) in
     let back : drop (at + 4) out ≡ rest = ap (drop (at + 4)) is ∙ drop_at (old ++ number 0) rest (at + 4) size in
-    ap₂ (λ (x y : List ℕ). x ++ y) front (ap (λ (x : List ℕ). number n ++ x) back)
+    ap₂ (λ (x y : List ℕ). x ++ y) prefix (ap (λ (x : List ℕ). number n ++ x) back)
 
 joined : (old one two three text : List ℕ) → one ≡ old ++ number 0 → two ≡ one ++ text → three ≡ two ++ 0 ∷ [] → three ≡ (old ++ number 0) ++ (text ++ 0 ∷ [])
 joined old one two three text p q r = rw (r, q, p) (append_assoc (old ++ number 0) text (0 ∷ []))

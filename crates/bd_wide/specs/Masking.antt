@@ -8,50 +8,50 @@ use Rattle.bd_bson_view.specs.declared.raw_parts.ElementType.TheVariants.{Kept, 
 use Rattle.bd_bson_view.specs.declared.raw_parts.Holder.{Holder}
 use Rattle.bd_bson_view.specs.declared.raw_parts.Holder.TheVariants as holders
 use Rattle.bd_wide.specs.Mask.{IsMasked, masked_others}
-use Rattle.bd_wide.specs.Rewritten.{front, AreElements, IsBody, IsElement, IsNested, IsScoped}
+use Rattle.bd_wide.specs.Rewritten.{first_element, AreElements, IsBody, IsElement, IsNested, IsScoped}
 
 -- paths are ignored, so each holds for all of them
 
 -- a document or array is written masked, whatever its path
 abbrev pub MasksNested : ℕ → Holder → List ℕ → List ℕ → Type 0
-MasksNested room holder old new = (path : List ℕ) → IsNested IsMasked masked_others room holder path old new
+MasksNested depth_left holder old new = (path : List ℕ) → IsNested IsMasked masked_others depth_left holder path old new
 
 -- the elements and the end of a document or array are written masked, whatever its path
 abbrev pub MasksBody : ℕ → List ℕ → List ℕ → Type 0
-MasksBody room old new = (own : List ℕ → List ℕ) → IsBody IsMasked masked_others (IsNested IsMasked masked_others room) own old new
+MasksBody depth_left old new = (path_in : List ℕ → List ℕ) → IsBody IsMasked masked_others (IsNested IsMasked masked_others depth_left) path_in old new
 
 -- code with scope is written masked, whatever its path
 abbrev pub MasksScoped : ℕ → List ℕ → List ℕ → Type 0
-MasksScoped room old new = (path : List ℕ) → IsScoped (IsNested IsMasked masked_others room holders.Document path) old new
+MasksScoped depth_left old new = (path : List ℕ) → IsScoped (IsNested IsMasked masked_others depth_left holders.Document path) old new
 
 -- the elements of a body are written masked, whatever its path
 abbrev pub MasksElements : ℕ → List ℕ → List ℕ → Type 0
-MasksElements room old new = (own : List ℕ → List ℕ)
-    → AreElements IsMasked masked_others (IsNested IsMasked masked_others room) own (length old) old new
+MasksElements depth_left old new = (path_in : List ℕ → List ℕ)
+    → AreElements IsMasked masked_others (IsNested IsMasked masked_others depth_left) path_in (length old) old new
 
 -- an element whose head has so many bytes
 abbrev pub MasksElement : ℕ → ElementType → ℕ → List ℕ → List ℕ → Type 0
-MasksElement room type k old new = (path : List ℕ)
-    → IsElement IsMasked (IsNested IsMasked masked_others room) path type (take k old) (drop k old) new
+MasksElement depth_left type k old new = (path : List ℕ)
+    → IsElement IsMasked (IsNested IsMasked masked_others depth_left) path type (take k old) (drop k old) new
 
 -- the first element has so many bytes, and became these
-pub record IsFirstOf (room : ℕ) (old new : List ℕ) (size : ℕ) : Type 0 where
+pub record IsFirstOf (depth_left : ℕ) (old new : List ℕ) (size : ℕ) : Type 0 where
   pub type : ElementType
   pub head : ℕ
   pub value : ℕ
   pub one : List ℕ
-  pub is_first : front old ≡ Some (type, head, value)
+  pub is_first : first_element old ≡ Some (type, head, value)
   pub whole : size ≡ head + value
   pub most : 0 < size
   pub inside : size ≤ length old
-  pub masked : (path : List ℕ) → IsElement IsMasked (IsNested IsMasked masked_others room) path type (take head old) (take value (drop head old)) one
+  pub masked : (path : List ℕ) → IsElement IsMasked (IsNested IsMasked masked_others depth_left) path type (take head old) (take value (drop head old)) one
   pub as_long : length one ≡ size
   pub written : new ≡ one ++ drop size old
 
 -- the first element is masked, or none can be passed on and the bytes stay
 abbrev pub IsFirst : ℕ → List ℕ → List ℕ → Option ℕ → Type 0
-IsFirst room old new None = (front old ≡ None) × (new ≡ old)
-IsFirst room old new (Some size) = IsFirstOf room old new size
+IsFirst depth_left old new None = (first_element old ≡ None) × (new ≡ old)
+IsFirst depth_left old new (Some size) = IsFirstOf depth_left old new size
 
 -- how many bytes each value of a type has, if all have as many and none of them changes
 unfoldable pub plain_size : ElementType → Option ℕ
@@ -68,7 +68,7 @@ plain_size _ = None
 -- so many have the values of the type that this byte tells; 1 tells a double, and no other byte does
 pub record HasPlain (byte size : ℕ) : Type 0 where
   pub type : ElementType
-  pub told : type_at byte ≡ Some type
+  pub fact : type_at byte ≡ Some type
   pub plain : plain_size type ≡ Some size
   pub kind : ((byte ≡ 1) × (type ≡ Double)) ⊎ ((byte ≢ 1) × ((kind : Kind) × (type ≡ Kept kind)))
 
@@ -77,9 +77,9 @@ pub record IsPlain (byte size : ℕ) (bytes : List ℕ) : Type 0 where
   pub type : ElementType
   pub head : ℕ
   pub value : ℕ
-  pub is_first : front bytes ≡ Some (type, head, value)
+  pub is_first : first_element bytes ≡ Some (type, head, value)
   pub whole : size ≡ head + value
   pub most : 0 < size
   pub inside : size ≤ length bytes
-  pub masked : (room : ℕ) (path : List ℕ)
-      → IsElement IsMasked (IsNested IsMasked masked_others room) path type (take head bytes) (take value (drop head bytes)) (byte ∷ drop 1 (take size bytes))
+  pub masked : (depth_left : ℕ) (path : List ℕ)
+      → IsElement IsMasked (IsNested IsMasked masked_others depth_left) path type (take head bytes) (take value (drop head bytes)) (byte ∷ drop 1 (take size bytes))

@@ -9,7 +9,7 @@ use Rattle.bd_bson_view.specs.{Sizes.long_of, Sizes.number_of, Spelling.long, Sp
 use Rattle.bd_wide_number.specs.{Code.number_code, Code.whole_code, Value.value_of}
 use Rattle.bd_wide_number.specs.declared.number.Number.{Number}
 use Rattle.bd_wide_number.specs.declared.number.Number.TheVariants as numbers
-use Rattle.bd_wide.specs.{Paths.asked_at, Rewritten.IsRewritten, Rewritten.Writes, Refused.Refuses, Refused.first_refused}
+use Rattle.bd_wide.specs.{Paths.requested_at, Rewritten.IsRewritten, Rewritten.Writes, Refused.Refuses, Refused.first_refused}
 use Rattle.bd_wide.specs.declared.paths.OrderPath.{OrderPath}
 use Rattle.bd_wide.specs.declared.find.Refusal.{Refusal}
 use Rattle.bd_wide.specs.declared.find.Refusal.TheVariants.{NotWhole, NoDouble}
@@ -44,14 +44,14 @@ whole_at _ number = coded NotWhole (whole_code (value_of number))
 
 -- what becomes of a value, by what is asked for at its path
 abbrev pub outcome_of : Option (Option ℕ) → ElementType → Option Number → Outcome
-outcome_of asked type None = outcomes.Itself
+outcome_of requested type None = outcomes.Itself
 outcome_of None type (Some number) = whole_at type number
 outcome_of (Some power) type (Some number) = code_at power number
 
 -- what `order` makes of a value: an int64, its code if its path is asked for, else its own value; or itself;
 -- or nothing, for a reason
 abbrev pub outcome_at : List OrderPath → List ℕ → ElementType → List ℕ → Outcome
-outcome_at paths path type value = outcome_of (asked_at paths path) type (number_at type value)
+outcome_at paths path type value = outcome_of (requested_at paths path) type (number_at type value)
 
 -- an element with this int64, under the name of another element
 unfoldable pub int64_element : List ℕ → ℤ → List ℕ
@@ -75,7 +75,7 @@ refusal_in (outcomes.Nothing why) = Some why
 
 -- why `order` refuses a number: no int64 stands for it at its path
 abbrev pub refuses_unordered : List OrderPath → Refuses
-refuses_unordered paths room path type value = refusal_in (outcome_at paths path type value)
+refuses_unordered paths depth_left path type value = refusal_in (outcome_at paths path type value)
 
 -- ---- a document
 

@@ -5,9 +5,9 @@ use Rattle.bd_wide.specs.declared.paths.OrderPath.{OrderPath}
 
 -- the power of ten that is asked for at a path, if any; None if the path is not asked for.
 -- Of two for one path the first counts.
-abbrev pub asked_at : List OrderPath → List ℕ → Option (Option ℕ)
-asked_at [] path = None
-asked_at (p ∷ ps) path = if bytes_eq p.names.items path then Some p.power else asked_at ps path
+abbrev pub requested_at : List OrderPath → List ℕ → Option (Option ℕ)
+requested_at [] path = None
+requested_at (p ∷ ps) path = if bytes_eq p.names.items path then Some p.power else requested_at ps path
 
 -- ---- a word such as `price`, or `price*100` with a power of ten up to 10^18
 

@@ -8,7 +8,7 @@ use Rattle.bd_wide.specs.declared.find.Refusal.{Refusal}
 use Rattle.bd_wide.specs.declared.find.Found.{Found}
 use Rattle.bd_wide.specs.declared.element.Part.{Part}
 use Rattle.bd_wide.specs.declared.element.Part.TheVariants as parts
-use Rattle.bd_wide.specs.Rewritten.{front, part_of, path_of, scope_at, separator}
+use Rattle.bd_wide.specs.Rewritten.{first_element, part_of, path_of, scope_at, separator}
 
 -- why a number is refused, if it is: by how many levels are left below it, its path, its type and its value
 abbrev pub Refuses : Type 0
@@ -55,36 +55,36 @@ refused_element refuses nested type path at k value = refused_part refuses neste
 -- the first refused number among elements, from left to right, up to the first that cannot be passed on.
 -- The first number bounds the turns: the count of the bytes is always enough.
 unfoldable pub refused_elements : Element → (List ℕ → List ℕ) → ℕ → ℕ → List ℕ → Option Refused
-refused_elements element own zero at bytes = None
-refused_elements element own (suc n) at [] = None
-refused_elements element own (suc n) at (b ∷ bytes) = elim (front (b ∷ bytes)) [
+refused_elements element path_in zero at bytes = None
+refused_elements element path_in (suc n) at [] = None
+refused_elements element path_in (suc n) at (b ∷ bytes) = elim (first_element (b ∷ bytes)) [
   | None ↦ None
   | Some x ↦
       let rest = drop x.1 (b ∷ bytes) in
-      first_of_two (element x.0 (own (take x.1 (b ∷ bytes))) at x.1 (take x.2 rest))
-      (refused_elements element own n (at + x.1 + x.2) (drop x.2 rest))
+      first_of_two (element x.0 (path_in (take x.1 (b ∷ bytes))) at x.1 (take x.2 rest))
+      (refused_elements element path_in n (at + x.1 + x.2) (drop x.2 rest))
 ]
 
 -- the first refused number in a document or an array,
 -- whose elements stand between its length and its last byte
 unfoldable pub refused_body : Element → (List ℕ → List ℕ) → ℕ → List ℕ → Option Refused
-refused_body element own at value =
-    let inner = take (length value - 5) (drop 4 value) in refused_elements element own (length inner) (at + 4) inner
+refused_body element path_in at value =
+    let inner = take (length value - 5) (drop 4 value) in refused_elements element path_in (length inner) (at + 4) inner
 
 -- the first refused number in the scope of code with scope;
 -- none if the scope does not end where the value does
 unfoldable pub refused_scope : (ℕ → List ℕ → Option Refused) → ℕ → List ℕ → Option Refused
 refused_scope document at value = elim (scope_at value) [ None ↦ None | Some k ↦ document (at + k) (drop k value) ]
 
--- the first refused number in what holds values, at most `room` levels deep
+-- the first refused number in what holds values, at most `depth_left` levels deep
 unfoldable pub refused_nested : Refuses → ℕ → Nested
 refused_nested refuses zero holder path at value = None
-refused_nested refuses (suc room) holders.Document path at value =
-    refused_body (refused_element (refuses room) (refused_nested refuses room)) (path_of false path) at value
-refused_nested refuses (suc room) holders.Array path at value =
-    refused_body (refused_element (refuses room) (refused_nested refuses room)) (path_of true path) at value
-refused_nested refuses (suc room) holders.CodeScope path at value =
-    refused_scope (refused_nested refuses room holders.Document path) at value
+refused_nested refuses (suc depth_left) holders.Document path at value =
+    refused_body (refused_element (refuses depth_left) (refused_nested refuses depth_left)) (path_of false path) at value
+refused_nested refuses (suc depth_left) holders.Array path at value =
+    refused_body (refused_element (refuses depth_left) (refused_nested refuses depth_left)) (path_of true path) at value
+refused_nested refuses (suc depth_left) holders.CodeScope path at value =
+    refused_scope (refused_nested refuses depth_left holders.Document path) at value
 
 -- the first refused number of a document, which is all of the bytes
 unfoldable pub first_refused : Refuses → List ℕ → Option Refused

@@ -47,7 +47,7 @@ IsWrapped path (Kept _) head value new = new ≡ head ++ value
 abbrev pub refuses_deepest : Refuses
 refuses_deepest zero path Double value = Some TooDeep
 refuses_deepest zero path Decimal128 value = Some TooDeep
-refuses_deepest room path type value = None
+refuses_deepest depth_left path type value = None
 
 -- This is what `wrap` writes of a document: wrapped, or unchanged if it would be too deep or too long.
 abbrev pub IsWrappedDocument : List ℕ → Bool → List ℕ → Type 0
@@ -58,6 +58,6 @@ IsWrappedDocument bytes false new = (new ≡ bytes) × (IsSome (first_refused re
 
 -- each double and decimal128 is refused, wherever it is; the reason means nothing
 abbrev pub refuses_wide : Refuses
-refuses_wide room path Double value = Some TooDeep
-refuses_wide room path Decimal128 value = Some TooDeep
-refuses_wide room path (Kept _) value = None
+refuses_wide depth_left path Double value = Some TooDeep
+refuses_wide depth_left path Decimal128 value = Some TooDeep
+refuses_wide depth_left path (Kept _) value = None

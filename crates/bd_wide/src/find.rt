@@ -9,8 +9,8 @@ ghost use Rattle.bd_wide.specs.declared.element.Part as parts;
 ghost use Rattle.bd_wide.specs.Refused.{Finds, FindsPlaced, first_refused, refused_at, refused_body, refused_element, refused_elements, refused_part, refused_nested, refused_scope};
 ghost use Rattle.bd_wide.specs.declared.find.Refusal as refusal;
 
-use crate::element::{Part, enter, front, looked_into, separator};
-use crate::walk::scope_at;
+use crate::element::{Part, enter, first_element, looked_into, separator};
+use crate::rewrite::scope_at;
 use bd_bson_view::{ElementType, Holder};
 use bd_value::{MOST_LEVELS, NoMemory};
 
@@ -36,12 +36,19 @@ pub struct Found {
 /// Which numbers are refused.
 pub trait Refuser {
     /// Why one is, by how many levels are left below it, its path, its type and its value.
-    ghost refuses: { Self → ℕ → List ℕ → element_type.ElementType → List ℕ → Option refusal.Refusal };
+    ghost refuses: { Self →
+        ℕ → List ℕ → element_type.ElementType → List ℕ → Option refusal.Refusal };
 
     /// Why a number is refused; none if it is not.
-    fn refuse(&self, room: u32, path: &[u8], typed: ElementType, value: &[u8]) -> Option<Refusal>
+    fn refuse(
+        &self,
+        depth_left: u32,
+        path: &[u8],
+        typed: ElementType,
+        value: &[u8],
+    ) -> Option<Refusal>
         requires { least typed ≤ length value.now }
-        ensures { result ≡ refuses self.now room path.now typed value.now };
+        ensures { result ≡ refuses self.now depth_left path.now typed value.now };
 }
 
 /// The first number that is refused of the document that all of the bytes are. `path` is empty, and gets the path of it.
@@ -72,23 +79,26 @@ pub fn find_refused<R: Refuser>(
 #[cycle(finding)]
 fn elements<R: Refuser>(
     refuser: &R,
-    room: u32,
+    depth_left: u32,
     in_array: bool,
     at: usize,
     bytes: &[u8],
     path: &mut Vec<u8>,
 ) -> Result<Option<Found>, NoMemory>
     requires { at + length bytes.now < 2 ^ 64 }
-    ensures { IfOk result (Finds (refused_elements
-        (refused_element (R.refuses refuser.now room) (refused_nested (R.refuses refuser.now) room))
-        (path_of in_array path.old.items) (length bytes.now) at bytes.now) path.old.items path.new.items) }
+    ensures { IfOk result
+        (Finds (refused_elements (refused_element (R.refuses refuser.now depth_left)
+        (refused_nested (R.refuses refuser.now) depth_left)) (path_of in_array path.old.items)
+        (length bytes.now) at bytes.now) path.old.items path.new.items) }
 {
     let mut rest = bytes;
     let mut here = at;
-    while let Some((typed, k, n)) = front(rest) {
+    while let Some((typed, k, n)) = first_element(rest) {
         let (head, more) = rest.split_at(k);
         let (value, after) = more.split_at(n);
-        let found = element(refuser, room, in_array, here, typed, head, value, path)?;
+        let found = element(
+            refuser, depth_left, in_array, here, typed, head, value, path,
+        )?;
         if found.is_some() {
             return Ok(found);
         }
@@ -100,10 +110,10 @@ fn elements<R: Refuser>(
 
 /// Of an element, with so many levels left below it.
 #[cycle(finding)]
-#[tactic(auto, using(bd_value::proofs::FrontLemmas::fronts), unfolding(crate::specs::Refused::refused_element))]
+#[tactic(auto, using(bd_value::proofs::PrefixLemmas::prefixes), unfolding(crate::specs::Refused::refused_element))]
 fn element<R: Refuser>(
     refuser: &R,
-    room: u32,
+    depth_left: u32,
     in_array: bool,
     at: usize,
     typed: ElementType,
@@ -114,16 +124,25 @@ fn element<R: Refuser>(
     requires head { 2 ≤ length head.now }
     requires value { least typed ≤ length value.now }
     requires fits { at + length head.now + length value.now < 2 ^ 64 }
-    ensures { IfOk result (Finds (refused_element (R.refuses refuser.now room)
-        (refused_nested (R.refuses refuser.now) room) typed (path_of in_array path.old.items head.now)
-        at (length head.now) value.now) path.old.items path.new.items) }
+    ensures { IfOk result (Finds (refused_element (R.refuses refuser.now depth_left) (refused_nested
+        (R.refuses refuser.now) depth_left) typed (path_of in_array path.old.items head.now) at
+        (length head.now) value.now) path.old.items path.new.items) }
 {
     let Some(part) = looked_into(typed) else {
         return Ok(None);
     };
     let before = path.len();
     enter(in_array, head, path)?;
-    let found = entered(refuser, room, at, part, typed, head.len(), value, path)?;
+    let found = entered(
+        refuser,
+        depth_left,
+        at,
+        part,
+        typed,
+        head.len(),
+        value,
+        path,
+    )?;
     if found.is_none() {
         path.truncate(before);
     }
@@ -132,10 +151,10 @@ fn element<R: Refuser>(
 
 /// Of an element that is looked into, and whose path this is.
 #[cycle(finding)]
-#[tactic(auto, using(bd_value::proofs::FrontLemmas::fronts))]
+#[tactic(auto, using(bd_value::proofs::PrefixLemmas::prefixes))]
 fn entered<R: Refuser>(
     refuser: &R,
-    room: u32,
+    depth_left: u32,
     at: usize,
     part: Part,
     typed: ElementType,
@@ -146,32 +165,32 @@ fn entered<R: Refuser>(
     requires part { part_of typed ≡ Some part }
     requires value { least typed ≤ length value.now }
     requires fits { at + size + length value.now < 2 ^ 64 }
-    ensures { IfOk result (FindsPlaced (refused_part (R.refuses refuser.now room)
-        (refused_nested (R.refuses refuser.now) room) (Some part) typed path.old.items at size value.now)
-        path.old.items path.new.items) }
+    ensures { IfOk result (FindsPlaced (refused_part
+        (R.refuses refuser.now depth_left) (refused_nested (R.refuses refuser.now) depth_left)
+        (Some part) typed path.old.items at size value.now) path.old.items path.new.items) }
 {
     let holder = match part {
-        Part::Number => return Ok(number(refuser, room, at, typed, value, path)),
+        Part::Number => return Ok(number(refuser, depth_left, at, typed, value, path)),
         Part::Values(holder) => holder,
     };
     path.extend_from_slice(separator(holder))?;
-    nested(refuser, room, holder, at + size, value, path)
+    nested(refuser, depth_left, holder, at + size, value, path)
 }
 
 /// Of a number.
 fn number<R: Refuser>(
     refuser: &R,
-    room: u32,
+    depth_left: u32,
     at: usize,
     typed: ElementType,
     value: &[u8],
     path: &[u8],
 ) -> Option<Found>
     requires { least typed ≤ length value.now }
-    ensures { Finds (refused_at at path.now (R.refuses refuser.now room path.now typed value.now))
-        path.now path.now result }
+    ensures { Finds (refused_at at path.now
+        (R.refuses refuser.now depth_left path.now typed value.now)) path.now path.now result }
 {
-    match refuser.refuse(room, path, typed, value) {
+    match refuser.refuse(depth_left, path, typed, value) {
         Some(why) => Some(Found { at, why }),
         None => None,
     }
@@ -182,7 +201,7 @@ fn number<R: Refuser>(
 #[tactic(auto, unfolding(crate::specs::Refused::refused_nested, crate::specs::Rewritten::holder_least))]
 fn nested<R: Refuser>(
     refuser: &R,
-    room: u32,
+    depth_left: u32,
     holder: Holder,
     at: usize,
     value: &[u8],
@@ -190,16 +209,16 @@ fn nested<R: Refuser>(
 ) -> Result<Option<Found>, NoMemory>
     requires least { holder_least holder ≤ length value.now }
     requires fits { at + length value.now < 2 ^ 64 }
-    ensures { IfOk result (Finds (refused_nested (R.refuses refuser.now) room holder path.old.items
-        at value.now) path.old.items path.new.items) }
+    ensures { IfOk result (Finds (refused_nested (R.refuses refuser.now)
+        depth_left holder path.old.items at value.now) path.old.items path.new.items) }
 {
-    if room == 0 {
+    if depth_left == 0 {
         return Ok(None);
     }
     match holder {
-        Holder::Document => body(refuser, room - 1, false, at, value, path),
-        Holder::Array => body(refuser, room - 1, true, at, value, path),
-        Holder::CodeScope => scoped(refuser, room - 1, at, value, path),
+        Holder::Document => body(refuser, depth_left - 1, false, at, value, path),
+        Holder::Array => body(refuser, depth_left - 1, true, at, value, path),
+        Holder::CodeScope => scoped(refuser, depth_left - 1, at, value, path),
     }
 }
 
@@ -208,7 +227,7 @@ fn nested<R: Refuser>(
 #[tactic(auto, unfolding(crate::specs::Refused::refused_body))]
 fn body<R: Refuser>(
     refuser: &R,
-    room: u32,
+    depth_left: u32,
     in_array: bool,
     at: usize,
     value: &[u8],
@@ -216,13 +235,13 @@ fn body<R: Refuser>(
 ) -> Result<Option<Found>, NoMemory>
     requires least { 5 ≤ length value.now }
     requires fits { at + length value.now < 2 ^ 64 }
-    ensures { IfOk result (Finds (refused_body
-        (refused_element (R.refuses refuser.now room) (refused_nested (R.refuses refuser.now) room))
+    ensures { IfOk result (Finds (refused_body (refused_element
+        (R.refuses refuser.now depth_left) (refused_nested (R.refuses refuser.now) depth_left))
         (path_of in_array path.old.items) at value.now) path.old.items path.new.items) }
 {
     let (_, more) = value.split_at(4);
     let (inner, _) = more.split_at(value.len() - 5);
-    elements(refuser, room, in_array, at + 4, inner, path)
+    elements(refuser, depth_left, in_array, at + 4, inner, path)
 }
 
 /// Of code with scope, with so many levels left for its scope.
@@ -230,20 +249,19 @@ fn body<R: Refuser>(
 #[tactic(auto, unfolding(crate::specs::Refused::refused_scope))]
 fn scoped<R: Refuser>(
     refuser: &R,
-    room: u32,
+    depth_left: u32,
     at: usize,
     value: &[u8],
     path: &mut Vec<u8>,
 ) -> Result<Option<Found>, NoMemory>
     requires least { 14 ≤ length value.now }
     requires fits { at + length value.now < 2 ^ 64 }
-    ensures { IfOk result (Finds (refused_scope
-        (refused_nested (R.refuses refuser.now) room holders.Document path.old.items) at value.now)
-        path.old.items path.new.items) }
+    ensures { IfOk result (Finds (refused_scope (refused_nested (R.refuses refuser.now)
+        depth_left holders.Document path.old.items) at value.now) path.old.items path.new.items) }
 {
     let Some(k) = scope_at(value) else {
         return Ok(None);
     };
     let (_, scope) = value.split_at(k);
-    nested(refuser, room, Holder::Document, at + k, scope, path)
+    nested(refuser, depth_left, Holder::Document, at + k, scope, path)
 }

@@ -18,7 +18,7 @@
 //! ```
 //!
 //! - `find`: `find_refused`, the first number that a `Refuser` refuses: `specs/Refused.antt`.
-//! - `walk`: `write_rewritten`, the one walker, and `NumberWriter`, what it asks for each number.
+//! - `rewrite`: `write_rewritten`, the one walker, and `NumberWriter`, what it asks for each number.
 //! - `wrap`: `Wrap`, in which doubles and decimal128 are documents that hold their texts: `specs/Wrap.antt`.
 //! - `element`: the element at the front of bytes, of which only sizes are looked at.
 //! - `order`: `write_ordered`, a document whose numbers are whole numbers in the same order: `specs/Order.antt`.
@@ -36,7 +36,7 @@ mod mask;
 mod masking;
 mod order;
 mod paths;
-mod walk;
+mod rewrite;
 mod wrap;
 
 pub use element::Part;
@@ -46,5 +46,5 @@ pub use mask::Mask;
 pub use masking::write_masked;
 pub use order::{Order, Outcome, Unfiltered, Unordered, write_ordered};
 pub use paths::{OrderPath, read_order};
-pub use walk::{NumberWriter, write_rewritten};
+pub use rewrite::{NumberWriter, write_rewritten};
 pub use wrap::{Number, Wrap, write_wrapped};

@@ -6,7 +6,7 @@ ghost use Rattle.std.specs.Io.{StartsWith};
 ghost use Rattle.bd_wide.specs.Mask.{IsMasked, masked_element, masked_others};
 ghost use Rattle.bd_wide.specs.Rewritten.{Adds};
 
-use crate::walk::NumberWriter;
+use crate::rewrite::NumberWriter;
 use bd_bson_view::{ElementType, raw_parts as raw};
 use bd_value::NoMemory;
 
@@ -34,7 +34,7 @@ impl NumberWriter for Mask {
         }
     }
 
-    #[tactic(auto, using(bd_value::proofs::FrontLemmas::fronts), unfolding(crate::specs::Rewritten::least))]
+    #[tactic(auto, using(bd_value::proofs::PrefixLemmas::prefixes), unfolding(crate::specs::Rewritten::least))]
     fn element(
         &self,
         _path: &[u8],
@@ -53,23 +53,23 @@ impl NumberWriter for Mask {
         }
     }
 
-    #[tactic(auto, using(bd_value::proofs::FrontLemmas::fronts), unfolding(crate::specs::Rewritten::least))]
+    #[tactic(auto, using(bd_value::proofs::PrefixLemmas::prefixes), unfolding(crate::specs::Rewritten::least))]
     fn others(&self, bytes: &[u8], out: &mut Vec<u8>) -> Result<(), NoMemory> {
         let (first, rest) = bytes.split_at(1);
-        let cut_double = first[0] == 1 && raw::first_zero(rest).is_some();
-        out.extend_from_slice(&[if cut_double { 0x12 } else { first[0] }])?;
+        let short_double = first[0] == 1 && raw::first_zero(rest).is_some();
+        out.extend_from_slice(&[if short_double { 0x12 } else { first[0] }])?;
         out.extend_from_slice(rest)?;
         Ok(())
     }
 }
 
 /// Appends a double as an int64 of the same eight bytes.
-#[tactic(auto, using(bd_value::proofs::FrontLemmas::fronts))]
+#[tactic(auto, using(bd_value::proofs::PrefixLemmas::prefixes))]
 fn put_int64(head: &[u8], value: &[u8], out: &mut Vec<u8>) -> Result<(), NoMemory>
     requires { 2 ≤ length head.now }
     ensures ok { OnOk result
         (out.new.items ≡ out.old.items ++ masked_element Double head.now value.now) }
-    ensures front { OnErr result (StartsWith out.new.items out.old.items) }
+    ensures prefix { OnErr result (StartsWith out.new.items out.old.items) }
 {
     let (_, name) = head.split_at(1);
     out.extend_from_slice(&[0x12])?;
@@ -78,12 +78,12 @@ fn put_int64(head: &[u8], value: &[u8], out: &mut Vec<u8>) -> Result<(), NoMemor
 }
 
 /// Appends a decimal128 as an ObjectId of its last twelve bytes.
-#[tactic(auto, using(bd_value::proofs::FrontLemmas::fronts))]
+#[tactic(auto, using(bd_value::proofs::PrefixLemmas::prefixes))]
 fn put_object_id(head: &[u8], value: &[u8], out: &mut Vec<u8>) -> Result<(), NoMemory>
     requires { (2 ≤ length head.now) × (4 ≤ length value.now) }
     ensures ok { OnOk result
         (out.new.items ≡ out.old.items ++ masked_element Decimal128 head.now value.now) }
-    ensures front { OnErr result (StartsWith out.new.items out.old.items) }
+    ensures prefix { OnErr result (StartsWith out.new.items out.old.items) }
 {
     let (_, more) = head.split_at(1);
     let (name, _) = more.split_at(head.len() - 2);

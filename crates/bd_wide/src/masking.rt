@@ -6,8 +6,8 @@ ghost use Rattle.bd_wide.specs.Mask.{IsMasked, masked_element, masked_others};
 ghost use Rattle.bd_wide.specs.Masking.{HasPlain, IsFirst, IsPlain, MasksBody, MasksElement, MasksElements, MasksNested, MasksScoped};
 ghost use Rattle.bd_wide.specs.Rewritten.{Adds, IsRewritten, holder_least, least};
 
-use crate::element::{Part, front, looked_into};
-use crate::walk::{low_bytes, scope_at};
+use crate::element::{Part, first_element, looked_into};
+use crate::rewrite::{low_bytes, scope_at};
 use bd_bson_view::{ElementType, Holder, raw_parts as raw};
 use bd_value::{MOST_LEVELS, NoMemory};
 
@@ -18,7 +18,7 @@ use bd_value::{MOST_LEVELS, NoMemory};
 pub fn write_masked(bytes: &[u8], out: &mut Vec<u8>) -> Result<(), NoMemory>
     ensures ok { OnOk result (Adds (IsRewritten IsMasked masked_others bytes.now)
         out.old.items out.new.items) }
-    ensures kept { OnErr result (out.new.items ≡ out.old.items) }
+    ensures err { OnErr result (out.new.items ≡ out.old.items) }
 {
     let before = out.len();
     out.extend_from_slice(bytes)?;
@@ -39,29 +39,29 @@ fn mask_document(bytes: &mut [u8])
 /// Masks a value that holds values, with so many levels left for it.
 #[cycle(masking)]
 #[tactic(auto, unfolding(crate::specs::Rewritten::holder_least))]
-fn nested(room: u32, holder: Holder, value: &mut [u8])
+fn nested(depth_left: u32, holder: Holder, value: &mut [u8])
     requires { holder_least holder ≤ length value.old }
-    ensures { MasksNested room holder value.old value.new }
+    ensures { MasksNested depth_left holder value.old value.new }
 {
-    if room == 0 {
+    if depth_left == 0 {
         return;
     }
     match holder {
-        Holder::Document => body(room - 1, value),
-        Holder::Array => body(room - 1, value),
-        Holder::CodeScope => scoped(room - 1, value),
+        Holder::Document => body(depth_left - 1, value),
+        Holder::Array => body(depth_left - 1, value),
+        Holder::CodeScope => scoped(depth_left - 1, value),
     }
 }
 
 /// Masks a document or an array, with so many levels left below it.
 #[cycle(masking)]
-fn body(room: u32, value: &mut [u8])
+fn body(depth_left: u32, value: &mut [u8])
     requires { 5 ≤ length value.old }
-    ensures { MasksBody room value.old value.new }
+    ensures { MasksBody depth_left value.old value.new }
 {
     let size = value.len();
     put_size(value);
-    elements(room, &mut value[4..size - 1]);
+    elements(depth_left, &mut value[4..size - 1]);
 }
 
 /// Puts the count of the bytes into the first four.
@@ -75,24 +75,24 @@ fn put_size(value: &mut [u8])
 
 /// Masks code with scope, with so many levels left for its scope.
 #[cycle(masking)]
-fn scoped(room: u32, value: &mut [u8])
+fn scoped(depth_left: u32, value: &mut [u8])
     requires { 14 ≤ length value.old }
-    ensures { MasksScoped room value.old value.new }
+    ensures { MasksScoped depth_left value.old value.new }
 {
     let Some(at) = scope_at(value) else {
         return;
     };
     put_size(value);
-    nested(room, Holder::Document, &mut value[at..]);
+    nested(depth_left, Holder::Document, &mut value[at..]);
 }
 
 /// Masks elements, with so many levels left below them.
 #[cycle(masking)]
-fn elements(room: u32, bytes: &mut [u8])
-    ensures { MasksElements room bytes.old bytes.new }
+fn elements(depth_left: u32, bytes: &mut [u8])
+    ensures { MasksElements depth_left bytes.old bytes.new }
 {
     let mut at = 0;
-    while let Some(size) = first(room, &mut bytes[at..]) {
+    while let Some(size) = first(depth_left, &mut bytes[at..]) {
         at += size;
     }
     others(&mut bytes[at..]);
@@ -101,15 +101,15 @@ fn elements(room: u32, bytes: &mut [u8])
 /// Masks the first element, with so many levels left below it, and says how many bytes it has; none if it can't be passed on.
 #[cycle(masking)]
 #[inline(always)]
-fn first(room: u32, bytes: &mut [u8]) -> Option<usize>
-    ensures { IsFirst room bytes.old bytes.new result }
+fn first(depth_left: u32, bytes: &mut [u8]) -> Option<usize>
+    ensures { IsFirst depth_left bytes.old bytes.new result }
 {
     match plain(bytes) {
         Some((byte, size)) => {
             bytes[0] = byte;
             Some(size)
         }
-        None => next(room, bytes),
+        None => next(depth_left, bytes),
     }
 }
 
@@ -161,25 +161,25 @@ fn plain_size(byte: u8) -> Option<usize>
 
 /// Masks the first element, whatever its type.
 #[cycle(masking)]
-fn next(room: u32, bytes: &mut [u8]) -> Option<usize>
-    ensures { IsFirst room bytes.old bytes.new result }
+fn next(depth_left: u32, bytes: &mut [u8]) -> Option<usize>
+    ensures { IsFirst depth_left bytes.old bytes.new result }
 {
-    let (typed, k, n) = front(bytes)?;
-    element(room, typed, k, &mut bytes[..k + n]);
+    let (typed, k, n) = first_element(bytes)?;
+    element(depth_left, typed, k, &mut bytes[..k + n]);
     Some(k + n)
 }
 
 /// Masks an element whose head has so many bytes.
 #[cycle(masking)]
-fn element(room: u32, typed: ElementType, k: usize, bytes: &mut [u8])
+fn element(depth_left: u32, typed: ElementType, k: usize, bytes: &mut [u8])
     requires head { 2 ≤ k }
     requires value { k + least typed ≤ length bytes.old }
-    ensures { MasksElement room typed k bytes.old bytes.new }
+    ensures { MasksElement depth_left typed k bytes.old bytes.new }
 {
     match looked_into(typed) {
         None => {}
         Some(Part::Number) => number_element(typed, k, bytes),
-        Some(Part::Values(holder)) => nested(room, holder, &mut bytes[k..]),
+        Some(Part::Values(holder)) => nested(depth_left, holder, &mut bytes[k..]),
     }
 }
 

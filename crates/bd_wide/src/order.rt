@@ -7,8 +7,8 @@ ghost use Rattle.bd_wide.specs.Rewritten.{Adds, least};
 ghost use Rattle.bd_wide.specs.Order.{IsNumbered, IsOrdered, IsOrderedDocument, IsUnfiltered, IsUnordered, became, code_at, coded as coded_as, int64_element, number_at, numbered, outcome_at, refusal_in, refuses_unordered, whole_at};
 
 use crate::find::{Found, Refusal, Refuser, find_refused};
-use crate::paths::{OrderPath, asked};
-use crate::walk::{NumberWriter, seal, write_rewritten};
+use crate::paths::{OrderPath, requested};
+use crate::rewrite::{NumberWriter, seal, write_rewritten};
 use crate::wrap::long;
 use bd_bson_view::{ElementType, raw_parts as raw};
 use bd_value::{Kind, LONGEST_DOCUMENT, NoMemory};
@@ -63,7 +63,7 @@ impl NumberWriter for Order {
         None
     }
 
-    #[tactic(auto, using(bd_value::proofs::FrontLemmas::fronts))]
+    #[tactic(auto, using(bd_value::proofs::PrefixLemmas::prefixes))]
     fn element(
         &self,
         path: &[u8],
@@ -90,7 +90,13 @@ impl NumberWriter for Order {
 impl Refuser for Order {
     ghost refuses = { λ order. refuses_unordered order.paths.items };
 
-    fn refuse(&self, _room: u32, path: &[u8], typed: ElementType, value: &[u8]) -> Option<Refusal> {
+    fn refuse(
+        &self,
+        _depth_left: u32,
+        path: &[u8],
+        typed: ElementType,
+        value: &[u8],
+    ) -> Option<Refusal> {
         match becomes(&self.paths, path, typed, value) {
             Outcome::Nothing(why) => Some(why),
             Outcome::Itself | Outcome::Int64(_) => None,
@@ -106,7 +112,7 @@ fn becomes(paths: &[OrderPath], path: &[u8], typed: ElementType, value: &[u8]) -
     let Some(number) = number_in(typed, value) else {
         return Outcome::Itself;
     };
-    match asked(paths, path) {
+    match requested(paths, path) {
         Some(power) => code(power, number),
         None => whole(typed, number),
     }
@@ -167,11 +173,11 @@ fn number_in(typed: ElementType, value: &[u8]) -> Option<Number>
 }
 
 /// Appends an element with an int64, under the name of an element.
-#[tactic(auto, using(bd_value::proofs::FrontLemmas::fronts), unfolding(crate::specs::Order::int64_element))]
+#[tactic(auto, using(bd_value::proofs::PrefixLemmas::prefixes), unfolding(crate::specs::Order::int64_element))]
 fn put_int64(head: &[u8], z: i64, out: &mut Vec<u8>) -> Result<(), NoMemory>
     requires { 2 ≤ length head.now }
     ensures ok { OnOk result (out.new.items ≡ out.old.items ++ int64_element head.now z) }
-    ensures front { OnErr result (StartsWith out.new.items out.old.items) }
+    ensures prefix { OnErr result (StartsWith out.new.items out.old.items) }
 {
     let (_, name) = head.split_at(1);
     out.extend_from_slice(&[0x12])?;
@@ -183,7 +189,7 @@ fn put_int64(head: &[u8], z: i64, out: &mut Vec<u8>) -> Result<(), NoMemory>
 #[tactic(auto, unfolding(bd_bson_view::specs::Spelling::long))]
 fn write_long(n: u64, out: &mut Vec<u8>) -> Result<(), NoMemory>
     ensures ok { OnOk result (out.new.items ≡ out.old.items ++ long_bytes n) }
-    ensures kept { OnErr result (out.new.items ≡ out.old.items) }
+    ensures err { OnErr result (out.new.items ≡ out.old.items) }
 {
     out.extend_from_slice(&n.to_le_bytes())
 }
@@ -203,8 +209,9 @@ pub fn write_ordered(
     requires { 5 ≤ length bytes.now }
     ensures ok { OnOk result (Adds (IsOrderedDocument order.now.paths.items number bytes.now)
         out.old.items out.new.items) }
-    ensures why { IfErr result (IsUnfiltered (IsUnordered order.now.paths.items number bytes.now path.new.items)) }
-    ensures kept { OnErr result (out.new.items ≡ out.old.items) }
+    ensures why { IfErr result
+        (IsUnfiltered (IsUnordered order.now.paths.items number bytes.now path.new.items)) }
+    ensures err { OnErr result (out.new.items ≡ out.old.items) }
 {
     path.clear();
     match find_refused(order, bytes, path) {
@@ -235,7 +242,7 @@ fn write_numbered(
     requires { 5 ≤ length bytes.now }
     ensures ok { OnOk result (Adds (IsNumbered order.now.paths.items number bytes.now)
         out.old.items out.new.items) }
-    ensures front { OnErr result (StartsWith out.new.items out.old.items) }
+    ensures prefix { OnErr result (StartsWith out.new.items out.old.items) }
 {
     let at = out.len();
     write_rewritten(order, bytes, path, out)?;
@@ -247,7 +254,7 @@ fn put_document_number(at: usize, n: u64, out: &mut Vec<u8>) -> Result<(), NoMem
     requires { at + 5 ≤ length out.old.items }
     ensures ok { OnOk result
         (out.new.items ≡ take at out.old.items ++ numbered n (drop at out.old.items)) }
-    ensures front { OnErr result (StartsWith out.new.items (take at out.old.items)) }
+    ensures prefix { OnErr result (StartsWith out.new.items (take at out.old.items)) }
 {
     let Some(last) = out.pop() else {
         unreachable!()

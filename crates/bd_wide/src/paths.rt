@@ -1,7 +1,7 @@
 //! The paths whose numbers become codes.
 
 ghost use Rattle.std.specs.Prelude.{◌≡◌, ◌≤◌, ◌+◌, IfOk, IsTrue, map, length};
-ghost use Rattle.bd_wide.specs.Paths.{asked_at, ends_with_power as ends_with_power_of, path_read, spelled, word_read};
+ghost use Rattle.bd_wide.specs.Paths.{requested_at, ends_with_power as ends_with_power_of, path_read, spelled, word_read};
 
 use crate::order::Order;
 use bd_value::NoMemory;
@@ -46,12 +46,12 @@ const MOST_ZEROS: usize = 18;
 fn path_and_power(word: &[u8]) -> (&[u8], Option<u32>)
     ensures { (result.0.now, result.1) ≡ path_read 19 word.now }
 {
-    let mut left = MOST_ZEROS + 1;
-    while left > 0 {
-        left -= 1;
-        if ends_with_power(word, left) {
-            let (path, _) = word.split_at(word.len() - (left + 2));
-            return (path, Some(left as u32));
+    let mut remaining = MOST_ZEROS + 1;
+    while remaining > 0 {
+        remaining -= 1;
+        if ends_with_power(word, remaining) {
+            let (path, _) = word.split_at(word.len() - (remaining + 2));
+            return (path, Some(remaining as u32));
         }
     }
     (word, None)
@@ -68,12 +68,12 @@ fn ends_with_power(word: &[u8], zeros: usize) -> bool
 }
 
 /// The power of ten that is asked for at a path, if any; none where the path is not asked for.
-pub(crate) fn asked(paths: &[OrderPath], path: &[u8]) -> Option<Option<u32>>
-    ensures { result ≡ asked_at paths.now path.now }
+pub(crate) fn requested(paths: &[OrderPath], path: &[u8]) -> Option<Option<u32>>
+    ensures { result ≡ requested_at paths.now path.now }
 {
-    for asked in paths {
-        if asked.names.as_slice() == path {
-            return Some(asked.power);
+    for requested in paths {
+        if requested.names.as_slice() == path {
+            return Some(requested.power);
         }
     }
     None

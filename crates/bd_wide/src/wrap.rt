@@ -9,7 +9,7 @@ ghost use Rattle.bd_wide.specs.Rewritten.{Adds};
 ghost use Rattle.bd_wide.specs.Wrap.{IsElementOf, IsNumberText, IsStringOf, IsWrapped, IsWrappedDocument, IsWrapper, refuses_deepest, wrapper_name};
 
 use crate::find::{Refusal, Refuser, find_refused};
-use crate::walk::{NumberWriter, put_number, seal, write_number, write_rewritten};
+use crate::rewrite::{NumberWriter, put_number, seal, write_number, write_rewritten};
 use bd_bson_view::ElementType;
 use bd_value::{LONGEST_DOCUMENT, MOST_LEVELS, NoMemory};
 use bd_wide_text::{write_decimal128, write_double};
@@ -42,7 +42,7 @@ impl NumberWriter for Wrap {
         None
     }
 
-    #[tactic(auto, using(bd_value::proofs::FrontLemmas::fronts), unfolding(crate::specs::Rewritten::least))]
+    #[tactic(auto, using(bd_value::proofs::PrefixLemmas::prefixes), unfolding(crate::specs::Rewritten::least))]
     fn element(
         &self,
         _path: &[u8],
@@ -78,13 +78,15 @@ impl Refuser for Deepest {
 
     fn refuse(
         &self,
-        room: u32,
+        depth_left: u32,
         _path: &[u8],
         typed: ElementType,
         _value: &[u8],
     ) -> Option<Refusal> {
         match typed {
-            ElementType::Double | ElementType::Decimal128 if room == 0 => Some(Refusal::TooDeep),
+            ElementType::Double | ElementType::Decimal128 if depth_left == 0 => Some(
+                Refusal::TooDeep,
+            ),
             _ => None,
         }
     }
@@ -98,7 +100,7 @@ impl Refuser for Deepest {
 pub fn write_wrapped(bytes: &[u8], path: &mut Vec<u8>, out: &mut Vec<u8>) -> Result<bool, NoMemory>
     ensures ok { IfOk result (λ wrapped.
         Adds (IsWrappedDocument bytes.now wrapped) out.old.items out.new.items) }
-    ensures kept { OnErr result (out.new.items ≡ out.old.items) }
+    ensures err { OnErr result (out.new.items ≡ out.old.items) }
 {
     let before = out.len();
     if !has_too_deep(bytes, path)? {
@@ -135,18 +137,18 @@ pub(crate) fn long(bytes: &[u8]) -> u64
     requires { 8 ≤ length bytes.now }
     ensures { result ≡ long_of bytes.now }
 {
-    let (front, _) = bytes.split_at(8);
+    let (prefix, _) = bytes.split_at(8);
     u64::from_le_bytes([
-        front[0], front[1], front[2], front[3], front[4], front[5], front[6], front[7],
+        prefix[0], prefix[1], prefix[2], prefix[3], prefix[4], prefix[5], prefix[6], prefix[7],
     ])
 }
 
 /// Appends an element with the document of a number, under the name of an element.
-#[tactic(auto, using(bd_value::proofs::FrontLemmas::fronts))]
+#[tactic(auto, using(bd_value::proofs::PrefixLemmas::prefixes))]
 fn put_element(head: &[u8], number: Number, out: &mut Vec<u8>) -> Result<(), NoMemory>
     requires { 2 ≤ length head.now }
     ensures ok { OnOk result (Adds (IsElementOf head.now number) out.old.items out.new.items) }
-    ensures front { OnErr result (StartsWith out.new.items out.old.items) }
+    ensures prefix { OnErr result (StartsWith out.new.items out.old.items) }
 {
     let (_, name) = head.split_at(1);
     out.extend_from_slice(&[0x03])?;
@@ -155,10 +157,10 @@ fn put_element(head: &[u8], number: Number, out: &mut Vec<u8>) -> Result<(), NoM
 }
 
 /// Appends the document of a number.
-#[tactic(auto, using(bd_value::proofs::FrontLemmas::fronts))]
+#[tactic(auto, using(bd_value::proofs::PrefixLemmas::prefixes))]
 fn put_document(number: Number, out: &mut Vec<u8>) -> Result<(), NoMemory>
     ensures ok { OnOk result (Adds (IsWrapper number) out.old.items out.new.items) }
-    ensures front { OnErr result (StartsWith out.new.items out.old.items) }
+    ensures prefix { OnErr result (StartsWith out.new.items out.old.items) }
 {
     let at = out.len();
     write_number(0, out)?;
@@ -180,10 +182,10 @@ fn label(number: Number) -> &'static [u8]
 }
 
 /// Appends the text of a number as a string.
-#[tactic(auto, using(bd_value::proofs::FrontLemmas::fronts))]
+#[tactic(auto, using(bd_value::proofs::PrefixLemmas::prefixes))]
 fn put_string(number: Number, out: &mut Vec<u8>) -> Result<(), NoMemory>
     ensures ok { OnOk result (Adds (IsStringOf number) out.old.items out.new.items) }
-    ensures front { OnErr result (StartsWith out.new.items out.old.items) }
+    ensures prefix { OnErr result (StartsWith out.new.items out.old.items) }
 {
     let at = out.len();
     write_number(0, out)?;
@@ -197,7 +199,7 @@ fn put_string(number: Number, out: &mut Vec<u8>) -> Result<(), NoMemory>
 /// Appends the text of a number.
 fn put_text(number: Number, out: &mut Vec<u8>) -> Result<(), NoMemory>
     ensures ok { OnOk result (Adds (IsNumberText number) out.old.items out.new.items) }
-    ensures front { OnErr result (StartsWith out.new.items out.old.items) }
+    ensures prefix { OnErr result (StartsWith out.new.items out.old.items) }
 {
     match number {
         Number::Double(bits) => write_double(bits, out),

@@ -12,11 +12,11 @@ use Rattle.clap.specs.{declared.parser.matches.SubCommand.SubCommand, declared.e
 use Rattle.clap.specs.{Walk.Text, Walk.answers_to, Walk.finished, Walk.first_of, Walk.nothing_held, Walk.rows_after, Walk.walk, Faults.check_fault, Faults.entered_fault}
 use Rattle.clap.specs.{Faults.fault_of, Faults.is_simple_and_free, Faults.level_fault, Takes.is_given, Takes.takes, declared.error.kind.ErrorKind.ErrorKind}
 use Rattle.clap.proofs.{WalkLemmas.first_value-rows, WalkLemmas.one_text-rows, WalkLemmas.raw_values-rows}
-use Rattle.bd_cli_args.specs.CommandLine.{file_app, refusal_told}
+use Rattle.bd_cli_args.specs.CommandLine.{file_app, explain_refusal}
 use Rattle.bd_wide_args.specs.CommandLine.{OrderView, mask, wrap, order, fault_for, line_app, order_app, order_of, ordered_by, texts_in}
 use Rattle.bd_cli_args.specs.declared.order.WordsFault.TheVariants.{NoMemory}
 use Rattle.bd_cli_args.specs.declared.order.WordsFault.{WordsFault}
-use Rattle.bd_cli_args.proofs.FaultLemmas.{SameTold, given_first, is_plain, level-sound, same-entered, same-fault}
+use Rattle.bd_cli_args.proofs.FaultLemmas.{SameExplained, given_first, is_plain, level-sound, same-entered, same-fault}
 
 refused : (k : ErrorKind) → k ∷ [] ≡ [] → ⊥
 refused k e = cc
@@ -111,18 +111,18 @@ order_there words e =
 
 -- ---- what a refusal is told as
 
-first_told : (kinds : Kinds) (k : ErrorKind) → SameTold kinds → IsAmong k kinds → option_map refusal_told (slice_get kinds 0) ≡ Some (refusal_told k)
-first_told [] k same a = absurd a
-first_told (x ∷ xs) k same (inl is) = ap (λ y. Some (refusal_told y)) (sym is)
-first_told (x ∷ xs) k same (inr more) = ap (λ f. Some f) (sym (same k more))
+first_explained : (kinds : Kinds) (k : ErrorKind) → SameExplained kinds → IsAmong k kinds → option_map explain_refusal (slice_get kinds 0) ≡ Some (explain_refusal k)
+first_explained [] k same a = absurd a
+first_explained (x ∷ xs) k same (inl is) = ap (λ y. Some (explain_refusal y)) (sym is)
+first_explained (x ∷ xs) k same (inr more) = ap (λ f. Some f) (sym (same k more))
 
-kind_told : (words : List Text) (e : Error) → HasKind (fault_of line_app words) e
-    → (refusal_told (kind_of e) ≡ NoMemory) ⊎ (fault_for words ≡ Some (refusal_told (kind_of e)))
-kind_told words e (inl memory) = inl (ap refusal_told memory)
-kind_told words e (inr among) = inr (first_told (fault_of line_app words) (kind_of e) (same-fault (built line_app) words refl) among)
+kind_explained : (words : List Text) (e : Error) → HasKind (fault_of line_app words) e
+    → (explain_refusal (kind_of e) ≡ NoMemory) ⊎ (fault_for words ≡ Some (explain_refusal (kind_of e)))
+kind_explained words e (inl memory) = inl (ap explain_refusal memory)
+kind_explained words e (inr among) = inr (first_explained (fault_of line_app words) (kind_of e) (same-fault (built line_app) words refl) among)
 
 pub refusal_none : (words : List Text) → fault_of line_app words ≡ [] → fault_for words ≡ None
-refusal_none words is = ap (λ ks. option_map refusal_told (slice_get ks 0)) is
+refusal_none words is = ap (λ ks. option_map explain_refusal (slice_get ks 0)) is
 
 -- ---- from what the code reads of the matches to the order
 
@@ -151,14 +151,14 @@ no_file name rows e = rw e (simp same_cond)
 -- ---- the clauses of the parse, at the program's line
 
 pub refused_as : (a : App) (words : List Text) (e : Error) (f : WordsFault) → a ≡ line_app → (is_simple_and_free a ≡ true → HasKind (fault_of a words) e)
-    → f ≡ refusal_told (kind_of e) → (f ≡ NoMemory) ⊎ (fault_for words ≡ Some f)
-refused_as a words e f is h told =
+    → f ≡ explain_refusal (kind_of e) → (f ≡ NoMemory) ⊎ (fault_for words ≡ Some f)
+refused_as a words e f is h explained =
     let kinds = subst (λ (x : App). is_simple_and_free x ≡ true → HasKind (fault_of x words) e) is h line_free in
-    subst (λ (x : WordsFault). (x ≡ NoMemory) ⊎ (fault_for words ≡ Some x)) (sym told) (kind_told words e kinds)
+    subst (λ (x : WordsFault). (x ≡ NoMemory) ⊎ (fault_for words ≡ Some x)) (sym explained) (kind_explained words e kinds)
 
 pub refused_taken : (a : App) (words : List Text) (e : Error) → a ≡ line_app → (takes a words ≡ true → kind_of e ≡ OutOfMemory) → takes line_app words ≡ true
-    → refusal_told (kind_of e) ≡ NoMemory
-refused_taken a words e is h taken = ap refusal_told (h (ap (λ (x : App). takes x words) is ∙ taken))
+    → explain_refusal (kind_of e) ≡ NoMemory
+refused_taken a words e is h taken = ap explain_refusal (h (ap (λ (x : App). takes x words) is ∙ taken))
 
 pub no_fault : (a : App) (words : List Text) → a ≡ line_app → (is_simple_and_free a ≡ true → fault_of a words ≡ []) → fault_of line_app words ≡ []
 no_fault a words is h = subst (λ (x : App). is_simple_and_free x ≡ true → fault_of x words ≡ []) is h line_free

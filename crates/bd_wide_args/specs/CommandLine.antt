@@ -7,7 +7,7 @@ use Rattle.clap.specs.Simple.{App, new_app, new_rule, on_top, subcommand_of, wit
 use Rattle.clap.specs.Walk.{Row, Rule, Text, all_of, first_of}
 use Rattle.clap.specs.declared.builder.action.ArgAction.{ArgAction}
 use Rattle.clap.specs.Faults.{fault_of}
-use Rattle.bd_cli_args.specs.CommandLine.{file_app, refusal_told, with_file_commands}
+use Rattle.bd_cli_args.specs.CommandLine.{file_app, explain_refusal, with_file_commands}
 use Rattle.bd_cli_args.specs.declared.order.WordsFault.{WordsFault}
 use Rattle.bd_wide_args.specs.declared.command_line.Order.{Order}
 
@@ -62,4 +62,4 @@ order_of words = option_and_then (λ p. ordered_by p.0 p.1) (subcommand_of line_
 -- how the parser's refusal of arguments is reported; None if it accepts them.
 -- All its faults are reported as the first one.
 abbrev pub fault_for : List Text → Option WordsFault
-fault_for words = option_map refusal_told (slice_get (fault_of line_app words) 0)
+fault_for words = option_map explain_refusal (slice_get (fault_of line_app words) 0)

@@ -3,7 +3,7 @@
 ghost use Rattle.std.specs.Prelude.{◌≡◌, ◌⊎◌, map, string_bytes, true, false, IfErr, IfOk, IsSome, None, Some};
 ghost use Rattle.clap.specs.Words.{app_of, found_of, kind_of, rows_of, rule_of, takes};
 ghost use Rattle.clap.specs.declared.builder.command.Command.TheViews.{out-Command as fields_of};
-ghost use Rattle.bd_cli_args.specs.CommandLine.{file_app, file_rule, refusal_told, with_file_commands, words_of};
+ghost use Rattle.bd_cli_args.specs.CommandLine.{file_app, file_rule, explain_refusal, with_file_commands, words_of};
 ghost use Rattle.bd_cli_args.specs.declared.order.WordsFault.TheVariants.{NoMemory};
 ghost use Rattle.bd_wide_args.specs.CommandLine.{fault_for, line_app, meant, order_app, order_of, ordered_by, paths_rule, texts_in, top_app};
 
@@ -40,7 +40,7 @@ pub fn parse_words(alloc: Global, words: &[String]) -> Result<Order, WordsFault>
     let command = line_command(alloc)?;
     let matches = match command.try_get_matches_from(words) {
         Ok(matches) => matches,
-        Err(error) => return Err(fault_told(&error)),
+        Err(error) => return Err(explain_error(&error)),
     };
     let Some((name, inner)) = matches.subcommand() else {
         unreachable!()
@@ -48,8 +48,8 @@ pub fn parse_words(alloc: Global, words: &[String]) -> Result<Order, WordsFault>
     order_named(alloc, name, inner)
 }
 
-fn fault_told(error: &Error) -> WordsFault
-    ensures { result ≡ refusal_told (kind_of error.now) }
+fn explain_error(error: &Error) -> WordsFault
+    ensures { result ≡ explain_refusal (kind_of error.now) }
 {
     match error.kind() {
         ErrorKind::DisplayHelp => WordsFault::Help,
@@ -84,7 +84,8 @@ fn order_named(alloc: Global, name: &str, matches: &ArgMatches<'_>) -> Result<Or
 /// The texts of an argument, in their order; none where it is not given.
 #[tactic(auto, using(crate::proofs::LineLemmas::readings))]
 fn texts_of(alloc: Global, found: &ArgMatches<'_>, name: &str) -> Result<Vec<String>, WordsFault>
-    ensures texts { IfOk result (λ v. map string_bytes v.items ≡ texts_in name.now (rows_of (found_of found.now))) }
+    ensures texts { IfOk result (λ v.
+        map string_bytes v.items ≡ texts_in name.now (rows_of (found_of found.now))) }
     ensures fault { IfErr result (λ f. f ≡ NoMemory) }
 {
     match found.get_strs(name) {

@@ -3,7 +3,7 @@ use Rattle.std.proofs.Common.{◌≡◌, ◌≤◌, ◌<◌, ◌⊎◌, ℕ, ◌
 use Rattle.std.proofs.KnownBytes.{Consumes-nil, Consumes-trans}
 use Rattle.std.specs.Io.KnownBytes.{Consumes}
 use Rattle.std.specs.Int.{w32, from_le_bytes}
-use Rattle.bd_io_device.specs.Devices.{BreaksWithin, Over, Reader, TakesFront, TakesText, Writer, between}
+use Rattle.bd_io_device.specs.Devices.{WriteFailsWithin, Over, Reader, TakesPrefix, TakesText, Writer, between}
 use Rattle.bd_bson_view.specs.Sizes.{number_of}
 use Rattle.bd_wide_cli.specs.declared.filter.Filter.{Filter}
 use Rattle.bd_wide_cli.specs.declared.frame.Next.{Next}
@@ -11,48 +11,48 @@ use Rattle.bd_wide_cli.specs.declared.frame.Next.TheVariants as nexts
 use Rattle.bd_wide_cli.specs.declared.running.Stop.{Stop}
 use Rattle.bd_wide_cli.specs.declared.running.Stop.TheVariants as stops
 use Rattle.bd_wide_cli.specs.Filtered.{AreDocuments, none, more, ArePartlyFiltered, BeginsWithNone, Ends, FiltersAll, FiltersPartly, IsBadLength, IsFrame, IsNext, IsWritten, CopiesRest, PassesOn, StopsCopying, StopsDocument, StopsPassing, WritesDocument, refusal_text}
-use Rattle.bd_io_device.proofs.DevicesLemmas.{breaks_second, takes_both, takes_none}
+use Rattle.bd_io_device.proofs.DevicesLemmas.{write_fails_second, takes_both, takes_none}
 
 -- the documents that were read and passed on so far, and what was written of them
-pub record Progress (filter : Filter) (file left : Reader) (old new : Writer) (number start kept : ℕ) : Type 0 where
+pub record Progress (filter : Filter) (file remaining : Reader) (old new : Writer) (number start kept : ℕ) : Type 0 where
   pub documents : List ℕ
   pub written : List ℕ
   pub are : AreDocuments filter number documents kept written
   pub before : length documents ≡ start
-  pub gave : Consumes file.left left.left documents
+  pub gave : Consumes file.remaining remaining.remaining documents
   pub took : TakesText (between old new) written
 
 pub begins : (filter : Filter) (file : Reader) (out : Writer) → Progress filter file file out out 0 0 0
-begins filter file out = record { documents = []; written = []; are = none; before = refl; gave = Consumes-nil file.left; took = takes_none out }
+begins filter file out = record { documents = []; written = []; are = none; before = refl; gave = Consumes-nil file.remaining; took = takes_none out }
 
-pub goes_on : (filter : Filter) (file left later : Reader) (old new last : Writer) (number start kept : ℕ) (bytes : List ℕ) (filtered : Bool) → Progress filter file left old new number start kept
-    → Consumes left.left later.left bytes → IsFrame bytes → WritesDocument filter number bytes (between new last) filtered
+pub goes_on : (filter : Filter) (file remaining later : Reader) (old new last : Writer) (number start kept : ℕ) (bytes : List ℕ) (filtered : Bool) → Progress filter file remaining old new number start kept
+    → Consumes remaining.remaining later.remaining bytes → IsFrame bytes → WritesDocument filter number bytes (between new last) filtered
     → Progress filter file later old last (number + 1) (start + length bytes) (cond filtered kept (kept + 1))
-goes_on filter file left later old new last number start kept bytes filtered p gave frame wrote = record {
+goes_on filter file remaining later old new last number start kept bytes filtered p gave frame wrote = record {
   documents = p.documents ++ bytes;
   written = p.written ++ wrote.0;
   are = more number p.documents p.written bytes wrote.0 kept filtered p.are frame wrote.1;
   before = length-append p.documents bytes ∙ ap (λ n. n + length bytes) p.before;
-  gave = Consumes-trans file.left left.left later.left p.documents bytes p.gave gave;
+  gave = Consumes-trans file.remaining remaining.remaining later.remaining p.documents bytes p.gave gave;
   took = takes_both old new last p.written wrote.0 p.took wrote.2;
 }
 
 -- a text that was taken whole is a front of itself, and of a longer one
-pub front_of : (out : Over Writer) (text later : List ℕ) → TakesText out text → TakesFront out (text ++ later)
-front_of out text later t = (text, later, refl, t)
+pub prefix_of : (out : Over Writer) (text later : List ℕ) → TakesText out text → TakesPrefix out (text ++ later)
+prefix_of out text later t = (text, later, refl, t)
 
-pub is_front : (out : Over Writer) (text : List ℕ) → TakesText out text → TakesFront out text
-is_front out text t = (text, [], sym (append-nil text), t)
+pub is_prefix : (out : Over Writer) (text : List ℕ) → TakesText out text → TakesPrefix out text
+is_prefix out text t = (text, [], sym (append-nil text), t)
 
-pub fronts_after : (old mid new : Writer) (first second : List ℕ) → TakesText (between old mid) first → TakesFront (between mid new) second → TakesFront (between old new) (first ++ second)
-fronts_after old mid new first second a (front, rest, split, took) =
-    (first ++ front, rest, ap (λ x. first ++ x) split ∙ sym (append_assoc first front rest), takes_both old mid new first front a took)
+pub prefixes_after : (old mid new : Writer) (first second : List ℕ) → TakesText (between old mid) first → TakesPrefix (between mid new) second → TakesPrefix (between old new) (first ++ second)
+prefixes_after old mid new first second a (prefix, rest, split, took) =
+    (first ++ prefix, rest, ap (λ x. first ++ x) split ∙ sym (append_assoc first prefix rest), takes_both old mid new first prefix a took)
 
 pub written_after : (stop : Stop) (old mid new : Writer) (first second : List ℕ) → TakesText (between old mid) first → IsWritten stop (between mid new) second → IsWritten stop (between old new) (first ++ second)
-written_after stops.Unwritten old mid new first second a b = breaks_second old mid new first second a b
-written_after stops.NoMemory old mid new first second a b = fronts_after old mid new first second a b
+written_after stops.Unwritten old mid new first second a b = write_fails_second old mid new first second a b
+written_after stops.NoMemory old mid new first second a b = prefixes_after old mid new first second a b
 written_after (stops.Refused text) old mid new first second a b = absurd b
-written_after (stops.Unread f) old mid new first second a b = fronts_after old mid new first second a b
+written_after (stops.Unread f) old mid new first second a b = prefixes_after old mid new first second a b
 
 -- ---- what begins with no document
 
@@ -64,22 +64,22 @@ bad_length bytes rest four bad =
     let same = first_four bytes rest four in
     inr (inl (subst (λ (n : ℕ). (n < 5) ⊎ (16793600 < n)) (sym same) bad))
 
-cut : (bytes : List ℕ) → (length bytes < 4) ⊎ (length bytes < number_of bytes) → BeginsWithNone bytes
-cut bytes (inl short) = inl short
-cut bytes (inr past) = inr (inr past)
+cut_short : (bytes : List ℕ) → (length bytes < 4) ⊎ (length bytes < number_of bytes) → BeginsWithNone bytes
+cut_short bytes (inl short) = inl short
+cut_short bytes (inr beyond) = inr (inr beyond)
 
 -- ---- what is passed on
 
-pub copied : (file left last : Reader) (old mid new : Writer) (given part : List ℕ) → Consumes file.left left.left given → Consumes left.left last.left part
-    → TakesText (between old mid) given → TakesText (between mid new) part → (bytes : List ℕ) × Consumes file.left last.left bytes × TakesText (between old new) bytes
-copied file left last old mid new given part gave one took two = (given ++ part, Consumes-trans file.left left.left last.left given part gave one, takes_both old mid new given part took two)
+pub copied : (file remaining last : Reader) (old mid new : Writer) (given part : List ℕ) → Consumes file.remaining remaining.remaining given → Consumes remaining.remaining last.remaining part
+    → TakesText (between old mid) given → TakesText (between mid new) part → (bytes : List ℕ) × Consumes file.remaining last.remaining bytes × TakesText (between old new) bytes
+copied file remaining last old mid new given part gave one took two = (given ++ part, Consumes-trans file.remaining remaining.remaining last.remaining given part gave one, takes_both old mid new given part took two)
 
-pub copied_to : (stop : Stop) (file left last : Reader) (old mid new : Writer) (given part : List ℕ) → Consumes file.left left.left given → Consumes left.left last.left part
+pub copied_to : (stop : Stop) (file remaining last : Reader) (old mid new : Writer) (given part : List ℕ) → Consumes file.remaining remaining.remaining given → Consumes remaining.remaining last.remaining part
     → TakesText (between old mid) given → IsWritten stop (between mid new) part → StopsCopying (between file last) (between old new) stop
-copied_to stop file left last old mid new given part gave one took two = (given ++ part, Consumes-trans file.left left.left last.left given part gave one, written_after stop old mid new given part took two)
+copied_to stop file remaining last old mid new given part gave one took two = (given ++ part, Consumes-trans file.remaining remaining.remaining last.remaining given part gave one, written_after stop old mid new given part took two)
 
-pub front_none : (out : Writer) (text : List ℕ) → TakesFront (between out out) text
-front_none out text = ([], text, refl, takes_none out)
+pub prefix_none : (out : Writer) (text : List ℕ) → TakesPrefix (between out out) text
+prefix_none out text = ([], text, refl, takes_none out)
 
 pub passes_on : (bytes : List ℕ) (file last : Reader) (old mid new : Writer) → length bytes ≡ 4 → IsBadLength bytes → TakesText (between old mid) bytes → CopiesRest (between file last) (between mid new)
     → PassesOn bytes (between file last) (between old new)
@@ -89,19 +89,19 @@ pub stops_on : (stop : Stop) (bytes : List ℕ) (file last : Reader) (old mid ne
     → StopsPassing bytes (between file last) (between old new) stop
 stops_on stop bytes file last old mid new four bad took copy = (copy.0, bad_length bytes copy.0 four bad, copy.1, written_after stop old mid new bytes copy.0 took copy.2)
 
-pub begins_with_none : (next : Next) (bytes : List ℕ) (left : Option (List ℕ)) → IsNext next bytes left → (next ≡ nexts.Document → ⊥) → BeginsWithNone (bytes ++ [])
-begins_with_none nexts.Document bytes left is other = absurd (other refl)
-begins_with_none nexts.BadLength bytes left is other = bad_length bytes [] is.0 is.1
-begins_with_none nexts.Last bytes left is other = subst BeginsWithNone (sym (append-nil bytes)) (cut bytes is.1)
+pub begins_with_none : (next : Next) (bytes : List ℕ) (remaining : Option (List ℕ)) → IsNext next bytes remaining → (next ≡ nexts.Document → ⊥) → BeginsWithNone (bytes ++ [])
+begins_with_none nexts.Document bytes remaining is other = absurd (other refl)
+begins_with_none nexts.BadLength bytes remaining is other = bad_length bytes [] is.0 is.1
+begins_with_none nexts.Last bytes remaining is other = subst BeginsWithNone (sym (append-nil bytes)) (cut_short bytes is.1)
 
-pub nothing_more : (bytes : List ℕ) (file : Reader) (old new : Writer) → IsNext nexts.Last bytes file.left → TakesText (between old new) bytes → PassesOn bytes (between file file) (between old new)
+pub nothing_more : (bytes : List ℕ) (file : Reader) (old new : Writer) → IsNext nexts.Last bytes file.remaining → TakesText (between old new) bytes → PassesOn bytes (between file file) (between old new)
 nothing_more bytes file old new is took =
-    ([], subst BeginsWithNone (sym (append-nil bytes)) (cut bytes is.1), Consumes-nil file.left, is.0, subst (λ (x : List ℕ). TakesText (between old new) x) (sym (append-nil bytes)) took)
+    ([], subst BeginsWithNone (sym (append-nil bytes)) (cut_short bytes is.1), Consumes-nil file.remaining, is.0, subst (λ (x : List ℕ). TakesText (between old new) x) (sym (append-nil bytes)) took)
 
-pub breaks_on : (next : Next) (bytes : List ℕ) (file : Reader) (old new : Writer) → IsNext next bytes file.left → (next ≡ nexts.Document → ⊥) → BreaksWithin (between old new) bytes
+pub write_fails_on : (next : Next) (bytes : List ℕ) (file : Reader) (old new : Writer) → IsNext next bytes file.remaining → (next ≡ nexts.Document → ⊥) → WriteFailsWithin (between old new) bytes
     → StopsPassing bytes (between file file) (between old new) stops.Unwritten
-breaks_on next bytes file old new is other broke =
-    ([], begins_with_none next bytes file.left is other, Consumes-nil file.left, subst (λ (x : List ℕ). BreaksWithin (between old new) x) (sym (append-nil bytes)) broke)
+write_fails_on next bytes file old new is other failed_write =
+    ([], begins_with_none next bytes file.remaining is other, Consumes-nil file.remaining, subst (λ (x : List ℕ). WriteFailsWithin (between old new) x) (sym (append-nil bytes)) failed_write)
 
 -- ---- the ends
 
@@ -111,71 +111,71 @@ ends filter bytes new out stops.NoMemory are is = (are, is)
 ends filter bytes new out (stops.Unread f) are is = (are, is)
 ends filter bytes new out (stops.Refused text) are is = absurd is
 
-pub all_filtered : (filter : Filter) (file left mid last : Reader) (old new end : Writer) (number start kept : ℕ) (bytes : List ℕ) → Progress filter file left old new number start kept
-    → Consumes left.left mid.left bytes → PassesOn bytes (between mid last) (between new end) → FiltersAll filter (between file last) (between old end) kept
-all_filtered filter file left mid last old new end number start kept bytes p gave pass =
+pub all_filtered : (filter : Filter) (file remaining mid last : Reader) (old new end : Writer) (number start kept : ℕ) (bytes : List ℕ) → Progress filter file remaining old new number start kept
+    → Consumes remaining.remaining mid.remaining bytes → PassesOn bytes (between mid last) (between new end) → FiltersAll filter (between file last) (between old end) kept
+all_filtered filter file remaining mid last old new end number start kept bytes p gave pass =
     let rest = bytes ++ pass.0 in (
       p.documents ++ rest,
       p.written ++ rest,
-      Consumes-trans file.left left.left last.left p.documents rest p.gave (Consumes-trans left.left mid.left last.left bytes pass.0 gave pass.2),
+      Consumes-trans file.remaining remaining.remaining last.remaining p.documents rest p.gave (Consumes-trans remaining.remaining mid.remaining last.remaining bytes pass.0 gave pass.2),
       pass.3,
       (number, p.documents, p.written, rest, p.are, pass.1, refl, refl),
       takes_both old new end p.written rest p.took pass.4,
     )
 
-pub stops_passing : (filter : Filter) (file left mid last : Reader) (old new end : Writer) (number start kept : ℕ) (bytes : List ℕ) (stop : Stop) → Progress filter file left old new number start kept
-    → Consumes left.left mid.left bytes → StopsPassing bytes (between mid last) (between new end) stop → FiltersPartly filter (between file last) (between old end) stop
-stops_passing filter file left mid last old new end number start kept bytes stop p gave pass =
+pub stops_passing : (filter : Filter) (file remaining mid last : Reader) (old new end : Writer) (number start kept : ℕ) (bytes : List ℕ) (stop : Stop) → Progress filter file remaining old new number start kept
+    → Consumes remaining.remaining mid.remaining bytes → StopsPassing bytes (between mid last) (between new end) stop → FiltersPartly filter (between file last) (between old end) stop
+stops_passing filter file remaining mid last old new end number start kept bytes stop p gave pass =
     let rest = bytes ++ pass.0 in (
       p.documents ++ rest,
       p.written ++ rest,
-      Consumes-trans file.left left.left last.left p.documents rest p.gave (Consumes-trans left.left mid.left last.left bytes pass.0 gave pass.2),
+      Consumes-trans file.remaining remaining.remaining last.remaining p.documents rest p.gave (Consumes-trans remaining.remaining mid.remaining last.remaining bytes pass.0 gave pass.2),
       ends filter (p.documents ++ rest) (p.written ++ rest) (between old end) stop (number, p.documents, p.written, rest, kept, p.are, refl, inr (pass.1, refl))
           (written_after stop old new end p.written rest p.took pass.3),
     )
 
-pub unread : (filter : Filter) (file left last : Reader) (old new : Writer) (number start kept : ℕ) (stop : Stop) → Progress filter file left old new number start kept
-    → (given : List ℕ) × Consumes left.left last.left given → IsWritten stop (between new new) [] → FiltersPartly filter (between file last) (between old new) stop
-unread filter file left last old new number start kept stop p gave wrote = (
+pub unread : (filter : Filter) (file remaining last : Reader) (old new : Writer) (number start kept : ℕ) (stop : Stop) → Progress filter file remaining old new number start kept
+    → (given : List ℕ) × Consumes remaining.remaining last.remaining given → IsWritten stop (between new new) [] → FiltersPartly filter (between file last) (between old new) stop
+unread filter file remaining last old new number start kept stop p gave wrote = (
   p.documents ++ gave.0,
   p.written,
-  Consumes-trans file.left left.left last.left p.documents gave.0 p.gave gave.1,
+  Consumes-trans file.remaining remaining.remaining last.remaining p.documents gave.0 p.gave gave.1,
   ends filter (p.documents ++ gave.0) p.written (between old new) stop (number, p.documents, p.written, gave.0, kept, p.are, refl, inl refl)
       (subst (λ (x : List ℕ). IsWritten stop (between old new) x) (append-nil p.written) (written_after stop old new new p.written [] p.took wrote)),
 )
 
-pub nothing_written : (out : Writer) → TakesFront (between out out) []
-nothing_written out = is_front (between out out) [] (takes_none out)
+pub nothing_written : (out : Writer) → TakesPrefix (between out out) []
+nothing_written out = is_prefix (between out out) [] (takes_none out)
 
 nothing_more_written : (old new end : Writer) (written : List ℕ) → TakesText (between old new) written → TakesText (between new end) [] → TakesText (between old end) written
 nothing_more_written old new end written took nothing = subst (λ (x : List ℕ). TakesText (between old end) x) (append-nil written) (takes_both old new end written [] took nothing)
 
-pub stops_document : (filter : Filter) (file left last : Reader) (old new end : Writer) (number start kept : ℕ) (bytes : List ℕ) (stop : Stop) → Progress filter file left old new number start kept
-    → Consumes left.left last.left bytes → IsFrame bytes → StopsDocument filter number start bytes (between new end) stop → FiltersPartly filter (between file last) (between old end) stop
-stops_document filter file left last old new end number start kept bytes stops.NoMemory p gave frame stop = (
+pub stops_document : (filter : Filter) (file remaining last : Reader) (old new end : Writer) (number start kept : ℕ) (bytes : List ℕ) (stop : Stop) → Progress filter file remaining old new number start kept
+    → Consumes remaining.remaining last.remaining bytes → IsFrame bytes → StopsDocument filter number start bytes (between new end) stop → FiltersPartly filter (between file last) (between old end) stop
+stops_document filter file remaining last old new end number start kept bytes stops.NoMemory p gave frame stop = (
   p.documents ++ bytes,
   p.written,
-  Consumes-trans file.left left.left last.left p.documents bytes p.gave gave,
-  ((number, p.documents, p.written, bytes, kept, p.are, refl, inl refl), is_front (between old end) p.written (nothing_more_written old new end p.written p.took stop)),
+  Consumes-trans file.remaining remaining.remaining last.remaining p.documents bytes p.gave gave,
+  ((number, p.documents, p.written, bytes, kept, p.are, refl, inl refl), is_prefix (between old end) p.written (nothing_more_written old new end p.written p.took stop)),
 )
-stops_document filter file left last old new end number start kept bytes stops.Unwritten p gave frame stop =
+stops_document filter file remaining last old new end number start kept bytes stops.Unwritten p gave frame stop =
     let documents = p.documents ++ bytes in
     let written = p.written ++ stop.0 in (
       documents,
       written,
-      Consumes-trans file.left left.left last.left p.documents bytes p.gave gave,
+      Consumes-trans file.remaining remaining.remaining last.remaining p.documents bytes p.gave gave,
       (
         (number + 1, documents, written, [], cond stop.1 kept (kept + 1), more number p.documents p.written bytes stop.0 kept stop.1 p.are frame stop.2, sym (append-nil documents), inl refl),
-        breaks_second old new end p.written stop.0 p.took stop.3,
+        write_fails_second old new end p.written stop.0 p.took stop.3,
       ),
     )
-stops_document filter file left last old new end number start kept bytes (stops.Unread f) p gave frame stop = absurd stop
-stops_document filter file left last old new end number start kept bytes (stops.Refused text) p gave frame (nothing, (path, why, is, told)) = (
+stops_document filter file remaining last old new end number start kept bytes (stops.Unread f) p gave frame stop = absurd stop
+stops_document filter file remaining last old new end number start kept bytes (stops.Refused text) p gave frame (nothing, (path, why, is, reported)) = (
   p.documents ++ bytes,
   p.written,
-  Consumes-trans file.left left.left last.left p.documents bytes p.gave gave,
+  Consumes-trans file.remaining remaining.remaining last.remaining p.documents bytes p.gave gave,
   (
-    (number, p.documents, kept, bytes, path, why, p.are, frame, refl, is, told ∙ ap (λ n. refusal_text number n path why) (sym p.before)),
+    (number, p.documents, kept, bytes, path, why, p.are, frame, refl, is, reported ∙ ap (λ n. refusal_text number n path why) (sym p.before)),
     nothing_more_written old new end p.written p.took nothing,
   ),
 )

@@ -3,7 +3,7 @@ use Rattle.std.specs.Prelude.{◌≡◌, ◌<◌, ◌≤◌, ◌⊎◌, ℕ, ◌
 use Rattle.std.specs.Io.KnownBytes.{Consumes, IsAtEnd}
 use Rattle.bd_value.specs.Limits.{longest_document}
 use Rattle.bd_bson_view.specs.Sizes.{number_of}
-use Rattle.bd_io_device.specs.Devices.{BreaksWithin, Over, Reader, TakesFront, TakesText, Writer}
+use Rattle.bd_io_device.specs.Devices.{WriteFailsWithin, Over, Reader, TakesPrefix, TakesText, Writer}
 use Rattle.bd_extjson_text.specs.Text.{quoted}
 use Rattle.bd_wide.specs.{Mask.IsMasked, Mask.masked_others, Order.IsOrderedDocument, Order.IsUnordered, Rewritten.IsRewritten, Wrap.IsWrappedDocument}
 use Rattle.bd_wide.specs.declared.find.{Found.Found, Refusal.Refusal}
@@ -86,10 +86,10 @@ refusal_text n start path unordereds.TooLong = codes "document " ++ (decimal n +
 refusal_text n start path (unordereds.Number found) = codes "document " ++ (decimal n ++ found_text start path found)
 
 -- The run stopped at the document that is refused, with its message, or memory ran out.
-abbrev pub TellsRefusal : ℕ → ℕ → List ℕ → Unordered → Stop → Type 0
-TellsRefusal n start path why (stops.Refused text) = text.items ≡ refusal_text n start path why
-TellsRefusal n start path why stops.NoMemory = Unit {0}
-TellsRefusal n start path why _ = ⊥
+abbrev pub ReportsRefusal : ℕ → ℕ → List ℕ → Unordered → Stop → Type 0
+ReportsRefusal n start path why (stops.Refused text) = text.items ≡ refusal_text n start path why
+ReportsRefusal n start path why stops.NoMemory = Unit {0}
+ReportsRefusal n start path why _ = ⊥
 
 -- The input ends with a document that is refused: this is written of those before it, and the text says why.
 abbrev pub IsRefusedDump : Filter → List ℕ → List ℕ → List ℕ → Type 0
@@ -100,22 +100,22 @@ IsRefusedDump filter bytes new text = (n : ℕ) × (documents : List ℕ) × (ke
 -- What is in the buffer: a document, four bytes that are a bad length,
 -- or the fewer bytes that the device had left.
 abbrev pub IsNext : Next → List ℕ → Option (List ℕ) → Type 0
-IsNext nexts.Document bytes left = IsFrame bytes
-IsNext nexts.BadLength bytes left = (length bytes ≡ 4) × IsBadLength bytes
-IsNext nexts.Last bytes left = IsAtEnd left × ((length bytes < 4) ⊎ (length bytes < number_of bytes))
+IsNext nexts.Document bytes remaining = IsFrame bytes
+IsNext nexts.BadLength bytes remaining = (length bytes ≡ 4) × IsBadLength bytes
+IsNext nexts.Last bytes remaining = IsAtEnd remaining × ((length bytes < 4) ⊎ (length bytes < number_of bytes))
 
 -- ---- a run
 
 -- The input was read to its end and filtered, and standard output has all of it.
 abbrev pub FiltersAll : Filter → Over Reader → Over Writer → ℕ → Type 0
-FiltersAll filter file out kept = (bytes : List ℕ) × (new : List ℕ) × Consumes file.before.left file.after.left bytes
-    × IsAtEnd file.after.left × AreFiltered filter bytes kept new × TakesText out new
+FiltersAll filter file out kept = (bytes : List ℕ) × (new : List ℕ) × Consumes file.before.remaining file.after.remaining bytes
+    × IsAtEnd file.after.remaining × AreFiltered filter bytes kept new × TakesText out new
 
 -- Standard output has a prefix of this, after a run that stopped for a reason other than a refusal.
 abbrev pub IsWritten : Stop → Over Writer → List ℕ → Type 0
-IsWritten stops.Unwritten out new = BreaksWithin out new
+IsWritten stops.Unwritten out new = WriteFailsWithin out new
 IsWritten (stops.Refused text) out new = ⊥
-IsWritten _ out new = TakesFront out new
+IsWritten _ out new = TakesPrefix out new
 
 -- A prefix of the input was filtered, and standard output has a prefix of that;
 -- before a document that is refused it has all.
@@ -126,7 +126,7 @@ Ends filter bytes new out stop = ArePartlyFiltered filter bytes new × IsWritten
 -- The run stopped for this reason: a prefix of the input was read and filtered,
 -- and of what is to be written standard output has a prefix.
 abbrev pub FiltersPartly : Filter → Over Reader → Over Writer → Stop → Type 0
-FiltersPartly filter file out stop = (bytes : List ℕ) × (new : List ℕ) × Consumes file.before.left file.after.left bytes
+FiltersPartly filter file out stop = (bytes : List ℕ) × (new : List ℕ) × Consumes file.before.remaining file.after.remaining bytes
     × Ends filter bytes new out stop
 
 -- ---- its parts
@@ -141,24 +141,24 @@ StopsDocument filter n start bytes out stops.NoMemory = TakesText out []
 StopsDocument filter n start bytes out (stops.Refused text) = TakesText out []
     × ((path : List ℕ) × (why : Unordered) × IsRefused filter n bytes path why × (text.items ≡ refusal_text n start path why))
 StopsDocument filter n start bytes out stops.Unwritten =
-    (new : List ℕ) × (filtered : Bool) × IsFiltered filter n bytes filtered new × BreaksWithin out new
+    (new : List ℕ) × (filtered : Bool) × IsFiltered filter n bytes filtered new × WriteFailsWithin out new
 StopsDocument filter n start bytes out (stops.Unread fault) = ⊥
 
 -- All that the input still gave was written.
 abbrev pub CopiesRest : Over Reader → Over Writer → Type 0
-CopiesRest file out = (bytes : List ℕ) × Consumes file.before.left file.after.left bytes
-    × IsAtEnd file.after.left × TakesText out bytes
+CopiesRest file out = (bytes : List ℕ) × Consumes file.before.remaining file.after.remaining bytes
+    × IsAtEnd file.after.remaining × TakesText out bytes
 
 -- Copying the rest of the input stopped for this reason: standard output has a prefix of what was read.
 abbrev pub StopsCopying : Over Reader → Over Writer → Stop → Type 0
-StopsCopying file out stop = (bytes : List ℕ) × Consumes file.before.left file.after.left bytes × IsWritten stop out bytes
+StopsCopying file out stop = (bytes : List ℕ) × Consumes file.before.remaining file.after.remaining bytes × IsWritten stop out bytes
 
 -- Bytes that begin with no document were written, and all that the input still gave.
 abbrev pub PassesOn : List ℕ → Over Reader → Over Writer → Type 0
-PassesOn bytes file out = (rest : List ℕ) × BeginsWithNone (bytes ++ rest) × Consumes file.before.left file.after.left rest
-    × IsAtEnd file.after.left × TakesText out (bytes ++ rest)
+PassesOn bytes file out = (rest : List ℕ) × BeginsWithNone (bytes ++ rest) × Consumes file.before.remaining file.after.remaining rest
+    × IsAtEnd file.after.remaining × TakesText out (bytes ++ rest)
 
 -- Passing on bytes that begin with no document, and the rest of the input, stopped for this reason.
 abbrev pub StopsPassing : List ℕ → Over Reader → Over Writer → Stop → Type 0
 StopsPassing bytes file out stop = (rest : List ℕ) × BeginsWithNone (bytes ++ rest)
-    × Consumes file.before.left file.after.left rest × IsWritten stop out (bytes ++ rest)
+    × Consumes file.before.remaining file.after.remaining rest × IsWritten stop out (bytes ++ rest)

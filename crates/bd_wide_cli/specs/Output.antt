@@ -1,6 +1,6 @@
 -- What a run writes on standard error, and its status.
 use Rattle.std.specs.Prelude.{◌≡◌, ◌⊎◌, ℕ, ◌==◌, List, [], ◌∷◌, ◌++◌, codes, decimal, if◌then◌else◌}
-use Rattle.bd_io_device.specs.Devices.{BreaksWithin, Over, Reader, TakesText, Writer, read_words}
+use Rattle.bd_io_device.specs.Devices.{WriteFailsWithin, Over, Reader, TakesText, Writer, read_words}
 use Rattle.bd_cli_args.specs.declared.order.WordsFault.{WordsFault}
 use Rattle.bd_cli_args.specs.declared.order.WordsFault.TheVariants as words
 use Rattle.bd_wide_cli.specs.declared.filter.Filter.{Filter}
@@ -27,15 +27,15 @@ kept_line kept = if kept == 0 then [] else decimal kept ++ codes " documents too
 
 -- Standard error took the message, and the status is the one expected;
 -- or a write failed, and the status is 1.
-abbrev pub TellsMessage : Over Writer → List ℕ → Status → Status → Type 0
-TellsMessage err message wanted status =
-    (TakesText err message × (status ≡ wanted)) ⊎ (BreaksWithin err message × (status ≡ Failed))
+abbrev pub ReportsMessage : Over Writer → List ℕ → Status → Status → Type 0
+ReportsMessage err message wanted status =
+    (TakesText err message × (status ≡ wanted)) ⊎ (WriteFailsWithin err message × (status ≡ Failed))
 
 -- A filter ran: all of the input was filtered, or a prefix of it, and standard error says why no more.
 abbrev pub FiltersInput : Filter → Over Reader → Over Writer → Over Writer → Status → Type 0
 FiltersInput filter file out err status =
-    ((kept : ℕ) × FiltersAll filter file out kept × TellsMessage err (kept_line kept) Done status)
-    ⊎ ((stop : Stop) × FiltersPartly filter file out stop × TellsMessage err (error_line (stop_words stop)) Failed status)
+    ((kept : ℕ) × FiltersAll filter file out kept × ReportsMessage err (kept_line kept) Done status)
+    ⊎ ((stop : Stop) × FiltersPartly filter file out stop × ReportsMessage err (error_line (stop_words stop)) Failed status)
 
 -- the usage of `bsonwide`, three lines
 abbrev pub usage_text : List ℕ
@@ -46,6 +46,6 @@ usage_text =
 -- If a write fails the status is 1.
 abbrev pub ReportsFault : WordsFault → Over Writer → Over Writer → Status → Type 0
 ReportsFault words.Help out err status = (TakesText out usage_text × (status ≡ Done))
-    ⊎ (BreaksWithin out usage_text × TellsMessage err (error_line (codes "cannot write")) Failed status)
-ReportsFault words.Usage out err status = TellsMessage err usage_text Usage status
-ReportsFault words.NoMemory out err status = TellsMessage err (error_line (codes "no memory")) Failed status
+    ⊎ (WriteFailsWithin out usage_text × ReportsMessage err (error_line (codes "cannot write")) Failed status)
+ReportsFault words.Usage out err status = ReportsMessage err usage_text Usage status
+ReportsFault words.NoMemory out err status = ReportsMessage err (error_line (codes "no memory")) Failed status

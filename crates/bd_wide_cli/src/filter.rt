@@ -33,8 +33,9 @@ pub(crate) fn write_filtered(
     requires { 5 ≤ length bytes.now }
     ensures ok { IfOk result (λ filtered.
         Adds (IsFiltered filter.now number bytes.now filtered) out.old.items out.new.items) }
-    ensures why { IfErr result (IsUnfiltered (IsRefused filter.now number bytes.now path.new.items)) }
-    ensures kept { OnErr result (out.new.items ≡ out.old.items) }
+    ensures why { IfErr result
+        (IsUnfiltered (IsRefused filter.now number bytes.now path.new.items)) }
+    ensures err { OnErr result (out.new.items ≡ out.old.items) }
 {
     match filter {
         Filter::Mask => {

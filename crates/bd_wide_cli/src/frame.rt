@@ -20,33 +20,34 @@ pub enum Next {
     Last,
 }
 
-/// Reads the next document into the buffer, or the bytes from which on there is none. `left` is what the device may still give.
+/// Reads the next document into the buffer, or the bytes from which on there is none. `remaining` is what the device may still give.
 pub(crate) fn next_frame<R: Input>(
     input: &mut R,
-    left: &mut Limits,
+    remaining: &mut Limits,
     buffer: &mut Vec<u8>,
 ) -> Result<Next, ReadFault>
     ensures gave { OnOk result
-        (Consumes (R.state input.old).left (R.state input.new).left buffer.new.items) }
-    ensures next { IfOk result (λ n. IsNext n buffer.new.items (R.state input.new).left) }
-    ensures counted { OnOk result (left.new.bytes + length buffer.new.items ≡ left.old.bytes) }
+        (Consumes (R.state input.old).remaining (R.state input.new).remaining buffer.new.items) }
+    ensures next { IfOk result (λ n. IsNext n buffer.new.items (R.state input.new).remaining) }
+    ensures counted { OnOk result (remaining.new.bytes + length buffer.new.items
+        ≡ remaining.old.bytes) }
     ensures fault { OnErr result ((given : List ℕ)
-        × Consumes (R.state input.old).left (R.state input.new).left given) }
+        × Consumes (R.state input.old).remaining (R.state input.new).remaining given) }
 {
     let mut head = [0; 4];
-    let filled = fill(input, &mut head, *left)?;
-    left.bytes -= filled.bytes as u64;
-    left.turns -= filled.turns;
+    let filled = fill(input, &mut head, *remaining)?;
+    remaining.bytes -= filled.bytes as u64;
+    remaining.turns -= filled.turns;
     if filled.bytes < 4 {
-        hold(&head[..filled.bytes], buffer)?;
+        store(&head[..filled.bytes], buffer)?;
         return Ok(Next::Last);
     }
     let length = u32::from_le_bytes(head) as usize;
     if length < 5 || length > LONGEST_DOCUMENT {
-        hold(&head, buffer)?;
+        store(&head, buffer)?;
         return Ok(Next::BadLength);
     }
-    read_rest(input, head, length, left, buffer)
+    read_rest(input, head, length, remaining, buffer)
 }
 
 /// Reads what follows the length of a document.
@@ -54,23 +55,24 @@ fn read_rest<R: Input>(
     input: &mut R,
     head: [u8; 4],
     size: usize,
-    left: &mut Limits,
+    remaining: &mut Limits,
     buffer: &mut Vec<u8>,
 ) -> Result<Next, ReadFault>
     requires { (size ≡ from_le_bytes w32 head) × (5 ≤ size) × (size ≤ longest_document) }
     ensures gave { OnOk result ((given : List ℕ) × (buffer.new.items ≡ head ++ given)
-        × Consumes (R.state input.old).left (R.state input.new).left given) }
-    ensures next { IfOk result (λ n. IsNext n buffer.new.items (R.state input.new).left) }
-    ensures counted { OnOk result (left.new.bytes + length buffer.new.items ≡ left.old.bytes + 4) }
+        × Consumes (R.state input.old).remaining (R.state input.new).remaining given) }
+    ensures next { IfOk result (λ n. IsNext n buffer.new.items (R.state input.new).remaining) }
+    ensures counted { OnOk result (remaining.new.bytes + length buffer.new.items
+        ≡ remaining.old.bytes + 4) }
     ensures fault { OnErr result ((given : List ℕ)
-        × Consumes (R.state input.old).left (R.state input.new).left given) }
+        × Consumes (R.state input.old).remaining (R.state input.new).remaining given) }
 {
     if buffer.resize(size, 0).is_err() {
         return Err(ReadFault::NoMemory);
     }
-    let filled = fill_after(input, buffer, head, size, *left)?;
-    left.bytes -= filled.bytes as u64;
-    left.turns -= filled.turns;
+    let filled = fill_after(input, buffer, head, size, *remaining)?;
+    remaining.bytes -= filled.bytes as u64;
+    remaining.turns -= filled.turns;
     buffer.truncate(4 + filled.bytes);
     if filled.bytes < size - 4 {
         return Ok(Next::Last);
@@ -79,7 +81,7 @@ fn read_rest<R: Input>(
 }
 
 /// Makes the buffer hold these bytes.
-fn hold(bytes: &[u8], buffer: &mut Vec<u8>) -> Result<(), ReadFault>
+fn store(bytes: &[u8], buffer: &mut Vec<u8>) -> Result<(), ReadFault>
     ensures { OnOk result (buffer.new.items ≡ bytes.now) }
 {
     buffer.clear();

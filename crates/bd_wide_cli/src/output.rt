@@ -1,8 +1,8 @@
 //! What a run tells on standard error, and how it ends. It takes no memory.
 
 ghost use Rattle.std.specs.Prelude.{◌≡◌, ◌++◌, OnErr, OnOk, decimal};
-ghost use Rattle.bd_io_device.specs.Devices.{BreaksWithin, TakesText, over};
-ghost use Rattle.bd_wide_cli.specs.Output.{ReportsFault, TellsMessage, error_line, kept_line, stop_words, usage_text};
+ghost use Rattle.bd_io_device.specs.Devices.{WriteFailsWithin, TakesText, over};
+ghost use Rattle.bd_wide_cli.specs.Output.{ReportsFault, ReportsMessage, error_line, kept_line, stop_words, usage_text};
 ghost use Rattle.bd_wide_cli.specs.declared.output.Status.TheVariants.{Done, Failed, Usage};
 
 use crate::running::Stop;
@@ -31,7 +31,7 @@ pub const CANNOT_WRITE: &str = "cannot write";
 #[tactic(auto, using(crate::proofs::OutputLemmas::taking))]
 pub fn write_error<E: Output>(message: &[u8], err: &mut E) -> Result<(), DeviceFault>
     ensures ok { OnOk result (TakesText (over E.state err.old err.new) (error_line message.now)) }
-    ensures err { OnErr result (BreaksWithin (over E.state err.old err.new)
+    ensures err { OnErr result (WriteFailsWithin (over E.state err.old err.new)
         (error_line message.now)) }
 {
     write_all(err, b"bsonwide: ")?;
@@ -51,8 +51,8 @@ pub fn status_of(written: Result<(), DeviceFault>, wanted: Status) -> Status
 }
 
 /// Tells why no more of an input was filtered.
-pub(crate) fn tell_stop<E: Output>(stop: &Stop, err: &mut E) -> Status
-    ensures { TellsMessage (over E.state err.old err.new) (error_line
+pub(crate) fn report_stop<E: Output>(stop: &Stop, err: &mut E) -> Status
+    ensures { ReportsMessage (over E.state err.old err.new) (error_line
         (stop_words stop.now)) Failed result }
 {
     let words = match stop {
@@ -65,8 +65,8 @@ pub(crate) fn tell_stop<E: Output>(stop: &Stop, err: &mut E) -> Status
 }
 
 /// Tells how many documents stay as they are, where some do.
-pub(crate) fn tell_kept<E: Output>(kept: u64, err: &mut E) -> Status
-    ensures { TellsMessage (over E.state err.old err.new) (kept_line kept) Done result }
+pub(crate) fn report_kept<E: Output>(kept: u64, err: &mut E) -> Status
+    ensures { ReportsMessage (over E.state err.old err.new) (kept_line kept) Done result }
 {
     status_of(write_kept(kept, err), Status::Done)
 }
@@ -75,7 +75,7 @@ pub(crate) fn tell_kept<E: Output>(kept: u64, err: &mut E) -> Status
 #[tactic(auto, using(crate::proofs::OutputLemmas::taking))]
 fn write_kept<E: Output>(kept: u64, err: &mut E) -> Result<(), DeviceFault>
     ensures ok { OnOk result (TakesText (over E.state err.old err.new) (kept_line kept)) }
-    ensures err { OnErr result (BreaksWithin (over E.state err.old err.new) (kept_line kept)) }
+    ensures err { OnErr result (WriteFailsWithin (over E.state err.old err.new) (kept_line kept)) }
 {
     if kept == 0 {
         return write_all(err, b"");
@@ -88,7 +88,7 @@ fn write_kept<E: Output>(kept: u64, err: &mut E) -> Result<(), DeviceFault>
 fn write_count<E: Output>(count: u64, words: &str, err: &mut E) -> Result<(), DeviceFault>
     ensures ok { OnOk result (TakesText (over E.state err.old err.new)
         (decimal count ++ words.now)) }
-    ensures err { OnErr result (BreaksWithin (over E.state err.old err.new)
+    ensures err { OnErr result (WriteFailsWithin (over E.state err.old err.new)
         (decimal count ++ words.now)) }
 {
     let mut buffer = Buffer::new();
@@ -113,16 +113,16 @@ pub fn report<O: Output, E: Output>(fault: WordsFault, out: &mut O, err: &mut E)
     match fault {
         WordsFault::Help => match write_all(out, USAGE.as_bytes()) {
             Ok(()) => Status::Done,
-            Err(_) => tell_stop(&Stop::Unwritten, err),
+            Err(_) => report_stop(&Stop::Unwritten, err),
         },
-        WordsFault::Usage => tell_usage(err),
-        WordsFault::NoMemory => tell_stop(&Stop::NoMemory, err),
+        WordsFault::Usage => report_usage(err),
+        WordsFault::NoMemory => report_stop(&Stop::NoMemory, err),
     }
 }
 
 /// Tells which arguments are taken.
-fn tell_usage<E: Output>(err: &mut E) -> Status
-    ensures { TellsMessage (over E.state err.old err.new) usage_text Usage result }
+fn report_usage<E: Output>(err: &mut E) -> Status
+    ensures { ReportsMessage (over E.state err.old err.new) usage_text Usage result }
 {
     status_of(write_all(err, USAGE.as_bytes()), Status::Usage)
 }

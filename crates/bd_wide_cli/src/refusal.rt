@@ -3,7 +3,7 @@
 ghost use Rattle.std.specs.Prelude.{◌≡◌, ◌<◌, ◌++◌, OnOk, decimal};
 ghost use Rattle.std.specs.Char.{digit_char};
 ghost use Rattle.bd_extjson_text.specs.Text.{escape_byte, escaped, quoted};
-ghost use Rattle.bd_wide_cli.specs.Filtered.{TellsRefusal, found_text, refusal_text, refusal_words as words_of};
+ghost use Rattle.bd_wide_cli.specs.Filtered.{ReportsRefusal, found_text, refusal_text, refusal_words as words_of};
 
 use crate::running::Stop;
 use bd_value::NoMemory;
@@ -19,7 +19,7 @@ pub(crate) struct Place {
 
 /// The end of a run at a refused document; or that memory ran out.
 pub(crate) fn refused(place: Place, path: &Vec<u8>, why: Unordered) -> Stop
-    ensures { TellsRefusal place.number place.start path.now.items why result }
+    ensures { ReportsRefusal place.number place.start path.now.items why result }
 {
     let mut text = Vec::new(*path.allocator());
     match write_refusal(place, path, why, &mut text) {

@@ -8,7 +8,7 @@ ghost use Rattle.bd_wide_cli.specs.Output.{FiltersInput};
 
 use crate::filter::{Filter, write_filtered};
 use crate::frame::{Next, next_frame};
-use crate::output::{Status, tell_kept, tell_stop};
+use crate::output::{Status, report_kept, report_stop};
 use crate::refusal::{Place, refused};
 use bd_io_device::{Input, Limits, Output, ReadFault, write_all};
 use bd_value::{LONGEST_INPUT, MOST_READS};
@@ -36,12 +36,12 @@ pub fn run<R: Input, O: Output, E: Output>(
     out: &mut O,
     err: &mut E,
 ) -> Status
-    ensures { FiltersInput filter.now (over R.state input.old input.new) (over O.state out.old out.new)
-        (over E.state err.old err.new) result }
+    ensures { FiltersInput filter.now (over R.state input.old input.new)
+        (over O.state out.old out.new) (over E.state err.old err.new) result }
 {
     match filter_documents(alloc, filter, input, out) {
-        Ok(kept) => tell_kept(kept, err),
-        Err(stop) => tell_stop(&stop, err),
+        Ok(kept) => report_kept(kept, err),
+        Err(stop) => report_stop(&stop, err),
     }
 }
 
@@ -63,10 +63,10 @@ fn filter_documents<R: Input, O: Output>(
 ) -> Result<u64, Stop>
     ensures all { IfOk result
         (FiltersAll filter.now (over R.state input.old input.new) (over O.state out.old out.new)) }
-    ensures partly { IfErr result
-        (FiltersPartly filter.now (over R.state input.old input.new) (over O.state out.old out.new)) }
+    ensures partly { IfErr result (FiltersPartly filter.now
+        (over R.state input.old input.new) (over O.state out.old out.new)) }
 {
-    let mut left = LIMITS;
+    let mut remaining = LIMITS;
     let mut number = 0;
     let mut start = 0;
     let mut kept = 0;
@@ -74,12 +74,12 @@ fn filter_documents<R: Input, O: Output>(
     let mut path = Vec::new(alloc);
     let mut written = Vec::new(alloc);
     loop {
-        let next = match next_frame(input, &mut left, &mut buffer) {
+        let next = match next_frame(input, &mut remaining, &mut buffer) {
             Ok(next) => next,
             Err(fault) => return Err(Stop::Unread(fault)),
         };
         let Next::Document = next else {
-            pass_on(next, &buffer, input, left, out)?;
+            pass_on(next, &buffer, input, remaining, out)?;
             return Ok(kept);
         };
         let place = Place { number, start };
@@ -130,10 +130,10 @@ fn pass_on<R: Input, O: Output>(
     next: Next,
     bytes: &[u8],
     input: &mut R,
-    left: Limits,
+    remaining: Limits,
     out: &mut O,
 ) -> Result<(), Stop>
-    requires { IsNext next bytes.now (R.state input.old).left × (next ≢ Next.Document) }
+    requires { IsNext next bytes.now (R.state input.old).remaining × (next ≢ Next.Document) }
     ensures ok { OnOk result
         (PassesOn bytes.now (over R.state input.old input.new) (over O.state out.old out.new)) }
     ensures err { IfErr result
@@ -143,22 +143,22 @@ fn pass_on<R: Input, O: Output>(
         return Err(Stop::Unwritten);
     }
     match next {
-        Next::BadLength => copy_rest(input, left, out),
+        Next::BadLength => copy_rest(input, remaining, out),
         Next::Document | Next::Last => Ok(()),
     }
 }
 
 /// Writes all that an input still gives.
-fn copy_rest<R: Input, O: Output>(input: &mut R, left: Limits, out: &mut O) -> Result<(), Stop>
+fn copy_rest<R: Input, O: Output>(input: &mut R, remaining: Limits, out: &mut O) -> Result<(), Stop>
     ensures ok { OnOk result
         (CopiesRest (over R.state input.old input.new) (over O.state out.old out.new)) }
     ensures err { IfErr result
         (StopsCopying (over R.state input.old input.new) (over O.state out.old out.new)) }
 {
-    let mut room = [0u8; BLOCK];
-    let mut bytes = left.bytes;
-    for _ in 0..left.turns {
-        let Ok(n) = input.read(&mut room) else {
+    let mut block = [0u8; BLOCK];
+    let mut bytes = remaining.bytes;
+    for _ in 0..remaining.turns {
+        let Ok(n) = input.read(&mut block) else {
             return Err(Stop::Unread(ReadFault::Device));
         };
         if n == 0 {
@@ -168,7 +168,7 @@ fn copy_rest<R: Input, O: Output>(input: &mut R, left: Limits, out: &mut O) -> R
             return Err(Stop::Unread(ReadFault::TooLong));
         }
         bytes -= n as u64;
-        let (part, _) = room.split_at(n);
+        let (part, _) = block.split_at(n);
         if write_all(out, part).is_err() {
             return Err(Stop::Unwritten);
         }

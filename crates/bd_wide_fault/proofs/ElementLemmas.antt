@@ -7,15 +7,15 @@ use Rattle.bd_bson_view.specs.declared.raw_parts.ElementType.{ElementType}
 use Rattle.bd_bson_view.specs.declared.raw_parts.ElementType.TheVariants.{Kept, Double, Decimal128}
 use Rattle.bd_bson_view.specs.declared.raw_parts.Holder.{Holder}
 use Rattle.bd_bson_view.specs.declared.raw_parts.Holder.TheVariants as holders
-use Rattle.bd_bson_view.specs.{Spelling.holds, Spelling.type_at, Spelling.types}
+use Rattle.bd_bson_view.specs.{Spelling.is_holder, Spelling.type_at, Spelling.types}
 use Rattle.bd_bson_check.specs.declared.fault.FaultKind.TheVariants.{NameUnended}
 use Rattle.bd_bson_check.specs.Fault.{Fault}
-use Rattle.bd_bson_check.specs.FirstFault.{◌>>=◌, label, within, text_at, past_value, past_typed, past_element, Nested}
+use Rattle.bd_bson_check.specs.FirstFault.{◌>>=◌, label, within, text_at, skip_value, skip_typed, skip_element, Nested}
 use Rattle.bd_wide.specs.Rewritten.{counted, size_at, holder_least}
 use Rattle.bd_wide_fault.specs.WideFault.{wide_typed, wide_element}
-use Rattle.bd_wide_fault.proofs.PastLemmas.{gives, NoZero, name_is}
+use Rattle.bd_wide_fault.proofs.SkipLemmas.{gives, NoZero, name_is}
 use Rattle.bd_wide_fault.proofs.FailLemmas.{scalar_fails, fixed_none}
-use Rattle.bd_wide_fault.proofs.TextLemmas.{text_told}
+use Rattle.bd_wide_fault.proofs.TextLemmas.{text_checked}
 
 -- the same is left after either, or the same fault is found
 abbrev pub Alike : List ℕ → List ℕ → Result (List ℕ) Fault → Result (List ℕ) Fault → Type 0
@@ -33,21 +33,21 @@ holder_kind holders.Array = kinds.Array
 holder_kind holders.CodeScope = kinds.CodeScope
 
 -- a kind is that of a scalar, or of what holds values
-pub kind_is : (kind : Kind) → (holds kind ≡ false) ⊎ ((h : Holder) × (kind ≡ holder_kind h))
+pub kind_is : (kind : Kind) → (is_holder kind ≡ false) ⊎ ((h : Holder) × (kind ≡ holder_kind h))
 kind_is kinds.Doc = inr (holders.Document, refl)
 kind_is kinds.Array = inr (holders.Array, refl)
 kind_is kinds.CodeScope = inr (holders.CodeScope, refl)
 kind_is _ = inl refl
 
 -- what a scalar's bytes are checked for does not depend on how nested values are checked
-pub scalar_same : (kind : Kind) (f g : Nested) (q e : ℕ) (bytes : List ℕ) → holds kind ≡ false → past_value f kind q e bytes ≡ past_value g kind q e bytes
+pub scalar_same : (kind : Kind) (f g : Nested) (q e : ℕ) (bytes : List ℕ) → is_holder kind ≡ false → skip_value f kind q e bytes ≡ skip_value g kind q e bytes
 scalar_same kinds.Doc f g q e bytes bare = absurd cc
 scalar_same kinds.Array f g q e bytes bare = absurd cc
 scalar_same kinds.CodeScope f g q e bytes bare = absurd cc
 scalar_same _ f g q e bytes bare = refl
 
 -- what holds values is checked as nested values are
-pub holder_value : (h : Holder) (f : Nested) (q e : ℕ) (bytes : List ℕ) → past_value f (holder_kind h) q e bytes ≡ f h q e bytes
+pub holder_value : (h : Holder) (f : Nested) (q e : ℕ) (bytes : List ℕ) → skip_value f (holder_kind h) q e bytes ≡ f h q e bytes
 holder_value holders.Document f q e bytes = refl
 holder_value holders.Array f q e bytes = refl
 holder_value holders.CodeScope f q e bytes = refl
@@ -87,24 +87,24 @@ double_byte b at is =
 abbrev pub named_value : Result (Unit {0}) Fault → Option ℕ → List ℕ → Result (List ℕ) Fault → Result (List ℕ) Fault
 named_value text place name value = text >>= λ u. within (label place name) value
 
-text_named : (at : ℕ) (name rest : List ℕ) (f : List ℕ → List ℕ → Result (List ℕ) Fault) → ((text_at at name >>= λ t. let p : List ℕ × List ℕ = (t, rest) in Ok p) >>= λ n. f n.0 n.1) ≡ (text_told at name >>= λ u. f name rest)
+text_named : (at : ℕ) (name rest : List ℕ) (f : List ℕ → List ℕ → Result (List ℕ) Fault) → ((text_at at name >>= λ t. let p : List ℕ × List ℕ = (t, rest) in Ok p) >>= λ n. f n.0 n.1) ≡ (text_checked at name >>= λ u. f name rest)
 text_named at name rest f = goes (is_utf8 name) refl
   where
-    goes : (b : Bool) → is_utf8 name ≡ b → ((text_at at name >>= λ t. let p : List ℕ × List ℕ = (t, rest) in Ok p) >>= λ n. f n.0 n.1) ≡ (text_told at name >>= λ u. f name rest)
+    goes : (b : Bool) → is_utf8 name ≡ b → ((text_at at name >>= λ t. let p : List ℕ × List ℕ = (t, rest) in Ok p) >>= λ n. f n.0 n.1) ≡ (text_checked at name >>= λ u. f name rest)
     goes true is = rw is refl
     goes false is = rw is refl
 
 pub wide_element_is : (f : Nested) (place : Option ℕ) (e b : ℕ) (type : ElementType) (name rest : List ℕ) → type_at b ≡ Some type → NoZero name
-    → wide_element f place e (b ∷ (name ++ 0 ∷ rest)) ≡ named_value (text_told (e - length (name ++ 0 ∷ rest)) name) place name (wide_typed f type (e - suc (length (name ++ 0 ∷ rest))) e rest)
+    → wide_element f place e (b ∷ (name ++ 0 ∷ rest)) ≡ named_value (text_checked (e - length (name ++ 0 ∷ rest)) name) place name (wide_typed f type (e - suc (length (name ++ 0 ∷ rest))) e rest)
 unfolding wide_element
 wide_element_is f place e b type name rest is h =
     rw (is, name_is NameUnended e name rest h) (text_named (e - length (name ++ 0 ∷ rest)) name rest (λ n more. within (label place n) (wide_typed f type (e - suc (length (name ++ 0 ∷ rest))) e more)))
 
-pub past_element_is : (f : Nested) (place : Option ℕ) (e b : ℕ) (type : ElementType) (name rest : List ℕ) → type_at b ≡ Some type → NoZero name
-    → past_element f place e (b ∷ (name ++ 0 ∷ rest)) ≡ named_value (text_told (e - length (name ++ 0 ∷ rest)) name) place name (past_typed f type (e - suc (length (name ++ 0 ∷ rest))) e rest)
-unfolding past_element
-past_element_is f place e b type name rest is h =
-    rw (is, name_is NameUnended e name rest h) (text_named (e - length (name ++ 0 ∷ rest)) name rest (λ n more. within (label place n) (past_typed f type (e - suc (length (name ++ 0 ∷ rest))) e more)))
+pub skip_element_is : (f : Nested) (place : Option ℕ) (e b : ℕ) (type : ElementType) (name rest : List ℕ) → type_at b ≡ Some type → NoZero name
+    → skip_element f place e (b ∷ (name ++ 0 ∷ rest)) ≡ named_value (text_checked (e - length (name ++ 0 ∷ rest)) name) place name (skip_typed f type (e - suc (length (name ++ 0 ∷ rest))) e rest)
+unfolding skip_element
+skip_element_is f place e b type name rest is h =
+    rw (is, name_is NameUnended e name rest h) (text_named (e - length (name ++ 0 ∷ rest)) name rest (λ n more. within (label place n) (skip_typed f type (e - suc (length (name ++ 0 ∷ rest))) e more)))
 
 -- ---- an element that can't be passed on
 
@@ -116,15 +116,15 @@ named_fail (Err d) place name a b h = (d, refl, refl)
 abbrev pub NestedFails : Nested → Nested → Type 0
 NestedFails f g = (h : Holder) (q e : ℕ) (bytes : List ℕ) → counted (holder_least h) 0 bytes ≡ None → FailAlike (f h q e bytes) (g h q e bytes)
 
-pub typed_fail : (f g : Nested) → NestedFails f g → (type : ElementType) (q e : ℕ) (bytes : List ℕ) → not_double type ≡ true → size_at type bytes ≡ None → FailAlike (wide_typed f type q e bytes) (past_typed g type q e bytes)
+pub typed_fail : (f g : Nested) → NestedFails f g → (type : ElementType) (q e : ℕ) (bytes : List ℕ) → not_double type ≡ true → size_at type bytes ≡ None → FailAlike (wide_typed f type q e bytes) (skip_typed g type q e bytes)
 unfolding not_double size_at
 typed_fail f g below Double q e bytes other none = absurd cc
 typed_fail f g below Decimal128 q e bytes other none = let short = fixed_none 16 bytes none in (_, rw short refl, refl)
 typed_fail f g below (Kept kind) q e bytes other none = goes (kind_is kind)
   where
-    goes : (holds kind ≡ false) ⊎ ((h : Holder) × (kind ≡ holder_kind h)) → FailAlike (past_value f kind q e bytes) (past_value g kind q e bytes)
+    goes : (is_holder kind ≡ false) ⊎ ((h : Holder) × (kind ≡ holder_kind h)) → FailAlike (skip_value f kind q e bytes) (skip_value g kind q e bytes)
     goes (inl bare) = let s = scalar_fails kind f q e bytes bare none in (s.0, s.1, scalar_same kind g f q e bytes bare ∙ s.1)
     goes (inr (h, is)) =
         let size : counted (holder_least h) 0 bytes ≡ None = sym (holder_size h bytes) ∙ ap (λ k. size_at (Kept k) bytes) (sym is) ∙ none in
         let s = below h q e bytes size in
-        (s.0, ap (λ k. past_value f k q e bytes) is ∙ holder_value h f q e bytes ∙ s.1, ap (λ k. past_value g k q e bytes) is ∙ holder_value h g q e bytes ∙ s.2)
+        (s.0, ap (λ k. skip_value f k q e bytes) is ∙ holder_value h f q e bytes ∙ s.1, ap (λ k. skip_value g k q e bytes) is ∙ holder_value h g q e bytes ∙ s.2)

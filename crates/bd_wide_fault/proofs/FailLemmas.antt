@@ -6,14 +6,14 @@ use Rattle.bd_value.specs.Limits.{longest_document}
 use Rattle.bd_value.specs.declared.node.Kind.{Kind}
 use Rattle.bd_value.specs.declared.node.Kind.TheVariants as kinds
 use Rattle.bd_bson_view.specs.declared.raw_parts.ElementType.TheVariants.{Kept}
-use Rattle.bd_bson_view.specs.{Sizes.number_of, Spelling.holds}
+use Rattle.bd_bson_view.specs.{Sizes.number_of, Spelling.is_holder}
 use Rattle.bd_bson_check.specs.declared.fault.FaultKind.{FaultKind}
 use Rattle.bd_bson_check.specs.declared.fault.FaultKind.TheVariants.{StringUnended, ValueShort}
 use Rattle.bd_bson_check.specs.Fault.{Fault}
-use Rattle.bd_bson_check.specs.FirstFault.{◌>>=◌, fault, past_number, text_at, past_name, past_fixed, past_boolean, past_string, past_regex, past_binary, past_value, past_frame, past_code_frame, Nested}
+use Rattle.bd_bson_check.specs.FirstFault.{◌>>=◌, fault, skip_number, text_at, skip_name, skip_fixed, skip_boolean, skip_string, skip_regex, skip_binary, skip_value, skip_frame, skip_code_frame, Nested}
 use Rattle.bd_wide.specs.Rewritten as sizes
 use Rattle.bd_wide.specs.Rewritten.{fixed, counted, first_zero, two_texts, size_at}
-use Rattle.bd_wide_fault.proofs.PastLemmas.{gives, Fails, counted_is, number_cut, string_local, named, zero_split, name_is}
+use Rattle.bd_wide_fault.proofs.SkipLemmas.{gives, Fails, counted_is, number_splits, string_local, named, zero_split, name_is}
 
 -- a step that fails
 then_fails : {A B : Type 0} (a : Result A Fault) (f : A → Result B Fault) → Fails a → Fails (a >>= f)
@@ -52,19 +52,19 @@ counted_none low others bytes is four some =
     cases true at = let lt : length bytes < 4 = grind (arith, nat_tests, at) in absurd (four lt)
     cases false at = let le : nat_lt (number_of bytes) low ≡ false = le-ltb _ _ some in rw (at, le) refl
 
-pub fixed_fails : (n e : ℕ) (bytes : List ℕ) → fixed n bytes ≡ None → Fails (past_fixed n e bytes)
+pub fixed_fails : (n e : ℕ) (bytes : List ℕ) → fixed n bytes ≡ None → Fails (skip_fixed n e bytes)
 fixed_fails n e bytes is = if_fails (nat_lt (length bytes) n) _ (Ok (drop n bytes)) (fixed_none n bytes is)
 
 -- a number that is there, and what follows it, or a fault
-pub number_then : {B : Type 0} (short : FaultKind) (e : ℕ) (bytes : List ℕ) (f : ℕ × List ℕ → Result B Fault) → (4 ≤ length bytes → Fails (f (number_of bytes, drop 4 bytes))) → Fails (past_number short e bytes >>= f)
+pub number_then : {B : Type 0} (short : FaultKind) (e : ℕ) (bytes : List ℕ) (f : ℕ × List ℕ → Result B Fault) → (4 ≤ length bytes → Fails (f (number_of bytes, drop 4 bytes))) → Fails (skip_number short e bytes >>= f)
 number_then short e bytes f h = goes (nat_lt (length bytes) 4) refl
   where
     goes : (b : Bool) → nat_lt (length bytes) 4 ≡ b → Fails (cond b (fault short (e - length bytes)) (Ok (number_of bytes, drop 4 bytes)) >>= f)
     goes true at = (_, refl)
     goes false at = let four : 4 ≤ length bytes = grind (arith, nat_tests, at) in h four
 
-pub string_fails : (e : ℕ) (bytes : List ℕ) → counted 1 4 bytes ≡ None → Fails (past_string e bytes)
-unfolding past_string
+pub string_fails : (e : ℕ) (bytes : List ℕ) → counted 1 4 bytes ≡ None → Fails (skip_string e bytes)
+unfolding skip_string
 string_fails e bytes is = number_then ValueShort e bytes _ (λ four.
     let n : ℕ = number_of bytes in
     if_fails (n == 0 || nat_lt (length (drop 4 bytes)) n) _ _ (goes (n == 0) refl four))
@@ -81,52 +81,52 @@ gives_fails : (s : Result (Unit {0}) Fault) (r : List ℕ) (f : List ℕ → Res
 gives_fails (Ok u) r f h = h
 gives_fails (Err d) r f h = (d, refl)
 
-pointer_fails : (e : ℕ) (bytes : List ℕ) → counted 1 16 bytes ≡ None → Fails (past_string e bytes >>= λ rest. past_fixed 12 e rest)
+pointer_fails : (e : ℕ) (bytes : List ℕ) → counted 1 16 bytes ≡ None → Fails (skip_string e bytes >>= λ rest. skip_fixed 12 e rest)
 pointer_fails e bytes is = goes (counted 1 4 bytes) refl
   where
-    goes : (o : Option ℕ) → counted 1 4 bytes ≡ o → Fails (past_string e bytes >>= λ rest. past_fixed 12 e rest)
-    goes None at = then_fails (past_string e bytes) (λ rest. past_fixed 12 e rest) (string_fails e bytes at)
+    goes : (o : Option ℕ) → counted 1 4 bytes ≡ o → Fails (skip_string e bytes >>= λ rest. skip_fixed 12 e rest)
+    goes None at = then_fails (skip_string e bytes) (λ rest. skip_fixed 12 e rest) (string_fails e bytes at)
     goes (Some m) at =
         let c = counted_is 1 4 bytes m at in
         let v : List ℕ = take m bytes in
         let r : List ℕ = drop m bytes in
         let vs : length v ≡ m = length-take-le m bytes c.inside in
-        let same : number_of v ≡ number_of bytes = sym (number_cut v r (omega (arith, vs, c.all))) ∙ ap number_of (take-append-drop m bytes) in
+        let same : number_of v ≡ number_of bytes = sym (number_splits v r (omega (arith, vs, c.all))) ∙ ap number_of (take-append-drop m bytes) in
         let s = string_local e v (length r) (omega (arith, same, c.some)) (omega (arith, vs, c.all, same)) in
         let less = counted_none 1 16 bytes is (λ lt. let f = c.four in omega arith) c.some in
         let short : nat_lt (length r) 12 ≡ true = grind (arith, nat_tests, length-drop m bytes, c.all) in
-        let there : past_string e bytes ≡ gives s.0 r = ap (past_string e) (sym (take-append-drop m bytes)) ∙ s.1 r refl in
-        subst (λ (x : Result (List ℕ) Fault). Fails (x >>= λ rest. past_fixed 12 e rest)) (sym there)
-        (gives_fails s.0 r (past_fixed 12 e) (if_fails (nat_lt (length r) 12) _ (Ok (drop 12 r)) short))
+        let there : skip_string e bytes ≡ gives s.0 r = ap (skip_string e) (sym (take-append-drop m bytes)) ∙ s.1 r refl in
+        subst (λ (x : Result (List ℕ) Fault). Fails (x >>= λ rest. skip_fixed 12 e rest)) (sym there)
+        (gives_fails s.0 r (skip_fixed 12 e) (if_fails (nat_lt (length r) 12) _ (Ok (drop 12 r)) short))
 
-pub name_fails : (kind : FaultKind) (e : ℕ) (bytes : List ℕ) → first_zero bytes ≡ None → Fails (past_name kind e bytes)
-unfolding past_name
+pub name_fails : (kind : FaultKind) (e : ℕ) (bytes : List ℕ) → first_zero bytes ≡ None → Fails (skip_name kind e bytes)
+unfolding skip_name
 name_fails kind e bytes is = rw is (_, refl)
 
-regex_fails : (e : ℕ) (bytes : List ℕ) → two_texts bytes ≡ None → Fails (past_regex e bytes)
+regex_fails : (e : ℕ) (bytes : List ℕ) → two_texts bytes ≡ None → Fails (skip_regex e bytes)
 unfolding two_texts
 regex_fails e bytes is = goes (first_zero bytes) refl is
   where
-    goes : (o : Option ℕ) → first_zero bytes ≡ o → sizes.◌>>=◌ o (λ pattern. sizes.◌>>=◌ (first_zero (drop (pattern + 1) bytes)) (λ options. Some (pattern + 1 + (options + 1)))) ≡ None → Fails (past_regex e bytes)
-    goes None at h = then_fails (past_name StringUnended e bytes) _ (name_fails StringUnended e bytes at)
+    goes : (o : Option ℕ) → first_zero bytes ≡ o → sizes.◌>>=◌ o (λ pattern. sizes.◌>>=◌ (first_zero (drop (pattern + 1) bytes)) (λ options. Some (pattern + 1 + (options + 1)))) ≡ None → Fails (skip_regex e bytes)
+    goes None at h = then_fails (skip_name StringUnended e bytes) _ (name_fails StringUnended e bytes at)
     goes (Some k) at h =
         let s = zero_split bytes k at in
         let after : drop (k + 1) bytes ≡ s.rest = ap (drop (k + 1)) (s.whole ∙ sym (append_assoc s.name (0 ∷ []) s.rest)) ∙ drop_at (s.name ++ 0 ∷ []) s.rest (k + 1) (length-append s.name (0 ∷ []) ∙ ap (λ n. n + 1) s.size) in
-        let second : (g : Option ℕ) → first_zero s.rest ≡ g → sizes.◌>>=◌ g (λ options. Some (k + 1 + (options + 1))) ≡ None → Fails (past_name StringUnended e s.rest) = elim [
+        let second : (g : Option ℕ) → first_zero s.rest ≡ g → sizes.◌>>=◌ g (λ options. Some (k + 1 + (options + 1))) ≡ None → Fails (skip_name StringUnended e s.rest) = elim [
           | None ↦ λ at h. name_fails StringUnended e s.rest at
           | Some m ↦ λ at h. absurd cc
         ] in
         let none = second (first_zero s.rest) refl (subst (λ (x : List ℕ). sizes.◌>>=◌ (first_zero x) (λ options. Some (k + 1 + (options + 1))) ≡ None) after h) in
-        let text : (t : Result (List ℕ) Fault) → Fails ((t >>= λ t. named s.rest t) >>= λ p. (past_name StringUnended e p.1 >>= λ o. Ok o.1)) = elim [
-          | Ok t ↦ then_fails (past_name StringUnended e s.rest) (λ o. Ok o.1) none
+        let text : (t : Result (List ℕ) Fault) → Fails ((t >>= λ t. named s.rest t) >>= λ p. (skip_name StringUnended e p.1 >>= λ o. Ok o.1)) = elim [
+          | Ok t ↦ then_fails (skip_name StringUnended e s.rest) (λ o. Ok o.1) none
           | Err f ↦ (f, refl)
         ] in
-        subst (λ (x : List ℕ). Fails (past_regex e x)) (sym s.whole)
-        (subst (λ (x : Result (List ℕ × List ℕ) Fault). Fails (x >>= λ p. (past_name StringUnended e p.1 >>= λ o. Ok o.1))) (sym (name_is StringUnended e s.name s.rest s.no_zero))
+        subst (λ (x : List ℕ). Fails (skip_regex e x)) (sym s.whole)
+        (subst (λ (x : Result (List ℕ × List ℕ) Fault). Fails (x >>= λ p. (skip_name StringUnended e p.1 >>= λ o. Ok o.1))) (sym (name_is StringUnended e s.name s.rest s.no_zero))
         (text (text_at (e - length (s.name ++ 0 ∷ s.rest)) s.name)))
 
-binary_fails : (e : ℕ) (bytes : List ℕ) → counted 0 5 bytes ≡ None → Fails (past_binary e bytes)
-unfolding past_binary
+binary_fails : (e : ℕ) (bytes : List ℕ) → counted 0 5 bytes ≡ None → Fails (skip_binary e bytes)
+unfolding skip_binary
 binary_fails e bytes is = else_fails (nat_lt (length bytes) 5) _ _ (λ at.
     let five : 5 ≤ length bytes = grind (arith, nat_tests, at) in
     let less = counted_none 0 5 bytes is (λ lt. omega arith) (omega arith) in
@@ -137,11 +137,11 @@ binary_fails e bytes is = else_fails (nat_lt (length bytes) 5) _ _ (λ at.
     goes true b h = refl
     goes false b h = h
 
-boolean_fails : (e : ℕ) (bytes : List ℕ) → fixed 1 bytes ≡ None → Fails (past_boolean e bytes)
+boolean_fails : (e : ℕ) (bytes : List ℕ) → fixed 1 bytes ≡ None → Fails (skip_boolean e bytes)
 boolean_fails e [] is = (_, refl)
 boolean_fails e (b ∷ bytes) is = let at = fixed_none 1 (b ∷ bytes) is in let f : ⊥ = grind (arith, nat_tests, at) in absurd f
 
-pub scalar_fails : (kind : Kind) (nested : Nested) (q e : ℕ) (bytes : List ℕ) → holds kind ≡ false → size_at (Kept kind) bytes ≡ None → Fails (past_value nested kind q e bytes)
+pub scalar_fails : (kind : Kind) (nested : Nested) (q e : ℕ) (bytes : List ℕ) → is_holder kind ≡ false → size_at (Kept kind) bytes ≡ None → Fails (skip_value nested kind q e bytes)
 unfolding size_at
 scalar_fails kinds.MinKey nested q e bytes bare is = absurd cc
 scalar_fails kinds.MaxKey nested q e bytes bare is = absurd cc
@@ -165,8 +165,8 @@ scalar_fails kinds.CodeScope nested q e bytes bare is = absurd cc
 
 -- ---- documents, arrays, code with scope
 
-pub frame_fails : (e : ℕ) (bytes : List ℕ) → counted 5 0 bytes ≡ None → Fails (past_frame false e bytes)
-unfolding past_frame
+pub frame_fails : (e : ℕ) (bytes : List ℕ) → counted 5 0 bytes ≡ None → Fails (skip_frame false e bytes)
+unfolding skip_frame
 frame_fails e bytes is = number_then ValueShort e bytes _ (λ four.
     let n : ℕ = number_of bytes in
     if_fails (nat_lt n 5 || nat_lt longest_document n || nat_lt (length bytes) n || (false && not (n == length bytes))) _ _ (goes (nat_lt n 5) refl four))
@@ -185,8 +185,8 @@ frame_fails e bytes is = number_then ValueShort e bytes _ (λ four.
         last false true c h = refl
         last false false c h = rw h refl
 
-pub code_frame_fails : (e : ℕ) (bytes : List ℕ) → counted 14 0 bytes ≡ None → Fails (past_code_frame e bytes)
-unfolding past_code_frame
+pub code_frame_fails : (e : ℕ) (bytes : List ℕ) → counted 14 0 bytes ≡ None → Fails (skip_code_frame e bytes)
+unfolding skip_code_frame
 code_frame_fails e bytes is = number_then ValueShort e bytes _ (λ four.
     let n : ℕ = number_of bytes in
     if_fails (nat_lt n 14 || nat_lt (length bytes) n) _ _ (goes (nat_lt n 14) refl four))

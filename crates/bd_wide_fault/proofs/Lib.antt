@@ -5,7 +5,7 @@ pub mod ElementLemmas
 pub mod FailLemmas
 pub mod NestedLemmas
 pub mod OtherLemmas
-pub mod PastLemmas
+pub mod SkipLemmas
 pub mod ScalarLemmas
 pub mod StepLemmas
 pub mod TextLemmas

@@ -6,18 +6,18 @@ use Rattle.std.proofs.lemmas.Bool.{eqb-true}
 use Rattle.bd_bson_view.specs.declared.raw_parts.Holder.TheVariants as holders
 use Rattle.bd_bson_view.specs.{Sizes.number_of, Spelling.number, Unique.number_length, Unique.number_value}
 use Rattle.bd_bson_check.specs.Fault.{Fault}
-use Rattle.bd_bson_check.specs.FirstFault.{◌>>=◌, fault, within, past_string, past_code_frame, past_elements, past_body, past_code_scope, Nested}
+use Rattle.bd_bson_check.specs.FirstFault.{◌>>=◌, fault, within, skip_string, skip_code_frame, skip_elements, skip_body, skip_code_scope, Nested}
 use Rattle.bd_bson_check.specs.declared.fault.FaultKind.TheVariants.{ValueShort, BadScopeLength}
 use Rattle.bd_bson_check.proofs.FirstFaultLemmas.{IsBytes, IsBytes-drop, IsBytes-take}
 use Rattle.bd_wide.specs.Rewritten as written
 use Rattle.bd_wide.specs.Rewritten.{counted, holder_least, path_of, scope_at, AreElements, IsBody, IsScoped, IsNested, IsRewritten}
 use Rattle.bd_wide.specs.Mask.{IsMasked, masked_others}
 use Rattle.bd_wide_fault.specs.WideFault.{wide_elements, wide_body, wide_code_scope}
-use Rattle.bd_wide_fault.proofs.PastLemmas.{gives, counted_is, number_cut, number_is, one_left, string_local}
+use Rattle.bd_wide_fault.proofs.SkipLemmas.{gives, counted_is, number_splits, number_is, one_byte, string_local}
 use Rattle.bd_wide_fault.proofs.FailLemmas.{string_fails}
 use Rattle.bd_wide_fault.proofs.ElementLemmas.{Alike, NestedFails}
 use Rattle.bd_wide_fault.proofs.StepLemmas.{NestedAlike}
-use Rattle.bd_wide_fault.proofs.BodyLemmas.{ElementsAlike, elements_alike, frame_is, frame_then, body_told}
+use Rattle.bd_wide_fault.proofs.BodyLemmas.{ElementsAlike, elements_alike, frame_is, frame_then, body_checked}
 
 -- ---- documents and arrays
 
@@ -34,7 +34,7 @@ parts_of v some =
     let rest : List ℕ = drop 4 v in
     let inner : List ℕ = take (length v - 5) rest in
     let i : length inner ≡ length v - 5 = length-take-le (length v - 5) rest (omega (arith, length-drop 4 v)) in
-    let one = one_left (drop (length v - 1) v) (omega (arith, length-drop (length v - 1) v, some)) in
+    let one = one_byte (drop (length v - 1) v) (omega (arith, length-drop (length v - 1) v, some)) in
     let end : drop (length v - 5) rest ≡ one.0 ∷ [] = drop-drop (length v - 5) 4 v ∙ ap (λ n. drop n v) (omega (arith, some)) ∙ one.1 in
     record {
       last = one.0;
@@ -61,14 +61,14 @@ pub record BodyAlike (f g : Nested) (v new : List ℕ) : Type 0 where
   pub size : length new ≡ length v
   pub inside : ElementsAlike f g (length (inner_of v)) (inner_of v) body
 
-pub body_alike : (f g : Nested) (into : written.Nested) → NestedFails f g → NestedAlike f g into → (own : List ℕ → List ℕ) (v new : List ℕ) → 5 ≤ length v → number_of v ≡ length v → IsBytes v
-    → IsBody IsMasked masked_others into own v new → BodyAlike f g v new
+pub body_alike : (f g : Nested) (into : written.Nested) → NestedFails f g → NestedAlike f g into → (path_in : List ℕ → List ℕ) (v new : List ℕ) → 5 ≤ length v → number_of v ≡ length v → IsBytes v
+    → IsBody IsMasked masked_others into path_in v new → BodyAlike f g v new
 unfolding IsBody
-body_alike f g into fails below own v new some count fits h =
+body_alike f g into fails below path_in v new some count fits h =
     let p = parts_of v some in
     let inner : List ℕ = inner_of v in
     let body : List ℕ = h.0 in
-    let inside = elements_alike f g into fails below own (length inner) inner body (IsBytes-take (length v - 5) (drop 4 v) (IsBytes-drop 4 v fits)) h.1 in
+    let inside = elements_alike f g into fails below path_in (length inner) inner body (IsBytes-take (length v - 5) (drop 4 v) (IsBytes-drop 4 v fits)) h.1 in
     let n : ℕ = length body + 5 in
     let less = below_word (take 4 v) (IsBytes-take 4 v fits) in
     let whole : new ≡ number n ++ (body ++ p.last ∷ []) = h.2 ∙ ap (λ (x : List ℕ). number n ++ (body ++ x)) p.end in
@@ -84,31 +84,31 @@ body_alike f g into fails below own v new some count fits h =
       inside = inside;
     }
 
-pub body_goes : (f g : Nested) (in_array : Bool) (e : ℕ) (v new r two : List ℕ) → BodyAlike f g v new → length two ≡ length r → Alike r two (wide_body f in_array e (v ++ r)) (past_body g in_array e (new ++ two))
+pub body_goes : (f g : Nested) (in_array : Bool) (e : ℕ) (v new r two : List ℕ) → BodyAlike f g v new → length two ≡ length r → Alike r two (wide_body f in_array e (v ++ r)) (skip_body g in_array e (new ++ two))
 body_goes f g in_array e v new r two a long =
     let place : Option ℕ = if in_array then Some 0 else None in
     let inner : List ℕ = inner_of v in
     let body : List ℕ = a.body in
     let wide : List ℕ → ℕ → Result (Unit {0}) Fault = λ b at. wide_elements f place (length b) at b in
-    let past : List ℕ → ℕ → Result (Unit {0}) Fault = λ b at. past_elements g place (length b) at b in
-    let s : Result (Unit {0}) Fault = body_told e (length inner) a.last (length r) (wide inner (e - suc (length r))) in
+    let beyond : List ℕ → ℕ → Result (Unit {0}) Fault = λ b at. skip_elements g place (length b) at b in
+    let s : Result (Unit {0}) Fault = body_checked e (length inner) a.last (length r) (wide inner (e - suc (length r))) in
     let one : wide_body f in_array e (v ++ r) ≡ gives s r =
     ap (wide_body f in_array e) (a.old_whole r)
     ∙ ap (λ (y : Result (List ℕ × ℕ × List ℕ) Fault). y >>= λ f. (wide f.0 f.1 >>= λ u. Ok f.2)) (frame_is false e (take 4 v) inner a.last r a.old_four a.old_count (λ is. absurd cc))
     ∙ frame_then e inner a.last r wide in
-    let other : past_body g in_array e (new ++ two) ≡ gives (body_told e (length body) a.last (length two) (past body (e - suc (length two)))) two =
-    ap (past_body g in_array e) (a.new_whole two)
-    ∙ ap (λ (y : Result (List ℕ × ℕ × List ℕ) Fault). y >>= λ f. (past f.0 f.1 >>= λ u. Ok f.2)) (frame_is false e (number (length body + 5)) body a.last two (number_length (length body + 5)) a.new_count (λ is. absurd cc))
-    ∙ frame_then e body a.last two past in
-    let same : body_told e (length body) a.last (length two) (past body (e - suc (length two))) ≡ s =
-    ap₂ (λ k l. body_told e k a.last l (past_elements g place k (e - suc l) body)) a.inside.0 long
-    ∙ ap (body_told e (length inner) a.last (length r)) (a.inside.1 place (e - suc (length r))) in
+    let other : skip_body g in_array e (new ++ two) ≡ gives (body_checked e (length body) a.last (length two) (beyond body (e - suc (length two)))) two =
+    ap (skip_body g in_array e) (a.new_whole two)
+    ∙ ap (λ (y : Result (List ℕ × ℕ × List ℕ) Fault). y >>= λ f. (beyond f.0 f.1 >>= λ u. Ok f.2)) (frame_is false e (number (length body + 5)) body a.last two (number_length (length body + 5)) a.new_count (λ is. absurd cc))
+    ∙ frame_then e body a.last two beyond in
+    let same : body_checked e (length body) a.last (length two) (beyond body (e - suc (length two))) ≡ s =
+    ap₂ (λ k l. body_checked e k a.last l (skip_elements g place k (e - suc l) body)) a.inside.0 long
+    ∙ ap (body_checked e (length inner) a.last (length r)) (a.inside.1 place (e - suc (length r))) in
     (s, one, other ∙ ap (λ t. gives t two) same)
 
 -- ---- code with scope
 
-code_frame_is : (e : ℕ) (four parts r : List ℕ) → length four ≡ 4 → from_le_bytes w32 four ≡ length parts + 4 → 10 ≤ length parts → past_code_frame e (four ++ (parts ++ r)) ≡ Ok (parts, e - length r, r)
-unfolding past_code_frame
+code_frame_is : (e : ℕ) (four parts r : List ℕ) → length four ≡ 4 → from_le_bytes w32 four ≡ length parts + 4 → 10 ≤ length parts → skip_code_frame e (four ++ (parts ++ r)) ≡ Ok (parts, e - length r, r)
+unfolding skip_code_frame
 code_frame_is e four parts r len count some =
     let k : (length parts + 4) - 4 ≡ length parts = omega arith in
     let total : length (four ++ (parts ++ r)) ≡ length parts + 4 + length r = omega (arith, length-append four (parts ++ r), length-append parts r, len) in
@@ -138,12 +138,12 @@ abbrev pub reader : Nested → Nested → List ℕ → ℕ → ℕ → Result (L
 reader f g scope q at = (if number_of scope == length scope then f else g) holders.Document q at scope
 
 pub wide_scope_is : (f g : Nested) (q e : ℕ) (four parts r : List ℕ) → length four ≡ 4 → from_le_bytes w32 four ≡ length parts + 4 → 10 ≤ length parts
-    → wide_code_scope f g q e (four ++ (parts ++ r)) ≡ (past_string (e - length r) parts >>= λ scope. scope_tail (reader f g scope q (e - length r)) (e - length (four ++ (parts ++ r))) r)
+    → wide_code_scope f g q e (four ++ (parts ++ r)) ≡ (skip_string (e - length r) parts >>= λ scope. scope_tail (reader f g scope q (e - length r)) (e - length (four ++ (parts ++ r))) r)
 wide_scope_is f g q e four parts r len count some = rw (code_frame_is e four parts r len count some) refl
 
-pub past_scope_is : (g : Nested) (q e : ℕ) (four parts r : List ℕ) → length four ≡ 4 → from_le_bytes w32 four ≡ length parts + 4 → 10 ≤ length parts
-    → past_code_scope g q e (four ++ (parts ++ r)) ≡ (past_string (e - length r) parts >>= λ scope. scope_tail (g holders.Document q (e - length r) scope) (e - length (four ++ (parts ++ r))) r)
-past_scope_is g q e four parts r len count some = rw (code_frame_is e four parts r len count some) refl
+pub skip_scope_is : (g : Nested) (q e : ℕ) (four parts r : List ℕ) → length four ≡ 4 → from_le_bytes w32 four ≡ length parts + 4 → 10 ≤ length parts
+    → skip_code_scope g q e (four ++ (parts ++ r)) ≡ (skip_string (e - length r) parts >>= λ scope. scope_tail (g holders.Document q (e - length r) scope) (e - length (four ++ (parts ++ r))) r)
+skip_scope_is g q e four parts r len count some = rw (code_frame_is e four parts r len count some) refl
 
 abbrev pub ScopeTurn : (List ℕ → List ℕ → Type 0) → List ℕ → List ℕ → Option ℕ → Type 0
 ScopeTurn document value new None = new ≡ value
@@ -192,8 +192,8 @@ scope_is v k is =
 
 -- a string at the front of the bytes, and what is said of it whatever as many bytes follow
 pub record StringIs (at : ℕ) (parts : List ℕ) (m : ℕ) : Type 0 where
-  pub told : Result (Unit {0}) Fault
-  pub goes : (r : List ℕ) → length r ≡ length (drop m parts) → past_string at (take m parts ++ r) ≡ gives told r
+  pub stated : Result (Unit {0}) Fault
+  pub goes : (r : List ℕ) → length r ≡ length (drop m parts) → skip_string at (take m parts ++ r) ≡ gives stated r
   pub start : 4 + number_of parts ≡ m
   pub some : 1 ≤ number_of parts
   pub inside : m ≤ length parts
@@ -203,9 +203,9 @@ string_there at parts m is =
     let c = counted_is 1 4 parts m is in
     let u : List ℕ = take m parts in
     let size : length u ≡ m = length-take-le m parts c.inside in
-    let same : number_of u ≡ number_of parts = sym (number_cut u (drop m parts) (omega (arith, size, c.all))) ∙ ap number_of (take-append-drop m parts) in
+    let same : number_of u ≡ number_of parts = sym (number_splits u (drop m parts) (omega (arith, size, c.all))) ∙ ap number_of (take-append-drop m parts) in
     let s = string_local at u (length (drop m parts)) (omega (arith, same, c.some)) (omega (arith, size, c.all, same)) in
-    record { told = s.0; goes = s.1; start = omega (arith, c.all); some = c.some; inside = c.inside }
+    record { stated = s.0; goes = s.1; start = omega (arith, c.all); some = c.some; inside = c.inside }
 
 short_none : (w : List ℕ) → length w < 5 → number_of w ≡ length w → counted 5 0 w ≡ None
 short_none w short same =
@@ -226,7 +226,7 @@ reader_short f g below w q at short = goes (number_of w == length w) refl
         let s = below holders.Document q at w (short_none w (short same) same) in s.1 ∙ sym s.2
     goes false is = refl
 
-reader_same : (f g : Nested) → NestedFails f g → (v : List ℕ) (q at : ℕ) (scope : List ℕ) → scope_at v ≡ None → past_string at (drop 4 v) ≡ Ok scope → reader f g scope q at ≡ g holders.Document q at scope
+reader_same : (f g : Nested) → NestedFails f g → (v : List ℕ) (q at : ℕ) (scope : List ℕ) → scope_at v ≡ None → skip_string at (drop 4 v) ≡ Ok scope → reader f g scope q at ≡ g holders.Document q at scope
 reader_same f g below v q at scope none is = goes (counted 1 4 (drop 4 v)) refl
   where
     goes : (o : Option ℕ) → counted 1 4 (drop 4 v) ≡ o → reader f g scope q at ≡ g holders.Document q at scope
@@ -237,8 +237,8 @@ reader_same f g below v q at scope none is = goes (counted 1 4 (drop 4 v)) refl
         let parts : List ℕ = drop 4 v in
         let w : List ℕ = drop m parts in
         let s = string_there at parts m h in
-        let given : gives s.told w ≡ Ok scope = sym (s.goes w refl) ∙ ap (past_string at) (take-append-drop m parts) ∙ is in
-        let same : w ≡ scope = left s.told w given in
+        let given : gives s.stated w ≡ Ok scope = sym (s.goes w refl) ∙ ap (skip_string at) (take-append-drop m parts) ∙ is in
+        let same : w ≡ scope = given_is s.stated w given in
         let there : w ≡ drop (8 + number_of parts) v = drop-drop m 4 v ∙ ap (λ n. drop n v) (omega (arith, s.start)) in
         let long : length w ≡ length v - (8 + number_of parts) = ap (λ (x : List ℕ). length x) there ∙ length-drop (8 + number_of parts) v in
         let short : number_of w ≡ length w → length w < 5 = λ e.
@@ -246,29 +246,29 @@ reader_same f g below v q at scope none is = goes (counted 1 4 (drop 4 v)) refl
         omega (arith, long, less, s.inside, s.start, length-drop 4 v) in
         subst (λ (x : List ℕ). reader f g x q at ≡ g holders.Document q at x) same (reader_short f g below w q at short)
       where
-        left : (t : Result (Unit {0}) Fault) (w : List ℕ) → gives t w ≡ Ok scope → w ≡ scope
-        left (Ok u) w e = cc
-        left (Err d) w e = absurd cc
+        given_is : (t : Result (Unit {0}) Fault) (w : List ℕ) → gives t w ≡ Ok scope → w ≡ scope
+        given_is (Ok u) w e = cc
+        given_is (Err d) w e = absurd cc
 
-pub same_scope : (f g : Nested) → NestedFails f g → (v : List ℕ) → 14 ≤ length v → number_of v ≡ length v → scope_at v ≡ None → (q e : ℕ) (r two : List ℕ) → length two ≡ length r → Alike r two (wide_code_scope f g q e (v ++ r)) (past_code_scope g q e (v ++ two))
+pub same_scope : (f g : Nested) → NestedFails f g → (v : List ℕ) → 14 ≤ length v → number_of v ≡ length v → scope_at v ≡ None → (q e : ℕ) (r two : List ℕ) → length two ≡ length r → Alike r two (wide_code_scope f g q e (v ++ r)) (skip_code_scope g q e (v ++ two))
 same_scope f g below v some count none q e r two long =
     let four : List ℕ = take 4 v in
     let parts : List ℕ = drop 4 v in
     let len : length four ≡ 4 = length-take-le 4 v (omega (arith, some)) in
-    let told : from_le_bytes w32 four ≡ length parts + 4 = count ∙ omega (arith, length-drop 4 v, some) in
+    let stated : from_le_bytes w32 four ≡ length parts + 4 = count ∙ omega (arith, length-drop 4 v, some) in
     let ten : 10 ≤ length parts = omega (arith, length-drop 4 v, some) in
     let whole : (x : List ℕ) → v ++ x ≡ four ++ (parts ++ x) = λ x. ap (λ (y : List ℕ). y ++ x) (sym (take-append-drop 4 v)) ∙ append_assoc four parts x in
     let bad : ℕ = e - length (four ++ (parts ++ r)) in
     let total : length (four ++ (parts ++ two)) ≡ length (four ++ (parts ++ r)) = omega (arith, length-append four (parts ++ two), length-append four (parts ++ r), length-append parts two, length-append parts r, long) in
-    let one = ap (wide_code_scope f g q e) (whole r) ∙ wide_scope_is f g q e four parts r len told ten in
-    let other = ap (past_code_scope g q e) (whole two) ∙ past_scope_is g q e four parts two len told ten
-    ∙ ap₂ (λ (l k : ℕ). past_string (e - l) parts >>= λ scope. scope_tail (g holders.Document q (e - l) scope) (e - k) two) long total in
-    let ends : (t : Result (List ℕ) Fault) → past_string (e - length r) parts ≡ t
+    let one = ap (wide_code_scope f g q e) (whole r) ∙ wide_scope_is f g q e four parts r len stated ten in
+    let other = ap (skip_code_scope g q e) (whole two) ∙ skip_scope_is g q e four parts two len stated ten
+    ∙ ap₂ (λ (l k : ℕ). skip_string (e - l) parts >>= λ scope. scope_tail (g holders.Document q (e - l) scope) (e - k) two) long total in
+    let ends : (t : Result (List ℕ) Fault) → skip_string (e - length r) parts ≡ t
     → Alike r two (t >>= λ scope. scope_tail (reader f g scope q (e - length r)) bad r) (t >>= λ scope. scope_tail (g holders.Document q (e - length r) scope) bad two) = elim [
       | Ok scope ↦ λ is.
           let x : Result (List ℕ) Fault = g holders.Document q (e - length r) scope in
           (scope_tail x bad [] >>= λ y. Ok tt, ap (λ (y : Result (List ℕ) Fault). scope_tail y bad r) (reader_same f g below v q (e - length r) scope none is) ∙ tail_is x bad r, tail_is x bad two)
       | Err d ↦ λ is. (Err d, refl, refl)
     ] in
-    let a = ends (past_string (e - length r) parts) refl in
+    let a = ends (skip_string (e - length r) parts) refl in
     (a.0, one ∙ a.1, other ∙ a.2)

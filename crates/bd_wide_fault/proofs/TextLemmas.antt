@@ -25,8 +25,8 @@ utf8_more s = goes (is_utf8 s) refl
     back true at is =
         let whole = IsUtf8-from_is_utf8 (s ++ 35 ∷ []) at in
         let letter : get_or (s ++ 35 ∷ []) (length s) 0 < 128 = rw (letter_at s) (omega arith) in
-        let cut = IsUtf8-take (s ++ 35 ∷ []) (length s) whole (IsCharBoundary-before_ascii (s ++ 35 ∷ []) (length s) (omega (arith, length-append s (35 ∷ []))) letter) in
-        let yes : is_utf8 s ≡ true = is_utf8-from_IsUtf8 s (subst IsUtf8 (take_at s (35 ∷ []) (length s) refl) cut) in
+        let splits = IsUtf8-take (s ++ 35 ∷ []) (length s) whole (IsCharBoundary-before_ascii (s ++ 35 ∷ []) (length s) (omega (arith, length-append s (35 ∷ []))) letter) in
+        let yes : is_utf8 s ≡ true = is_utf8-from_IsUtf8 s (subst IsUtf8 (take_at s (35 ∷ []) (length s) refl) splits) in
         let f : true ≡ false = sym yes ∙ is in absurd cc
 
     goes : (b : Bool) → is_utf8 s ≡ b → is_utf8 (s ++ 35 ∷ []) ≡ b
@@ -36,8 +36,8 @@ utf8_more s = goes (is_utf8 s) refl
 up_to_same : (s x : List ℕ) (n : ℕ) → n ≤ length s → valid_len_up_to (s ++ x) n ≡ valid_len_up_to s n
 up_to_same s x zero le = refl
 up_to_same s x (suc n) le =
-    let cut : take (suc n) (s ++ x) ≡ take (suc n) s = take-append-le (suc n) s x le in
-    ap (λ y. cond (is_utf8 y) (suc n) (valid_len_up_to (s ++ x) n)) cut ∙ ap (λ k. cond (is_utf8 (take (suc n) s)) (suc n) k) (up_to_same s x n (omega arith))
+    let splits : take (suc n) (s ++ x) ≡ take (suc n) s = take-append-le (suc n) s x le in
+    ap (λ y. cond (is_utf8 y) (suc n) (valid_len_up_to (s ++ x) n)) splits ∙ ap (λ k. cond (is_utf8 (take (suc n) s)) (suc n) k) (up_to_same s x n (omega arith))
 
 valid_more : (s : List ℕ) → is_utf8 s ≡ false → utf8_valid_len (s ++ 35 ∷ []) ≡ utf8_valid_len s
 unfolding utf8_valid_len
@@ -48,20 +48,20 @@ valid_more s is =
     ap (valid_len_up_to (s ++ 35 ∷ [])) size ∙ ap (λ b. cond b (suc (length s)) (valid_len_up_to (s ++ 35 ∷ []) (length s))) no_text ∙ up_to_same s (35 ∷ []) (length s) (omega arith)
 
 -- a text is one, or the fault
-abbrev pub text_told : ℕ → List ℕ → Result (Unit {0}) Fault
-text_told at s = text_at at s >>= λ x. Ok tt
+abbrev pub text_checked : ℕ → List ℕ → Result (Unit {0}) Fault
+text_checked at s = text_at at s >>= λ x. Ok tt
 
-text_more : (at : ℕ) (s : List ℕ) → text_told at (s ++ 35 ∷ []) ≡ text_told at s
+text_more : (at : ℕ) (s : List ℕ) → text_checked at (s ++ 35 ∷ []) ≡ text_checked at s
 text_more at s = goes (is_utf8 s) refl
   where
-    goes : (b : Bool) → is_utf8 s ≡ b → text_told at (s ++ 35 ∷ []) ≡ text_told at s
+    goes : (b : Bool) → is_utf8 s ≡ b → text_checked at (s ++ 35 ∷ []) ≡ text_checked at s
     goes true is = let more = utf8_more s ∙ is in rw (is, more) refl
     goes false is = let more = utf8_more s ∙ is in let valid = valid_more s is in rw (is, more, valid) refl
 
-pub text_longer : (at : ℕ) (s : List ℕ) → text_told at (s ++ (35 ∷ 35 ∷ 35 ∷ 35 ∷ [])) ≡ text_told at s
+pub text_longer : (at : ℕ) (s : List ℕ) → text_checked at (s ++ (35 ∷ 35 ∷ 35 ∷ 35 ∷ [])) ≡ text_checked at s
 text_longer at s =
     let one : List ℕ = s ++ 35 ∷ [] in
     let two : List ℕ = one ++ 35 ∷ [] in
     let three : List ℕ = two ++ 35 ∷ [] in
     let all : s ++ (35 ∷ 35 ∷ 35 ∷ 35 ∷ []) ≡ three ++ 35 ∷ [] = sym (append_assoc two (35 ∷ []) (35 ∷ []) ∙ append_assoc one (35 ∷ []) (35 ∷ 35 ∷ []) ∙ append_assoc s (35 ∷ []) (35 ∷ 35 ∷ 35 ∷ [])) in
-    ap (text_told at) all ∙ text_more at three ∙ text_more at two ∙ text_more at one ∙ text_more at s
+    ap (text_checked at) all ∙ text_more at three ∙ text_more at two ∙ text_more at one ∙ text_more at s

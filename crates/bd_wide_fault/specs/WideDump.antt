@@ -25,7 +25,7 @@ pub data AreFaultless : ℕ → List ℕ → Type 0 where
 
 -- The bytes are n documents without a fault; or they begin with these,
 -- and the document after them has this fault.
-abbrev pub IsWideWalk : ℕ → Option Fault → List ℕ → Type 0
-IsWideWalk n None bytes = AreFaultless n bytes
-IsWideWalk n (Some f) bytes = (front : List ℕ) × (rest : List ℕ) × AreFaultless n front
-    × (bytes ≡ front ++ rest) × (wide_frame_fault (length front) rest ≡ Some f)
+abbrev pub IsWideScan : ℕ → Option Fault → List ℕ → Type 0
+IsWideScan n None bytes = AreFaultless n bytes
+IsWideScan n (Some f) bytes = (prefix : List ℕ) × (rest : List ℕ) × AreFaultless n prefix
+    × (bytes ≡ prefix ++ rest) × (wide_frame_fault (length prefix) rest ≡ Some f)

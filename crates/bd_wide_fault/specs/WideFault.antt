@@ -10,16 +10,16 @@ use Rattle.bd_bson_view.specs.declared.raw_parts.{ElementType.ElementType, Holde
 use Rattle.bd_bson_check.specs.Fault.{Fault}
 use Rattle.bd_bson_check.specs.declared.fault.FaultKind.TheVariants.{UnknownType, Double, Decimal128, NameUnended}
 use Rattle.bd_bson_check.specs.declared.fault.FaultKind.TheVariants.{BadScopeLength, TooDeep}
-use Rattle.bd_bson_check.specs.FirstFault.{◌>>=◌, Nested, fault, label, within, past_code_frame, past_fixed}
-use Rattle.bd_bson_check.specs.FirstFault.{past_frame, past_name, past_nested, past_string, past_value}
+use Rattle.bd_bson_check.specs.FirstFault.{◌>>=◌, Nested, fault, label, within, skip_code_frame, skip_fixed}
+use Rattle.bd_bson_check.specs.FirstFault.{skip_frame, skip_name, skip_nested, skip_string, skip_value}
 
 -- the bytes after a value of that type: eight for a double, sixteen for a decimal128,
 -- which is refused as such if it is cut short
 abbrev pub wide_typed : Nested → ElementType → ℕ → ℕ → List ℕ → Result (List ℕ) Fault
-wide_typed nested ElementType.Double q e bytes = past_fixed 8 e bytes
+wide_typed nested ElementType.Double q e bytes = skip_fixed 8 e bytes
 wide_typed nested ElementType.Decimal128 q e bytes =
     if nat_lt (length bytes) 16 then fault Decimal128 q else Ok (drop 16 bytes)
-wide_typed nested (ElementType.Kept kind) q e bytes = past_value nested kind q e bytes
+wide_typed nested (ElementType.Kept kind) q e bytes = skip_value nested kind q e bytes
 
 -- the bytes after an element, in which doubles and decimal128 are read: its type byte, its name, its value
 unfoldable pub wide_element : Nested → Option ℕ → ℕ → List ℕ → Result (List ℕ) Fault
@@ -27,7 +27,7 @@ wide_element nested place e [] = fault UnknownType e
 wide_element nested place e (b ∷ bytes) = do
   type ← ok_or (type_at b)
       (record { kind = UnknownType; offset = e - suc (length bytes); path = [] })
-  name ← past_name NameUnended e bytes
+  name ← skip_name NameUnended e bytes
   within (label place name.0) (wide_typed nested type (e - suc (length bytes)) e name.1)
 
 -- All elements, in which doubles and decimal128 are read. The first number bounds the turns:
@@ -42,33 +42,33 @@ wide_elements nested place (suc n) e (b ∷ bytes) = do
 -- the bytes after a document, or after an array, in which doubles and decimal128 are read
 abbrev pub wide_body : Nested → Bool → ℕ → List ℕ → Result (List ℕ) Fault
 wide_body nested in_array e bytes = do
-  f ← past_frame false e bytes
+  f ← skip_frame false e bytes
   wide_elements nested (if in_array then Some 0 else None) (length f.0) f.1 f.0 >>= λ u. Ok f.2
 
 -- The bytes after code with scope, whose scope must end where it ends.
 -- In one that does not, doubles and decimal128 are refused.
 abbrev pub wide_code_scope : Nested → Nested → ℕ → ℕ → List ℕ → Result (List ℕ) Fault
 wide_code_scope nested others q e bytes = do
-  f ← past_code_frame e bytes
-  scope ← past_string f.1 f.0
+  f ← skip_code_frame e bytes
+  scope ← skip_string f.1 f.0
   after ← within (codes "$scope")
       ((if number_of scope == length scope then nested else others) Holder.Document q f.1 scope)
   if nat_lt 0 (length after) then fault BadScopeLength (e - length bytes) else Ok f.2
 
--- The bytes after a value that holds values, with `room` levels left for it;
+-- The bytes after a value that holds values, with `depth_left` levels left for it;
 -- code with scope takes one and its scope another.
 unfoldable pub wide_nested : ℕ → Nested
 wide_nested zero holder q e bytes = fault TooDeep q
-wide_nested (suc room) Holder.Document q e bytes = wide_body (wide_nested room) false e bytes
-wide_nested (suc room) Holder.Array q e bytes = wide_body (wide_nested room) true e bytes
+wide_nested (suc depth_left) Holder.Document q e bytes = wide_body (wide_nested depth_left) false e bytes
+wide_nested (suc depth_left) Holder.Array q e bytes = wide_body (wide_nested depth_left) true e bytes
 wide_nested (suc zero) Holder.CodeScope q e bytes = fault TooDeep q
-wide_nested (suc (suc room)) Holder.CodeScope q e bytes =
-    wide_code_scope (wide_nested (suc room)) (past_nested (suc room)) q e bytes
+wide_nested (suc (suc depth_left)) Holder.CodeScope q e bytes =
+    wide_code_scope (wide_nested (suc depth_left)) (skip_nested (suc depth_left)) q e bytes
 
 -- the document that all of the bytes must be, at level 1 of 200, in which doubles and decimal128 are read
 unfoldable pub wide_document : ℕ → List ℕ → Result (Unit {0}) Fault
 wide_document e bytes = do
-  f ← past_frame true e bytes
+  f ← skip_frame true e bytes
   wide_elements (wide_nested (most_levels - 1)) None (length f.0) f.1 f.0
 
 -- the first fault of bytes that must be one document, if doubles and decimal128 are read;
@@ -77,6 +77,6 @@ abbrev pub wide_fault : ℕ → List ℕ → Option Fault
 wide_fault base bytes = result_err (wide_document (base + length bytes) bytes)
 
 -- There is no fault, or it is not that of a double or a decimal128.
-abbrev pub TellsNoNumber : Option Fault → Type 0
-TellsNoNumber None = Unit {0}
-TellsNoNumber (Some f) = (f.kind ≢ Double) × (f.kind ≢ Decimal128)
+abbrev pub ReportsNoNumber : Option Fault → Type 0
+ReportsNoNumber None = Unit {0}
+ReportsNoNumber (Some f) = (f.kind ≢ Double) × (f.kind ≢ Decimal128)

@@ -2,7 +2,7 @@
 
 ghost use Rattle.std.specs.Prelude.{List, Option, length, slice_index, ◌<◌, ◌≡◌, ℕ};
 ghost use Rattle.bd_value.specs.Tree.{Doc};
-ghost use Rattle.bd_bson_check.specs.Dump.{IsWalk};
+ghost use Rattle.bd_bson_check.specs.Dump.{IsDumpScan};
 ghost use Rattle.bd_bson_check.specs.Fault.{Fault};
 ghost use Rattle.bd_bson_check.specs.FirstFault.{first_fault};
 ghost use Rattle.bd_bson_view.specs.Sizes.{number_of};
@@ -10,8 +10,8 @@ ghost use Rattle.bd_wide.specs.Mask.{IsMasked, masked_others};
 ghost use Rattle.bd_wide.specs.Rewritten.{IsRewritten};
 ghost use Rattle.bd_wide_cli.specs.Filtered.{AreFiltered};
 ghost use Rattle.bd_wide_cli.specs.declared.filter.Filter.TheVariants.{Mask};
-ghost use Rattle.bd_wide_fault.specs.WideDump.{IsWideWalk};
-ghost use Rattle.bd_wide_fault.specs.WideFault.{TellsNoNumber, wide_fault};
+ghost use Rattle.bd_wide_fault.specs.WideDump.{IsWideScan};
+ghost use Rattle.bd_wide_fault.specs.WideFault.{ReportsNoNumber, wide_fault};
 
 /// The first fault of a masked document is that of the document where doubles and decimal128 are read, or neither has one.
 pub fn masked_faults_stay()
@@ -22,14 +22,15 @@ pub fn masked_faults_stay()
 
 /// It is that of the document before it was masked, if this is no double and no decimal128, or neither has one.
 pub fn other_faults_are_first_faults()
-    ensures { (base : ℕ) (bytes : List ℕ) → TellsNoNumber (first_fault base bytes)
+    ensures { (base : ℕ) (bytes : List ℕ) → ReportsNoNumber (first_fault base bytes)
         → wide_fault base bytes ≡ first_fault base bytes }
 {}
 
 /// A masked dump has as many documents without a fault as the dump has where doubles and decimal128 are read; these are all, or
 /// the one after them has the same fault in both.
 pub fn masked_dumps_end_alike()
-    ensures { (bytes : List ℕ) (kept : ℕ) (new : List ℕ) → ((i : ℕ) → slice_index bytes i < 256)
-        → ((i : ℕ) → slice_index new i < 256) → AreFiltered Mask bytes kept new
-        → (ds : List Doc) (end : Option Fault) → IsWalk ds end new → IsWideWalk (length ds) end bytes }
+    ensures { (bytes : List ℕ) (kept : ℕ) (new : List ℕ) →
+        ((i : ℕ) → slice_index bytes i < 256) → ((i : ℕ) → slice_index new i < 256) →
+        AreFiltered Mask bytes kept new → (ds : List Doc) (end : Option Fault) →
+        IsDumpScan ds end new → IsWideScan (length ds) end bytes }
 {}

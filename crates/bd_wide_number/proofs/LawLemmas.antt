@@ -305,9 +305,9 @@ code_size true (suc b) = negative_times (magnitude (suc b)) least_double
 code_size false b = refl
 
 -- the number that a code by a double stands for is the one that has the code
-pub code_stands : (negative : Bool) (size : ℕ) (c : ℤ) → number_code None (finite negative size) ≡ Some c → code_value c *ℤ pos least_double ≡ signed negative size
+pub code_means_number : (negative : Bool) (size : ℕ) (c : ℤ) → number_code None (finite negative size) ≡ Some c → code_value c *ℤ pos least_double ≡ signed negative size
 unfolding number_code double_code
-code_stands s n c h =
+code_means_number s n c h =
     let g = double_gives s n c h in
     ap (λ (x : ℤ). code_value x *ℤ pos least_double) g.3 ∙ code_size s g.0 ∙ ap (signed s) g.2
 

@@ -30,8 +30,8 @@ pub fn code_is_of_the_equal_double()
 
 /// A code stands for the number: by a power of ten it is that many times it, and by a double it is its bits, which rise with
 /// what they stand for.
-pub fn codes_stand_for_numbers()
-    ensures stands { (negative : Bool) (size : ℕ) (c : ℤ)
+pub fn codes_mean_numbers()
+    ensures means_number { (negative : Bool) (size : ℕ) (c : ℤ)
         → number_code None (finite negative size) ≡ Some c
         → code_value c *ℤ pos least_double ≡ signed negative size }
     ensures scaled { (k : ℕ) (negative : Bool) (size : ℕ) (c : ℤ)

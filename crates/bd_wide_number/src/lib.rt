@@ -27,7 +27,7 @@ mod odd;
 pub use code::{code_of, whole_of};
 pub use decimal128::{biased_exponent, coefficient, five_bits};
 pub use laws::{
-    code_is_of_the_equal_double, codes_rise, codes_stand_for_numbers, equal_numbers_have_one_code,
+    code_is_of_the_equal_double, codes_mean_numbers, codes_rise, equal_numbers_have_one_code,
     samples_of_doubles,
 };
 pub use number::Number;

@@ -9,8 +9,8 @@ use Rattle.bd_path.specs.Reach.{Names}
 use Rattle.bd_query_filter.specs.FilterMatch.{matches}
 use Rattle.bd_bson_dump.specs.Collection.{document_at, documents_at}
 use Rattle.bd_cursor_request.specs.Request.{Request}
-use Rattle.bd_cursor_sort.specs.Selection.{hits_of, order_of_keys, query_to}
-use Rattle.bd_wide_order.specs.{Pages.HaveOneAnswer, Query.RequestAsksOf, Query.renumber_request, Values.values_at}
+use Rattle.bd_cursor_sort.specs.Selection.{matches_at_of, order_of_keys, query_to}
+use Rattle.bd_wide_order.specs.{Pages.HaveOneAnswer, Query.RequestNeeds, Query.renumber_request, Values.values_at}
 use Rattle.bd_wide_order.specs.Renumber.{Codes, under, AreIncreasing, DocumentsAreOf, IsOf, renumber, renumber_fields, renumber_document, renumber_documents, renumber_filter}
 use Rattle.bd_wide_order.proofs.ValueLemmas.{values_rise}
 use Rattle.bd_wide_order.proofs.MatchLemmas.{is_of_all, match_stays}
@@ -49,32 +49,32 @@ module _ (c : Codes) where
   is_of (d ∷ ds) zero are = are.0
   is_of (d ∷ ds) (suc p) are = is_of ds p are.1
 
-module _ (c : Codes) (up : AreIncreasing c) (r : Request) (asks : RequestAsksOf c r) (ds : List Doc) (are : (p : ℕ) → IsOf c (document_at ds p)) where
-  hits_stay : (p : ℕ) → hits_of (renumber_documents c ds) (renumber_filter c r.filter) p ≡ hits_of ds r.filter p
-  hits_stay p = ap (matches (renumber_filter c r.filter)) (document_stays c ds p) ∙ match_stays c up r.filter asks.0 (document_at ds p) (are p)
+module _ (c : Codes) (up : AreIncreasing c) (r : Request) (needs : RequestNeeds c r) (ds : List Doc) (are : (p : ℕ) → IsOf c (document_at ds p)) where
+  matches_at_stay : (p : ℕ) → matches_at_of (renumber_documents c ds) (renumber_filter c r.filter) p ≡ matches_at_of ds r.filter p
+  matches_at_stay p = ap (matches (renumber_filter c r.filter)) (document_stays c ds p) ∙ match_stays c up r.filter needs.0 (document_at ds p) (are p)
 
   order_stays : (p q : ℕ) → order_of_keys (renumber_documents c ds) r.sorts p q ≡ order_of_keys ds r.sorts p q
   order_stays p q =
       ap₂ (sort_cmp r.sorts) (document_stays c ds p) (document_stays c ds q)
-      ∙ sorts_stay c up r.sorts asks.1 (document_at ds p) (document_at ds q) (are p) (are q)
+      ∙ sorts_stay c up r.sorts needs.1 (document_at ds p) (document_at ds q) (are p) (are q)
 
   requests_stay : (bytes new text : List ℕ) → HaveOneAnswer (query_to new (renumber_documents c ds) (renumber_request c text r)) (query_to bytes ds r)
   requests_stay bytes new text =
       one_answer (query_to new (renumber_documents c ds) (renumber_request c text r)) (query_to bytes ds r)
       (λ i. record {
         count = length-map ds (renumber_document c) i;
-        hits = λ p. hits_stay p i;
+        matches_at = λ p. matches_at_stay p i;
         by = λ p q. order_stays p q i;
         skip = r.skip;
         limit = r.limit;
       })
 
-pub answers_stay : (c : Codes) → AreIncreasing c → (r : Request) → RequestAsksOf c r → (ds : List Doc) → DocumentsAreOf c ds → (bytes new text : List ℕ)
+pub answers_stay : (c : Codes) → AreIncreasing c → (r : Request) → RequestNeeds c r → (ds : List Doc) → DocumentsAreOf c ds → (bytes new text : List ℕ)
     → HaveOneAnswer (query_to new (renumber_documents c ds) (renumber_request c text r)) (query_to bytes ds r)
-answers_stay c up r asks ds are bytes new text = requests_stay c up r asks ds (λ p. is_of c ds p (recursion_from_All (λ d. IsOf c (doc (fields_of d))) ds are)) bytes new text
+answers_stay c up r needs ds are bytes new text = requests_stay c up r needs ds (λ p. is_of c ds p (recursion_from_All (λ d. IsOf c (doc (fields_of d))) ds are)) bytes new text
 
 -- every number may occur
-pub values_stay : (powers : Names → Option ℕ) (r : Request) → RequestAsksOf (values_at powers) r → (ds : List Doc) (bytes new text : List ℕ)
+pub values_stay : (powers : Names → Option ℕ) (r : Request) → RequestNeeds (values_at powers) r → (ds : List Doc) (bytes new text : List ℕ)
     → HaveOneAnswer (query_to new (renumber_documents (values_at powers) ds) (renumber_request (values_at powers) text r)) (query_to bytes ds r)
-values_stay powers r asks ds bytes new text =
-    requests_stay (values_at powers) (values_rise powers) r asks ds (λ p. is_of_all (values_at powers) (λ path n. refl) (document_at ds p)) bytes new text
+values_stay powers r needs ds bytes new text =
+    requests_stay (values_at powers) (values_rise powers) r needs ds (λ p. is_of_all (values_at powers) (λ path n. refl) (document_at ds p)) bytes new text

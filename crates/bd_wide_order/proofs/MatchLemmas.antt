@@ -16,7 +16,7 @@ use Rattle.bd_query_filter.specs.FilterMatch.{matches, all_match, some_match, ho
 use Rattle.bd_query_filter.specs.declared.operand.Relation.{Relation}
 use Rattle.bd_wide_order.specs.Renumber.{Codes, under, scope_name, AreIncreasing, IsOf, ItemsAreOf, FieldsAreOf, renumber}
 use Rattle.bd_wide_order.specs.Renumber.{renumber_filter, renumber_filters, renumber_operator, renumber_operators}
-use Rattle.bd_wide_order.specs.Renumber.{TakeNumbersAlike, AsksOf, AllAskOf, OperatorAsksOf, OperatorsAskOf}
+use Rattle.bd_wide_order.specs.Renumber.{TakeNumbersAlike, FilterNeeds, FiltersNeed, OperatorNeeds, OperatorsNeed}
 use Rattle.bd_wide_order.proofs.OrderLemmas.{order_stays, classes_stay, equals_stay}
 use Rattle.bd_wide_order.proofs.ReachLemmas.{EndIsOf, any_map, document_stays, ends_are_of, list_is_of, list_stays, reach_stays}
 
@@ -123,7 +123,7 @@ module _ (c : Codes) where
 
 mutual
   -- a renumbered document matches the renumbered filter exactly if the document matches the filter
-  pub match_stays : (c : Codes) → AreIncreasing c → (f : Filter) → AsksOf c f → (d : Tree) → IsOf c d → matches (renumber_filter c f) (renumber c d) ≡ matches f d
+  pub match_stays : (c : Codes) → AreIncreasing c → (f : Filter) → FilterNeeds c f → (d : Tree) → IsOf c d → matches (renumber_filter c f) (renumber c d) ≡ matches f d
   match_stays c up (all_of fs) a d b = all_stay c up fs a d b
   match_stays c up (some_of fs) a d b = some_stay c up fs a d b
   match_stays c up (none_of fs) a d b = ap not (some_stay c up fs a d b)
@@ -131,15 +131,15 @@ mutual
       ap (all_hold (renumber_operators (λ names. c (path ++ names)) os)) (reach_stays c path a.0 d)
       ∙ hold_stay (λ names. c (path ++ names)) (λ names. up (path ++ names)) os a.1 (reach d path) (ends_are_of c d path a.0 b)
 
-  all_stay : (c : Codes) → AreIncreasing c → (fs : Filters) → AllAskOf c fs → (d : Tree) → IsOf c d → all_match (renumber_filters c fs) (renumber c d) ≡ all_match fs d
+  all_stay : (c : Codes) → AreIncreasing c → (fs : Filters) → FiltersNeed c fs → (d : Tree) → IsOf c d → all_match (renumber_filters c fs) (renumber c d) ≡ all_match fs d
   all_stay c up no_filters a d b = refl
   all_stay c up (filter f fs) a d b = ap₂ ◌&&◌ (match_stays c up f a.0 d b) (all_stay c up fs a.1 d b)
 
-  some_stay : (c : Codes) → AreIncreasing c → (fs : Filters) → AllAskOf c fs → (d : Tree) → IsOf c d → some_match (renumber_filters c fs) (renumber c d) ≡ some_match fs d
+  some_stay : (c : Codes) → AreIncreasing c → (fs : Filters) → FiltersNeed c fs → (d : Tree) → IsOf c d → some_match (renumber_filters c fs) (renumber c d) ≡ some_match fs d
   some_stay c up no_filters a d b = refl
   some_stay c up (filter f fs) a d b = ap₂ ◌||◌ (match_stays c up f a.0 d b) (some_stay c up fs a.1 d b)
 
-  holds_stays : (c : Codes) → AreIncreasing c → (o : Operator) → OperatorAsksOf c o → (es : List End) → Each (EndIsOf c) es
+  holds_stays : (c : Codes) → AreIncreasing c → (o : Operator) → OperatorNeeds c o → (es : List End) → Each (EndIsOf c) es
       → holds (renumber_operator c o) (map (option_map (renumber c)) es) ≡ holds o es
   holds_stays c up (equals v) a es b = equal_stays c up es b v a
   holds_stays c up (compares o v) a es b =
@@ -160,12 +160,12 @@ mutual
       any_value_stays c (λ t. list_any (λ x. is_document x && all_match (renumber_filters c fs) x) (elements_in t)) (λ t. list_any (λ x. is_document x && all_match fs x) (elements_in t))
       (any_element_stays c (λ x. is_document x && all_match (renumber_filters c fs) x) (λ x. is_document x && all_match fs x) (λ x d. ap₂ ◌&&◌ (document_stays c x) (all_stay c up fs a x d))) es b
 
-  hold_stay : (c : Codes) → AreIncreasing c → (os : Operators) → OperatorsAskOf c os → (es : List End) → Each (EndIsOf c) es
+  hold_stay : (c : Codes) → AreIncreasing c → (os : Operators) → OperatorsNeed c os → (es : List End) → Each (EndIsOf c) es
       → all_hold (renumber_operators c os) (map (option_map (renumber c)) es) ≡ all_hold os es
   hold_stay c up no_operators a es b = refl
   hold_stay c up (operator o os) a es b = ap₂ ◌&&◌ (holds_stays c up o a.0 es b) (hold_stay c up os a.1 es b)
 
-  accepts_stays : (c : Codes) → AreIncreasing c → (o : Operator) → OperatorAsksOf c o → (t : Tree) → IsOf c t → accepts (renumber_operator c o) (renumber c t) ≡ accepts o t
+  accepts_stays : (c : Codes) → AreIncreasing c → (o : Operator) → OperatorNeeds c o → (t : Tree) → IsOf c t → accepts (renumber_operator c o) (renumber c t) ≡ accepts o t
   accepts_stays c up (equals v) a t b = equals_stay c up t v b a
   accepts_stays c up (compares o v) a t b = related_stays c up o v t a b
   accepts_stays c up (is_in vs) a t b = any_map (equal (renumber c t)) (equal t) (renumber c) (IsOf c) (λ v d. equals_stay c up t v b d) vs (recursion_from_All (IsOf c) vs a)
@@ -179,7 +179,7 @@ mutual
   accepts_stays c up (has_document fs) a t b =
       any_element_stays c (λ x. is_document x && all_match (renumber_filters c fs) x) (λ x. is_document x && all_match fs x) (λ x d. ap₂ ◌&&◌ (document_stays c x) (all_stay c up fs a x d)) t b
 
-  accept_stay : (c : Codes) → AreIncreasing c → (os : Operators) → OperatorsAskOf c os → (t : Tree) → IsOf c t → all_accept (renumber_operators c os) (renumber c t) ≡ all_accept os t
+  accept_stay : (c : Codes) → AreIncreasing c → (os : Operators) → OperatorsNeed c os → (t : Tree) → IsOf c t → all_accept (renumber_operators c os) (renumber c t) ≡ all_accept os t
   accept_stay c up no_operators a t b = refl
   accept_stay c up (operator o os) a t b = ap₂ ◌&&◌ (accepts_stays c up o a.0 t b) (accept_stay c up os a.1 t b)
 

@@ -11,7 +11,7 @@ use Rattle.bd_query_filter.specs.Fault.{Refusal, refuse}
 use Rattle.bd_query_filter.specs.Filter.{Filter, all_of, some_of, none_of, at_path, filters_from, filter, Operator, equals, compares, is_in, has_all, has_type, has_size, exists, negates, has_element, has_document}
 use Rattle.bd_query_filter.specs.Filter.{negation_of, operators_from, operator}
 use Rattle.bd_query_filter.specs.Word.{word_of}
-use Rattle.bd_query_filter.specs.FilterOf.{read_as, read_at, is_regex, is_bound, first_is_operator, has_operators, unless_left_out, member_value, member_values, members_of}
+use Rattle.bd_query_filter.specs.FilterOf.{read_as, read_at, is_regex, is_bound, first_is_operator, has_operators, unless_omitted, member_value, member_values, members_of}
 use Rattle.bd_query_filter.specs.FilterOf.{size_value, truth_value, operand_kinds, or_bad_operand, plain_operator, logical_filter, inner_part, has_value_form, pair_filter, operator_of}
 use Rattle.bd_query_filter.specs.FilterOf.{filters_of, operand_filters, member_filters, member_filter, path_operators, operators_of, not_operator, element_operator, filter_of}
 use Rattle.bd_query_filter.specs.declared.filter_of.{LogicalOperator.LogicalOperator, PlainOperator.PlainOperator, Word.Word}
@@ -19,7 +19,7 @@ use Rattle.bd_query_filter.specs.declared.fault.FilterFaultKind.TheVariants as f
 use Rattle.bd_query_filter.specs.declared.filter_of.LogicalOperator.TheVariants as logical
 use Rattle.bd_query_filter.specs.declared.filter_of.PlainOperator.TheVariants as plain
 use Rattle.bd_query_filter.specs.declared.filter_of.Word.TheVariants as words
-use Rattle.bd_cursor_request.specs.Refused.{Reason, bad_filter, plain as plain_reason, then_part, told_as}
+use Rattle.bd_cursor_request.specs.Refused.{Reason, bad_filter, plain as plain_reason, then_part, error_as}
 use Rattle.bd_cursor_request.specs.Request.{Request, request_of, request_text, request_with, sort_of}
 use Rattle.bd_cursor_request.specs.declared.results.Refused.TheVariants as reasons
 use Rattle.bd_wide_order.specs.Renumber.{Codes, below, renumber, renumber_items, renumber_fields, renumber_filter, renumber_filters, renumber_operator, renumber_operators}
@@ -40,9 +40,9 @@ read_in_turn h n (Err r) xs = refl
 read_in_turn h n (Ok x) (Err r) = refl
 read_in_turn h n (Ok x) (Ok xs) = refl
 
-inner_stays : {A B : Type 0} (h : A → B) (room : ℕ) (x : Result A Refusal) (y : Result B Refusal) → y ≡ read_as h x → inner_part room y ≡ read_as h (inner_part room x)
+inner_stays : {A B : Type 0} (h : A → B) (depth_left : ℕ) (x : Result A Refusal) (y : Result B Refusal) → y ≡ read_as h x → inner_part depth_left y ≡ read_as h (inner_part depth_left x)
 inner_stays h zero x y e = refl
-inner_stays h (suc room) x y e = e
+inner_stays h (suc depth_left) x y e = e
 
 -- a part read as something, of which a part renumbered is read as that renumbered
 read_on : {A B C D : Type 0} (f : A → B) (k : C → D) (h : A → C) (i : B → D) → ((a : A) → i (f a) ≡ k (h a)) → (x : Result A Refusal) (y : Result B Refusal) → y ≡ read_as f x → read_as i y ≡ read_as k (read_as h x)
@@ -95,7 +95,7 @@ module _ (c : Codes) where
   has_operators_stays (array ts) = refl
   has_operators_stays (code_scope s fs) = refl
 
-  unless_stays : (a b : Bool) (t : Tree) → a ≡ b → unless_left_out a (r t) ≡ read_as r (unless_left_out b t)
+  unless_stays : (a b : Bool) (t : Tree) → a ≡ b → unless_omitted a (r t) ≡ read_as r (unless_omitted b t)
   unless_stays true true t e = refl
   unless_stays false false t e = refl
   unless_stays true false t e = absurd cc
@@ -117,9 +117,9 @@ module _ (c : Codes) where
   plain_stays : (p : PlainOperator) (t : Tree) → plain_operator p (plain_operand p t (r t)) ≡ read_as (renumber_operator c) (plain_operator p t)
   plain_stays plain.Equal t = refl
   plain_stays plain.NotEqual t =
-      read_on r (renumber_operator c) (λ v. negation_of (equals v)) (λ v. negation_of (equals v)) (λ v. refl) (unless_left_out (is_regex t) t) _ (unless_stays _ _ t (regex_stays t))
+      read_on r (renumber_operator c) (λ v. negation_of (equals v)) (λ v. negation_of (equals v)) (λ v. refl) (unless_omitted (is_regex t) t) _ (unless_stays _ _ t (regex_stays t))
   plain_stays (plain.Order o) t =
-      read_on r (renumber_operator c) (compares o) (compares o) (λ v. refl) (unless_left_out (is_regex t || is_bound t) t) _ (unless_stays _ _ t (ap₂ ◌||◌ (regex_stays t) (bound_stays t)))
+      read_on r (renumber_operator c) (compares o) (compares o) (λ v. refl) (unless_omitted (is_regex t || is_bound t) t) _ (unless_stays _ _ t (ap₂ ◌||◌ (regex_stays t) (bound_stays t)))
   plain_stays plain.In t = read_on (map r) (renumber_operator c) is_in is_in (λ v. refl) (members_of t) _ (list_stays t)
   plain_stays plain.NotIn t = read_on (map r) (renumber_operator c) (λ vs. negation_of (is_in vs)) (λ vs. negation_of (is_in vs)) (λ v. refl) (members_of t) _ (list_stays t)
   plain_stays plain.All t = read_on (map r) (renumber_operator c) has_all has_all (λ v. refl) (members_of t) _ (list_stays t)
@@ -134,19 +134,19 @@ module _ (c : Codes) where
   logical_stays logical.Or fs = ap some_of (filters_stay fs)
   logical_stays logical.Nor fs = ap none_of (filters_stay fs)
 
-  operator_stays : (w : Word) (room : ℕ) (t : Tree)
-      → not_operator room (query_inverse c t) ≡ read_as (renumber_operator c) (not_operator room t)
-      → element_operator room (query_element c t) ≡ read_as (renumber_operator c) (element_operator room t)
-      → operator_of w (operand w t (r t) (query_inverse c t) (query_element c t)) (not_operator room (operand w t (r t) (query_inverse c t) (query_element c t)))
-      (element_operator room (operand w t (r t) (query_inverse c t) (query_element c t)))
-      ≡ read_as (renumber_operator c) (operator_of w t (not_operator room t) (element_operator room t))
-  operator_stays (words.Plain p) room t a b = plain_stays p t
-  operator_stays words.Not room t a b = a
-  operator_stays words.ElemMatch room t a b = b
-  operator_stays words.LeftOut room t a b = refl
-  operator_stays words.Field room t a b = refl
-  operator_stays words.Unknown room t a b = refl
-  operator_stays (words.Logical l) room t a b = refl
+  operator_stays : (w : Word) (depth_left : ℕ) (t : Tree)
+      → not_operator depth_left (query_inverse c t) ≡ read_as (renumber_operator c) (not_operator depth_left t)
+      → element_operator depth_left (query_element c t) ≡ read_as (renumber_operator c) (element_operator depth_left t)
+      → operator_of w (operand w t (r t) (query_inverse c t) (query_element c t)) (not_operator depth_left (operand w t (r t) (query_inverse c t) (query_element c t)))
+      (element_operator depth_left (operand w t (r t) (query_inverse c t) (query_element c t)))
+      ≡ read_as (renumber_operator c) (operator_of w t (not_operator depth_left t) (element_operator depth_left t))
+  operator_stays (words.Plain p) depth_left t a b = plain_stays p t
+  operator_stays words.Not depth_left t a b = a
+  operator_stays words.ElemMatch depth_left t a b = b
+  operator_stays words.Omitted depth_left t a b = refl
+  operator_stays words.Field depth_left t a b = refl
+  operator_stays words.Unknown depth_left t a b = refl
+  operator_stays (words.Logical l) depth_left t a b = refl
 
   -- ---- the first name of what was renumbered
 
@@ -163,14 +163,14 @@ module _ (c : Codes) where
   fields_form_stays (field n t fs) = refl
 
   -- the value of a path, of which the first name is an operator, or is not
-  path_chosen : (b : Bool) (room : ℕ) (fs : Fields) → first_is_operator fs ≡ b
-      → operators_of room (query_operators c fs) ≡ read_as (map (renumber_operator c)) (operators_of room fs)
-      → path_operators room (cond b (doc (query_operators c fs)) (doc (renumber_fields c fs))) ≡ read_as (map (renumber_operator c)) (cond b (operators_of room fs) (Ok (equals (doc fs) ∷ [])))
-  path_chosen true room fs e h = ap (λ x. cond x (operators_of room (query_operators c fs)) (Ok (equals (doc (query_operators c fs)) ∷ []))) (first_operator_stays fs ∙ e) ∙ h
-  path_chosen false room fs e h = ap (λ x. cond x (operators_of room (renumber_fields c fs)) (Ok (equals (doc (renumber_fields c fs)) ∷ []))) (first_stays fs ∙ e)
+  path_chosen : (b : Bool) (depth_left : ℕ) (fs : Fields) → first_is_operator fs ≡ b
+      → operators_of depth_left (query_operators c fs) ≡ read_as (map (renumber_operator c)) (operators_of depth_left fs)
+      → path_operators depth_left (cond b (doc (query_operators c fs)) (doc (renumber_fields c fs))) ≡ read_as (map (renumber_operator c)) (cond b (operators_of depth_left fs) (Ok (equals (doc fs) ∷ [])))
+  path_chosen true depth_left fs e h = ap (λ x. cond x (operators_of depth_left (query_operators c fs)) (Ok (equals (doc (query_operators c fs)) ∷ []))) (first_operator_stays fs ∙ e) ∙ h
+  path_chosen false depth_left fs e h = ap (λ x. cond x (operators_of depth_left (renumber_fields c fs)) (Ok (equals (doc (renumber_fields c fs)) ∷ []))) (first_stays fs ∙ e)
 
-  whole_value : (t : Tree) → read_as (λ v. equals v ∷ []) (unless_left_out (is_regex (r t)) (r t)) ≡ read_as (map (renumber_operator c)) (read_as (λ v. equals v ∷ []) (unless_left_out (is_regex t) t))
-  whole_value t = read_on r (map (renumber_operator c)) (λ v. equals v ∷ []) (λ v. equals v ∷ []) (λ v. refl) (unless_left_out (is_regex t) t) _ (unless_stays _ _ t (regex_stays t))
+  whole_value : (t : Tree) → read_as (λ v. equals v ∷ []) (unless_omitted (is_regex (r t)) (r t)) ≡ read_as (map (renumber_operator c)) (read_as (λ v. equals v ∷ []) (unless_omitted (is_regex t) t))
+  whole_value t = read_on r (map (renumber_operator c)) (λ v. equals v ∷ []) (λ v. equals v ∷ []) (λ v. refl) (unless_omitted (is_regex t) t) _ (unless_stays _ _ t (regex_stays t))
 
   inverse_chosen : (a b : Bool) (x : Result Operator Refusal) (y : Result Operator Refusal) → a ≡ b → y ≡ read_as (renumber_operator c) x
       → cond a y (refuse faults.BadOperand) ≡ read_as (renumber_operator c) (cond b x (refuse faults.BadOperand))
@@ -179,112 +179,112 @@ module _ (c : Codes) where
   inverse_chosen true false x y e h = absurd cc
   inverse_chosen false true x y e h = absurd cc
 
-  element_chosen : (b : Bool) (room : ℕ) (fs : Fields) → has_value_form fs ≡ b
-      → inner_part room (read_as (λ xs. has_element (operators_from xs)) (operators_of (room - 1) (query_operators c fs)))
-      ≡ read_as (renumber_operator c) (inner_part room (read_as (λ xs. has_element (operators_from xs)) (operators_of (room - 1) fs)))
-      → inner_part room (read_as (λ xs. has_document (filters_from xs)) (filters_of (room - 1) (query_fields c fs)))
-      ≡ read_as (renumber_operator c) (inner_part room (read_as (λ xs. has_document (filters_from xs)) (filters_of (room - 1) fs)))
-      → element_operator room (cond b (doc (query_operators c fs)) (doc (query_fields c fs)))
-      ≡ read_as (renumber_operator c) (cond b (inner_part room (read_as (λ xs. has_element (operators_from xs)) (operators_of (room - 1) fs)))
-      (inner_part room (read_as (λ xs. has_document (filters_from xs)) (filters_of (room - 1) fs))))
-  element_chosen true room fs e h k =
-      ap (λ x. cond x (inner_part room (read_as (λ xs. has_element (operators_from xs)) (operators_of (room - 1) (query_operators c fs))))
-      (inner_part room (read_as (λ xs. has_document (filters_from xs)) (filters_of (room - 1) (query_operators c fs))))) (operators_form_stays fs ∙ e) ∙ h
-  element_chosen false room fs e h k =
-      ap (λ x. cond x (inner_part room (read_as (λ xs. has_element (operators_from xs)) (operators_of (room - 1) (query_fields c fs))))
-      (inner_part room (read_as (λ xs. has_document (filters_from xs)) (filters_of (room - 1) (query_fields c fs))))) (fields_form_stays fs ∙ e) ∙ k
+  element_chosen : (b : Bool) (depth_left : ℕ) (fs : Fields) → has_value_form fs ≡ b
+      → inner_part depth_left (read_as (λ xs. has_element (operators_from xs)) (operators_of (depth_left - 1) (query_operators c fs)))
+      ≡ read_as (renumber_operator c) (inner_part depth_left (read_as (λ xs. has_element (operators_from xs)) (operators_of (depth_left - 1) fs)))
+      → inner_part depth_left (read_as (λ xs. has_document (filters_from xs)) (filters_of (depth_left - 1) (query_fields c fs)))
+      ≡ read_as (renumber_operator c) (inner_part depth_left (read_as (λ xs. has_document (filters_from xs)) (filters_of (depth_left - 1) fs)))
+      → element_operator depth_left (cond b (doc (query_operators c fs)) (doc (query_fields c fs)))
+      ≡ read_as (renumber_operator c) (cond b (inner_part depth_left (read_as (λ xs. has_element (operators_from xs)) (operators_of (depth_left - 1) fs)))
+      (inner_part depth_left (read_as (λ xs. has_document (filters_from xs)) (filters_of (depth_left - 1) fs))))
+  element_chosen true depth_left fs e h k =
+      ap (λ x. cond x (inner_part depth_left (read_as (λ xs. has_element (operators_from xs)) (operators_of (depth_left - 1) (query_operators c fs))))
+      (inner_part depth_left (read_as (λ xs. has_document (filters_from xs)) (filters_of (depth_left - 1) (query_operators c fs))))) (operators_form_stays fs ∙ e) ∙ h
+  element_chosen false depth_left fs e h k =
+      ap (λ x. cond x (inner_part depth_left (read_as (λ xs. has_element (operators_from xs)) (operators_of (depth_left - 1) (query_fields c fs))))
+      (inner_part depth_left (read_as (λ xs. has_document (filters_from xs)) (filters_of (depth_left - 1) (query_fields c fs))))) (fields_form_stays fs ∙ e) ∙ k
 
 -- a pair: its value has the codes below the names of its path
-pair_stays : (c : Codes) (names : Names) (w : Word) (path : Result Names PathFault) (room : ℕ) (t : Tree) → ((p : Names) → path ≡ Ok p → p ≡ names)
-    → operand_filters room (query_members c t) ≡ read_as (map (renumber_filter c)) (operand_filters room t)
-    → path_operators room (query_value (below names c) t) ≡ read_as (map (renumber_operator (below names c))) (path_operators room t)
-    → pair_filter w path (operand_filters room (pair_value w (query_members c t) (query_value (below names c) t)))
-    (path_operators room (pair_value w (query_members c t) (query_value (below names c) t)))
-    ≡ read_as (renumber_filter c) (pair_filter w path (operand_filters room t) (path_operators room t))
-pair_stays c names (words.Logical l) path room t is a b =
-    read_on (map (renumber_filter c)) (renumber_filter c) (logical_filter l) (logical_filter l) (logical_stays c l) (operand_filters room t) (operand_filters room (query_members c t)) a
-pair_stays c names words.Field (Err fault) room t is a b = refl
-pair_stays c names words.Field (Ok path) room t is a b =
+pair_stays : (c : Codes) (names : Names) (w : Word) (path : Result Names PathFault) (depth_left : ℕ) (t : Tree) → ((p : Names) → path ≡ Ok p → p ≡ names)
+    → operand_filters depth_left (query_members c t) ≡ read_as (map (renumber_filter c)) (operand_filters depth_left t)
+    → path_operators depth_left (query_value (below names c) t) ≡ read_as (map (renumber_operator (below names c))) (path_operators depth_left t)
+    → pair_filter w path (operand_filters depth_left (pair_value w (query_members c t) (query_value (below names c) t)))
+    (path_operators depth_left (pair_value w (query_members c t) (query_value (below names c) t)))
+    ≡ read_as (renumber_filter c) (pair_filter w path (operand_filters depth_left t) (path_operators depth_left t))
+pair_stays c names (words.Logical l) path depth_left t is a b =
+    read_on (map (renumber_filter c)) (renumber_filter c) (logical_filter l) (logical_filter l) (logical_stays c l) (operand_filters depth_left t) (operand_filters depth_left (query_members c t)) a
+pair_stays c names words.Field (Err fault) depth_left t is a b = refl
+pair_stays c names words.Field (Ok path) depth_left t is a b =
     read_on (map (renumber_operator (below names c))) (renumber_filter c) (λ os. at_path path (operators_from os)) (λ os. at_path path (operators_from os))
     (λ os. ap (at_path path) (operators_stay (below names c) os ∙ ap (λ p. renumber_operators (below p c) (operators_from os)) (sym (is path refl))))
-    (path_operators room t) (path_operators room (query_value (below names c) t)) b
-pair_stays c names words.LeftOut path room t is a b = refl
-pair_stays c names words.Unknown path room t is a b = refl
-pair_stays c names (words.Plain p) path room t is a b = refl
-pair_stays c names words.Not path room t is a b = refl
-pair_stays c names words.ElemMatch path room t is a b = refl
+    (path_operators depth_left t) (path_operators depth_left (query_value (below names c) t)) b
+pair_stays c names words.Omitted path depth_left t is a b = refl
+pair_stays c names words.Unknown path depth_left t is a b = refl
+pair_stays c names (words.Plain p) path depth_left t is a b = refl
+pair_stays c names words.Not path depth_left t is a b = refl
+pair_stays c names words.ElemMatch path depth_left t is a b = refl
 
 -- ---- filters
 
 mutual
-  filters_read : (c : Codes) (fs : Fields) (room : ℕ) → filters_of room (query_fields c fs) ≡ read_as (map (renumber_filter c)) (filters_of room fs)
-  filters_read c no_fields room = refl
-  filters_read c (field n t fs) room =
+  filters_read : (c : Codes) (fs : Fields) (depth_left : ℕ) → filters_of depth_left (query_fields c fs) ≡ read_as (map (renumber_filter c)) (filters_of depth_left fs)
+  filters_read c no_fields depth_left = refl
+  filters_read c (field n t fs) depth_left =
       ap₂ (read_at n)
-      (pair_stays c (components_of n) (word_of n) (path_of n) room t (names_are n) (operand_read c t room) (value_read (λ names. c (components_of n ++ names)) t room))
-      (filters_read c fs room)
-      ∙ read_in_turn (renumber_filter c) n (pair_filter (word_of n) (path_of n) (operand_filters room t) (path_operators room t)) (filters_of room fs)
+      (pair_stays c (components_of n) (word_of n) (path_of n) depth_left t (names_are n) (operand_read c t depth_left) (value_read (λ names. c (components_of n ++ names)) t depth_left))
+      (filters_read c fs depth_left)
+      ∙ read_in_turn (renumber_filter c) n (pair_filter (word_of n) (path_of n) (operand_filters depth_left t) (path_operators depth_left t)) (filters_of depth_left fs)
 
-  operand_read : (c : Codes) (t : Tree) (room : ℕ) → operand_filters room (query_members c t) ≡ read_as (map (renumber_filter c)) (operand_filters room t)
-  operand_read c (leaf s) room = refl
-  operand_read c (doc fs) room = refl
-  operand_read c (array no_items) room = refl
-  operand_read c (array (item t ts)) room = members_read c (item t ts) room 0
-  operand_read c (code_scope s fs) room = refl
+  operand_read : (c : Codes) (t : Tree) (depth_left : ℕ) → operand_filters depth_left (query_members c t) ≡ read_as (map (renumber_filter c)) (operand_filters depth_left t)
+  operand_read c (leaf s) depth_left = refl
+  operand_read c (doc fs) depth_left = refl
+  operand_read c (array no_items) depth_left = refl
+  operand_read c (array (item t ts)) depth_left = members_read c (item t ts) depth_left 0
+  operand_read c (code_scope s fs) depth_left = refl
 
-  members_read : (c : Codes) (ts : Items) (room i : ℕ) → member_filters room i (query_items c ts) ≡ read_as (map (renumber_filter c)) (member_filters room i ts)
-  members_read c no_items room i = refl
-  members_read c (item t ts) room i =
-      ap₂ (read_at (decimal i)) (member_read c t room) (members_read c ts room (i + 1))
-      ∙ read_in_turn (renumber_filter c) (decimal i) (member_filter room t) (member_filters room (i + 1) ts)
+  members_read : (c : Codes) (ts : Items) (depth_left i : ℕ) → member_filters depth_left i (query_items c ts) ≡ read_as (map (renumber_filter c)) (member_filters depth_left i ts)
+  members_read c no_items depth_left i = refl
+  members_read c (item t ts) depth_left i =
+      ap₂ (read_at (decimal i)) (member_read c t depth_left) (members_read c ts depth_left (i + 1))
+      ∙ read_in_turn (renumber_filter c) (decimal i) (member_filter depth_left t) (member_filters depth_left (i + 1) ts)
 
-  member_read : (c : Codes) (t : Tree) (room : ℕ) → member_filter room (query_member c t) ≡ read_as (renumber_filter c) (member_filter room t)
-  member_read c (leaf s) room = refl
-  member_read c (doc fs) room =
-      inner_stays (renumber_filter c) room _ _
+  member_read : (c : Codes) (t : Tree) (depth_left : ℕ) → member_filter depth_left (query_member c t) ≡ read_as (renumber_filter c) (member_filter depth_left t)
+  member_read c (leaf s) depth_left = refl
+  member_read c (doc fs) depth_left =
+      inner_stays (renumber_filter c) depth_left _ _
       (read_on (map (renumber_filter c)) (renumber_filter c) (λ xs. all_of (filters_from xs)) (λ xs. all_of (filters_from xs)) (λ xs. ap all_of (filters_stay c xs))
-      (filters_of (room - 1) fs) (filters_of (room - 1) (query_fields c fs)) (filters_read c fs (room - 1)))
-  member_read c (array ts) room = refl
-  member_read c (code_scope s fs) room = refl
+      (filters_of (depth_left - 1) fs) (filters_of (depth_left - 1) (query_fields c fs)) (filters_read c fs (depth_left - 1)))
+  member_read c (array ts) depth_left = refl
+  member_read c (code_scope s fs) depth_left = refl
 
-  value_read : (c : Codes) (t : Tree) (room : ℕ) → path_operators room (query_value c t) ≡ read_as (map (renumber_operator c)) (path_operators room t)
-  value_read c (leaf s) room = whole_value c (leaf s)
-  value_read c (doc fs) room = path_chosen c (first_is_operator fs) room fs refl (operators_read c fs room)
-  value_read c (array ts) room = whole_value c (array ts)
-  value_read c (code_scope s fs) room = whole_value c (code_scope s fs)
+  value_read : (c : Codes) (t : Tree) (depth_left : ℕ) → path_operators depth_left (query_value c t) ≡ read_as (map (renumber_operator c)) (path_operators depth_left t)
+  value_read c (leaf s) depth_left = whole_value c (leaf s)
+  value_read c (doc fs) depth_left = path_chosen c (first_is_operator fs) depth_left fs refl (operators_read c fs depth_left)
+  value_read c (array ts) depth_left = whole_value c (array ts)
+  value_read c (code_scope s fs) depth_left = whole_value c (code_scope s fs)
 
-  operators_read : (c : Codes) (fs : Fields) (room : ℕ) → operators_of room (query_operators c fs) ≡ read_as (map (renumber_operator c)) (operators_of room fs)
-  operators_read c no_fields room = refl
-  operators_read c (field n t fs) room =
-      ap₂ (read_at n) (operator_stays c (word_of n) room t (inverse_read c t room) (element_read c t room)) (operators_read c fs room)
-      ∙ read_in_turn (renumber_operator c) n (operator_of (word_of n) t (not_operator room t) (element_operator room t)) (operators_of room fs)
+  operators_read : (c : Codes) (fs : Fields) (depth_left : ℕ) → operators_of depth_left (query_operators c fs) ≡ read_as (map (renumber_operator c)) (operators_of depth_left fs)
+  operators_read c no_fields depth_left = refl
+  operators_read c (field n t fs) depth_left =
+      ap₂ (read_at n) (operator_stays c (word_of n) depth_left t (inverse_read c t depth_left) (element_read c t depth_left)) (operators_read c fs depth_left)
+      ∙ read_in_turn (renumber_operator c) n (operator_of (word_of n) t (not_operator depth_left t) (element_operator depth_left t)) (operators_of depth_left fs)
 
-  inverse_read : (c : Codes) (t : Tree) (room : ℕ) → not_operator room (query_inverse c t) ≡ read_as (renumber_operator c) (not_operator room t)
-  inverse_read c (leaf s) room = cases (is_regex (leaf s))
+  inverse_read : (c : Codes) (t : Tree) (depth_left : ℕ) → not_operator depth_left (query_inverse c t) ≡ read_as (renumber_operator c) (not_operator depth_left t)
+  inverse_read c (leaf s) depth_left = cases (is_regex (leaf s))
     where
       cases : (b : Bool) → cond b (refuse faults.NotInProfile) (refuse faults.BadOperand) ≡ read_as (renumber_operator c) (cond b (refuse faults.NotInProfile) (refuse faults.BadOperand))
       cases true = refl
       cases false = refl
-  inverse_read c (doc fs) room =
-      inverse_chosen c _ _ (inner_part room (read_as (λ xs. negates (operators_from xs)) (operators_of (room - 1) fs))) _ (first_operator_stays c fs)
-      (inner_stays (renumber_operator c) room (read_as (λ xs. negates (operators_from xs)) (operators_of (room - 1) fs)) _
+  inverse_read c (doc fs) depth_left =
+      inverse_chosen c _ _ (inner_part depth_left (read_as (λ xs. negates (operators_from xs)) (operators_of (depth_left - 1) fs))) _ (first_operator_stays c fs)
+      (inner_stays (renumber_operator c) depth_left (read_as (λ xs. negates (operators_from xs)) (operators_of (depth_left - 1) fs)) _
       (read_on (map (renumber_operator c)) (renumber_operator c) (λ xs. negates (operators_from xs)) (λ xs. negates (operators_from xs)) (λ xs. ap negates (operators_stay c xs))
-      (operators_of (room - 1) fs) (operators_of (room - 1) (query_operators c fs)) (operators_read c fs (room - 1))))
-  inverse_read c (array ts) room = refl
-  inverse_read c (code_scope s fs) room = refl
+      (operators_of (depth_left - 1) fs) (operators_of (depth_left - 1) (query_operators c fs)) (operators_read c fs (depth_left - 1))))
+  inverse_read c (array ts) depth_left = refl
+  inverse_read c (code_scope s fs) depth_left = refl
 
-  element_read : (c : Codes) (t : Tree) (room : ℕ) → element_operator room (query_element c t) ≡ read_as (renumber_operator c) (element_operator room t)
-  element_read c (leaf s) room = refl
-  element_read c (doc fs) room =
-      element_chosen c (has_value_form fs) room fs refl
-      (inner_stays (renumber_operator c) room (read_as (λ xs. has_element (operators_from xs)) (operators_of (room - 1) fs)) _
+  element_read : (c : Codes) (t : Tree) (depth_left : ℕ) → element_operator depth_left (query_element c t) ≡ read_as (renumber_operator c) (element_operator depth_left t)
+  element_read c (leaf s) depth_left = refl
+  element_read c (doc fs) depth_left =
+      element_chosen c (has_value_form fs) depth_left fs refl
+      (inner_stays (renumber_operator c) depth_left (read_as (λ xs. has_element (operators_from xs)) (operators_of (depth_left - 1) fs)) _
       (read_on (map (renumber_operator c)) (renumber_operator c) (λ xs. has_element (operators_from xs)) (λ xs. has_element (operators_from xs)) (λ xs. ap has_element (operators_stay c xs))
-      (operators_of (room - 1) fs) (operators_of (room - 1) (query_operators c fs)) (operators_read c fs (room - 1))))
-      (inner_stays (renumber_operator c) room (read_as (λ xs. has_document (filters_from xs)) (filters_of (room - 1) fs)) _
+      (operators_of (depth_left - 1) fs) (operators_of (depth_left - 1) (query_operators c fs)) (operators_read c fs (depth_left - 1))))
+      (inner_stays (renumber_operator c) depth_left (read_as (λ xs. has_document (filters_from xs)) (filters_of (depth_left - 1) fs)) _
       (read_on (map (renumber_filter c)) (renumber_operator c) (λ xs. has_document (filters_from xs)) (λ xs. has_document (filters_from xs)) (λ xs. ap has_document (filters_stay c xs))
-      (filters_of (room - 1) fs) (filters_of (room - 1) (query_fields c fs)) (filters_read c fs (room - 1))))
-  element_read c (array ts) room = refl
-  element_read c (code_scope s fs) room = refl
+      (filters_of (depth_left - 1) fs) (filters_of (depth_left - 1) (query_fields c fs)) (filters_read c fs (depth_left - 1))))
+  element_read c (array ts) depth_left = refl
+  element_read c (code_scope s fs) depth_left = refl
 
 top_read : (c : Codes) (fs : Fields) → read_as (λ xs. all_of (filters_from xs)) (filters_of (most_filter_levels - 1) (query_fields c fs))
     ≡ read_as (renumber_filter c) (read_as (λ xs. all_of (filters_from xs)) (filters_of (most_filter_levels - 1) fs))
@@ -314,15 +314,15 @@ module _ (c : Codes) (query sort : Doc) (skip limit : ℕ) where
   sorted (Err why) f = refl
 
   pub request_read : request_of (renumber_query c query) sort skip limit ≡ then_part (request_of query sort skip limit) (λ r. Ok (renumber_request c other r))
-  request_read = ap (λ x. asked x) (query_read c query) ∙ go (filter_of query)
+  request_read = ap (λ x. requested x) (query_read c query) ∙ go (filter_of query)
     where
-      asked : Result Filter Refusal → Result Request Reason
-      asked x = then_part (told_as bad_filter x) (λ f. then_part (ok_or (sort_of sort) (plain_reason reasons.BadSort)) (λ s.
+      requested : Result Filter Refusal → Result Request Reason
+      requested x = then_part (error_as bad_filter x) (λ f. then_part (ok_or (sort_of sort) (plain_reason reasons.BadSort)) (λ s.
           cond (nat_le skip greatest_count && nat_le limit greatest_count) (Ok (request_with (renumber_query c query) sort skip limit f s)) (Err (plain_reason reasons.Range))))
 
-      go : (x : Result Filter Refusal) → then_part (told_as bad_filter (read_as (renumber_filter c) x)) (λ f. then_part (ok_or (sort_of sort) (plain_reason reasons.BadSort)) (λ s.
+      go : (x : Result Filter Refusal) → then_part (error_as bad_filter (read_as (renumber_filter c) x)) (λ f. then_part (ok_or (sort_of sort) (plain_reason reasons.BadSort)) (λ s.
           cond (nat_le skip greatest_count && nat_le limit greatest_count) (Ok (request_with (renumber_query c query) sort skip limit f s)) (Err (plain_reason reasons.Range))))
-          ≡ then_part (then_part (told_as bad_filter x) (λ f. then_part (ok_or (sort_of sort) (plain_reason reasons.BadSort)) (λ s.
+          ≡ then_part (then_part (error_as bad_filter x) (λ f. then_part (ok_or (sort_of sort) (plain_reason reasons.BadSort)) (λ s.
           cond (nat_le skip greatest_count && nat_le limit greatest_count) (Ok (request_with query sort skip limit f s)) (Err (plain_reason reasons.Range))))) (λ r. Ok (renumber_request c other r))
       go (Ok f) = sorted (ok_or (sort_of sort) (plain_reason reasons.BadSort)) f
       go (Err why) = refl

@@ -12,7 +12,7 @@ use Rattle.bd_path.specs.Reach.{Names}
 use Rattle.bd_wide_number.specs.Value.{finite, has_sign, least_double, magnitude, one, signed, spelled}
 use Rattle.bd_wide_number.specs.Code.{number_code, scaled_code}
 use Rattle.bd_wide_number.proofs.CodeLemmas.{least_pos, whole_gives}
-use Rattle.bd_wide_number.proofs.LawLemmas.{code_stands, code_values_rise}
+use Rattle.bd_wide_number.proofs.LawLemmas.{code_means_number, code_values_rise}
 use Rattle.bd_wide_order.specs.Renumber.{AreIncreasing}
 use Rattle.bd_wide_order.specs.Values.{code_worth, values_at}
 
@@ -80,7 +80,7 @@ scaled_worth power l negative size c is =
 
 pub code_worths : (power : Option ℕ) → IfSome power (λ k. k ≤ 6176) → (negative : Bool) (size : ℕ) (c : ℤ) → number_code power (finite negative size) ≡ Some c
     → code_worth power c ≡ signed negative size
-code_worths None l negative size c is = code_stands negative size c is
+code_worths None l negative size c is = code_means_number negative size c is
 code_worths (Some power) l negative size c is = scaled_worth power l negative size c is
 
 -- ---- what the bits of a double are worth, by IEEE 754

@@ -1,22 +1,22 @@
 -- What a request to a dump gives, page by page. Only the digests of its tokens are left out: they are those of the bytes
 -- of the dump and of the text of the request.
 use Rattle.std.specs.Prelude.{◌≡◌, ℕ, Bool, List, [], ◌∷◌, Option, option_map}
-use Rattle.bd_cursor_model.specs.Answer.{Mark}
-use Rattle.bd_cursor_model.specs.Session.{GivenBatch, MarkedToken, OpenCursor, Query, batch_of, left_after, moved}
+use Rattle.bd_cursor_model.specs.Answer.{Position}
+use Rattle.bd_cursor_model.specs.Session.{GivenBatch, PositionedToken, OpenCursor, Query, batch_of, remaining_after, moved}
 
 -- a batch: its document numbers, the position after it, and whether nothing remains
 pub record Page : Type 0 where
   pub places : List ℕ
-  pub mark : Option Mark
+  pub position : Option Position
   pub ends : Bool
 
 -- the position in an answer that a token has, if there is a token
-abbrev pub mark_of : Option MarkedToken → Option Mark
-mark_of token = option_map (λ t. t.mark) token
+abbrev pub position_of : Option PositionedToken → Option Position
+position_of token = option_map (λ t. t.position) token
 
 -- a batch of a cursor as a page, whatever the digest of its token
 abbrev pub page_of : GivenBatch → Page
-page_of b = record { places = b.places; mark = mark_of b.token; ends = b.ends }
+page_of b = record { places = b.places; position = position_of b.token; ends = b.ends }
 
 -- the pages of a cursor, by sizes in turn
 abbrev pub pages_from : OpenCursor → List ℕ → List Page
@@ -24,24 +24,24 @@ pages_from c [] = []
 pages_from c (size ∷ sizes) = page_of (batch_of c size) ∷ pages_from (moved c size) sizes
 
 -- the token of a request for a position in its answer
-abbrev pub token_at : Query → Option Mark → Option MarkedToken
-token_at q mark = option_map (λ m. record { mark = m; digest = q.digest }) mark
+abbrev pub token_at : Query → Option Position → Option PositionedToken
+token_at q position = option_map (λ m. record { position = m; digest = q.digest }) position
 
 -- a cursor as it is opened: at the start of the answer, or after a position
-abbrev pub cursor_at : Query → Option Mark → OpenCursor
-cursor_at q mark = record {
+abbrev pub cursor_at : Query → Option Position → OpenCursor
+cursor_at q position = record {
   id = 0;
   digest = q.digest;
-  token = token_at q mark;
-  left = left_after q.selection (token_at q mark);
+  token = token_at q position;
+  remaining = remaining_after q.selection (token_at q position);
 }
 
 -- the pages of a request by sizes in turn, from the start of its answer or after a position
-abbrev pub pages : Query → Option Mark → List ℕ → List Page
-pages q mark sizes = pages_from (cursor_at q mark) sizes
+abbrev pub pages : Query → Option Position → List ℕ → List Page
+pages q position sizes = pages_from (cursor_at q position) sizes
 
 -- Two requests, each to its dump, have one answer: they select the same document numbers in the same order,
 -- and from the start and after each position they give the same pages.
 pub record HaveOneAnswer (q r : Query) : Type 0 where
   pub selection : q.selection ≡ r.selection
-  pub pages_alike : (mark : Option Mark) (sizes : List ℕ) → pages q mark sizes ≡ pages r mark sizes
+  pub pages_alike : (position : Option Position) (sizes : List ℕ) → pages q position sizes ≡ pages r position sizes

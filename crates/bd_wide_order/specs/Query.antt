@@ -11,7 +11,7 @@ use Rattle.bd_query_filter.specs.declared.filter_of.{PlainOperator.PlainOperator
 use Rattle.bd_query_filter.specs.declared.filter_of.PlainOperator.TheVariants as plain
 use Rattle.bd_query_filter.specs.declared.filter_of.Word.TheVariants as words
 use Rattle.bd_cursor_request.specs.Request.{Request}
-use Rattle.bd_wide_order.specs.Renumber.{AsksOf, Codes, SortsReadAlike, below, renumber, renumber_fields}
+use Rattle.bd_wide_order.specs.Renumber.{FilterNeeds, Codes, SortsReadAlike, below, renumber, renumber_fields}
 use Rattle.bd_wide_order.specs.Renumber.{renumber_filter}
 
 -- the value of a pair of a query, by its name: filters for `$and` and its kin, else what a path is asked
@@ -90,8 +90,8 @@ renumber_query c d = pairs_of (query_fields c (fields_of d))
 
 -- The filter and the sort of a request keep to paths that read alike,
 -- and the filter to numbers that may occur there.
-abbrev pub RequestAsksOf : Codes → Request → Type 0
-RequestAsksOf c r = AsksOf c r.filter × SortsReadAlike c r.sorts
+abbrev pub RequestNeeds : Codes → Request → Type 0
+RequestNeeds c r = FilterNeeds c r.filter × SortsReadAlike c r.sorts
 
 -- the request with a renumbered filter, and with another text, to which its tokens are tied
 abbrev pub renumber_request : Codes → List ℕ → Request → Request

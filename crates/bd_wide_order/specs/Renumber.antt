@@ -173,31 +173,31 @@ TakeNumbersAlike ks =
 abbrev mutual
   -- A filter asks only what renumbering keeps: paths that read alike, numbers that may occur there,
   -- and no `$type` that tells int32 from int64.
-  pub AsksOf : Codes → Filter → Type 0
-  AsksOf c (all_of fs) = AllAskOf c fs
-  AsksOf c (some_of fs) = AllAskOf c fs
-  AsksOf c (none_of fs) = AllAskOf c fs
-  AsksOf c (at_path path os) = ReadsAlike c path × OperatorsAskOf (below path c) os
+  pub FilterNeeds : Codes → Filter → Type 0
+  FilterNeeds c (all_of fs) = FiltersNeed c fs
+  FilterNeeds c (some_of fs) = FiltersNeed c fs
+  FilterNeeds c (none_of fs) = FiltersNeed c fs
+  FilterNeeds c (at_path path os) = ReadsAlike c path × OperatorsNeed (below path c) os
 
   -- Each of the filters asks only what renumbering keeps.
-  pub AllAskOf : Codes → Filters → Type 0
-  AllAskOf c no_filters = Unit {0}
-  AllAskOf c (filter f fs) = AsksOf c f × AllAskOf c fs
+  pub FiltersNeed : Codes → Filters → Type 0
+  FiltersNeed c no_filters = Unit {0}
+  FiltersNeed c (filter f fs) = FilterNeeds c f × FiltersNeed c fs
 
   -- An operator asks only what renumbering keeps.
-  pub OperatorAsksOf : Codes → Operator → Type 0
-  OperatorAsksOf c (equals v) = IsOf c v
-  OperatorAsksOf c (compares r v) = IsOf c v
-  OperatorAsksOf c (is_in vs) = All (IsOf c) vs
-  OperatorAsksOf c (has_all vs) = All (IsOf c) vs
-  OperatorAsksOf c (has_type ks) = TakeNumbersAlike ks
-  OperatorAsksOf c (has_size n) = Unit {0}
-  OperatorAsksOf c (exists b) = Unit {0}
-  OperatorAsksOf c (negates os) = OperatorsAskOf c os
-  OperatorAsksOf c (has_element os) = OperatorsAskOf c os
-  OperatorAsksOf c (has_document fs) = AllAskOf c fs
+  pub OperatorNeeds : Codes → Operator → Type 0
+  OperatorNeeds c (equals v) = IsOf c v
+  OperatorNeeds c (compares r v) = IsOf c v
+  OperatorNeeds c (is_in vs) = All (IsOf c) vs
+  OperatorNeeds c (has_all vs) = All (IsOf c) vs
+  OperatorNeeds c (has_type ks) = TakeNumbersAlike ks
+  OperatorNeeds c (has_size n) = Unit {0}
+  OperatorNeeds c (exists b) = Unit {0}
+  OperatorNeeds c (negates os) = OperatorsNeed c os
+  OperatorNeeds c (has_element os) = OperatorsNeed c os
+  OperatorNeeds c (has_document fs) = FiltersNeed c fs
 
   -- Each of the operators of a path asks only what renumbering keeps.
-  pub OperatorsAskOf : Codes → Operators → Type 0
-  OperatorsAskOf c no_operators = Unit {0}
-  OperatorsAskOf c (operator o os) = OperatorAsksOf c o × OperatorsAskOf c os
+  pub OperatorsNeed : Codes → Operators → Type 0
+  OperatorsNeed c no_operators = Unit {0}
+  OperatorsNeed c (operator o os) = OperatorNeeds c o × OperatorsNeed c os

@@ -14,8 +14,8 @@ ghost use Rattle.bd_cursor_sort.specs.Selection.{query_to};
 ghost use Rattle.bd_wide_number.specs.Code.{number_code};
 ghost use Rattle.bd_wide_number.specs.Value.{finite, has_sign, infinite_bits, magnitude, signed};
 ghost use Rattle.bd_wide_order.specs.Pages.{HaveOneAnswer};
-ghost use Rattle.bd_wide_order.specs.Query.{RequestAsksOf, renumber_query, renumber_request};
-ghost use Rattle.bd_wide_order.specs.Renumber.{AreIncreasing, AsksOf, Codes, DocumentsAreOf, IsOf, PassOverIndexes};
+ghost use Rattle.bd_wide_order.specs.Query.{RequestNeeds, renumber_query, renumber_request};
+ghost use Rattle.bd_wide_order.specs.Renumber.{AreIncreasing, FilterNeeds, Codes, DocumentsAreOf, IsOf, PassOverIndexes};
 ghost use Rattle.bd_wide_order.specs.Renumber.{ReadsAlike, SortsReadAlike, below, renumber, renumber_documents, renumber_filter};
 ghost use Rattle.bd_wide_order.specs.Values.{code_worth, values_at};
 
@@ -33,7 +33,7 @@ pub fn numbers_matter_by_order()
     ensures sorts { (c : Codes) → AreIncreasing c → (ss : List SortPath) → SortsReadAlike c ss →
         (a b : Tree) → IsOf c a → IsOf c b →
         sort_cmp ss (renumber c a) (renumber c b) ≡ sort_cmp ss a b }
-    ensures matching { (c : Codes) → AreIncreasing c → (f : Filter) → AsksOf c f →
+    ensures matching { (c : Codes) → AreIncreasing c → (f : Filter) → FilterNeeds c f →
         (t : Tree) → IsOf c t → matches (renumber_filter c f) (renumber c t) ≡ matches f t }
 {}
 
@@ -61,7 +61,7 @@ pub fn queries_are_renumbered()
 /// A renumbered request to renumbered documents has the answer of the request to the documents: the same places, and at each
 /// place the renumbered document. What bytes spell either, and what text the request has, are no matter.
 pub fn answers_stay()
-    ensures answer { (c : Codes) → AreIncreasing c → (r : Request) → RequestAsksOf c r →
+    ensures answer { (c : Codes) → AreIncreasing c → (r : Request) → RequestNeeds c r →
         (ds : List Doc) → DocumentsAreOf c ds → (bytes new text : List ℕ) →
         HaveOneAnswer (query_to new (renumber_documents c ds) (renumber_request c text r))
         (query_to bytes ds r) }
@@ -85,7 +85,7 @@ pub fn codes_are_worth_their_numbers()
 /// it has by value: that of the request over the documents whose numbers are what the codes are worth.
 pub fn ordered_dumps_answer_by_value()
     ensures { (powers : Names → Option ℕ) (r : Request) → let c = values_at powers in
-        RequestAsksOf c r → (ds : List Doc) (bytes new text : List ℕ) →
+        RequestNeeds c r → (ds : List Doc) (bytes new text : List ℕ) →
         HaveOneAnswer (query_to new (renumber_documents c ds) (renumber_request c text r))
         (query_to bytes ds r) }
 {}

@@ -55,10 +55,10 @@ fn command_line(rt: HostRuntime) -> Result<(), Fail> {
 #[test]
 fn filtered(rt: HostRuntime) {
     let mut input = MemoryInput::new(b"\x05\0\0\0\0", 100, None);
-    let mut room = [0; 100];
-    let mut out = MemoryOutput::new(&mut room, 100, None);
-    let mut told = [0; 100];
-    let mut err = MemoryOutput::new(&mut told, 100, None);
+    let mut buffer = [0; 100];
+    let mut out = MemoryOutput::new(&mut buffer, 100, None);
+    let mut reported = [0; 100];
+    let mut err = MemoryOutput::new(&mut reported, 100, None);
     let status = run(rt.alloc(), &Filter::Mask, &mut input, &mut out, &mut err);
     assert!(rt; status == Status::Done);
     assert!(rt; out.bytes() == b"\x05\0\0\0\0".as_slice());

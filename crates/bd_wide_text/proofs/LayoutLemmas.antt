@@ -187,7 +187,7 @@ small_number : (size : List ℕ) (p : Parts) (count : ℕ) → AreParts size p �
     → p.fraction ≡ zeros count ++ drop count p.fraction → digits_of p ≡ digits_value 10 (drop count p.fraction) → count < length p.fraction
     → IsLaidOutAnew p (small_text size p.fraction count)
 unfolding nearest_double laid_out
-small_number size p count parts none is whole before cut value inside =
+small_number size p count parts none is whole before splits value inside =
     let digits = drop count p.fraction in
     let digits_all = parts.plain.well_formed.fraction_digits in
     let long : length digits ≡ length p.fraction - count = length-drop count p.fraction in
@@ -204,7 +204,7 @@ small_number size p count parts none is whole before cut value inside =
     ∙ near_number size p is s (digits_value 10 digits) 0 0 (value ∙ sym (mul-one (digits_value 10 digits))) 0 (count + length digits) (omega arith) in
     elim (cases_lt 3 count) [
       | inl more ↦ inr (digits, negsuc count, sig, number, rw (lt-leb count 3 more, other, lt-ltb 3 count more, append-nil) refl)
-      | inr few ↦ inr (digits, negsuc count, sig, number, rw (le-leb count 3 few, le-ltb 3 count few) (is.text ∙ (λ i. whole i ++ (46 ∷ cut i))))
+      | inr few ↦ inr (digits, negsuc count, sig, number, rw (le-leb count 3 few, le-ltb 3 count few) (is.text ∙ (λ i. whole i ++ (46 ∷ splits i))))
     ]
 
 pub small : (size : List ℕ) (p : Parts) (count : ℕ) → AreParts size p → p.exponent ≡ [] → get_or p.whole 0 0 ≡ 48 → AreZerosBefore p.fraction count
@@ -212,14 +212,14 @@ pub small : (size : List ℕ) (p : Parts) (count : ℕ) → AreParts size p → 
 small size p count parts none zero_first before =
     let is = near size p parts none in
     let whole : p.whole ≡ 48 ∷ [] = single p.whole (parts.plain.no_leading_zero zero_first) zero_first in
-    let cut : p.fraction ≡ zeros count ++ drop count p.fraction = sym (take-append-drop count p.fraction) ∙ ap (λ xs. xs ++ drop count p.fraction) before.zeros_are in
-    let all : p.whole ++ p.fraction ≡ zeros (suc count) ++ drop count p.fraction = (λ i. whole i ++ cut i) in
+    let splits : p.fraction ≡ zeros count ++ drop count p.fraction = sym (take-append-drop count p.fraction) ∙ ap (λ xs. xs ++ drop count p.fraction) before.zeros_are in
+    let all : p.whole ++ p.fraction ≡ zeros (suc count) ++ drop count p.fraction = (λ i. whole i ++ splits i) in
     let value : digits_of p ≡ digits_value 10 (drop count p.fraction) =
     ap (digits_value 10) all ∙ digits_value-append (zeros (suc count)) (drop count p.fraction)
     ∙ ap (λ n. n * 10 ^ length (drop count p.fraction) + digits_value 10 (drop count p.fraction)) (value_zeros (suc count)) ∙ omega arith in
     elim (cases_lt count (length p.fraction)) [
-      | inr past ↦ inl (value ∙ ap (λ xs. digits_value 10 xs) (nothing (drop count p.fraction) (omega (arith, length-drop count p.fraction))))
-      | inl inside ↦ small_number size p count parts none is whole before cut value inside
+      | inr beyond ↦ inl (value ∙ ap (λ xs. digits_value 10 xs) (nothing (drop count p.fraction) (omega (arith, length-drop count p.fraction))))
+      | inl inside ↦ small_number size p count parts none is whole before splits value inside
     ]
 
 tenfold : (w z : ℕ) → w * 10 ^ z * 10 ^ 1 + 0 ≡ w * 10 ^ (z + 1)
@@ -234,7 +234,7 @@ large_whole size p count parts is after first zero_behind =
     let z = n - count in
     let digits_all = parts.plain.well_formed.whole_digits in
     let long : length digits ≡ count = length-take count p.whole ∙ omega (arith, after.within) in
-    let cut : p.whole ≡ digits ++ zeros z = sym (take-append-drop count p.whole) ∙ ap (λ xs. digits ++ xs) after.zeros_are in
+    let splits : p.whole ≡ digits ++ zeros z = sym (take-append-drop count p.whole) ∙ ap (λ xs. digits ++ xs) after.zeros_are in
     let first_is : 48 < get_or digits 0 0 = rw (get_or-take count p.whole 0 0 after.some) (above_zero p.whole 0 digits_all (omega (arith, after.some, after.within)) first) in
     let end : length digits - 1 ≡ count - 1 = omega arith in
     let last_is : 48 < get_or digits (length digits - 1) 0 =
@@ -242,7 +242,7 @@ large_whole size p count parts is after first zero_behind =
     let sig : AreSignificant digits = record { all = AllDigits-take count p.whole digits_all; first = first_is; last = last_is } in
     let w = digits_value 10 digits in
     let whole_value : digits_value 10 p.whole ≡ w * 10 ^ z =
-    ap (digits_value 10) cut ∙ digits_value-append digits (zeros z) ∙ (λ i. w * 10 ^ (length-replicate {A = ℕ} z 48 i) + value_zeros z i) ∙ omega arith in
+    ap (digits_value 10) splits ∙ digits_value-append digits (zeros z) ∙ (λ i. w * 10 ^ (length-replicate {A = ℕ} z 48 i) + value_zeros z i) ∙ omega arith in
     let value : digits_of p ≡ w * 10 ^ (z + 1) =
     digits_value-append p.whole p.fraction ∙ (λ i. whole_value i * 10 ^ length (zero_behind i) + digits_value 10 (zero_behind i)) ∙ tenfold w z in
     let one : length p.fraction ≡ 1 = ap (λ xs. length xs) zero_behind in
@@ -259,7 +259,7 @@ large_whole size p count parts is after first zero_behind =
             sig,
             number,
             rw (le-leb n 6 few, le-ltb 5 (n - 1) (omega arith), all, le-ltb n (length digits) (omega (arith, after.within)), over) (
-                is.text ∙ (λ i. cut i ++ (46 ∷ zero_behind i)) ∙ append_assoc digits (zeros z) (46 ∷ 48 ∷ [])),
+                is.text ∙ (λ i. splits i ++ (46 ∷ zero_behind i)) ∙ append_assoc digits (zeros z) (46 ∷ 48 ∷ [])),
           )
     ]
 

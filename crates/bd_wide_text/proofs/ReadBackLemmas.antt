@@ -33,18 +33,18 @@ digits_len-append : (ds rest : List ℕ) → AllDigits 10 ds → digits_len (ds 
 digits_len-append [] rest h = omega arith
 digits_len-append (d ∷ ds) rest h = let r = digit_from_value d h.0 in rw ((is_digit d r.0 r.1).0) (omega (arith, digits_len-append ds rest h.1))
 
-module _ (front ds rest : List ℕ) (i : ℕ) (at : length front ≡ i) (digits : AllDigits 10 ds) (ends : digits_len rest ≡ 0) where
-  run_end : digits_end (front ++ (ds ++ rest)) i ≡ i + length ds
-  run_end = rw (drop_at front _ i at, digits_len-append ds rest digits, ends, add-zero)
+module _ (prefix ds rest : List ℕ) (i : ℕ) (at : length prefix ≡ i) (digits : AllDigits 10 ds) (ends : digits_len rest ≡ 0) where
+  run_end : digits_end (prefix ++ (ds ++ rest)) i ≡ i + length ds
+  run_end = rw (drop_at prefix _ i at, digits_len-append ds rest digits, ends, add-zero)
 
-  run_is : slice_range (front ++ (ds ++ rest)) i (i + length ds) ≡ ds
-  run_is = rw (drop_at front _ i at) (take_at ds rest (i + length ds - i) (omega arith))
+  run_is : slice_range (prefix ++ (ds ++ rest)) i (i + length ds) ≡ ds
+  run_is = rw (drop_at prefix _ i at) (take_at ds rest (i + length ds - i) (omega arith))
 
-byte_after : (front rest : List ℕ) (i k : ℕ) → length front ≡ i → get_or (front ++ rest) (i + k) 0 ≡ get_or rest k 0
-byte_after front rest i k e = rw (← e) (get_or-append-add front rest k 0)
+byte_after : (prefix rest : List ℕ) (i k : ℕ) → length prefix ≡ i → get_or (prefix ++ rest) (i + k) 0 ≡ get_or rest k 0
+byte_after prefix rest i k e = rw (← e) (get_or-append-add prefix rest k 0)
 
-byte_at_end : (front rest : List ℕ) (i : ℕ) → length front ≡ i → get_or (front ++ rest) i 0 ≡ get_or rest 0 0
-byte_at_end front rest i e = rw add-zero at (byte_after front rest i 0 e)
+byte_at_end : (prefix rest : List ℕ) (i : ℕ) → length prefix ≡ i → get_or (prefix ++ rest) i 0 ≡ get_or rest 0 0
+byte_at_end prefix rest i e = rw add-zero at (byte_after prefix rest i 0 e)
 
 abbrev Tail : List ℕ → ℕ → Bool → List ℕ → Type 0
 Tail bs b negative exponent =
@@ -61,27 +61,27 @@ abbrev sign_byte : Bool → ℕ
 sign_byte true = 45
 sign_byte false = 43
 
-signed_tail : (front : List ℕ) (b : ℕ) (negative : Bool) (exponent : List ℕ) → length front ≡ b → 0 < length exponent → AllDigits 10 exponent
-    → Tail (front ++ 69 ∷ sign_byte negative ∷ exponent) b negative exponent
-signed_tail front b negative [] at some digits = absurd (omega arith)
-signed_tail front b true (d ∷ ds) at some digits =
+signed_tail : (prefix : List ℕ) (b : ℕ) (negative : Bool) (exponent : List ℕ) → length prefix ≡ b → 0 < length exponent → AllDigits 10 exponent
+    → Tail (prefix ++ 69 ∷ sign_byte negative ∷ exponent) b negative exponent
+signed_tail prefix b negative [] at some digits = absurd (omega arith)
+signed_tail prefix b true (d ∷ ds) at some digits =
     let r = digit_from_value d digits.0 in
-    let bs = front ++ 69 ∷ 45 ∷ d ∷ ds in
-    let next : get_or bs (b + 1) 0 ≡ 45 = byte_after front _ b 1 at in
+    let bs = prefix ++ 69 ∷ 45 ∷ d ∷ ds in
+    let next : get_or bs (b + 1) 0 ≡ 45 = byte_after prefix _ b 1 at in
     let start : exponent_start bs b ≡ b + 2 = rw next in
-    let cut : (front ++ 69 ∷ 45 ∷ []) ++ ((d ∷ ds) ++ []) ≡ bs = rw (append-nil, append_assoc) in
-    let long : length (front ++ 69 ∷ 45 ∷ []) ≡ b + 2 = rw (length-append, at) in
-    tail_of bs b (b + 2) true (d ∷ ds) (rw (start, byte_after front _ b 2 at, byte_at_end front _ b at) (is_digit d r.0 r.1).0) start (rw next)
-    (rw cut at (run_end _ (d ∷ ds) [] (b + 2) long digits refl)) (rw cut at (run_is _ (d ∷ ds) [] (b + 2) long digits refl)) (omega (arith, length-append front (69 ∷ 45 ∷ d ∷ ds)))
-signed_tail front b false (d ∷ ds) at some digits =
+    let splits : (prefix ++ 69 ∷ 45 ∷ []) ++ ((d ∷ ds) ++ []) ≡ bs = rw (append-nil, append_assoc) in
+    let long : length (prefix ++ 69 ∷ 45 ∷ []) ≡ b + 2 = rw (length-append, at) in
+    tail_of bs b (b + 2) true (d ∷ ds) (rw (start, byte_after prefix _ b 2 at, byte_at_end prefix _ b at) (is_digit d r.0 r.1).0) start (rw next)
+    (rw splits at (run_end _ (d ∷ ds) [] (b + 2) long digits refl)) (rw splits at (run_is _ (d ∷ ds) [] (b + 2) long digits refl)) (omega (arith, length-append prefix (69 ∷ 45 ∷ d ∷ ds)))
+signed_tail prefix b false (d ∷ ds) at some digits =
     let r = digit_from_value d digits.0 in
-    let bs = front ++ 69 ∷ 43 ∷ d ∷ ds in
-    let next : get_or bs (b + 1) 0 ≡ 43 = byte_after front _ b 1 at in
+    let bs = prefix ++ 69 ∷ 43 ∷ d ∷ ds in
+    let next : get_or bs (b + 1) 0 ≡ 43 = byte_after prefix _ b 1 at in
     let start : exponent_start bs b ≡ b + 2 = rw next in
-    let cut : (front ++ 69 ∷ 43 ∷ []) ++ ((d ∷ ds) ++ []) ≡ bs = rw (append-nil, append_assoc) in
-    let long : length (front ++ 69 ∷ 43 ∷ []) ≡ b + 2 = rw (length-append, at) in
-    tail_of bs b (b + 2) false (d ∷ ds) (rw (start, byte_after front _ b 2 at, byte_at_end front _ b at) (is_digit d r.0 r.1).0) start (rw next)
-    (rw cut at (run_end _ (d ∷ ds) [] (b + 2) long digits refl)) (rw cut at (run_is _ (d ∷ ds) [] (b + 2) long digits refl)) (omega (arith, length-append front (69 ∷ 43 ∷ d ∷ ds)))
+    let splits : (prefix ++ 69 ∷ 43 ∷ []) ++ ((d ∷ ds) ++ []) ≡ bs = rw (append-nil, append_assoc) in
+    let long : length (prefix ++ 69 ∷ 43 ∷ []) ≡ b + 2 = rw (length-append, at) in
+    tail_of bs b (b + 2) false (d ∷ ds) (rw (start, byte_after prefix _ b 2 at, byte_at_end prefix _ b at) (is_digit d r.0 r.1).0) start (rw next)
+    (rw splits at (run_end _ (d ∷ ds) [] (b + 2) long digits refl)) (rw splits at (run_is _ (d ∷ ds) [] (b + 2) long digits refl)) (omega (arith, length-append prefix (69 ∷ 43 ∷ d ∷ ds)))
 
 scan_is : (bs whole fraction exponent : List ℕ) (point negative : Bool) (a b : ℕ) → digits_end bs 0 ≡ a → eqb (get_or bs a 0) 46 ≡ point → cond point (digits_end bs (a + 1)) a ≡ b
     → slice_range bs 0 a ≡ whole → cond point (slice_range bs (a + 1) b) [] ≡ fraction → Tail bs b negative exponent
@@ -242,8 +242,8 @@ not_huge s d ds e all some far t m g is =
     let w = digits_value 10 (d ∷ ds) in
     let least : 1 * 10 ^ 309 * 10 ^ (1 + length ds) ≤ 1 * 10 ^ length ds * 10 ^ (e + 1) = tens_le 1 1 309 (1 + length ds) (length ds) (e + 1) (omega arith) (omega arith) in
     let more : 10 ^ length ds * 10 ^ (e + 1) ≤ w * 10 ^ (e + 1) = mul-le-mul_right (10 ^ (e + 1)) (large_value d ds all some) in
-    let left : 10 ^ 309 * 10 ^ (1 + length ds) ≤ 10 ^ length ds * 10 ^ (e + 1) = rw (one-mul (10 ^ 309), one-mul (10 ^ length ds)) at least in
-    let big : 10 ^ 309 * 10 ^ length (d ∷ ds) ≤ w * 10 ^ (e + 1) = le_trans {k = w * 10 ^ (e + 1)} (subst (λ (n : ℕ). 10 ^ 309 * 10 ^ n ≤ 10 ^ length ds * 10 ^ (e + 1)) (omega arith) left) more in
+    let remaining : 10 ^ 309 * 10 ^ (1 + length ds) ≤ 10 ^ length ds * 10 ^ (e + 1) = rw (one-mul (10 ^ 309), one-mul (10 ^ length ds)) at least in
+    let big : 10 ^ 309 * 10 ^ length (d ∷ ds) ≤ w * 10 ^ (e + 1) = le_trans {k = w * 10 ^ (e + 1)} (subst (λ (n : ℕ). 10 ^ 309 * 10 ^ n ≤ 10 ^ length ds * 10 ^ (e + 1)) (omega arith) remaining) more in
     let high = nearest_of_huge binary64 (w * 10 ^ (e + 1)) (10 ^ length (d ∷ ds)) (ten_to_pos (length (d ∷ ds))) big in
     let clash : cond s (inf true) (inf false) ≡ fin t (suc m) g = sym (by_sign s _ _ (inf false) (inf true) (sym high.0 ∙ infinite binary64) refl) ∙ is in
     infinite_clash s t (suc m) g clash

@@ -10,10 +10,10 @@ use bd_wide_number::{biased_exponent, coefficient, five_bits};
 use itoa::Buffer;
 
 /// Appends the text of the decimal128 with these halves of its bits.
-#[tactic(auto, using(bd_value::proofs::FrontLemmas::fronts), unfolding(crate::specs::Decimal128::decimal128_text))]
+#[tactic(auto, using(bd_value::proofs::PrefixLemmas::prefixes), unfolding(crate::specs::Decimal128::decimal128_text))]
 pub fn write_decimal128(low: u64, high: u64, out: &mut Vec<u8>) -> Result<(), NoMemory>
     ensures ok { OnOk result (out.new.items ≡ out.old.items ++ decimal128_text low high) }
-    ensures front { OnErr result (StartsWith out.new.items out.old.items) }
+    ensures prefix { OnErr result (StartsWith out.new.items out.old.items) }
 {
     if five_bits(high) == 31 {
         return out.extend_from_slice(b"NaN");
@@ -29,7 +29,7 @@ pub fn write_decimal128(low: u64, high: u64, out: &mut Vec<u8>) -> Result<(), No
 #[tactic(auto, using(crate::proofs::Decimal128Lemmas::some_digits), unfolding(crate::specs::Decimal128::decimal128_size))]
 fn write_size(low: u64, high: u64, out: &mut Vec<u8>) -> Result<(), NoMemory>
     ensures ok { OnOk result (out.new.items ≡ out.old.items ++ decimal128_size low high) }
-    ensures front { OnErr result (StartsWith out.new.items out.old.items) }
+    ensures prefix { OnErr result (StartsWith out.new.items out.old.items) }
 {
     if five_bits(high) == 30 {
         return out.extend_from_slice(b"Infinity");
@@ -40,13 +40,13 @@ fn write_size(low: u64, high: u64, out: &mut Vec<u8>) -> Result<(), NoMemory>
 }
 
 /// Appends the number with these digits, times the power of ten that is 6176 below `biased`.
-#[tactic(auto, using(bd_value::proofs::FrontLemmas::fronts), unfolding(crate::specs::Decimal128::scientific_string))]
+#[tactic(auto, using(bd_value::proofs::PrefixLemmas::prefixes), unfolding(crate::specs::Decimal128::scientific_string))]
 fn write_scientific_string(digits: &[u8], biased: usize, out: &mut Vec<u8>) -> Result<(), NoMemory>
     requires digits { (0 < length digits.now) × (length digits.now ≤ 40) }
     requires biased { biased < 2 ^ 14 }
     ensures ok { OnOk result
         (out.new.items ≡ out.old.items ++ scientific_string digits.now biased) }
-    ensures front { OnErr result (StartsWith out.new.items out.old.items) }
+    ensures prefix { OnErr result (StartsWith out.new.items out.old.items) }
 {
     let sum = biased + digits.len();
     if biased > 6176 || sum < 6171 {
@@ -69,11 +69,11 @@ fn write_scientific_string(digits: &[u8], biased: usize, out: &mut Vec<u8>) -> R
 }
 
 /// Appends the power of ten of the first digit, which is 6177 below the sum.
-#[tactic(auto, using(bd_value::proofs::FrontLemmas::fronts))]
+#[tactic(auto, using(bd_value::proofs::PrefixLemmas::prefixes))]
 fn write_power(sum: usize, out: &mut Vec<u8>) -> Result<(), NoMemory>
     requires { sum < 2 ^ 15 }
     ensures ok { OnOk result (out.new.items ≡ out.old.items ++ power_text sum) }
-    ensures front { OnErr result (StartsWith out.new.items out.old.items) }
+    ensures prefix { OnErr result (StartsWith out.new.items out.old.items) }
 {
     let mut buffer = Buffer::new();
     if sum < 6177 {

@@ -17,7 +17,7 @@ use itoa::Buffer;
 /// Appends the text of the double with these bits.
 pub fn write_double(bits: u64, out: &mut Vec<u8>) -> Result<(), NoMemory>
     ensures ok { OnOk result (Adds (IsDoubleText bits) out.old.items out.new.items) }
-    ensures front { OnErr result (StartsWith out.new.items out.old.items) }
+    ensures prefix { OnErr result (StartsWith out.new.items out.old.items) }
 {
     let Some(word) = word(bits) else {
         return write_number(bits, out);
@@ -55,11 +55,11 @@ fn word(bits: u64) -> Option<&'static [u8]>
 }
 
 /// Appends the text of a number other than zero.
-#[tactic(auto, using(bd_value::proofs::FrontLemmas::fronts))]
+#[tactic(auto, using(bd_value::proofs::PrefixLemmas::prefixes))]
 fn write_number(bits: u64, out: &mut Vec<u8>) -> Result<(), NoMemory>
     requires { IsSized (of_bits binary64 bits) }
     ensures ok { OnOk result (Adds (IsDoubleText bits) out.old.items out.new.items) }
-    ensures front { OnErr result (StartsWith out.new.items out.old.items) }
+    ensures prefix { OnErr result (StartsWith out.new.items out.old.items) }
 {
     let mut buffer = ryu::Buffer::new();
     let text = buffer.format_finite(f64::from_bits(bits)).as_bytes();
@@ -85,7 +85,7 @@ fn has_sign(text: &[u8]) -> bool
 fn write_size(size: &[u8], out: &mut Vec<u8>) -> Result<(), NoMemory>
     requires { AreParts size.now (scan size.now) }
     ensures ok { OnOk result (Adds (IsLaidOutAnew (scan size.now)) out.old.items out.new.items) }
-    ensures front { OnErr result (StartsWith out.new.items out.old.items) }
+    ensures prefix { OnErr result (StartsWith out.new.items out.old.items) }
 {
     let numeral = Numeral::scan(size);
     let whole = numeral.whole();
@@ -105,7 +105,7 @@ fn write_size(size: &[u8], out: &mut Vec<u8>) -> Result<(), NoMemory>
 }
 
 /// Appends digits in two runs, of which the first is worth the power of ten that two texts have.
-#[tactic(auto, using(bd_value::proofs::FrontLemmas::fronts))]
+#[tactic(auto, using(bd_value::proofs::PrefixLemmas::prefixes))]
 fn write_scientific(
     digits: &[u8],
     more: &[u8],
@@ -116,7 +116,7 @@ fn write_scientific(
     requires { 0 < length digits.now }
     ensures ok { OnOk result (out.new.items ≡ out.old.items
         ++ (mantissa (digits.now ++ more.now) ++ (sign.now ++ padded power.now))) }
-    ensures front { OnErr result (StartsWith out.new.items out.old.items) }
+    ensures prefix { OnErr result (StartsWith out.new.items out.old.items) }
 {
     write_mantissa(digits, more, out)?;
     out.extend_from_slice(sign)?;
@@ -136,7 +136,7 @@ fn write_small(
     requires { zeros ≤ length fraction.now }
     ensures ok { OnOk result
         (out.new.items ≡ out.old.items ++ small_text size.now fraction.now zeros) }
-    ensures front { OnErr result (StartsWith out.new.items out.old.items) }
+    ensures prefix { OnErr result (StartsWith out.new.items out.old.items) }
 {
     if zeros <= 3 || zeros == fraction.len() {
         return out.extend_from_slice(size);
@@ -159,7 +159,7 @@ fn write_large(
     requires fraction { 0 < length fraction.now }
     ensures ok { OnOk result (out.new.items
         ≡ out.old.items ++ large_text size.now whole.now fraction.now count) }
-    ensures front { OnErr result (StartsWith out.new.items out.old.items) }
+    ensures prefix { OnErr result (StartsWith out.new.items out.old.items) }
 {
     if whole.len() <= 6 {
         return out.extend_from_slice(size);

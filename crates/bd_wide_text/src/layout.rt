@@ -7,11 +7,11 @@ ghost use Rattle.bd_wide_text.specs.Layout.{mantissa, zeros as zeros_of};
 use bd_value::NoMemory;
 
 /// Appends the first of two runs of digits, and a point and all others where there are others.
-#[tactic(auto, using(bd_value::proofs::FrontLemmas::fronts))]
+#[tactic(auto, using(bd_value::proofs::PrefixLemmas::prefixes))]
 pub(crate) fn write_mantissa(digits: &[u8], more: &[u8], out: &mut Vec<u8>) -> Result<(), NoMemory>
     requires { 0 < length digits.now }
     ensures ok { OnOk result (out.new.items ≡ out.old.items ++ mantissa (digits.now ++ more.now)) }
-    ensures front { OnErr result (StartsWith out.new.items out.old.items) }
+    ensures prefix { OnErr result (StartsWith out.new.items out.old.items) }
 {
     let (first, others) = digits.split_at(1);
     out.extend_from_slice(first)?;
@@ -24,10 +24,10 @@ pub(crate) fn write_mantissa(digits: &[u8], more: &[u8], out: &mut Vec<u8>) -> R
 }
 
 /// Appends so many zeros.
-#[tactic(auto, using(bd_value::proofs::FrontLemmas::fronts))]
+#[tactic(auto, using(bd_value::proofs::PrefixLemmas::prefixes))]
 pub(crate) fn write_zeros(count: usize, out: &mut Vec<u8>) -> Result<(), NoMemory>
     ensures ok { OnOk result (out.new.items ≡ out.old.items ++ zeros_of count) }
-    ensures front { OnErr result (StartsWith out.new.items out.old.items) }
+    ensures prefix { OnErr result (StartsWith out.new.items out.old.items) }
 {
     for _ in 0..count {
         out.push(b'0')?;

@@ -6,7 +6,7 @@ use bd_cli_args::{Order, WordsFault, parse_words};
 use bd_cli_files::Status;
 use bd_cli_files::output::CANNOT_WRITE;
 use bd_io_device::{BufferedInput, ReadFault, SystemInput, SystemOutput, write_all};
-use bd_io_stdout::{Fate, GatheredOutput, Gathering, TiedError, TiedInput, hand_on};
+use bd_io_stdout::{FlushingError, FlushingInput, GatheredOutput, Gathering, WriteState, hand_on};
 use std::cell::RefCell;
 use std::io::{BufReader, Read, Stdout};
 use std::os::fd::AsRawFd;
@@ -37,29 +37,29 @@ type Waiting = RefCell<Gathering<SystemOutput<Stdout>>>;
 fn refuse(rt: &HostRuntime, fault: &WordsFault, gathering: &Waiting) -> Status {
     let writer = rt.stderr();
     let mut out = SystemOutput::new(GatheredOutput { gathering });
-    let mut err = SystemOutput::new(TiedError { writer, gathering });
+    let mut err = SystemOutput::new(FlushingError { writer, gathering });
     report(fault, &mut out, &mut err)
 }
 
 /// Carries out an order over the input that its file is.
 fn run<F: Read + Drop>(rt: &HostRuntime, order: &Order, reader: F, gathering: &Waiting) -> Status {
     let alloc = rt.alloc();
-    let file = TiedInput { reader, gathering };
+    let file = FlushingInput { reader, gathering };
     let Ok(file) = BufReader::with_capacity(alloc, BUFFER, file) else {
         return refuse(rt, &WordsFault::NoMemory, gathering);
     };
     let mut file = BufferedInput::new(file);
     let reader = rt.reader();
     // They are read in blocks as it is.
-    let mut commands = SystemInput::new(TiedInput { reader, gathering });
+    let mut commands = SystemInput::new(FlushingInput { reader, gathering });
     let writer = rt.stderr();
     let mut out = SystemOutput::new(GatheredOutput { gathering });
-    let mut err = SystemOutput::new(TiedError { writer, gathering });
+    let mut err = SystemOutput::new(FlushingError { writer, gathering });
     bd_cli::run(alloc, order, &mut file, &mut commands, &mut out, &mut err)
 }
 
 /// Tells an error, and of which file. Where standard error fails too, the status tells it alone.
-fn tell_error(rt: &HostRuntime, message: &str, file: &str) -> Status {
+fn report_error(rt: &HostRuntime, message: &str, file: &str) -> Status {
     let mut err = SystemOutput::new(rt.stderr());
     for part in ["bsonfind: ", message, file, "\n"] {
         if write_all(&mut err, part.as_bytes()).is_err() {
@@ -70,7 +70,7 @@ fn tell_error(rt: &HostRuntime, message: &str, file: &str) -> Status {
 }
 
 /// Does what the process's words say.
-fn obey(rt: &HostRuntime, gathering: &Waiting) -> Status {
+fn execute(rt: &HostRuntime, gathering: &Waiting) -> Status {
     let order = match order(rt) {
         Ok(order) => order,
         Err(fault) => return refuse(rt, &fault, gathering),
@@ -84,11 +84,11 @@ fn obey(rt: &HostRuntime, gathering: &Waiting) -> Status {
         return run(rt, &order, rt.reader(), gathering);
     }
     let Ok(opened) = fs::open(rt, file) else {
-        return tell_error(rt, "cannot open ", file);
+        return report_error(rt, "cannot open ", file);
     };
     // The number of standard input, which was closed: commands would be read from the end of the file.
     if opened.as_raw_fd() == 0 && matches!(&order, Order::Serve { .. }) {
-        return tell_error(rt, ReadFault::Device.words(), "");
+        return report_error(rt, ReadFault::Device.words(), "");
     }
     run(rt, &order, opened, gathering)
 }
@@ -98,9 +98,9 @@ fn obey(rt: &HostRuntime, gathering: &Waiting) -> Status {
 fn status(rt: &HostRuntime) -> Status {
     let system = SystemOutput::new(rt.stdout());
     let gathering = RefCell::new(Gathering::new(rt.alloc(), system));
-    let status = obey(rt, &gathering);
-    if hand_on(&gathering) == Fate::Lost {
-        return tell_error(rt, CANNOT_WRITE, "");
+    let status = execute(rt, &gathering);
+    if hand_on(&gathering) == WriteState::Lost {
+        return report_error(rt, CANNOT_WRITE, "");
     }
     status
 }

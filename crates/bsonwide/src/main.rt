@@ -3,7 +3,7 @@
 
 use bd_cli_args::WordsFault;
 use bd_io_device::{BufferedInput, SystemOutput, write_all};
-use bd_io_stdout::{Fate, GatheredOutput, Gathering, TiedError, TiedInput, hand_on};
+use bd_io_stdout::{FlushingError, FlushingInput, GatheredOutput, Gathering, WriteState, hand_on};
 use bd_wide::read_order;
 use bd_wide_args::{Order, parse_words};
 use bd_wide_cli::{CANNOT_WRITE, Filter, Status, report};
@@ -48,7 +48,7 @@ type Waiting = RefCell<Gathering<SystemOutput<Stdout>>>;
 fn refuse(rt: &HostRuntime, fault: WordsFault, gathering: &Waiting) -> Status {
     let writer = rt.stderr();
     let mut out = SystemOutput::new(GatheredOutput { gathering });
-    let mut err = SystemOutput::new(TiedError { writer, gathering });
+    let mut err = SystemOutput::new(FlushingError { writer, gathering });
     report(fault, &mut out, &mut err)
 }
 
@@ -60,19 +60,19 @@ fn run<F: Read + Drop>(
     gathering: &Waiting,
 ) -> Status {
     let alloc = rt.alloc();
-    let file = TiedInput { reader, gathering };
+    let file = FlushingInput { reader, gathering };
     let Ok(file) = BufReader::with_capacity(alloc, BUFFER, file) else {
         return refuse(rt, WordsFault::NoMemory, gathering);
     };
     let mut file = BufferedInput::new(file);
     let writer = rt.stderr();
     let mut out = SystemOutput::new(GatheredOutput { gathering });
-    let mut err = SystemOutput::new(TiedError { writer, gathering });
+    let mut err = SystemOutput::new(FlushingError { writer, gathering });
     bd_wide_cli::run(alloc, filter, &mut file, &mut out, &mut err)
 }
 
 /// Tells an error, and of which file. Where standard error fails too, the status tells it alone.
-fn tell_error(rt: &HostRuntime, message: &str, file: &str) -> Status {
+fn report_error(rt: &HostRuntime, message: &str, file: &str) -> Status {
     let mut err = SystemOutput::new(rt.stderr());
     for part in ["bsonwide: ", message, file, "\n"] {
         if write_all(&mut err, part.as_bytes()).is_err() {
@@ -83,7 +83,7 @@ fn tell_error(rt: &HostRuntime, message: &str, file: &str) -> Status {
 }
 
 /// Does what the process's words say.
-fn obey(rt: &HostRuntime, gathering: &Waiting) -> Status {
+fn execute(rt: &HostRuntime, gathering: &Waiting) -> Status {
     let (filter, file) = match filter(rt) {
         Ok(both) => both,
         Err(fault) => return refuse(rt, fault, gathering),
@@ -92,7 +92,7 @@ fn obey(rt: &HostRuntime, gathering: &Waiting) -> Status {
         return run(rt, &filter, rt.reader(), gathering);
     }
     let Ok(opened) = fs::open(rt, &file) else {
-        return tell_error(rt, "cannot open ", &file);
+        return report_error(rt, "cannot open ", &file);
     };
     run(rt, &filter, opened, gathering)
 }
@@ -102,9 +102,9 @@ fn obey(rt: &HostRuntime, gathering: &Waiting) -> Status {
 fn status(rt: &HostRuntime) -> Status {
     let system = SystemOutput::new(rt.stdout());
     let gathering = RefCell::new(Gathering::new(rt.alloc(), system));
-    let status = obey(rt, &gathering);
-    if hand_on(&gathering) == Fate::Lost {
-        return tell_error(rt, CANNOT_WRITE, "");
+    let status = execute(rt, &gathering);
+    if hand_on(&gathering) == WriteState::Lost {
+        return report_error(rt, CANNOT_WRITE, "");
     }
     status
 }

@@ -1,14 +1,14 @@
 use Rattle.std.proofs.Common.{◌≡◌, ◌<◌, Ok, length, arith, sym, subst, ◌∙◌, codes}
 use Rattle.std.proofs.lemmas.{Result.err_from_is_err_and, List.nil_from_length, Bool.eqb-true, Bool.Decides.nat_tests}
-use Rattle.bd_bson_check.specs.{Fault.FailsAtItem, FirstFault.label, FirstFault.past_element, FirstFault.past_nested}
+use Rattle.bd_bson_check.specs.{Fault.FailsAtItem, FirstFault.label, FirstFault.skip_element, FirstFault.skip_nested}
 use Rattle.bd_bson_check.proofs.check.+checking.Goals.{elements-in-Some, elements-in-None+in_ok-rest-in-None}
-use Rattle.bd_bson_check.proofs.{CheckingLemmas.told_fails, CheckingLemmas.fails_within, FirstFaultLemmas.elements_nil}
-use Rattle.bd_bson_check.proofs.CheckingLemmas as past
+use Rattle.bd_bson_check.proofs.{CheckingLemmas.reported_fails, CheckingLemmas.fails_within, FirstFaultLemmas.elements_nil}
+use Rattle.bd_bson_check.proofs.CheckingLemmas as above
 use Rattle.bd_bson_check.proofs.check.+checking.Goals as goal
 
 pub element-returns-in-Err-clause-gives : goal.element-returns-in-Err-clause-gives
 element-returns-in-Err-clause-gives t c =
-    past.element_fails c.within.result (past_nested c.args.room) c.args.place c.args.e c.args.bytes.now c.in-Some.element_type
+    above.element_fails c.within.result (skip_nested c.args.depth_left) c.args.place c.args.e c.args.bytes.now c.in-Some.element_type
     c.split_at.result.1.now c.in_ok-name.name.now c.in_ok-name.rest.now c.requires.some (sym c.in-Some.ensures)
     (sym c.split_at.ensures.back) c.in_ok-name.ensures.gives
     (fails_within c.in-Err.stop c.within.result (label c.args.place c.in_ok-name.name.now) _ c.within.ensures c.in-Err.ensures.gives)
@@ -19,22 +19,22 @@ elements-returns-in_err-rest-in-None t c =
     let l = c.loop-rest in
     let stop = c.in_err-rest-in-None.field-0.0 in
     let some : 0 < length l.rest.now = grind (arith, nat_tests, c.loop-rest-test.ensures) in
-    rw (p.1, p.2) (subst (FailsAtItem stop) l.invariant.so_far (past.no_first stop l.place c.args.room c.args.e l.rest.now some c.in_err-rest-in-None.ensures.gives))
+    rw (p.1, p.2) (subst (FailsAtItem stop) l.invariant.so_far (above.no_first stop l.place c.args.depth_left c.args.e l.rest.now some c.in_err-rest-in-None.ensures.gives))
 
 pub elements-loop-rest-preserved : goal.elements-loop-rest-preserved
 elements-loop-rest-preserved t c =
     let l = c.loop-rest in
     let i = l.invariant in
-    let gives : past_element (past_nested c.args.room) l.place c.args.e l.rest.now ≡ Ok c.match-past_scalar.rest.now =
-    elim c.match-past_scalar.branch [
-      | elements-in-Some w ↦ rw w.rest-is (w.in-Some.ensures.gives (past_nested c.args.room) l.place c.args.e)
+    let gives : skip_element (skip_nested c.args.depth_left) l.place c.args.e l.rest.now ≡ Ok c.match-skip_scalar.rest.now =
+    elim c.match-skip_scalar.branch [
+      | elements-in-Some w ↦ rw w.rest-is (w.in-Some.ensures.gives (skip_nested c.args.depth_left) l.place c.args.e)
       | elements-in-None+in_ok-rest-in-None w ↦ rw w.rest-is w.in_ok-rest-in-None.ensures.gives
     ] in
-    let on = past.goes_on l.place c.args.room c.args.e l.rest.now c.match-past_scalar.rest.now i.fits gives in
+    let on = above.goes_on l.place c.args.depth_left c.args.e l.rest.now c.match-skip_scalar.rest.now i.fits gives in
     record {
       inside = omega (arith, i.inside, on.0);
       fits = on.1;
-      counted = rw c.next-place.ensures (past.counted_on l.place _ _ _ i.counted on.0);
+      counted = rw c.next-place.ensures (above.counted_on l.place _ _ _ i.counted on.0);
       so_far = rw c.next-place.ensures (sym on.2 ∙ i.so_far);
     }
 
@@ -42,29 +42,29 @@ pub elements-returns : goal.elements-returns
 elements-returns t c =
     let l = c.loop-rest in
     let none = nil_from_length l.rest.now (eqb-true _ _ (sym c.loop-rest-test.ensures)) in
-    sym l.invariant.so_far ∙ rw none (elements_nil (past_nested c.args.room) l.place 0 c.args.e)
+    sym l.invariant.so_far ∙ rw none (elements_nil (skip_nested c.args.depth_left) l.place 0 c.args.e)
 
-pub nested-returns-then-room-eq0-clause-gives : goal.nested-returns-then-room-eq0-clause-gives
-nested-returns-then-room-eq0-clause-gives t c =
-    told_fails c.fault_at.result _ (past_nested c.args.room c.args.holder c.args.q c.args.e c.args.bytes.now) c.fault_at.ensures
-    (past.too_deep c.args.holder c.args.room c.args.q c.args.e c.args.bytes.now (omega arith))
+pub nested-returns-then-depth_left-eq0-clause-gives : goal.nested-returns-then-depth_left-eq0-clause-gives
+nested-returns-then-depth_left-eq0-clause-gives t c =
+    reported_fails c.fault_at.result _ (skip_nested c.args.depth_left c.args.holder c.args.q c.args.e c.args.bytes.now) c.fault_at.ensures
+    (above.too_deep c.args.holder c.args.depth_left c.args.q c.args.e c.args.bytes.now (omega arith))
 
-pub nested-returns-then-room-eq1-clause-gives : goal.nested-returns-then-room-eq1-clause-gives
-nested-returns-then-room-eq1-clause-gives t c =
-    told_fails c.fault_at-then-room-eq1.result _ (past_nested c.args.room c.args.holder c.args.q c.args.e c.args.bytes.now)
-    c.fault_at-then-room-eq1.ensures (past.code_too_deep c.args.holder c.args.room c.args.q c.args.e c.args.bytes.now c.in-CodeScope.is c.if-room-eq1.true)
+pub nested-returns-then-depth_left-eq1-clause-gives : goal.nested-returns-then-depth_left-eq1-clause-gives
+nested-returns-then-depth_left-eq1-clause-gives t c =
+    reported_fails c.fault_at-then-depth_left-eq1.result _ (skip_nested c.args.depth_left c.args.holder c.args.q c.args.e c.args.bytes.now)
+    c.fault_at-then-depth_left-eq1.ensures (above.code_too_deep c.args.holder c.args.depth_left c.args.q c.args.e c.args.bytes.now c.in-CodeScope.is c.if-depth_left-eq1.true)
 
 pub nested-returns-in-Document-clause-gives : goal.nested-returns-in-Document-clause-gives
-nested-returns-in-Document-clause-gives t c = rw (c.in-Document.is, (past.below c.args.room c.args.q c.args.e c.args.bytes.now (omega arith)).0) c.body.ensures.gives
+nested-returns-in-Document-clause-gives t c = rw (c.in-Document.is, (above.below c.args.depth_left c.args.q c.args.e c.args.bytes.now (omega arith)).0) c.body.ensures.gives
 
 pub nested-returns-in-Array-clause-gives : goal.nested-returns-in-Array-clause-gives
-nested-returns-in-Array-clause-gives t c = rw (c.in-Array.is, (past.below c.args.room c.args.q c.args.e c.args.bytes.now (omega arith)).1) c.body-in-Array.ensures.gives
+nested-returns-in-Array-clause-gives t c = rw (c.in-Array.is, (above.below c.args.depth_left c.args.q c.args.e c.args.bytes.now (omega arith)).1) c.body-in-Array.ensures.gives
 
-pub nested-returns-else-room-eq1-clause-gives : goal.nested-returns-else-room-eq1-clause-gives
-nested-returns-else-room-eq1-clause-gives t c = rw (c.in-CodeScope.is, past.code_below c.args.room c.args.q c.args.e c.args.bytes.now (omega arith)) c.code_scope.ensures.gives
+pub nested-returns-else-depth_left-eq1-clause-gives : goal.nested-returns-else-depth_left-eq1-clause-gives
+nested-returns-else-depth_left-eq1-clause-gives t c = rw (c.in-CodeScope.is, above.code_below c.args.depth_left c.args.q c.args.e c.args.bytes.now (omega arith)) c.code_scope.ensures.gives
 
 pub code_scope-returns-in-Err-clause-gives : goal.code_scope-returns-in-Err-clause-gives
 code_scope-returns-in-Err-clause-gives t c =
-    past.scope_fails c.within.result (past_nested c.args.room) c.args.q c.args.e c.args.bytes.now c.in_ok-parts.parts.now c.in_ok-parts.end
+    above.scope_fails c.within.result (skip_nested c.args.depth_left) c.args.q c.args.e c.args.bytes.now c.in_ok-parts.parts.now c.in_ok-parts.end
     c.in_ok-parts.rest.now c.in_ok-scope.scope.now c.in_ok-parts.ensures.gives c.in_ok-scope.ensures.gives
     (fails_within c.in-Err.stop c.within.result (codes "$scope") _ c.within.ensures c.in-Err.ensures.gives)

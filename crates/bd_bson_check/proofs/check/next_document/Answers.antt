@@ -7,7 +7,7 @@ returns-clause-next c =
     let bytes = c.args.bytes.now in
     let at = c.args.at in
     let n = c.in-Some.frame.length in
-    let inside = (rw c.in-Some.is at c.in_ok-frame.ensures.stands).1 in
+    let inside = (rw c.in-Some.is at c.in_ok-frame.ensures.meaning).1 in
     let same : at + n - at ≡ n = omega arith in
-    let cut = sym (take-append-drop n (drop at bytes)) ∙ ap (λ x. take n (drop at bytes) ++ x) (drop-drop n at bytes) in
-    (take n (drop at bytes), rw same at c.in_ok-document.ensures.spelled, cut, omega (arith, inside, length-take n (drop at bytes), length-drop at bytes), inside)
+    let splits = sym (take-append-drop n (drop at bytes)) ∙ ap (λ x. take n (drop at bytes) ++ x) (drop-drop n at bytes) in
+    (take n (drop at bytes), rw same at c.in_ok-document.ensures.spelled, splits, omega (arith, inside, length-take n (drop at bytes), length-drop at bytes), inside)

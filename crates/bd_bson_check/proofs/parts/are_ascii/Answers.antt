@@ -10,14 +10,14 @@ beyond b = nat_lt 127 b
 none_beyond : (xs : List ℕ) → list_any beyond xs ≡ false → IsAscii xs
 none_beyond xs e = λ i. elim (cases_lt i (length xs)) [
   | inl lt ↦ let le = ltb-false 127 (get_or xs i 0) (false_from_ne_true (beyond (get_or xs i 0)) (λ t. let f = list_any_at beyond xs i 0 lt t in cc)) in omega (arith, le)
-  | inr past ↦ rw (get_or_past xs i 0 past) (omega arith)
+  | inr above ↦ rw (get_or_past xs i 0 above) (omega arith)
 ]
 
 -- of bytes at most twice as many the first and the last are all
 both_ends : (size : ℕ) (xs first last : List ℕ) → size ≤ length xs → length xs ≤ size + size → first ≡ take size xs
     → last ≡ drop (length xs - size) xs → list_any beyond first ≡ false → list_any beyond last ≡ false → IsAscii xs
-both_ends size xs first last fits near front back one two = λ i. elim (cases_lt i size) [
-  | inl lt ↦ subst (λ (b : ℕ). b < 128) (ap (λ (l : List ℕ). get_or l i 0) front ∙ get_or-take size xs i 0 lt) (none_beyond first one i)
+both_ends size xs first last fits near prefix back one two = λ i. elim (cases_lt i size) [
+  | inl lt ↦ subst (λ (b : ℕ). b < 128) (ap (λ (l : List ℕ). get_or l i 0) prefix ∙ get_or-take size xs i 0 lt) (none_beyond first one i)
   | inr high ↦
       let k = length xs - size in
       let there : k + (i - k) ≡ i = omega arith in

@@ -15,35 +15,35 @@ abbrev pub decreases-append_element : goal.decreases-append_element
 decreases-append_element g l = 4 * tree_size (g.N.Reading.tree l.node) + 3
 
 abbrev pub decreases-append_fields : goal.decreases-append_fields
-decreases-append_fields g l = 4 * fields_size (fields_of (g.N.Reading.left l.fields))
+decreases-append_fields g l = 4 * fields_size (fields_of (g.N.Reading.remaining l.fields))
 
 abbrev pub decreases-append_items : goal.decreases-append_items
-decreases-append_items g l = 4 * fields_size (fields_of (g.N.Reading.left l.items))
+decreases-append_items g l = 4 * fields_size (fields_of (g.N.Reading.remaining l.items))
 
 -- what was written and what is still to come are all; what is to come being spelled, all is
 abbrev pub invariant-append_fields-loop-next : goal.invariant-append_fields-loop-next
 invariant-append_fields-loop-next g l = record {
-  whole : l.out.items ++ fields_bytes (fields_of (g.N.Reading.left l.rest)) ≡ (l.fn.out.items ++ number 0) ++ fields_bytes (fields_of (g.N.Reading.left l.fn.fields));
-  spelled : AreFields (fields_of (g.N.Reading.left l.rest)) (fields_bytes (fields_of (g.N.Reading.left l.rest)))
-      → AreFields (fields_of (g.N.Reading.left l.fn.fields)) (fields_bytes (fields_of (g.N.Reading.left l.fn.fields)));
-  front : StartsWith l.out.items l.fn.out.items;
-  zero : zero_in_fields (fields_of (g.N.Reading.left l.rest)) ≡ false;
-  fewer : fields_size (fields_of (g.N.Reading.left l.rest)) ≤ fields_size (fields_of (g.N.Reading.left l.fn.fields));
+  whole : l.out.items ++ fields_bytes (fields_of (g.N.Reading.remaining l.rest)) ≡ (l.fn.out.items ++ number 0) ++ fields_bytes (fields_of (g.N.Reading.remaining l.fn.fields));
+  spelled : AreFields (fields_of (g.N.Reading.remaining l.rest)) (fields_bytes (fields_of (g.N.Reading.remaining l.rest)))
+      → AreFields (fields_of (g.N.Reading.remaining l.fn.fields)) (fields_bytes (fields_of (g.N.Reading.remaining l.fn.fields)));
+  prefix : StartsWith l.out.items l.fn.out.items;
+  zero : zero_in_fields (fields_of (g.N.Reading.remaining l.rest)) ≡ false;
+  fewer : fields_size (fields_of (g.N.Reading.remaining l.rest)) ≤ fields_size (fields_of (g.N.Reading.remaining l.fn.fields));
 }
 
 abbrev pub decreases-append_fields-loop-next : goal.decreases-append_fields-loop-next
-decreases-append_fields-loop-next g l = length (g.N.Reading.left l.rest)
+decreases-append_fields-loop-next g l = length (g.N.Reading.remaining l.rest)
 
 abbrev pub invariant-append_items-loop-next : goal.invariant-append_items-loop-next
 invariant-append_items-loop-next g l = record {
-  whole : l.out.items ++ items_bytes l.place (items_of (values_of (g.N.Reading.left l.rest))) ≡ (l.fn.out.items ++ number 0) ++ items_bytes 0 (items_of (values_of (g.N.Reading.left l.fn.items)));
-  spelled : AreItems (items_of (values_of (g.N.Reading.left l.rest))) (items_bytes l.place (items_of (values_of (g.N.Reading.left l.rest))))
-      → AreItems (items_of (values_of (g.N.Reading.left l.fn.items))) (items_bytes 0 (items_of (values_of (g.N.Reading.left l.fn.items))));
-  front : StartsWith l.out.items l.fn.out.items;
-  zero : zero_in_items (items_of (values_of (g.N.Reading.left l.rest))) ≡ false;
-  fewer : fields_size (fields_of (g.N.Reading.left l.rest)) ≤ fields_size (fields_of (g.N.Reading.left l.fn.items));
+  whole : l.out.items ++ items_bytes l.place (items_of (values_of (g.N.Reading.remaining l.rest))) ≡ (l.fn.out.items ++ number 0) ++ items_bytes 0 (items_of (values_of (g.N.Reading.remaining l.fn.items)));
+  spelled : AreItems (items_of (values_of (g.N.Reading.remaining l.rest))) (items_bytes l.place (items_of (values_of (g.N.Reading.remaining l.rest))))
+      → AreItems (items_of (values_of (g.N.Reading.remaining l.fn.items))) (items_bytes 0 (items_of (values_of (g.N.Reading.remaining l.fn.items))));
+  prefix : StartsWith l.out.items l.fn.out.items;
+  zero : zero_in_items (items_of (values_of (g.N.Reading.remaining l.rest))) ≡ false;
+  fewer : fields_size (fields_of (g.N.Reading.remaining l.rest)) ≤ fields_size (fields_of (g.N.Reading.remaining l.fn.items));
   few : l.place ≤ length l.out.items;
 }
 
 abbrev pub decreases-append_items-loop-next : goal.decreases-append_items-loop-next
-decreases-append_items-loop-next g l = length (g.N.Reading.left l.rest)
+decreases-append_items-loop-next g l = length (g.N.Reading.remaining l.rest)

@@ -6,4 +6,4 @@ returns-in-Ok-clause-serves g c = (Ok c.in-Ok.bytes.items, c.in-Ok.ensures.input
 
 pub returns-in-Err-clause-serves : goal.returns-in-Err-clause-serves
 returns-in-Err-clause-serves g c =
-    (Err c.in-Err.fault, c.in-Err.ensures.input, record { unread = refl; silent = refl; told = c.tell_read_fault.ensures })
+    (Err c.in-Err.fault, c.in-Err.ensures.input, record { unread = refl; silent = refl; reported = c.report_read_fault.ensures })

@@ -2,7 +2,7 @@ use Rattle.std.proofs.Common.{List, ℕ, inr, refl, subst}
 use Rattle.bd_bson_dump.specs.Collection.{documents}
 use Rattle.bd_io_device.specs.Devices.{over}
 use Rattle.bd_cli.specs.Runs.{ServesDump}
-use Rattle.bd_cli.proofs.RunsLemmas.{fault_told}
+use Rattle.bd_cli.proofs.RunsLemmas.{fault_reported}
 use Rattle.bd_cli.proofs.runs.serve_bytes.Goals as goal
 
 pub returns-in-Ok : goal.returns-in-Ok
@@ -20,6 +20,6 @@ returns-in-Ok g c =
 
 pub returns-else-is_want_of_memory : goal.returns-else-is_want_of_memory
 returns-else-is_want_of_memory g c =
-    fault_told g.C.Input.state g.C.Input.read_gives c.args.bytes.items c.in-Err.fault c.args.commands.now
-    (over g.O.Output.state c.args.out.now c.args.out.now) (over g.E.Output.state c.args.err.now c.tell_dump_fault.new.err) _ c.requires
-    c.in-Err.ensures.fault (λ e. cc (c.if-is_want_of_memory.ensures.1 e)) refl c.tell_dump_fault.ensures
+    fault_reported g.C.Input.state g.C.Input.read_gives c.args.bytes.items c.in-Err.fault c.args.commands.now
+    (over g.O.Output.state c.args.out.now c.args.out.now) (over g.E.Output.state c.args.err.now c.report_dump_fault.new.err) _ c.requires
+    c.in-Err.ensures.fault (λ e. cc (c.if-is_want_of_memory.ensures.1 e)) refl c.report_dump_fault.ensures

@@ -11,18 +11,18 @@ returns-in-Ok g c = inl (to_the_end g.C.Input.state g.C.Input.read_gives c.args.
 
 pub returns-in-Err-Unread : goal.returns-in-Err-Unread
 returns-in-Err-Unread g c = inr (to_a_fault g.C.Input.state g.C.Input.read_gives c.args.dump c.args.commands.now c.serve.new.reader
-    (over g.O.Output.state c.args.out.now c.serve.new.out) (over g.E.Output.state c.args.err.now c.tell_read_fault.new.err) c.new-service.result
+    (over g.O.Output.state c.args.out.now c.serve.new.out) (over g.E.Output.state c.args.err.now c.report_read_fault.new.err) c.new-service.result
     c.serve.new.session (faults.Unread c.in-Err-Unread.fault) _ c.new-service.ensures.state c.new-service.ensures.dump
-    (rw c.in-Err-Unread.field-0-is at c.in-Err-Unread.ensures.stops) c.tell_read_fault.ensures)
+    (rw c.in-Err-Unread.field-0-is at c.in-Err-Unread.ensures.stops) c.report_read_fault.ensures)
 
 pub returns-in-Err-NoMemory : goal.returns-in-Err-NoMemory
 returns-in-Err-NoMemory g c = inr (to_a_fault g.C.Input.state g.C.Input.read_gives c.args.dump c.args.commands.now c.serve.new.reader
-    (over g.O.Output.state c.args.out.now c.serve.new.out) (over g.E.Output.state c.args.err.now c.tell_no_memory.new.err) c.new-service.result
+    (over g.O.Output.state c.args.out.now c.serve.new.out) (over g.E.Output.state c.args.err.now c.report_no_memory.new.err) c.new-service.result
     c.serve.new.session faults.NoMemory _ c.new-service.ensures.state c.new-service.ensures.dump
-    (rw c.in-Err-NoMemory.field-0-is at c.in-Err-NoMemory.ensures.stops) c.tell_no_memory.ensures)
+    (rw c.in-Err-NoMemory.field-0-is at c.in-Err-NoMemory.ensures.stops) c.report_no_memory.ensures)
 
 pub returns : goal.returns
 returns g c = inr (to_a_fault g.C.Input.state g.C.Input.read_gives c.args.dump c.args.commands.now c.serve.new.reader
-    (over g.O.Output.state c.args.out.now c.serve.new.out) (over g.E.Output.state c.args.err.now c.tell_unwritten.new.err) c.new-service.result
+    (over g.O.Output.state c.args.out.now c.serve.new.out) (over g.E.Output.state c.args.err.now c.report_unwritten.new.err) c.new-service.result
     c.serve.new.session faults.Unwritten _ c.new-service.ensures.state c.new-service.ensures.dump
-    (rw c.in-Err-Unwritten.field-0-is at c.in-Err-Unwritten.ensures.stops) c.tell_unwritten.ensures)
+    (rw c.in-Err-Unwritten.field-0-is at c.in-Err-Unwritten.ensures.stops) c.report_unwritten.ensures)

@@ -2,7 +2,7 @@ use Rattle.std.proofs.Common.{ℕ, List, ◌++◌, Option, codes, decimal, [], �
 use Rattle.std.specs.Prelude.{option_map}
 use Rattle.bd_io_device.specs.{Devices.read_words, declared.reading.ReadFault.ReadFault}
 use Rattle.bd_cli_files.specs.Output.{wrong_line}
-use Rattle.bd_io_device.proofs.DevicesLemmas.{breaks_first}
+use Rattle.bd_io_device.proofs.DevicesLemmas.{write_fails_first}
 use Rattle.bd_cli_files.proofs.OutputLemmas.{on_err, second_err, second_ok}
 use Rattle.bd_cli_files.proofs.dump_and_check.write_findings.Goals as goal
 
@@ -15,7 +15,7 @@ second faulty = decimal faulty ++ (codes " faulty" ++ 10 ∷ [])
 pub returns-in_err-write_end-clause-err : goal.returns-in_err-write_end-clause-err
 returns-in_err-write_end-clause-err g c =
     let e = g.E.Output.state in
-    on_err c.from_residual.result _ (breaks_first (e c.args.err.now) (e c.write_end.new.err) (first c.args.unread c.args.documents) (second c.args.faulty)
+    on_err c.from_residual.result _ (write_fails_first (e c.args.err.now) (e c.write_end.new.err) (first c.args.unread c.args.documents) (second c.args.faulty)
     (rw (c.words_of.ensures, c.from.ensures) at c.in_err-write_end.ensures.err))
 
 pub returns-clause-ok : goal.returns-clause-ok

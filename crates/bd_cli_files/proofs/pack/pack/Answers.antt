@@ -1,6 +1,6 @@
 use Rattle.std.proofs.Common.{Ok, Err, refl}
 use Rattle.bd_io_device.specs.Devices.{read_words}
-use Rattle.bd_cli_files.specs.Output.{shown_refusal}
+use Rattle.bd_cli_files.specs.Output.{refusal_output}
 use Rattle.bd_cli_files.proofs.DumpLemmas as runs
 use Rattle.bd_cli_files.proofs.pack.pack.Goals as goal
 
@@ -12,8 +12,8 @@ returns-in-Ok-clause-packs g c =
 pub returns-in-Err-clause-packs : goal.returns-in-Err-clause-packs
 returns-in-Err-clause-packs g c = (
   Err c.in-Err.fault,
-  shown_refusal (read_words c.in-Err.fault),
+  refusal_output (read_words c.in-Err.fault),
   c.in-Err.ensures.input,
   refl,
-  runs.refused (g.O.Output.state c.args.out.now) (g.E.Output.state c.args.err.now) (g.E.Output.state c.tell_read_fault.new.err) _ _ c.tell_read_fault.ensures,
+  runs.refused (g.O.Output.state c.args.out.now) (g.E.Output.state c.args.err.now) (g.E.Output.state c.report_read_fault.new.err) _ _ c.report_read_fault.ensures,
 )

@@ -21,5 +21,5 @@ returns-clause-asking c =
 
 pub returns-clause-fault : goal.returns-clause-fault
 returns-clause-fault c =
-    IfErr-weaker c.read_page.result _ _ (λ fault told. page_refused (find_words_of c.args.options.now) (pairs c.in_ok-query.query)
-    (pairs c.in_ok-sort.sort) fault c.in_ok-query.ensures.document c.in_ok-sort.ensures.document told) c.read_page.ensures.fault
+    IfErr-weaker c.read_page.result _ _ (λ fault reported. page_refused (find_words_of c.args.options.now) (pairs c.in_ok-query.query)
+    (pairs c.in_ok-sort.sort) fault c.in_ok-query.ensures.document c.in_ok-sort.ensures.document reported) c.read_page.ensures.fault

@@ -2,10 +2,10 @@ use Rattle.std.proofs.Common.{Ok, Err, [], List, ℕ, refl, inl, inr, subst}
 use Rattle.std.specs.Prelude.{string_bytes}
 use Rattle.bd_cursor_request.specs.Refused.{reason_of}
 use Rattle.bd_cli_find.specs.Asking.{page_request_of, refused_text}
-use Rattle.bd_cli_find.proofs.AskingLemmas.{refusal_told}
-use Rattle.bd_cli_files.specs.Output.{TellsMessage, error_line, shown_refusal}
+use Rattle.bd_cli_find.proofs.AskingLemmas.{explain_refusal}
+use Rattle.bd_cli_files.specs.Output.{ReportsMessage, error_line, refusal_output}
 use Rattle.bd_cli_files.specs.declared.output.Status.TheVariants.{Failed}
-use Rattle.bd_io_device.specs.Devices.{no_read, over, read_words}
+use Rattle.bd_io_device.specs.Devices.{zero_reads, over, read_words}
 use Rattle.bd_cli_files.proofs.DumpLemmas as runs
 use Rattle.bd_cli_find.proofs.FindLemmas as finds
 use Rattle.bd_cli_find.proofs.find.find.Goals as goal
@@ -14,14 +14,14 @@ pub returns-in-Err-Message-clause-found : goal.returns-in-Err-Message-clause-fou
 returns-in-Err-Message-clause-found g c =
     let message = string_bytes c.in-Err-Message.message in
     let none = rw c.in-Err-Message.field-0-is at c.in-Err-Message.ensures.fault in
-    let told = subst (λ (text : List ℕ). TellsMessage (over g.E.Output.state c.args.err.now c.tell_error.new.err) (error_line text) Failed c.tell_error.result) c.deref.ensures c.tell_error.ensures in
+    let reported = subst (λ (text : List ℕ). ReportsMessage (over g.E.Output.state c.args.err.now c.report_error.new.err) (error_line text) Failed c.report_error.result) c.deref.ensures c.report_error.ensures in
     inr (
       Ok [],
-      shown_refusal message,
+      refusal_output message,
       inl (message, none, refl),
       (Err message, none, refl),
-      finds.refusal_shown (g.O.Output.state c.args.out.now) (g.O.Output.state c.args.out.now) (g.E.Output.state c.args.err.now)
-          (g.E.Output.state c.tell_error.new.err) _ message (inl told),
+      finds.refusal_is_output (g.O.Output.state c.args.out.now) (g.O.Output.state c.args.out.now) (g.E.Output.state c.args.err.now)
+          (g.E.Output.state c.report_error.new.err) _ message (inl reported),
     )
 
 pub returns-in-Err-Refused-clause-found : goal.returns-in-Err-Refused-clause-found
@@ -29,14 +29,14 @@ returns-in-Err-Refused-clause-found g c =
     let why = reason_of c.in-Err-Refused.refused in
     let message = refused_text why in
     let none = rw c.in-Err-Refused.field-0-is at c.in-Err-Refused.ensures.fault in
-    let err = over g.E.Output.state c.args.err.now c.tell_refused.new.err in
+    let err = over g.E.Output.state c.args.err.now c.report_refused.new.err in
     inr (
       Ok [],
-      shown_refusal message,
+      refusal_output message,
       inl (message, none, refl),
       (Err message, none, refl),
-      finds.refusal_shown (g.O.Output.state c.args.out.now) (g.O.Output.state c.args.out.now) (g.E.Output.state c.args.err.now)
-          (g.E.Output.state c.tell_refused.new.err) _ message (refusal_told err why c.tell_refused.result c.tell_refused.ensures),
+      finds.refusal_is_output (g.O.Output.state c.args.out.now) (g.O.Output.state c.args.out.now) (g.E.Output.state c.args.err.now)
+          (g.E.Output.state c.report_refused.new.err) _ message (explain_refusal err why c.report_refused.result c.report_refused.ensures),
     )
 
 pub returns-in-Ok-read_input-clause-found : goal.returns-in-Ok-read_input-clause-found
@@ -60,21 +60,21 @@ returns-in-Err-clause-found g c =
     let words = read_words c.in-Err.fault in
     inr (
       Err c.in-Err.fault,
-      shown_refusal words,
+      refusal_output words,
       inr (w, c.in-Ok.ensures.asking, c.in-Err.ensures.input),
       (Ok w, c.in-Ok.ensures.asking, refl),
       runs.refused (g.O.Output.state c.args.out.now) (g.E.Output.state c.args.err.now)
-          (g.E.Output.state c.tell_read_fault.new.err) _ _ c.tell_read_fault.ensures,
+          (g.E.Output.state c.report_read_fault.new.err) _ _ c.report_read_fault.ensures,
     )
 
 pub returns-in-Err-clause-unread : goal.returns-in-Err-clause-unread
 returns-in-Err-clause-unread g c none = absurd (none (page_request_of c.in-Ok.asking) c.in-Ok.ensures.asking)
 
-pub returns-in-Err-NoMemory-clause-further : goal.returns-in-Err-NoMemory-clause-further
-returns-in-Err-NoMemory-clause-further g c = (0, [], c.args.input.now, no_read c.args.input.now, inl refl)
+pub returns-in-Err-NoMemory-clause-stops_reading : goal.returns-in-Err-NoMemory-clause-stops_reading
+returns-in-Err-NoMemory-clause-stops_reading g c = (0, [], c.args.input.now, zero_reads c.args.input.now, inl refl)
 
-pub returns-in-Err-Refused-clause-further : goal.returns-in-Err-Refused-clause-further
-returns-in-Err-Refused-clause-further g c = (0, [], c.args.input.now, no_read c.args.input.now, inl refl)
+pub returns-in-Err-Refused-clause-stops_reading : goal.returns-in-Err-Refused-clause-stops_reading
+returns-in-Err-Refused-clause-stops_reading g c = (0, [], c.args.input.now, zero_reads c.args.input.now, inl refl)
 
-pub returns-in-Err-Message-clause-further : goal.returns-in-Err-Message-clause-further
-returns-in-Err-Message-clause-further g c = (0, [], c.args.input.now, no_read c.args.input.now, inl refl)
+pub returns-in-Err-Message-clause-stops_reading : goal.returns-in-Err-Message-clause-stops_reading
+returns-in-Err-Message-clause-stops_reading g c = (0, [], c.args.input.now, zero_reads c.args.input.now, inl refl)

@@ -11,5 +11,5 @@ abbrev pub invariant-loop-place : goal.invariant-loop-place
 invariant-loop-place l = record {
   whole : l.out.items ++ rest_of_array (documents l.dump) l.later (drop l.place-index l.places)
       ≡ l.fn.out.items ++ text (documents_value (documents_at (documents l.dump) l.places));
-  front : StartsWith l.out.items l.fn.out.items;
+  prefix : StartsWith l.out.items l.fn.out.items;
 }

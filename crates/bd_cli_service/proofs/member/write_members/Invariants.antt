@@ -12,5 +12,5 @@ abbrev pub invariant-loop-name : goal.invariant-loop-name
 invariant-loop-name l = record {
   whole : l.out.items ++ rest_of_object (map member_pair (drop l.name-index l.members))
       ≡ l.fn.out.items ++ text (doc (fields_of ((codes "ok", leaf (boolean l.ok)) ∷ map member_pair l.members)));
-  front : StartsWith l.out.items l.fn.out.items;
+  prefix : StartsWith l.out.items l.fn.out.items;
 }

@@ -2,7 +2,7 @@ use Rattle.std.proofs.Common.{◌≡◌, ◌+◌, ◌<◌, Some, drop, length, m
 use Rattle.bd_index_bounds.proofs.FilterBoundsLemmas.{one_off}
 use Rattle.bd_path.specs.Sort.{sort_paths}
 use Rattle.bd_index.specs.IndexView.{IsIndexOf}
-use Rattle.bd_cursor.specs.Access.{walk_or, first_walked, scanned, walk_dir, index_mark}
+use Rattle.bd_cursor.specs.Access.{walk_or, first_walked, scanned, walk_dir, index_key}
 use Rattle.bd_cursor.proofs.AccessLemmas.{walk_leads}
 use Rattle.bd_cursor.proofs.access.walk_or_scan.Goals as goal
 
@@ -15,9 +15,9 @@ returns-in-Some c dump h =
     let ss = sort_paths r.sort.items in
     let lt : k < length is = c.loop-index-test.true in
     let of_dump : IsIndexOf dump i = subst (IsIndexOf dump) (sym c.index-item.is) (h k i lt) in
-    let dir : Some c.in-Some.dir ≡ walk_dir (index_mark i) ss = c.in-Some.ensures ∙ ap (λ s. walk_dir (index_mark i) (sort_paths s)) c.deref.ensures.value in
+    let dir : Some c.in-Some.dir ≡ walk_dir (index_key i) ss = c.in-Some.ensures ∙ ap (λ s. walk_dir (index_key i) (sort_paths s)) c.deref.ensures.value in
     record {
-      is = ap (λ d. walk_or (index_mark i) d (first_walked ss (map index_mark (drop (k + 1) is)) scanned)) dir
-          ∙ sym (one_off (λ ms. first_walked ss ms scanned) index_mark is k i lt c.index-item.is) ∙ c.loop-index.invariant;
+      is = ap (λ d. walk_or (index_key i) d (first_walked ss (map index_key (drop (k + 1) is)) scanned)) dir
+          ∙ sym (one_off (λ ms. first_walked ss ms scanned) index_key is k i lt c.index-item.is) ∙ c.loop-index.invariant;
       leads = walk_leads dump r i c.in-Some.dir of_dump dir;
     }

@@ -4,7 +4,7 @@ use Rattle.bd_cursor_model.specs.Answer.{matching}
 use Rattle.bd_bson_dump.specs.Collection.{documents}
 use Rattle.bd_path.specs.declared.path.Path.{Path}
 use Rattle.bd_query_filter.specs.Filter.{filter_tree}
-use Rattle.bd_cursor_sort.specs.Selection.{selection_of, hits_of}
+use Rattle.bd_cursor_sort.specs.Selection.{selection_of, matches_at_of}
 use Rattle.bd_cursor.specs.{Access.IsAccessOf, Access.access_path, Explanation.explained_access, Explanation.explanation}
 use Rattle.bd_cursor.proofs.AccessLemmas.{index_source, lent_within, as_many, entries_read, entries_walked, matches_of_all, places_read}
 use Rattle.bd_cursor.specs.declared.explaining.Plan.TheVariants as plans
@@ -30,13 +30,13 @@ returns-in_ok-from_str-in-Bounded c =
     let i = c.in-Bounded.index.now in
     let found = c.in_ok-found-in-Bounded.found in
     let ps = found.places.items in
-    let hits = hits_of ds (filter_tree r.filter) in
+    let matches_at = matches_at_of ds (filter_tree r.filter) in
     let lead = subst (IsAccessOf c.args.dump.now r) c.in-Bounded.is c.requires in
     let w = lent_within c.as_ref.result c.as_ref.ensures.value c.in_ok-found-in-Bounded.ensures in
     let path = c.in_ok-from_str-in-Bounded.ensures.ok ∙ c.as_str.ensures ∙ ap (λ (p : Path). string_bytes p.text) c.path.ensures in
     let long : c.len-in-Bounded.result ≡ length ps = omega (arith, c.len-in-Bounded.ensures, found.places.ok.0) in
     (λ j. explanation plans.Index (Some (path j)) (entries_read i w j) ((long ∙ places_read i w) j)
-    ((c.count_among.ensures ∙ ap (count_by hits) c.deref.ensures.value ∙ as_many ds hits ps (index_source lead w) w.ascend) j))
+    ((c.count_among.ensures ∙ ap (count_by matches_at) c.deref.ensures.value ∙ as_many ds matches_at ps (index_source lead w) w.ascend) j))
     ∙ ap (λ a. explained_access ds (length (matching (selection_of ds r))) (access_path a)) (sym c.in-Bounded.is)
 
 pub returns-in_ok-from_str-in-Walk : goal.returns-in_ok-from_str-in-Walk

@@ -4,7 +4,7 @@ use Rattle.bd_cursor_request.proofs.request.are_distinct.Given as goal
 
 -- what is left decides
 abbrev pub invariant-loop-next : goal.invariant-loop-next
-invariant-loop-next g l = are_distinct (pair_names (g.N.Reading.left l.left)) ≡ are_distinct (pair_names (g.N.Reading.left l.fn.pairs))
+invariant-loop-next g l = are_distinct (pair_names (g.N.Reading.remaining l.remaining)) ≡ are_distinct (pair_names (g.N.Reading.remaining l.fn.pairs))
 
 abbrev pub decreases-loop-next : goal.decreases-loop-next
-decreases-loop-next g l = length (g.N.Reading.left l.left)
+decreases-loop-next g l = length (g.N.Reading.remaining l.remaining)

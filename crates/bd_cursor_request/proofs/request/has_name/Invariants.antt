@@ -5,7 +5,7 @@ use Rattle.bd_cursor_request.proofs.request.has_name.Given as goal
 
 -- what is left decides
 abbrev pub invariant-loop-next : goal.invariant-loop-next
-invariant-loop-next g l = list_any (bytes_eq l.name) (pair_names (g.N.Reading.left l.left)) ≡ list_any (bytes_eq l.name) (pair_names (g.N.Reading.left l.fn.pairs))
+invariant-loop-next g l = list_any (bytes_eq l.name) (pair_names (g.N.Reading.remaining l.remaining)) ≡ list_any (bytes_eq l.name) (pair_names (g.N.Reading.remaining l.fn.pairs))
 
 abbrev pub decreases-loop-next : goal.decreases-loop-next
-decreases-loop-next g l = length (g.N.Reading.left l.left)
+decreases-loop-next g l = length (g.N.Reading.remaining l.remaining)

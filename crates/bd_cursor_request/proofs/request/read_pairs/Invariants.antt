@@ -6,7 +6,7 @@ use Rattle.bd_cursor_request.proofs.request.read_pairs.Given as goal
 
 -- what was read, and what is left to read, are all
 abbrev pub invariant-loop-next : goal.invariant-loop-next
-invariant-loop-next g l = joined (sort_paths l.sort.items) (sort_pairs (g.N.Reading.left l.left)) ≡ sort_pairs (g.N.Reading.left l.fn.pairs)
+invariant-loop-next g l = joined (sort_paths l.sort.items) (sort_pairs (g.N.Reading.remaining l.remaining)) ≡ sort_pairs (g.N.Reading.remaining l.fn.pairs)
 
 abbrev pub decreases-loop-next : goal.decreases-loop-next
-decreases-loop-next g l = length (g.N.Reading.left l.left)
+decreases-loop-next g l = length (g.N.Reading.remaining l.remaining)

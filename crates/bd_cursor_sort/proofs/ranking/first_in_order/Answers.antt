@@ -6,13 +6,13 @@ use Rattle.bd_cursor_sort.proofs.RankingLemmas.{first_of_ranked, ranked_below, r
 use Rattle.bd_cursor_sort.proofs.ranking.first_in_order.Goals as goal
 
 pub loop-path-init : goal.loop-path-init
-loop-path-init c = record { ranked = c.in_ok-ranked.ensures.ranked (documents c.args.dump.now); few = c.in_ok-ranked.ensures.few }
+loop-path-init c = record { ranked = c.in_ok-ranked.ensures.ranked (documents c.args.dump.now); fits_u32 = c.in_ok-ranked.ensures.fits_u32 }
 
 pub ranked_by-requires-clause-below : goal.ranked_by-requires-clause-below
 ranked_by-requires-clause-below c = rw c.deref.ensures.value (ranked_below (length (documents c.args.dump.now)) c.loop-path.invariant.ranked c.requires)
 
-pub ranked_by-requires-clause-few : goal.ranked_by-requires-clause-few
-ranked_by-requires-clause-few c = rw (c.deref.ensures.value, ranked_long c.loop-path.invariant.ranked) c.loop-path.invariant.few
+pub ranked_by-requires-clause-fits_u32 : goal.ranked_by-requires-clause-fits_u32
+ranked_by-requires-clause-fits_u32 c = rw (c.deref.ensures.value, ranked_long c.loop-path.invariant.ranked) c.loop-path.invariant.fits_u32
 
 pub loop-path-preserved : goal.loop-path-preserved
 loop-path-preserved c =
@@ -24,7 +24,7 @@ loop-path-preserved c =
     ∙ ap (λ y. sort_paths (take i sort) ++ f y ∷ []) (sym c.loop-path-item.is) in
     record {
       ranked = rw more (c.in_ok-ranked-2.ensures (sort_paths (take i sort)) c.args.places.now (rw c.deref.ensures.value c.loop-path.invariant.ranked));
-      few = c.loop-path.invariant.few;
+      fits_u32 = c.loop-path.invariant.fits_u32;
     }
 
 pub returns : goal.returns

@@ -7,5 +7,5 @@ use Rattle.bd_cursor_sort.proofs.ranking.first_in_order.Given as goal
 abbrev pub invariant-loop-path : goal.invariant-loop-path
 invariant-loop-path l = record {
   ranked : AreRanked (documents l.dump) (sort_paths (take l.path-index l.sort)) l.places l.ranked.items;
-  few : length l.places ≤ 4294967295;
+  fits_u32 : length l.places ≤ 4294967295;
 }

@@ -11,7 +11,7 @@ ranks_of-requires c =
     let ds = documents c.args.dump.now in
     let s : SortPath = record { path = names_of c.args.path.now; dir = c.args.dir } in
     let all : map keyed_row c.loop-one.rows.items ≡ map (keyed ds s) c.args.ranked.now = c.loop-one.invariant ∙ ap (map (keyed ds s)) (take_all _ c.args.ranked.now c.loop-one-test.false) in
-    rw (c.deref.ensures.value, rows_long ds s c.args.ranked.now c.loop-one.rows.items c.sort_rows.new.rows.items all c.sort_rows.ensures.same) c.requires.few
+    rw (c.deref.ensures.value, rows_long ds s c.args.ranked.now c.loop-one.rows.items c.sort_rows.new.rows.items all c.sort_rows.ensures.same) c.requires.fits_u32
 
 pub returns : goal.returns
 returns c =

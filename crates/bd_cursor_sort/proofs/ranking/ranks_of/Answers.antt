@@ -10,7 +10,7 @@ loop-row-preserved c =
     let last = option_map keyed_row c.loop-row.last in
     let below : c.loop-row.row-index < length c.args.rows.now = omega arith in
     record {
-      told = rank_more c.args.dir c.loop-row.ranked.items _ c.loop-row.rank c.rank_after-rank.result last x c.args.rows.now c.loop-row.row-index _
-          below c.row-item.is c.rank_after-rank.ensures c.in_ok-push.ensures.items c.loop-row.invariant.told;
+      fact = rank_more c.args.dir c.loop-row.ranked.items _ c.loop-row.rank c.rank_after-rank.result last x c.args.rows.now c.loop-row.row-index _
+          below c.row-item.is c.rank_after-rank.ensures c.in_ok-push.ensures.items c.loop-row.invariant.fact;
       low = omega (arith, c.rank_after-rank.ensures, next_low c.args.dir c.loop-row.rank last (keyed_row x), c.loop-row.invariant.low);
     }

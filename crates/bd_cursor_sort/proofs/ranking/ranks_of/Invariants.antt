@@ -5,6 +5,6 @@ use Rattle.bd_cursor_sort.proofs.ranking.ranks_of.Given as goal
 
 abbrev pub invariant-loop-row : goal.invariant-loop-row
 invariant-loop-row l = record {
-  told : l.ranked.items ++ ranks_from l.dir l.rank (option_map keyed_row l.last) (map keyed_row (drop l.row-index l.rows)) ≡ ranks_from l.dir 0 None (map keyed_row l.rows);
+  fact : l.ranked.items ++ ranks_from l.dir l.rank (option_map keyed_row l.last) (map keyed_row (drop l.row-index l.rows)) ≡ ranks_from l.dir 0 None (map keyed_row l.rows);
   low : l.rank ≤ l.row-index;
 }

@@ -24,18 +24,18 @@ read_fields-loop-next-preserved t c =
     let k = c.in-Some.name.now in
     let v = tree_of c.in_ok-value.value in
     let r = c.read_value.new.reader in
-    let named = ap (λ k. through (wrap_fields c.args.room) (after_key c.args.depth n (option_map (λ s. s.now) k) l.reader)) c.in-Some.is in
-    let turn = steps.field_goes_on k c.args.room c.args.depth n l.reader r v (sym c.if-has_zero.ensures) c.in_ok-value.ensures.gives in
+    let named = ap (λ k. through (wrap_fields c.args.depth_left) (after_key c.args.depth n (option_map (λ s. s.now) k) l.reader)) c.in-Some.is in
+    let turn = steps.field_goes_on k c.args.depth_left c.args.depth n l.reader r v (sym c.if-has_zero.ensures) c.in_ok-value.ensures.gives in
     let key = c.in_ok-next.ensures.value in
     let less = read_key-shorter r (option_map (λ s. s.now) c.in_ok-next.next) c.next_key.new.self key in
     let lesser = c.in_ok-value.ensures.shorter in
     let within : length r ≤ n = omega (arith, l.invariant.1, lesser) in
-    let next = ap (through (wrap_fields c.args.room)) (steps.next_name c.args.depth n r c.next_key.new.self (option_map (λ s. s.now) c.in_ok-next.next) within key) in
+    let next = ap (through (wrap_fields c.args.depth_left)) (steps.next_name c.args.depth n r c.next_key.new.self (option_map (λ s. s.now) c.in_ok-next.next) within key) in
     let pushed : pairs c.push.new.self ≡ pairs l.read ++ (k, v) ∷ [] = rw (← c.in_ok-from_str.ensures.ok) c.in_ok-push.ensures.ok in (
       n - 1,
       omega (arith, within, less),
       l.invariant.2 ∙ ap (parse_map (fields_before (pairs l.read))) (named ∙ turn ∙ ap (parse_map (field k v)) next) ∙ steps.one_more_field (pairs l.read) k v _
-          ∙ ap (λ ps. parse_map (fields_before ps) (through (wrap_fields c.args.room) (after_key c.args.depth (n - 1) (option_map (λ s. s.now) c.in_ok-next.next) c.next_key.new.self))) (sym pushed),
+          ∙ ap (λ ps. parse_map (fields_before ps) (through (wrap_fields c.args.depth_left) (after_key c.args.depth (n - 1) (option_map (λ s. s.now) c.in_ok-next.next) c.next_key.new.self))) (sym pushed),
       omega (arith, l.invariant.3, less, lesser),
     )
 
@@ -49,12 +49,12 @@ read_items-loop-alloc-preserved t c =
     let v = tree_of c.in_ok-value.value in
     let r = c.read_value.new.reader in
     let less : length r < length l.reader = rw (← going.1) c.in_ok-value.ensures.shorter in
-    let turn = steps.items_go_on c.args.room c.args.depth n l.reader r v (omega (arith, l.invariant.1, less)) going.0 (rw (← going.1) c.in_ok-value.ensures.gives) in
+    let turn = steps.items_go_on c.args.depth_left c.args.depth n l.reader r v (omega (arith, l.invariant.1, less)) going.0 (rw (← going.1) c.in_ok-value.ensures.gives) in
     let pushed : map tree_of c.push.new.self.items ≡ map tree_of l.found.items ++ v ∷ [] = rw c.in_ok-push.ensures.items (map_push _ l.found.items c.in_ok-value.value) in (
       n - 1,
       omega (arith, l.invariant.1, less),
       l.invariant.2 ∙ ap (parse_map (items_before (map tree_of l.found.items))) turn ∙ steps.one_more_item (map tree_of l.found.items) v _
-          ∙ ap (λ ts. parse_map (items_before ts) (through (wrap_items c.args.room) (items (value c.args.depth) (n - 1) r))) (sym pushed),
+          ∙ ap (λ ts. parse_map (items_before ts) (through (wrap_items c.args.depth_left) (items (value c.args.depth) (n - 1) r))) (sym pushed),
       omega (arith, l.invariant.3, less),
     )
 
@@ -63,15 +63,15 @@ read_items-loop-alloc-preserved t c =
 pub read_object-returns-in-Some-clause-gives : goal.read_object-returns-in-Some-clause-gives
 read_object-returns-in-Some-clause-gives t c =
     let key = option_map (λ s. s.now) c.in_ok-first.first in
-    let start = ap (through (wrap_object c.args.room)) (steps.first_name c.args.depth c.args.reader.now c.next_key.new.self key c.in_ok-first.ensures.value) in
-    rw start (steps.object_is_wrapper tree_of c.read_wrapper.result c.read_wrapper.new.reader c.in-Some.wrapper c.args.room c.args.depth (length c.next_key.new.self) c.next_key.new.self key
+    let start = ap (through (wrap_object c.args.depth_left)) (steps.first_name c.args.depth c.args.reader.now c.next_key.new.self key c.in_ok-first.ensures.value) in
+    rw start (steps.object_is_wrapper tree_of c.read_wrapper.result c.read_wrapper.new.reader c.in-Some.wrapper c.args.depth_left c.args.depth (length c.next_key.new.self) c.next_key.new.self key
     (sym c.wrapper_named.ensures ∙ c.in-Some.is) (λ name is. c.read_wrapper.ensures.gives name is))
 
-pub read_object-returns-then-room-eq0-clause-gives : goal.read_object-returns-then-room-eq0-clause-gives
-read_object-returns-then-room-eq0-clause-gives t c =
+pub read_object-returns-then-depth_left-eq0-clause-gives : goal.read_object-returns-then-depth_left-eq0-clause-gives
+read_object-returns-then-depth_left-eq0-clause-gives t c =
     let key = option_map (λ s. s.now) c.in_ok-first.first in
-    let start = ap (through (wrap_object c.args.room)) (steps.first_name c.args.depth c.args.reader.now c.next_key.new.self key c.in_ok-first.ensures.value) in
-    start ∙ steps.object_refused c.args.room c.args.depth _ c.next_key.new.self key (omega arith) (sym c.wrapper_named.ensures ∙ c.in_default.is)
+    let start = ap (through (wrap_object c.args.depth_left)) (steps.first_name c.args.depth c.args.reader.now c.next_key.new.self key c.in_ok-first.ensures.value) in
+    start ∙ steps.object_refused c.args.depth_left c.args.depth _ c.next_key.new.self key (omega arith) (sym c.wrapper_named.ensures ∙ c.in_default.is)
 
 -- ---- read_value
 
@@ -82,8 +82,8 @@ read_wrapper-returns-in_err-second-clause-gives t c = λ name is.
     let p = err_from_is_err_and c.from_residual-in_err-second.result c.from_residual-in_err-second.ensures.1 in
     let w = c.args.wrapper in
     let j = value_view c.in_ok-part.part in
-    rw (p.1, p.2) (seconds.first_part w name c.args.room c.args.depth (length c.args.reader.now) c.args.reader.now c.read_part.new.reader j is c.in_ok-part.ensures.gives
-    ∙ seconds.no_name (wrapped c.args.room w j (wrap (c.args.room - 1) j)) c.args.depth (length c.args.reader.now) c.read_part.new.reader c.in_err-second.ensures.value)
+    rw (p.1, p.2) (seconds.first_part w name c.args.depth_left c.args.depth (length c.args.reader.now) c.args.reader.now c.read_part.new.reader j is c.in_ok-part.ensures.gives
+    ∙ seconds.no_name (wrapped c.args.depth_left w j (wrap (c.args.depth_left - 1) j)) c.args.depth (length c.args.reader.now) c.read_part.new.reader c.in_err-second.ensures.value)
 
 pub read_wrapper-returns-in_default-clause-gives : goal.read_wrapper-returns-in_default-clause-gives
 read_wrapper-returns-in_default-clause-gives t c = λ name is.
@@ -92,9 +92,9 @@ read_wrapper-returns-in_default-clause-gives t c = λ name is.
     let s = c.read_part.new.reader in
     let le : length s ≤ length c.args.reader.now = omega (arith, c.in_ok-part.ensures.shorter) in
     let key = c.in_ok-second.ensures.value ∙ ap (λ k. Some (option_map (λ (s : Bor (List ℕ)). s.now) k, c.next_key.new.self)) c.in_default.is in
-    steps.told tree_of c.unwrap_single.result c.next_key.new.self (option_map leaf (single w j)) _
-    (seconds.first_part w name c.args.room c.args.depth (length c.args.reader.now) c.args.reader.now s j is c.in_ok-part.ensures.gives
-    ∙ seconds.ended (wrapped c.args.room w j (wrap (c.args.room - 1) j)) c.args.depth (length c.args.reader.now) s c.next_key.new.self le key)
+    steps.fact tree_of c.unwrap_single.result c.next_key.new.self (option_map leaf (single w j)) _
+    (seconds.first_part w name c.args.depth_left c.args.depth (length c.args.reader.now) c.args.reader.now s j is c.in_ok-part.ensures.gives
+    ∙ seconds.ended (wrapped c.args.depth_left w j (wrap (c.args.depth_left - 1) j)) c.args.depth (length c.args.reader.now) s c.next_key.new.self le key)
     c.unwrap_single.ensures
 
 pub read_wrapper-returns-then-not-is_code-clause-gives : goal.read_wrapper-returns-then-not-is_code-clause-gives
@@ -102,13 +102,13 @@ read_wrapper-returns-then-not-is_code-clause-gives t c = λ name is.
     let w = c.args.wrapper in
     let j = value_view c.in_ok-part.part in
     let s = c.read_part.new.reader in
-    let f = wrapped c.args.room w j (wrap (c.args.room - 1) j) in
+    let f = wrapped c.args.depth_left w j (wrap (c.args.depth_left - 1) j) in
     let le : length s ≤ length c.args.reader.now = omega (arith, c.in_ok-part.ensures.shorter) in
     let key = c.in_ok-second.ensures.value ∙ ap (λ k. Some (option_map (λ (s : Bor (List ℕ)). s.now) k, c.next_key.new.self)) c.in-Some.is in
-    seconds.first_part w name c.args.room c.args.depth (length c.args.reader.now) c.args.reader.now s j is c.in_ok-part.ensures.gives
+    seconds.first_part w name c.args.depth_left c.args.depth (length c.args.reader.now) c.args.reader.now s j is c.in_ok-part.ensures.gives
     ∙ seconds.named f c.in-Some.second.now c.args.depth (length c.args.reader.now) s c.next_key.new.self le key
     ∙ steps.refused_member f c.in-Some.second.now c.args.depth (length c.args.reader.now - 1) c.next_key.new.self
-    (λ i ms. seconds.one_name_alone w c.args.room j (wrap (c.args.room - 1) j) c.in-Some.second.now i ms (sym c.if-not-is_code.ensures) (sym c.if-is_scope.ensures))
+    (λ i ms. seconds.one_name_alone w c.args.depth_left j (wrap (c.args.depth_left - 1) j) c.in-Some.second.now i ms (sym c.if-not-is_code.ensures) (sym c.if-is_scope.ensures))
 
 pub read_wrapper-returns-clause-gives : goal.read_wrapper-returns-clause-gives
 read_wrapper-returns-clause-gives t c = λ name is.
@@ -118,24 +118,24 @@ read_wrapper-returns-clause-gives t c = λ name is.
     let s = c.read_part.new.reader in
     let r = c.next_key.new.self in
     let n = length c.args.reader.now in
-    let u = wrap (c.args.room - 1) j in
+    let u = wrap (c.args.depth_left - 1) j in
     let le : length s ≤ n = omega (arith, c.in_ok-part.ensures.shorter) in
     let key = c.in_ok-second.ensures.value ∙ ap (λ k. Some (option_map (λ (s : Bor (List ℕ)). s.now) k, r)) c.in-Some.is in
     let shorter = read_key-shorter s (Some c.in-Some.second.now) r key in
     let less : length r ≤ n - 1 = omega (arith, c.in_ok-part.ensures.shorter, shorter) in
-    rw (seconds.first_part kinds.Code name c.args.room c.args.depth n c.args.reader.now s j (is ∙ ap Some code) c.in_ok-part.ensures.gives
-    ∙ seconds.named (wrapped c.args.room kinds.Code j u) c.in-Some.second.now c.args.depth n s r le key)
+    rw (seconds.first_part kinds.Code name c.args.depth_left c.args.depth n c.args.reader.now s j (is ∙ ap Some code) c.in_ok-part.ensures.gives
+    ∙ seconds.named (wrapped c.args.depth_left kinds.Code j u) c.in-Some.second.now c.args.depth n s r le key)
     (c.read_scope_second.ensures.gives (n - 1) u less)
 
 -- ---- read_scope_second
 
-pub read_scope_second-returns-then-room-eq0-clause-gives : goal.read_scope_second-returns-then-room-eq0-clause-gives
-read_scope_second-returns-then-room-eq0-clause-gives t c = λ n u le.
-    seconds.no_room_second kinds.Code c.args.second.now c.args.room c.args.depth n c.args.reader.now (value_view c.args.code.now) u (omega arith)
+pub read_scope_second-returns-then-depth_left-eq0-clause-gives : goal.read_scope_second-returns-then-depth_left-eq0-clause-gives
+read_scope_second-returns-then-depth_left-eq0-clause-gives t c = λ n u le.
+    seconds.no_depth_left_second kinds.Code c.args.second.now c.args.depth_left c.args.depth n c.args.reader.now (value_view c.args.code.now) u (omega arith)
 
 pub read_scope_second-returns-then-not-names_scope-clause-gives : goal.read_scope_second-returns-then-not-names_scope-clause-gives
 read_scope_second-returns-then-not-names_scope-clause-gives t c = λ n u le.
-    seconds.code_without_scope c.args.second.now c.args.room c.args.depth n c.args.reader.now (value_view c.args.code.now) u (sym c.if-not-names_scope.ensures)
+    seconds.code_without_scope c.args.second.now c.args.depth_left c.args.depth n c.args.reader.now (value_view c.args.code.now) u (sym c.if-not-names_scope.ensures)
 
 pub read_scope_second-returns-in_err-scope-clause-gives : goal.read_scope_second-returns-in_err-scope-clause-gives
 read_scope_second-returns-in_err-scope-clause-gives t c = λ n u le. grind (arith, seconds.scope_unread)
@@ -146,7 +146,7 @@ read_scope_second-returns-in_err-end_object-clause-gives t c = λ n u le.
     let r = c.read_value.new.reader in
     let less : length r ≤ n = omega (arith, le, c.in_ok-scope.ensures.shorter) in
     rw (p.1, p.2) (steps.fails_where c.in_err-end_object.field-0.0 _
-    (λ e. seconds.scope_unended c.args.second.now c.args.room c.args.depth n c.args.reader.now r (value_view c.args.code.now) u
+    (λ e. seconds.scope_unended c.args.second.now c.args.depth_left c.args.depth n c.args.reader.now r (value_view c.args.code.now) u
     (tree_of c.in_ok-scope.scope) (sym c.if-not-names_scope.ensures) c.in_ok-scope.ensures.gives less (c.in_err-end_object.ensures.refused e)))
 
 pub read_scope_second-returns-clause-gives : goal.read_scope_second-returns-clause-gives
@@ -154,17 +154,17 @@ read_scope_second-returns-clause-gives t c = λ n u le.
     let r = c.read_value.new.reader in
     let s = c.end_object.new.reader in
     let less : length r ≤ n = omega (arith, le, c.in_ok-scope.ensures.shorter) in
-    steps.told tree_of c.code_with_scope.result s _ _
-    (seconds.scope_ended c.args.second.now c.args.room c.args.depth n c.args.reader.now r s (value_view c.args.code.now) u
+    steps.fact tree_of c.code_with_scope.result s _ _
+    (seconds.scope_ended c.args.second.now c.args.depth_left c.args.depth n c.args.reader.now r s (value_view c.args.code.now) u
     (tree_of c.in_ok-scope.scope) (sym c.if-not-names_scope.ensures) c.in_ok-scope.ensures.gives less
     c.in_ok-end_object.ensures.ended (omega arith))
     c.code_with_scope.ensures
 
 -- ---- read_scope_first
 
-pub read_scope_first-returns-then-room-eq0-clause-gives : goal.read_scope_first-returns-then-room-eq0-clause-gives
-read_scope_first-returns-then-room-eq0-clause-gives t c = λ name is.
-    seconds.no_room_first name c.args.room c.args.depth (length c.args.reader.now) c.args.reader.now is (omega arith)
+pub read_scope_first-returns-then-depth_left-eq0-clause-gives : goal.read_scope_first-returns-then-depth_left-eq0-clause-gives
+read_scope_first-returns-then-depth_left-eq0-clause-gives t c = λ name is.
+    seconds.no_depth_left_first name c.args.depth_left c.args.depth (length c.args.reader.now) c.args.reader.now is (omega arith)
 
 pub read_scope_first-returns-in_err-scope-clause-gives : goal.read_scope_first-returns-in_err-scope-clause-gives
 read_scope_first-returns-in_err-scope-clause-gives t c = λ name is. grind (arith, seconds.first_unread)
@@ -172,12 +172,12 @@ read_scope_first-returns-in_err-scope-clause-gives t c = λ name is. grind (arit
 pub read_scope_first-returns-in-Ok-clause-gives : goal.read_scope_first-returns-in-Ok-clause-gives
 read_scope_first-returns-in-Ok-clause-gives t c = λ name is.
     let n = length c.args.reader.now in
-    let p = seconds.first_read name c.args.room c.args.depth n c.args.reader.now c.read_value.new.reader (tree_of c.in_ok-scope.scope) is c.in_ok-scope.ensures.gives in
-    rw (p.1) (steps.told tree_of c.code_with_scope.result c.read_code.new.reader _ _
-    (c.in-Ok.ensures.code n c.args.room p.0 (tree_of c.in_ok-scope.scope) (omega (arith, c.in_ok-scope.ensures.shorter)) (omega arith)) c.code_with_scope.ensures)
+    let p = seconds.first_read name c.args.depth_left c.args.depth n c.args.reader.now c.read_value.new.reader (tree_of c.in_ok-scope.scope) is c.in_ok-scope.ensures.gives in
+    rw (p.1) (steps.fact tree_of c.code_with_scope.result c.read_code.new.reader _ _
+    (c.in-Ok.ensures.code n c.args.depth_left p.0 (tree_of c.in_ok-scope.scope) (omega (arith, c.in_ok-scope.ensures.shorter)) (omega arith)) c.code_with_scope.ensures)
 
 pub read_scope_first-returns-in-Err-clause-gives : goal.read_scope_first-returns-in-Err-clause-gives
 read_scope_first-returns-in-Err-clause-gives t c = λ name is.
     let n = length c.args.reader.now in
-    let p = seconds.first_read name c.args.room c.args.depth n c.args.reader.now c.read_value.new.reader (tree_of c.in_ok-scope.scope) is c.in_ok-scope.ensures.gives in
-    rw (p.1) (c.in-Err.ensures.none n c.args.room p.0 _ (omega (arith, c.in_ok-scope.ensures.shorter)))
+    let p = seconds.first_read name c.args.depth_left c.args.depth n c.args.reader.now c.read_value.new.reader (tree_of c.in_ok-scope.scope) is c.in_ok-scope.ensures.gives in
+    rw (p.1) (c.in-Err.ensures.none n c.args.depth_left p.0 _ (omega (arith, c.in_ok-scope.ensures.shorter)))

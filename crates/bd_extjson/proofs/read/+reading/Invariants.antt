@@ -30,8 +30,8 @@ decreases-read_scope_second l = 5 * l.depth + 1
 -- what is read, and what is still to come, is the whole
 abbrev pub invariant-read_fields-loop-next : goal.invariant-read_fields-loop-next
 invariant-read_fields-loop-next l =
-    (n : ℕ) × (length l.reader ≤ n) × (through (wrap_fields l.room) (after_key l.depth (length l.initial.reader) (option_map (λ s. s.now) l.initial.next) l.initial.reader)
-    ≡ parse_map (fields_before (pairs l.read)) (through (wrap_fields l.room) (after_key l.depth n (option_map (λ s. s.now) l.next) l.reader)))
+    (n : ℕ) × (length l.reader ≤ n) × (through (wrap_fields l.depth_left) (after_key l.depth (length l.initial.reader) (option_map (λ s. s.now) l.initial.next) l.initial.reader)
+    ≡ parse_map (fields_before (pairs l.read)) (through (wrap_fields l.depth_left) (after_key l.depth n (option_map (λ s. s.now) l.next) l.reader)))
     × (length l.reader ≤ length l.initial.reader)
 
 abbrev pub decreases-read_fields-loop-next : goal.decreases-read_fields-loop-next
@@ -39,8 +39,8 @@ decreases-read_fields-loop-next l = length l.reader
 
 abbrev pub invariant-read_items-loop-alloc : goal.invariant-read_items-loop-alloc
 invariant-read_items-loop-alloc l =
-    (n : ℕ) × (length l.reader ≤ n) × (through (wrap_items l.room) (items (value l.depth) (length l.initial.reader) l.initial.reader)
-    ≡ parse_map (items_before (map tree_of l.found.items)) (through (wrap_items l.room) (items (value l.depth) n l.reader)))
+    (n : ℕ) × (length l.reader ≤ n) × (through (wrap_items l.depth_left) (items (value l.depth) (length l.initial.reader) l.initial.reader)
+    ≡ parse_map (items_before (map tree_of l.found.items)) (through (wrap_items l.depth_left) (items (value l.depth) n l.reader)))
     × (length l.reader ≤ length l.initial.reader)
 
 abbrev pub decreases-read_items-loop-alloc : goal.decreases-read_items-loop-alloc

@@ -1,9 +1,9 @@
 use Rattle.std.proofs.Common.{◌≡◌, ◌≤◌, length}
-use Rattle.bd_extjson_fault.specs.JsonSyntax.{past_white}
+use Rattle.bd_extjson_fault.specs.JsonSyntax.{beyond_white}
 use Rattle.bd_extjson_fault.proofs.skip.skip_white.Given as goal
 
 abbrev pub invariant-loop-rest : goal.invariant-loop-rest
-invariant-loop-rest l = record { past : past_white l.rest ≡ past_white l.fn.text; shorter : length l.rest ≤ length l.fn.text }
+invariant-loop-rest l = record { beyond : beyond_white l.rest ≡ beyond_white l.fn.text; shorter : length l.rest ≤ length l.fn.text }
 
 abbrev pub decreases-loop-rest : goal.decreases-loop-rest
 decreases-loop-rest l = length l.rest

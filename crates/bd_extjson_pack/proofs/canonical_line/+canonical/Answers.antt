@@ -25,7 +25,7 @@ append_fields-loop-next-preserved t c =
     let turn = pieces.goes_on 123 whole (fields_text (fields_of ps)) (member k (text v)) at rest next (rw c.in-Some.is at l.invariant.2)
     (pieces.member_read at c.in_ok-after_word.field-0.now k v rest (rw c.in_ok-after_word.ensures at read.0) g.1) c.after_word-next.ensures in (
       ps ++ (k, v) ∷ [],
-      pieces.one_more_canonical_field c.args.room ps k v l.invariant.1 (search rules, read.1, c.may_name_wrapper.ensures c.if-may_name_wrapper.false) g.2,
+      pieces.one_more_canonical_field c.args.depth_left ps k v l.invariant.1 (search rules, read.1, c.may_name_wrapper.ensures c.if-may_name_wrapper.false) g.2,
       rw (pieces.members_end ps k v) turn,
       search rules,
       pieces.within_rest rest next c.after_word-next.ensures,
@@ -70,7 +70,7 @@ append_items-loop-next-preserved t c =
     let place : c.in_ok-place.place ≡ l.place + 1 = search rules in
     let turn = pieces.goes_on 91 whole (items_text (items_of ts)) (text v) c.in-Some.at.now rest next (rw c.in-Some.is at l.invariant.2) g.1 c.after_word-next.ensures in (
       ts ++ v ∷ [],
-      pieces.one_more_canonical c.args.room ts v l.invariant.1 g.2,
+      pieces.one_more_canonical c.args.depth_left ts v l.invariant.1 g.2,
       rw (pieces.texts_end ts v) turn,
       search rules,
       pieces.within_rest rest next c.after_word-next.ensures,
@@ -100,13 +100,13 @@ append_items-returns t c =
 pub append_next-returns-in_ok-ok-in-123-3 : goal.append_next-returns-in_ok-ok-in-123-3
 append_next-returns-in_ok-ok-in-123-3 t c =
     let label = (bodies.if_ok _ _ _ _ c.in_ok-ok-in-123-3.ensures.value c.append_label.ensures.ok).0 in
-    let room = c.args.room in
+    let depth_left = c.args.depth_left in
     IfSome_then c.append_fields.result c.append_fields.ensures.gives
-    (λ rest g. (doc (fields_of g.0), g.1, pieces.roomier (suc (room - 1)) room _ (omega arith) (pieces.doc_known (room - 1) g.0 g.2), rw (g.3, label) (simp append_assoc)))
+    (λ rest g. (doc (fields_of g.0), g.1, pieces.more_depth_left (suc (depth_left - 1)) depth_left _ (omega arith) (pieces.doc_known (depth_left - 1) g.0 g.2), rw (g.3, label) (simp append_assoc)))
 
 pub append_next-returns-in_ok-ok-in-91 : goal.append_next-returns-in_ok-ok-in-91
 append_next-returns-in_ok-ok-in-91 t c =
     let label = (bodies.if_ok _ _ _ _ c.in_ok-ok-in-91.ensures.value c.append_label-in-91.ensures.ok).0 in
-    let room = c.args.room in
+    let depth_left = c.args.depth_left in
     IfSome_then c.append_items.result c.append_items.ensures
-    (λ rest g. (array (items_of g.0), g.1, pieces.roomier (suc (room - 1)) room _ (omega arith) (pieces.array_known (room - 1) g.0 g.2), rw (g.3, label) (simp append_assoc)))
+    (λ rest g. (array (items_of g.0), g.1, pieces.more_depth_left (suc (depth_left - 1)) depth_left _ (omega arith) (pieces.array_known (depth_left - 1) g.0 g.2), rw (g.3, label) (simp append_assoc)))

@@ -17,14 +17,14 @@ loop-byte-init c = (
 pub loop-byte-preserved : goal.loop-byte-preserved
 loop-byte-preserved c =
     let l = c.loop-byte in
-    let held = l.invariant.0 in
+    let decoded = l.invariant.0 in
     let byte = c.in-Some.byte in
     let one = pushed c.push.result c.in_ok-ok-2.field-0 _ _ _ c.in_ok-ok-2.ensures.value c.push.ensures.bytes in
     let two = pushed c.push_str-in-Some.result c.in_ok-ok-3.field-0 _ _ _ c.in_ok-ok-3.ensures.value c.push_str-in-Some.ensures.bytes in (
-      held ++ (byte ∷ c.in_ok-plain-2.plain.now),
-      run_goes_on c.args.text.now held l.rest.now c.in-Some.after.now c.in_ok-plain-2.plain.now c.in_ok-plain-2.after.now byte l.invariant.1 c.in-Some.ensures.0 c.in_ok-plain-2.ensures,
+      decoded ++ (byte ∷ c.in_ok-plain-2.plain.now),
+      run_goes_on c.args.text.now decoded l.rest.now c.in-Some.after.now c.in_ok-plain-2.plain.now c.in_ok-plain-2.after.now byte l.invariant.1 c.in-Some.ensures.0 c.in_ok-plain-2.ensures,
       search rules,
-      pieces_put _ _ held c.in_ok-plain-2.plain.now _ _ _ byte l.invariant.3 one (c.push.ensures.ascii (omega (arith, c.from.ensures, c.in-Some.ensures.1)) ∙ ap (λ x. x ∷ []) c.from.ensures) two,
+      pieces_put _ _ decoded c.in_ok-plain-2.plain.now _ _ _ byte l.invariant.3 one (c.push.ensures.ascii (omega (arith, c.from.ensures, c.in-Some.ensures.1)) ∙ ap (λ x. x ∷ []) c.from.ensures) two,
     )
 
 pub returns : goal.returns

@@ -8,7 +8,7 @@ use Rattle.bd_extjson_pack.proofs.canonical_line.append_unescaped.Given as goal
 -- what was read of the string, and what it holds
 abbrev pub invariant-loop-byte : goal.invariant-loop-byte
 invariant-loop-byte l =
-    (held : List ℕ) × (l.fn.text ≡ 34 ∷ (escaped held ++ l.rest)) × shadow (Utf8 l.rest) × (string_bytes l.into ≡ string_bytes l.fn.into ++ held)
+    (decoded : List ℕ) × (l.fn.text ≡ 34 ∷ (escaped decoded ++ l.rest)) × shadow (Utf8 l.rest) × (string_bytes l.into ≡ string_bytes l.fn.into ++ decoded)
 
 abbrev pub decreases-loop-byte : goal.decreases-loop-byte
 decreases-loop-byte l = length l.rest

@@ -23,8 +23,8 @@ decreases-append_object l = 5 * l.depth + 2
 -- what was read and written, and what is still to come, is the whole
 abbrev pub invariant-append_fields-loop-next : goal.invariant-append_fields-loop-next
 invariant-append_fields-loop-next l =
-    (n : ℕ) × (ps : Doc) × (length l.reader ≤ n) × (through (wrap_fields l.room) (after_key l.depth (length l.initial.reader) (option_map (λ s. s.now) l.initial.next) l.initial.reader)
-    ≡ parse_map (fields_before ps) (through (wrap_fields l.room) (after_key l.depth n (option_map (λ s. s.now) l.next) l.reader)))
+    (n : ℕ) × (ps : Doc) × (length l.reader ≤ n) × (through (wrap_fields l.depth_left) (after_key l.depth (length l.initial.reader) (option_map (λ s. s.now) l.initial.next) l.initial.reader)
+    ≡ parse_map (fields_before ps) (through (wrap_fields l.depth_left) (after_key l.depth n (option_map (λ s. s.now) l.next) l.reader)))
     × (length l.reader ≤ length l.initial.reader)
     × (l.out.items ≡ (l.fn.out.items ++ number 0) ++ fields_bytes (fields_of ps))
 
@@ -33,8 +33,8 @@ decreases-append_fields-loop-next l = length l.reader
 
 abbrev pub invariant-append_items-loop-alloc : goal.invariant-append_items-loop-alloc
 invariant-append_items-loop-alloc l =
-    (n : ℕ) × (ts : List Tree) × (length l.reader ≤ n) × (through (wrap_items l.room) (items (value l.depth) (length l.initial.reader) l.initial.reader)
-    ≡ parse_map (items_before ts) (through (wrap_items l.room) (items (value l.depth) n l.reader)))
+    (n : ℕ) × (ts : List Tree) × (length l.reader ≤ n) × (through (wrap_items l.depth_left) (items (value l.depth) (length l.initial.reader) l.initial.reader)
+    ≡ parse_map (items_before ts) (through (wrap_items l.depth_left) (items (value l.depth) n l.reader)))
     × (length l.reader ≤ length l.initial.reader)
     × (l.out.items ≡ (l.fn.out.items ++ number 0) ++ items_bytes 0 (items_of ts))
     × (l.place ≡ length ts)

@@ -9,7 +9,7 @@ pub append_read-requires : goal.append_read-requires
 append_read-requires c =
     let first = c.requires in
     let v = c.in_ok-value.value in
-    object_plain c.args.room (after_key c.args.depth (length c.args.reader.now) (Some first.0) c.args.reader.now) (tree_of v) c.read_wrapper.new.reader
+    object_plain c.args.depth_left (after_key c.args.depth (length c.args.reader.now) (Some first.0) c.args.reader.now) (tree_of v) c.read_wrapper.new.reader
     (gave tree_of c.read_wrapper.result v c.read_wrapper.new.reader _ c.in_ok-value.ensures.value (c.read_wrapper.ensures.gives first.0 first.1))
 
 pub returns-clause-gives : goal.returns-clause-gives

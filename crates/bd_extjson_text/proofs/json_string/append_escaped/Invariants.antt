@@ -7,7 +7,7 @@ abbrev pub invariant-loop-run : goal.invariant-loop-run
 invariant-loop-run l = record {
   inside : l.at ≤ length l.out.items;
   whole : take l.at l.out.items ++ escaped l.rest ≡ take l.end l.fn.out.items ++ escaped l.text;
-  kept : take l.end l.out.items ≡ take l.end l.fn.out.items;
+  unchanged : take l.end l.out.items ≡ take l.end l.fn.out.items;
   after : l.end ≤ l.at;
   shorter : length l.rest ≤ length l.text;
 }

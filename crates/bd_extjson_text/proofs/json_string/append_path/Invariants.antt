@@ -10,6 +10,6 @@ abbrev pub invariant-loop-name : goal.invariant-loop-name
 invariant-loop-name l = record {
   inside : l.at < length l.out.items;
   whole : take l.at l.out.items ++ escaped (to_come l.later 46 (drop l.name-index (map string_bytes l.path))) ≡ take l.end l.fn.out.items ++ 34 ∷ escaped (join_with_byte 46 (map string_bytes l.path));
-  kept : take l.end l.out.items ≡ take l.end l.fn.out.items;
+  unchanged : take l.end l.out.items ≡ take l.end l.fn.out.items;
   after : l.end ≤ l.at;
 }

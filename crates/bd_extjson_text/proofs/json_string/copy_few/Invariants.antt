@@ -5,6 +5,6 @@ use Rattle.bd_extjson_text.proofs.json_string.copy_few.Given as goal
 
 abbrev pub invariant-loop-i : goal.invariant-loop-i
 invariant-loop-i l = record {
-  copied : take (l.end + l.i) l.room ≡ take l.end l.fn.room ++ take l.i l.text;
+  copied : take (l.end + l.i) l.buffer ≡ take l.end l.fn.buffer ++ take l.i l.text;
   plain : list_any needs_escape (take l.i l.text) ≡ false;
 }

@@ -6,7 +6,7 @@ use Rattle.bd_extjson_text.proofs.json_string.copy_many.Given as goal
 abbrev pub invariant-loop-passed : goal.invariant-loop-passed
 invariant-loop-passed l = record {
   inside : l.passed + 16 ≤ length l.text;
-  copied : take (l.end + l.passed) l.room ≡ take l.end l.fn.room ++ take l.passed l.text;
+  copied : take (l.end + l.passed) l.buffer ≡ take l.end l.fn.buffer ++ take l.passed l.text;
   plain : list_any needs_escape (take l.passed l.text) ≡ false;
 }
 

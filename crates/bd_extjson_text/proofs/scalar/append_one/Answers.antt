@@ -1,6 +1,6 @@
 use Rattle.std.proofs.Common.{◌∷◌, [], arith, append_assoc}
 use Rattle.bd_extjson_text.specs.Text.{quoted}
-use Rattle.bd_extjson_text.proofs.RoomLemmas.{then}
+use Rattle.bd_extjson_text.proofs.BufferLemmas.{then}
 use Rattle.bd_extjson_text.proofs.scalar.append_one.Goals as goal
 
 pub returns : goal.returns

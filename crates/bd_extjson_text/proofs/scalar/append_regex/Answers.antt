@@ -1,11 +1,11 @@
 use Rattle.std.proofs.Common.{◌∙◌, arith}
-use Rattle.bd_extjson_text.proofs.RoomLemmas.{failed, front, chained, then}
+use Rattle.bd_extjson_text.proofs.BufferLemmas.{failed, prefix, chained, then}
 use Rattle.bd_extjson_text.proofs.TextLemmas.{written-regex}
 use Rattle.bd_extjson_text.proofs.scalar.append_regex.Goals as goal
 
 pub returns-in_err-at-2 : goal.returns-in_err-at-2
 returns-in_err-at-2 c = failed _ _ _ _ c.from_residual-in_err-at-2.result c.from_residual-in_err-at-2.ensures.0
-    (front c.args.end c.in_ok-at.at c.args.out.now.items _ c.append_led-2.new.out.items (omega arith) (c.in_err-at-2.ensures ∙ c.in_ok-at.ensures.0))
+    (prefix c.args.end c.in_ok-at.at c.args.out.now.items _ c.append_led-2.new.out.items (omega arith) (c.in_err-at-2.ensures ∙ c.in_ok-at.ensures.0))
 
 pub returns : goal.returns
 returns c =

@@ -7,5 +7,5 @@ use Rattle.bd_index.proofs.index.add_found.Given as goal
 abbrev pub invariant-loop-key : goal.invariant-loop-key
 invariant-loop-key l = record {
   added : map found_entry l.found.items ≡ map found_entry l.fn.found.items ++ keys_at l.place (key_trees raw_tree (take l.key-index l.keys));
-  kept : All (IsFoundIn (bytes_of l.dump)) l.fn.found.items → All (IsFoundIn (bytes_of l.dump)) l.found.items;
+  stored : All (IsFoundIn (bytes_of l.dump)) l.fn.found.items → All (IsFoundIn (bytes_of l.dump)) l.found.items;
 }

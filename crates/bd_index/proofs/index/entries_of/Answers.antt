@@ -14,11 +14,11 @@ returns c =
     let bytes = bytes_of c.args.dump.now in
     let lt : FoundKey → FoundKey → Bool = found_lt in
     let answers = always_returns_same _ _ _ (λ a r h k. search rules) in
-    let kept : All (IsFoundIn bytes) c.deref.result.now = subst (All (IsFoundIn bytes)) (sym c.deref.ensures.value)
-    (All-permutation (IsFoundIn bytes) found sorted c.sort_by.ensures.permutation c.in_ok-found.ensures.kept) in
+    let stored : All (IsFoundIn bytes) c.deref.result.now = subst (All (IsFoundIn bytes)) (sym c.deref.ensures.value)
+    (All-permutation (IsFoundIn bytes) found sorted c.sort_by.ensures.permutation c.in_ok-found.ensures.found_in) in
     record {
       entries = map found_entry sorted;
-      stand = subst (λ (l : List FoundKey). KeepsEntries bytes c.in_ok-entries.entries.items (map found_entry l)) c.deref.ensures.value (c.in_ok-entries.ensures bytes kept);
+      entries_are_at = subst (λ (l : List FoundKey). KeepsEntries bytes c.in_ok-entries.entries.items (map found_entry l)) c.deref.ensures.value (c.in_ok-entries.ensures bytes stored);
       are = record {
         same = λ test. sum_by-IsPermutation (λ e. cond (test e) 1 0) _ _ (IsPermutation-map found_entry found sorted c.sort_by.ensures.permutation) ∙ c.in_ok-found.ensures.found test;
         sorted = sorted_map found_entry (λ a b. is_lt (entry_cmp a b)) sorted (c.in_ok-sort_by.ensures.sorted lt (ranks_by entry_total found_entry) answers);

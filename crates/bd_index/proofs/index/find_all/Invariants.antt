@@ -9,5 +9,5 @@ abbrev pub invariant-loop-place : goal.invariant-loop-place
 invariant-loop-place l = record {
   so_far : (test : KeyAt → Bool) → count_by test (map found_entry l.found.items
       ++ entries_from l.sparse (names_of l.path) l.place (drop l.place (documents l.dump))) ≡ count_by test (entries_of l.sparse (names_of l.path) (documents l.dump));
-  kept : All (IsFoundIn (bytes_of l.dump)) l.found.items;
+  found_in : All (IsFoundIn (bytes_of l.dump)) l.found.items;
 }

@@ -3,10 +3,10 @@ use Rattle.bd_index_bounds.specs.{Bounds.intersection, Bounds.union, BoundsView.
 use Rattle.bd_index_bounds.proofs.bounds.+holding.Given as goal
 
 -- what is left decides
-abbrev pub invariant-all_hold-loop-part : goal.invariant-all_hold-loop-part
-invariant-all_hold-loop-part g l =
+abbrev pub invariant-all_contain-loop-part : goal.invariant-all_contain-loop-part
+invariant-all_contain-loop-part g l =
     intersection (map keys_within (drop l.part-index l.parts)) (g.N.Reading.tree l.key) ≡ intersection (map keys_within l.parts) (g.N.Reading.tree l.key)
 
-abbrev pub invariant-any_holds-loop-part : goal.invariant-any_holds-loop-part
-invariant-any_holds-loop-part g l =
+abbrev pub invariant-any_contains-loop-part : goal.invariant-any_contains-loop-part
+invariant-any_contains-loop-part g l =
     union (map keys_within (drop l.part-index l.parts)) (g.N.Reading.tree l.key) ≡ union (map keys_within l.parts) (g.N.Reading.tree l.key)

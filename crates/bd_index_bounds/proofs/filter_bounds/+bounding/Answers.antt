@@ -6,8 +6,8 @@ use Rattle.bd_query_filter.specs.Filter.{at_path, filters_from, operators_from, 
 use Rattle.bd_query_filter.specs.{declared.filter.Filter.TheVariants.Field, declared.filter.Operator.Operator}
 use Rattle.bd_query_filter.specs.declared.filter.Filter.TheFolds as folds
 use Rattle.bd_index_bounds.specs.Bounds.{all_bounds, bounds, bounds_at, conjunction, disjunction, operator_bounds, rest_after, some_bounds}
-use Rattle.bd_index_bounds.specs.BoundsView.{parts_bounds, seen_bounds}
-use Rattle.bd_index_bounds.proofs.FilterBoundsLemmas.{keys_within-Or, no_part_left, no_rest, one_narrower, one_wider, some_parts}
+use Rattle.bd_index_bounds.specs.BoundsView.{parts_bounds, bounds_view}
+use Rattle.bd_index_bounds.proofs.FilterBoundsLemmas.{keys_within-Or, no_part_remaining, no_rest, one_narrower, one_wider, some_parts}
 use Rattle.bd_index_bounds.proofs.filter_bounds.+bounding.Goals as goal
 
 pub all_bounds-loop-filter-preserved : goal.all_bounds-loop-filter-preserved
@@ -45,14 +45,14 @@ some_bounds-loop-filter-preserved t c =
     let m = c.args.index.now.multikey in
     one_wider (λ fs. some_bounds (filters_from fs) path m) filter_tree c.args.filters.now c.loop-filter.filter-index c.filter-item.result
     c.in-Some.bounds c.loop-filter.parts.items c.push.new.self.items
-    (λ fs. ap (λ b. disjunction b (some_bounds (filters_from fs) path m)) (sym c.in_ok-bounds.ensures ∙ ap seen_bounds c.in-Some.is))
+    (λ fs. ap (λ b. disjunction b (some_bounds (filters_from fs) path m)) (sym c.in_ok-bounds.ensures ∙ ap bounds_view c.in-Some.is))
     c.loop-filter-test.true c.filter-item.is c.in_ok-push-in-Some.ensures.items c.loop-filter.invariant
 
 pub some_bounds-returns : goal.some_bounds-returns
 some_bounds-returns t c =
     let path = component_names c.args.index.now.path.now in
     ap Some (keys_within-Or c.loop-filter.parts)
-    ∙ sym (no_part_left c.loop-filter.parts.items)
+    ∙ sym (no_part_remaining c.loop-filter.parts.items)
     ∙ ap (disjunction (some_parts c.loop-filter.parts.items))
     (sym (at_drop_all (λ fs. some_bounds (filters_from (map filter_tree fs)) path c.args.index.now.multikey) c.args.filters.now c.loop-filter.filter-index c.loop-filter-test.false))
     ∙ c.loop-filter.invariant

@@ -5,4 +5,4 @@ use Rattle.bd_index_bounds.proofs.filter_bounds.rest_after.Given as goal
 
 -- what is left of both decides
 abbrev pub invariant-loop-component : goal.invariant-loop-component
-invariant-loop-component l = rest_after (component_names (drop l.component-index l.start)) (component_names l.left) ≡ rest_after (component_names l.start) (component_names l.fn.path)
+invariant-loop-component l = rest_after (component_names (drop l.component-index l.start)) (component_names l.remaining) ≡ rest_after (component_names l.start) (component_names l.fn.path)

@@ -9,7 +9,7 @@ loop-rest-init g c = record {
   appended = ([], refl, Appends-nil _);
   writes = no_write _;
   silent = λ e. refl;
-  well = refl;
+  no_failure = refl;
 }
 
 pub loop-rest-preserved : goal.loop-rest-preserved
@@ -24,5 +24,5 @@ loop-rest-preserved g c =
       silent = λ e.
           let none : 0 ≡ length (done ++ rest) = ap length (sym e ∙ split) in
           let within = c.in_ok-n.ensures.within in absurd (omega (arith, none, some, within, length-append done rest));
-      well = search rules;
+      no_failure = search rules;
     }

@@ -10,12 +10,12 @@ loop-init g c = record {
   within = search rules;
   turned = omega arith;
   called = search rules;
-  well = search rules;
+  no_failure = search rules;
 }
 
 pub loop-preserved : goal.loop-preserved
 loop-preserved g c =
-    let part = take c.in-Ok.n c.read.new.room in
+    let part = take c.in-Ok.n c.read.new.buffer in
     let grown : c.extend_from_slice.new.self.items ≡ c.loop.bytes.items ++ part = search rules in
     let some : 0 < length part = search rules in
     record {
@@ -24,26 +24,26 @@ loop-preserved g c =
       within = search rules;
       turned = search rules;
       called = search rules;
-      well = search rules;
+      no_failure = search rules;
     }
 
 -- what was read with this read's part, which a refusal does not keep
-pub returns-then-limits-len-clause-front : goal.returns-then-limits-len-clause-front
-returns-then-limits-len-clause-front g c =
+pub returns-then-limits-len-clause-prefix : goal.returns-then-limits-len-clause-prefix
+returns-then-limits-len-clause-prefix g c =
     (_, Consumes-trans _ _ _ _ _ c.loop.invariant.consumed c.in-Ok.ensures.bytes.0)
 
-pub returns-then-is_err-clause-front : goal.returns-then-is_err-clause-front
-returns-then-is_err-clause-front g c =
+pub returns-then-is_err-clause-prefix : goal.returns-then-is_err-clause-prefix
+returns-then-is_err-clause-prefix g c =
     (_, Consumes-trans _ _ _ _ _ c.loop.invariant.consumed c.in-Ok.ensures.bytes.0)
 
 pub returns-then-is_err-clause-memory : goal.returns-then-is_err-clause-memory
 returns-then-is_err-clause-memory g c _ =
-    let some : 0 < length (take c.in-Ok.n c.read.new.room) = search rules in
+    let some : 0 < length (take c.in-Ok.n c.read.new.buffer) = search rules in
     let fits : c.in-Ok.n ≤ c.args.limits.bytes - length c.loop.bytes.items = search rules in (
       c.loop.counter + 1,
       _,
       omega arith,
-      length-within _ _ _ c.read.new.room fits c.loop.invariant.within,
+      length-within _ _ _ c.read.new.buffer fits c.loop.invariant.within,
       reads_more _ _ _ _ _ _ _ c.loop.invariant.reads c.in-Ok.ensures.gives some refl,
       Consumes-trans _ _ _ _ _ c.loop.invariant.consumed c.in-Ok.ensures.bytes.0,
     )

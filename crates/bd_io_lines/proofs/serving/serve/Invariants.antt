@@ -6,8 +6,8 @@ abbrev pub invariant-loop-text : goal.invariant-loop-text
 invariant-loop-text g l = record {
   so_far : Serving g.R.Input.state g.R.Input.read_gives g.S.Replier.replies l.fn.limits l.lines l.initial.reader l.reader
       (g.O.Output.state l.initial.out) (g.O.Output.state l.out) l.initial.session l.session;
-  works : l.lines.failed ≡ None;
+  not_failed : l.lines.failed ≡ None;
 }
 
 abbrev pub decreases-loop-text : goal.decreases-loop-text
-decreases-loop-text g l = l.lines.left.bytes + length l.lines.rest
+decreases-loop-text g l = l.lines.remaining.bytes + length l.lines.rest

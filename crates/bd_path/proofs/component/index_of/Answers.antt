@@ -14,13 +14,13 @@ some_digit [] is = absurd cc
 some_digit (c ∷ cs) is = omega arith
 
 -- what is read where the number fits, and the greatest number where it does not
-least_past : (v : ℕ) → ¬ (v < 18446744073709551616) → 18446744073709551615 ≡ min v 18446744073709551615
-least_past v h = grind arith
+least_beyond : (v : ℕ) → ¬ (v < 18446744073709551616) → 18446744073709551615 ≡ min v 18446744073709551615
+least_beyond v h = grind arith
 
 least_of : {E : Type 0} (r : Result ℕ E) (P : Type 0) (v : ℕ) → (v < 18446744073709551616 → P) → (P → v < 18446744073709551616) → OkIff r P v
     → result_unwrap_or r 18446744073709551615 ≡ min v 18446744073709551615
 least_of (Ok x) P v f g h = h.1 ∙ (let l = g h.0 in omega arith)
-least_of (Err e) P v f g h = least_past v (λ lt. h (f lt))
+least_of (Err e) P v f g h = least_beyond v (λ lt. h (f lt))
 
 pub returns : goal.returns
 returns c =

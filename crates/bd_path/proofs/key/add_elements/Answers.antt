@@ -10,11 +10,11 @@ loop-next-preserved g c =
     let bytes = g.N.Reading.source c.args.node in
     record {
       so_far = added.one_passed (trees c.loop-next.keys.items) (trees c.add_next.new.keys.items) (g.N.Reading.tree c.in-Some.next.1) _
-          (values_of (g.N.Reading.left c.in-Some.next.2)) _ c.in_ok-add_next.ensures.added (ap values_of c.in-Some.ensures.some) c.loop-next.invariant.so_far;
-      kept = λ h. c.in_ok-add_next.ensures.kept bytes (c.loop-next.invariant.kept h) (c.in-Some.ensures.kept ∙ c.loop-next.invariant.source);
-      there = λ sparse ss h. c.in_ok-add_next.ensures.there sparse ss (c.loop-next.invariant.there sparse ss h) tt;
+          (values_of (g.N.Reading.remaining c.in-Some.next.2)) _ c.in_ok-add_next.ensures.added (ap values_of c.in-Some.ensures.some) c.loop-next.invariant.so_far;
+      same_source = λ h. c.in_ok-add_next.ensures.same_source bytes (c.loop-next.invariant.same_source h) (c.in-Some.ensures.same_source ∙ c.loop-next.invariant.source);
+      at_stops = λ sparse ss h. c.in_ok-add_next.ensures.at_stops sparse ss (c.loop-next.invariant.at_stops sparse ss h) tt;
       source = c.in-Some.ensures.rest ∙ c.loop-next.invariant.source;
     }
 
-pub returns-in_err-add_next-clause-there : goal.returns-in_err-add_next-clause-there
-returns-in_err-add_next-clause-there g c = λ sparse ss h. c.add_next.ensures.there sparse ss (c.loop-next.invariant.there sparse ss h) tt
+pub returns-in_err-add_next-clause-at_stops : goal.returns-in_err-add_next-clause-at_stops
+returns-in_err-add_next-clause-at_stops g c = λ sparse ss h. c.add_next.ensures.at_stops sparse ss (c.loop-next.invariant.at_stops sparse ss h) tt

@@ -2,7 +2,7 @@ use Rattle.std.proofs.Common.{◌≡◌, ◌≤◌, ◌<◌, ◌+◌, ◌*◌, d
 use Rattle.std.specs.List.{list_any}
 use Rattle.bd_value.specs.Tree.{elements_in, values_of, fields_of, fields_size, items_of, tree_size}
 use Rattle.bd_path.specs.{PathNames.names_of, Path.component_names, Reach.each_gathering, Reach.ends, Reach.reach}
-use Rattle.bd_query.specs.FilterMatch.{is_suited, suits}
+use Rattle.bd_query.specs.FilterMatch.{is_matching, matches_element}
 use Rattle.bd_query_filter.specs.Filter.{filters_from, operators_from, filter_tree, operator_tree}
 use Rattle.bd_query_filter.specs.FilterMatch.{all_accept, all_hold, all_match, some_match}
 use Rattle.bd_query.proofs.FilterMatchLemmas.{body_size, filter_size, filters_size, operator_size, operators_size}
@@ -27,23 +27,23 @@ decreases-holds g l = 5 * (operator_size (operator_tree l.operator.now) + tree_s
 abbrev pub decreases-reaches_suited : goal.decreases-reaches_suited
 decreases-reaches_suited g l = 5 * (body_size l.body.now + tree_size (g.N.Reading.tree l.node)) + 4
 
-abbrev pub decreases-any_end_suits : goal.decreases-any_end_suits
-decreases-any_end_suits g l = 5 * (body_size l.walk.now.body.now + tree_size (g.N.Reading.tree l.node)) + 3
+abbrev pub decreases-any_end_matches : goal.decreases-any_end_matches
+decreases-any_end_matches g l = 5 * (body_size l.path_walk.now.body.now + tree_size (g.N.Reading.tree l.node)) + 3
 
-abbrev pub decreases-any_end_suits_in_field : goal.decreases-any_end_suits_in_field
-decreases-any_end_suits_in_field g l = 5 * (body_size l.walk.now.body.now + tree_size (g.N.Reading.tree l.node)) + 2
+abbrev pub decreases-any_end_matches_in_field : goal.decreases-any_end_matches_in_field
+decreases-any_end_matches_in_field g l = 5 * (body_size l.path_walk.now.body.now + tree_size (g.N.Reading.tree l.node)) + 2
 
-abbrev pub decreases-any_end_suits_in_documents : goal.decreases-any_end_suits_in_documents
-decreases-any_end_suits_in_documents g l = 5 * (body_size l.walk.now.body.now + tree_size (g.N.Reading.tree l.node)) + 2
+abbrev pub decreases-any_end_matches_in_documents : goal.decreases-any_end_matches_in_documents
+decreases-any_end_matches_in_documents g l = 5 * (body_size l.path_walk.now.body.now + tree_size (g.N.Reading.tree l.node)) + 2
 
-abbrev pub decreases-any_end_suits_at_index : goal.decreases-any_end_suits_at_index
-decreases-any_end_suits_at_index g l = 5 * (body_size l.walk.now.body.now + tree_size (g.N.Reading.tree l.node)) + 2
+abbrev pub decreases-any_end_matches_at_index : goal.decreases-any_end_matches_at_index
+decreases-any_end_matches_at_index g l = 5 * (body_size l.path_walk.now.body.now + tree_size (g.N.Reading.tree l.node)) + 2
 
-abbrev pub decreases-any_suits : goal.decreases-any_suits
-decreases-any_suits g l = 5 * (body_size l.body.now + tree_size (g.N.Reading.tree l.node)) + 2
+abbrev pub decreases-any_matches_element : goal.decreases-any_matches_element
+decreases-any_matches_element g l = 5 * (body_size l.body.now + tree_size (g.N.Reading.tree l.node)) + 2
 
-abbrev pub decreases-suits : goal.decreases-suits
-decreases-suits g l = 5 * (body_size l.body.now + tree_size (g.N.Reading.tree l.element)) + 1
+abbrev pub decreases-matches_element : goal.decreases-matches_element
+decreases-matches_element g l = 5 * (body_size l.body.now + tree_size (g.N.Reading.tree l.element)) + 1
 
 abbrev pub decreases-all_accept : goal.decreases-all_accept
 decreases-all_accept g l = 5 * (operators_size (operators_from (map operator_tree l.operators.now)) + tree_size (g.N.Reading.tree l.element))
@@ -81,19 +81,19 @@ invariant-all_accept-loop-operator g l = record {
 }
 
 -- no end suits in the documents before those that are left
-abbrev pub invariant-any_end_suits_in_documents-loop-i : goal.invariant-any_end_suits_in_documents-loop-i
-invariant-any_end_suits_in_documents-loop-i g l = record {
-  left : values_of (g.N.Reading.left l.left) ≡ drop l.i (elements_in (g.N.Reading.tree l.fn.node));
-  so_far : list_any (is_suited l.walk.body.now) (each_gathering ends (items_of (values_of (g.N.Reading.left l.left))) (drop l.k (component_names l.walk.path.now)))
-      ≡ list_any (is_suited l.walk.body.now) (each_gathering ends (items_of (elements_in (g.N.Reading.tree l.fn.node))) (drop l.k (component_names l.walk.path.now)));
-  smaller : fields_size (fields_of (g.N.Reading.left l.left)) < tree_size (g.N.Reading.tree l.fn.node);
+abbrev pub invariant-any_end_matches_in_documents-loop-i : goal.invariant-any_end_matches_in_documents-loop-i
+invariant-any_end_matches_in_documents-loop-i g l = record {
+  remaining : values_of (g.N.Reading.remaining l.remaining) ≡ drop l.i (elements_in (g.N.Reading.tree l.fn.node));
+  so_far : list_any (is_matching l.path_walk.body.now) (each_gathering ends (items_of (values_of (g.N.Reading.remaining l.remaining))) (drop l.k (component_names l.path_walk.path.now)))
+      ≡ list_any (is_matching l.path_walk.body.now) (each_gathering ends (items_of (elements_in (g.N.Reading.tree l.fn.node))) (drop l.k (component_names l.path_walk.path.now)));
+  smaller : fields_size (fields_of (g.N.Reading.remaining l.remaining)) < tree_size (g.N.Reading.tree l.fn.node);
 }
 
-abbrev pub invariant-any_suits-loop-next : goal.invariant-any_suits-loop-next
-invariant-any_suits-loop-next g l = record {
-  so_far : list_any (suits l.body) (values_of (g.N.Reading.left l.left)) ≡ list_any (suits l.body) (elements_in (g.N.Reading.tree l.fn.node));
-  smaller : fields_size (fields_of (g.N.Reading.left l.left)) < tree_size (g.N.Reading.tree l.fn.node);
+abbrev pub invariant-any_matches_element-loop-next : goal.invariant-any_matches_element-loop-next
+invariant-any_matches_element-loop-next g l = record {
+  so_far : list_any (matches_element l.body) (values_of (g.N.Reading.remaining l.remaining)) ≡ list_any (matches_element l.body) (elements_in (g.N.Reading.tree l.fn.node));
+  smaller : fields_size (fields_of (g.N.Reading.remaining l.remaining)) < tree_size (g.N.Reading.tree l.fn.node);
 }
 
-abbrev pub decreases-any_suits-loop-next : goal.decreases-any_suits-loop-next
-decreases-any_suits-loop-next g l = length (g.N.Reading.left l.left)
+abbrev pub decreases-any_matches_element-loop-next : goal.decreases-any_matches_element-loop-next
+decreases-any_matches_element-loop-next g l = length (g.N.Reading.remaining l.remaining)

@@ -7,8 +7,8 @@ use Rattle.bd_query_filter.proofs.operand.members_of.Given as goal
 -- the members so far, and those that are left, are all
 abbrev pub invariant-loop-next : goal.invariant-loop-next
 invariant-loop-next g l =
-    joined (map tree_of l.members.items) (member_values (length l.members.items) (items_of (values_of (g.N.Reading.left l.left))))
+    joined (map tree_of l.members.items) (member_values (length l.members.items) (items_of (values_of (g.N.Reading.remaining l.remaining))))
     ≡ members_of (g.N.Reading.tree l.fn.operand)
 
 abbrev pub decreases-loop-next : goal.decreases-loop-next
-decreases-loop-next g l = length (g.N.Reading.left l.left)
+decreases-loop-next g l = length (g.N.Reading.remaining l.remaining)

@@ -12,10 +12,10 @@ stays Decimal128 head value number clear = let f : ⊥ = cc in absurd f
 stays (Kept k) head value None clear = refl
 stays (Kept k) head value (Some number) clear = refl
 
-kept : (room : ℕ) (path : List ℕ) (t : ElementType) (head value new : List ℕ) → refuses_wide room path t value ≡ None → IsOrdered [] path t head value new → new ≡ head ++ value
-kept room path Double head value new clear is = let f : ⊥ = cc in absurd f
-kept room path Decimal128 head value new clear is = let f : ⊥ = cc in absurd f
-kept room path (Kept k) head value new clear is = is ∙ stays (Kept k) head value (number_at (Kept k) value) refl
+kept : (depth_left : ℕ) (path : List ℕ) (t : ElementType) (head value new : List ℕ) → refuses_wide depth_left path t value ≡ None → IsOrdered [] path t head value new → new ≡ head ++ value
+kept depth_left path Double head value new clear is = let f : ⊥ = cc in absurd f
+kept depth_left path Decimal128 head value new clear is = let f : ⊥ = cc in absurd f
+kept depth_left path (Kept k) head value new clear is = is ∙ stays (Kept k) head value (number_at (Kept k) value) refl
 
 same : Same (IsOrdered []) (λ others. others) refuses_wide
 same = record { element = kept; rest = λ bytes. refl }

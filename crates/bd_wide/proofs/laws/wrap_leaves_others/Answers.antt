@@ -5,10 +5,10 @@ use Rattle.bd_wide.specs.Wrap.{IsWrapped, refuses_wide}
 use Rattle.bd_wide.proofs.SameLemmas.{Same, rewritten_same}
 use Rattle.bd_wide.proofs.laws.wrap_leaves_others.Goals as goal
 
-kept : (room : ℕ) (path : List ℕ) (t : ElementType) (head value new : List ℕ) → refuses_wide room path t value ≡ None → IsWrapped path t head value new → new ≡ head ++ value
-kept room path Double head value new clear is = let f : ⊥ = cc in absurd f
-kept room path Decimal128 head value new clear is = let f : ⊥ = cc in absurd f
-kept room path (Kept k) head value new clear is = is
+kept : (depth_left : ℕ) (path : List ℕ) (t : ElementType) (head value new : List ℕ) → refuses_wide depth_left path t value ≡ None → IsWrapped path t head value new → new ≡ head ++ value
+kept depth_left path Double head value new clear is = let f : ⊥ = cc in absurd f
+kept depth_left path Decimal128 head value new clear is = let f : ⊥ = cc in absurd f
+kept depth_left path (Kept k) head value new clear is = is
 
 same : Same IsWrapped (λ others. others) refuses_wide
 same = record { element = kept; rest = λ bytes. refl }

@@ -4,11 +4,11 @@ use Rattle.bd_wide.proofs.paths.path_and_power.Goals as goal
 
 pub returns-then-ends_with_power : goal.returns-then-ends_with_power
 returns-then-ends_with_power c =
-    ap (λ (n : List ℕ). (n, Some (c.loop-left.left - 1))) c.split_at.ensures.front
-    ∙ sym (c.loop-left.invariant.passed ∙ power_read c.loop-left.left c.args.word.now c.loop-left-test.true (sym c.ends_with_power.ensures.value ∙ c.if-ends_with_power.true))
+    ap (λ (n : List ℕ). (n, Some (c.loop-remaining.remaining - 1))) c.split_at.ensures.front
+    ∙ sym (c.loop-remaining.invariant.passed ∙ power_read c.loop-remaining.remaining c.args.word.now c.loop-remaining-test.true (sym c.ends_with_power.ensures.value ∙ c.if-ends_with_power.true))
 
-pub loop-left-preserved : goal.loop-left-preserved
-loop-left-preserved c = record {
-  passed = c.loop-left.invariant.passed ∙ power_passed c.loop-left.left c.args.word.now c.loop-left-test.true (sym c.ends_with_power.ensures.value ∙ c.if-ends_with_power.false);
-  few = omega (arith, c.loop-left.invariant.few);
+pub loop-remaining-preserved : goal.loop-remaining-preserved
+loop-remaining-preserved c = record {
+  passed = c.loop-remaining.invariant.passed ∙ power_passed c.loop-remaining.remaining c.args.word.now c.loop-remaining-test.true (sym c.ends_with_power.ensures.value ∙ c.if-ends_with_power.false);
+  few = omega (arith, c.loop-remaining.invariant.few);
 }

@@ -6,11 +6,11 @@ use Rattle.bd_wide_args.proofs.command_line.parse_words.Goals as goal
 
 pub returns-in-Err-clause-fault : goal.returns-in-Err-clause-fault
 returns-in-Err-clause-fault c =
-    refused_as _ (words_of c.args.words.now) c.in-Err.error c.fault_told.result c.in_ok-command.ensures.0 c.in-Err.ensures.kinds c.fault_told.ensures
+    refused_as _ (words_of c.args.words.now) c.in-Err.error c.explain_error.result c.in_ok-command.ensures.0 c.in-Err.ensures.kinds c.explain_error.ensures
 
 pub returns-in-Err-clause-taken : goal.returns-in-Err-clause-taken
 returns-in-Err-clause-taken c taken =
-    c.fault_told.ensures ∙ refused_taken _ (words_of c.args.words.now) c.in-Err.error c.in_ok-command.ensures.0 c.in-Err.ensures.passes taken
+    c.explain_error.ensures ∙ refused_taken _ (words_of c.args.words.now) c.in-Err.error c.in_ok-command.ensures.0 c.in-Err.ensures.passes taken
 
 pub order_named-requires : goal.order_named-requires
 order_named-requires c =

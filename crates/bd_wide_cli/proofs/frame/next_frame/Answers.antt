@@ -5,4 +5,4 @@ use Rattle.bd_wide_cli.proofs.frame.next_frame.Goals as goal
 pub returns-clause-fault : goal.returns-clause-fault
 returns-clause-fault g c =
     on_err_map c.read_rest.result _ _ c.read_rest.ensures.fault
-    (λ given. (_, Consumes-trans (g.R.Input.state c.args.input.now).left (g.R.Input.state c.fill.new.reader).left (g.R.Input.state c.read_rest.new.input).left _ given.0 c.in_ok-filled.ensures.bytes given.1))
+    (λ given. (_, Consumes-trans (g.R.Input.state c.args.input.now).remaining (g.R.Input.state c.fill.new.reader).remaining (g.R.Input.state c.read_rest.new.input).remaining _ given.0 c.in_ok-filled.ensures.bytes given.1))

@@ -4,5 +4,5 @@ use Rattle.bd_io_device.specs.Devices.{TakesText, between}
 use Rattle.bd_wide_cli.proofs.running.copy_rest.Given as goal
 
 abbrev pub invariant-loop : goal.invariant-loop
-invariant-loop g l = (bytes : List ℕ) × Consumes (g.R.Input.state l.fn.input).left (g.R.Input.state l.input).left bytes
+invariant-loop g l = (bytes : List ℕ) × Consumes (g.R.Input.state l.fn.input).remaining (g.R.Input.state l.input).remaining bytes
     × TakesText (between (g.O.Output.state l.fn.out) (g.O.Output.state l.out)) bytes

@@ -10,7 +10,7 @@ use Rattle.bd_wide_cli.proofs.running.filter_documents.Goals as goal
 pub loop-next-init : goal.loop-next-init
 loop-next-init g c = record {
   so_far = runs.begins c.args.filter.now (g.R.Input.state c.args.input.now) (g.O.Output.state c.args.out.now);
-  left_is = search rules;
+  remaining_is = search rules;
   numbered = search rules;
   counted = search rules;
 }
@@ -21,8 +21,8 @@ loop-next-preserved g c =
     let r = g.R.Input.state in
     let o = g.O.Output.state in
     let e = c.deref-in-loop-next.ensures.value in
-    let gave = subst (λ (x : List ℕ). Consumes (r l.input).left (r c.next_frame.new.input).left x) (sym e) c.in-Ok.ensures.gave in
-    let frame : IsFrame c.next_frame.new.buffer.items = subst (λ (n : Next). IsNext n c.next_frame.new.buffer.items (r c.next_frame.new.input).left) c.in-Document.is c.in-Ok.ensures.next in
+    let gave = subst (λ (x : List ℕ). Consumes (r l.input).remaining (r c.next_frame.new.input).remaining x) (sym e) c.in-Ok.ensures.gave in
+    let frame : IsFrame c.next_frame.new.buffer.items = subst (λ (n : Next). IsNext n c.next_frame.new.buffer.items (r c.next_frame.new.input).remaining) c.in-Document.is c.in-Ok.ensures.next in
     let k = c.count_kept-kept.ensures in
     let most = runs.count_most l.kept c.in_ok-filtered.filtered in
     let counted = c.in-Ok.ensures.counted in
@@ -35,7 +35,7 @@ loop-next-preserved g c =
           (subst (λ (m : ℕ). runs.Progress c.args.filter.now (r c.args.input.now) (r c.next_frame.new.input) (o c.args.out.now) (o c.write_document.new.out) (l.number + 1) (l.start + m) (cond c.in_ok-filtered.filtered l.kept (l.kept + 1))) (sym len)
           (runs.goes_on c.args.filter.now (r c.args.input.now) (r l.input) (r c.next_frame.new.input) (o c.args.out.now) (o l.out) (o c.write_document.new.out) l.number l.start l.kept c.deref-in-loop-next.result.now c.in_ok-filtered.filtered
           l.invariant.so_far gave (subst IsFrame (sym e) frame) c.in_ok-filtered.ensures.ok));
-      left_is = omega (arith, counted, l.invariant.left_is, size, len);
+      remaining_is = omega (arith, counted, l.invariant.remaining_is, size, len);
       numbered = omega (arith, counted, l.invariant.numbered, least);
       counted = omega (arith, k, most, counted, before, least);
     }
@@ -53,7 +53,7 @@ returns-in_err-pass_on-clause-partly g c =
     let r = g.R.Input.state in
     let o = g.O.Output.state in
     let e = c.deref.ensures.value in
-    let gave = subst (λ (x : List ℕ). Consumes (r l.input).left (r c.next_frame.new.input).left x) (sym e) c.in-Ok.ensures.gave in
+    let gave = subst (λ (x : List ℕ). Consumes (r l.input).remaining (r c.next_frame.new.input).remaining x) (sym e) c.in-Ok.ensures.gave in
     let p = err_from_is_err_and c.from_residual.result c.from_residual.ensures.1 in
     rw (p.1, p.2) (runs.stops_passing c.args.filter.now (r c.args.input.now) (r l.input) (r c.next_frame.new.input) (r c.pass_on.new.input) (o c.args.out.now) (o l.out) (o c.pass_on.new.out) l.number l.start l.kept c.deref.result.now c.in_err-pass_on.field-0.0
     l.invariant.so_far gave c.in_err-pass_on.ensures.err)
@@ -64,7 +64,7 @@ returns-in_default-clause-all g c =
     let r = g.R.Input.state in
     let o = g.O.Output.state in
     let e = c.deref.ensures.value in
-    let gave = subst (λ (x : List ℕ). Consumes (r l.input).left (r c.next_frame.new.input).left x) (sym e) c.in-Ok.ensures.gave in
+    let gave = subst (λ (x : List ℕ). Consumes (r l.input).remaining (r c.next_frame.new.input).remaining x) (sym e) c.in-Ok.ensures.gave in
     runs.all_filtered c.args.filter.now (r c.args.input.now) (r l.input) (r c.next_frame.new.input) (r c.pass_on.new.input) (o c.args.out.now) (o l.out) (o c.pass_on.new.out) l.number l.start l.kept c.deref.result.now
     l.invariant.so_far gave c.in_ok-pass_on.ensures.ok
 
@@ -74,8 +74,8 @@ returns-in_err-filtered-clause-partly g c =
     let r = g.R.Input.state in
     let o = g.O.Output.state in
     let e = c.deref-in-loop-next.ensures.value in
-    let gave = subst (λ (x : List ℕ). Consumes (r l.input).left (r c.next_frame.new.input).left x) (sym e) c.in-Ok.ensures.gave in
-    let frame : IsFrame c.next_frame.new.buffer.items = subst (λ (n : Next). IsNext n c.next_frame.new.buffer.items (r c.next_frame.new.input).left) c.in-Document.is c.in-Ok.ensures.next in
+    let gave = subst (λ (x : List ℕ). Consumes (r l.input).remaining (r c.next_frame.new.input).remaining x) (sym e) c.in-Ok.ensures.gave in
+    let frame : IsFrame c.next_frame.new.buffer.items = subst (λ (n : Next). IsNext n c.next_frame.new.buffer.items (r c.next_frame.new.input).remaining) c.in-Document.is c.in-Ok.ensures.next in
     let p = err_from_is_err_and c.from_residual-in_err-filtered.result c.from_residual-in_err-filtered.ensures.1 in
     rw (p.1, p.2) (runs.stops_document c.args.filter.now (r c.args.input.now) (r l.input) (r c.next_frame.new.input) (o c.args.out.now) (o l.out) (o c.write_document.new.out) l.number l.start l.kept c.deref-in-loop-next.result.now c.in_err-filtered.field-0.0
     l.invariant.so_far gave (subst IsFrame (sym e) frame) c.in_err-filtered.ensures.err)

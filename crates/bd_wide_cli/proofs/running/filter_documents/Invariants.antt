@@ -6,10 +6,10 @@ use Rattle.bd_wide_cli.proofs.running.filter_documents.Given as goal
 abbrev pub invariant-loop-next : goal.invariant-loop-next
 invariant-loop-next g l = record {
   so_far : Progress l.filter (g.R.Input.state l.fn.input) (g.R.Input.state l.input) (g.O.Output.state l.fn.out) (g.O.Output.state l.out) l.number l.start l.kept;
-  left_is : l.start + l.left.bytes ≡ longest_input;
-  numbered : l.number + l.left.bytes ≤ longest_input;
-  counted : l.kept + l.left.bytes ≤ longest_input;
+  remaining_is : l.start + l.remaining.bytes ≡ longest_input;
+  numbered : l.number + l.remaining.bytes ≤ longest_input;
+  counted : l.kept + l.remaining.bytes ≤ longest_input;
 }
 
 abbrev pub decreases-loop-next : goal.decreases-loop-next
-decreases-loop-next g l = l.left.bytes
+decreases-loop-next g l = l.remaining.bytes

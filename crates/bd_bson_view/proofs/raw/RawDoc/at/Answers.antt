@@ -1,5 +1,5 @@
 use Rattle.bd_bson_view.proofs.SoundLemmas.{same_tree}
 use Rattle.bd_bson_view.proofs.raw.RawDoc.at.Goals as goal
 
-pub returns-clause-stands : goal.returns-clause-stands
-returns-clause-stands c = λ sound. same_tree _ sound
+pub returns-clause-meaning : goal.returns-clause-meaning
+returns-clause-meaning c = λ sound. same_tree _ sound

@@ -1,21 +1,21 @@
 use Rattle.std.proofs.Common.{◌∙◌, length, List, ℕ, refl, sym, ap, subst, arith}
-use Rattle.bd_value.specs.Tree.{own}
+use Rattle.bd_value.specs.Tree.{scalar_leaf}
 use Rattle.bd_bson_view.specs.Sizes.{TextAt, HasBytesOf, number_of, text_of, scalar_at}
 use Rattle.bd_bson_view.proofs.ValueAtLemmas.{reads_at}
 use Rattle.bd_bson_view.proofs.ContentsLemmas as v
 use Rattle.bd_bson_view.proofs.raw.RawValue.contents.Goals as goal
 
 pub invariant_of-result : goal.invariant_of-result
-invariant_of-result c = record { short = c.args.self.short; left = (v.document_held c.args.self.bytes.now c.args.self.start c.args.self.kind c.args.self.sound c.in-Doc.is).0 }
+invariant_of-result c = record { short = c.args.self.short; remaining = (v.document_has_elements c.args.self.bytes.now c.args.self.start c.args.self.kind c.args.self.sound c.in-Doc.is).0 }
 
 pub returns-in-Doc : goal.returns-in-Doc
-returns-in-Doc c = ((v.document_held c.args.self.bytes.now c.args.self.start c.args.self.kind c.args.self.sound c.in-Doc.is).1 _, refl)
+returns-in-Doc c = ((v.document_has_elements c.args.self.bytes.now c.args.self.start c.args.self.kind c.args.self.sound c.in-Doc.is).1 _, refl)
 
 pub invariant_of-result-in-Array : goal.invariant_of-result-in-Array
-invariant_of-result-in-Array c = record { short = c.args.self.short; left = (v.array_held c.args.self.bytes.now c.args.self.start c.args.self.kind c.args.self.sound c.in-Array.is).0 }
+invariant_of-result-in-Array c = record { short = c.args.self.short; remaining = (v.array_has_elements c.args.self.bytes.now c.args.self.start c.args.self.kind c.args.self.sound c.in-Array.is).0 }
 
 pub returns-in-Array : goal.returns-in-Array
-returns-in-Array c = ((v.array_held c.args.self.bytes.now c.args.self.start c.args.self.kind c.args.self.sound c.in-Array.is).1 _, refl)
+returns-in-Array c = ((v.array_has_elements c.args.self.bytes.now c.args.self.start c.args.self.kind c.args.self.sound c.in-Array.is).1 _, refl)
 
 pub split_at-requires-in-CodeScope : goal.split_at-requires-in-CodeScope
 split_at-requires-in-CodeScope c =
@@ -50,10 +50,10 @@ returns-in-CodeScope c =
 
 pub scalar-requires : goal.scalar-requires
 scalar-requires c =
-    let none = v.no_holder_left c.args.self.kind c.in_default.not-Doc c.in_default.not-Array c.in_default.not-CodeScope in
+    let none = v.no_holder_remaining c.args.self.kind c.in_default.not-Doc c.in_default.not-Array c.in_default.not-CodeScope in
     record { scalar = none; reads = subst (HasBytesOf c.args.self.kind) (sym c.split_at.ensures.back) (reads_at c.args.self.kind _ c.args.self.sound) }
 
 pub returns-in_default : goal.returns-in_default
 returns-in_default c =
-    let none = v.no_holder_left c.args.self.kind c.in_default.not-Doc c.in_default.not-Array c.in_default.not-CodeScope in
-    (_, v.leaf_is c.args.self.kind _ c.args.self.sound none, c.scalar.ensures ∙ ap (λ (x : List ℕ). own (scalar_at c.args.self.kind x)) c.split_at.ensures.back)
+    let none = v.no_holder_remaining c.args.self.kind c.in_default.not-Doc c.in_default.not-Array c.in_default.not-CodeScope in
+    (_, v.leaf_is c.args.self.kind _ c.args.self.sound none, c.scalar.ensures ∙ ap (λ (x : List ℕ). scalar_leaf (scalar_at c.args.self.kind x)) c.split_at.ensures.back)

@@ -5,7 +5,7 @@ use Rattle.bd_bson_dump.specs.Collection.{documents}
 use Rattle.bd_path.specs.Sort.{sort_paths}
 use Rattle.bd_query_filter.specs.Filter.{filter_tree}
 use Rattle.bd_index.specs.IndexView.{IsIndexOf}
-use Rattle.bd_cursor.specs.Access.{access_of, way_of, index_mark}
+use Rattle.bd_cursor.specs.Access.{access_of, way_of, index_key}
 use Rattle.bd_cursor.proofs.AccessLemmas.{access_elsewhere, access_named, found_below}
 use Rattle.bd_cursor.proofs.access.Access.of.Goals as goal
 
@@ -23,7 +23,7 @@ returns-in-Some-clause-path c =
     let of_dump : IsIndexOf dump i = subst (IsIndexOf dump) (sym c.index-indexes-position.is) (c.requires k i lt) in
     IfOk-weaker c.named_access.result _ _
     (λ a every. (every dump of_dump).is ∙ access_named ds f ss path is k i c.in-Some.ensures.found c.index-indexes-position.is
-    ∙ ap (λ ch. access_of ds f ss (way_of ch) (map index_mark is)) (sym c.in-Index.is))
+    ∙ ap (λ ch. access_of ds f ss (way_of ch) (map index_key is)) (sym c.in-Index.is))
     c.named_access.ensures
 
 pub returns-in-None-clause-path : goal.returns-in-None-clause-path
@@ -31,7 +31,7 @@ returns-in-None-clause-path c =
     let ds = documents c.args.dump.now in
     let f = filter_tree c.args.request.now.filter in
     let ss = sort_paths c.args.request.now.sort.items in
-    let marks = map index_mark c.args.indexes.now in
+    let index_keys = map index_key c.args.indexes.now in
     let path = string_bytes c.in-Index.path.text in
-    let none : list_any (is_on path) marks ≡ false = sym c.in-None.ensures.there in
-    sym (access_elsewhere ds f ss path marks none) ∙ ap (λ ch. access_of ds f ss (way_of ch) marks) (sym c.in-Index.is)
+    let none : list_any (is_on path) index_keys ≡ false = sym c.in-None.ensures.has_index in
+    sym (access_elsewhere ds f ss path index_keys none) ∙ ap (λ ch. access_of ds f ss (way_of ch) index_keys) (sym c.in-Index.is)

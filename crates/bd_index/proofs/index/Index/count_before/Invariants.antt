@@ -8,8 +8,8 @@ abbrev pub invariant-loop-low : goal.invariant-loop-low
 invariant-loop-low l = record {
   order : l.low ≤ l.high;
   bound : l.high ≤ length l.self.entries.items;
-  below : (h : IsIndexOf l.dump l.self) → AllWithin (λ e. is_before l.cut e.0 ≡ true) h.keeps.entries 0 l.low;
-  above : (h : IsIndexOf l.dump l.self) → AllWithin (λ e. is_before l.cut e.0 ≡ false) h.keeps.entries l.high (length h.keeps.entries);
+  below : (h : IsIndexOf l.dump l.self) → AllWithin (λ e. is_before l.cutoff e.0 ≡ true) h.keeps.entries 0 l.low;
+  above : (h : IsIndexOf l.dump l.self) → AllWithin (λ e. is_before l.cutoff e.0 ≡ false) h.keeps.entries l.high (length h.keeps.entries);
 }
 
 abbrev pub decreases-loop-low : goal.decreases-loop-low

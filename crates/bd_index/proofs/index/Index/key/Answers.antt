@@ -9,9 +9,9 @@ value_at-requires c =
     let k = c.requires.indexed.keeps in (
       (get_or k.entries c.args.i (leaf null, 0)).0,
       key_there (bytes_of c.args.dump.now) c.args.self.now.entries.items k.entries c.args.i
-          c.index.result.now (leaf null, 0) k.stand c.requires.inside c.index.ensures,
+          c.index.result.now (leaf null, 0) k.entries_are_at c.requires.inside c.index.ensures,
     )
 
 pub returns-clause-key : goal.returns-clause-key
 returns-clause-key c h d =
-    c.value_at.ensures.value _ (key_there (bytes_of c.args.dump.now) c.args.self.now.entries.items h.keeps.entries c.args.i c.index.result.now d h.keeps.stand c.requires.inside c.index.ensures)
+    c.value_at.ensures.value _ (key_there (bytes_of c.args.dump.now) c.args.self.now.entries.items h.keeps.entries c.args.i c.index.result.now d h.keeps.entries_are_at c.requires.inside c.index.ensures)

@@ -4,11 +4,11 @@ use Rattle.std.specs.List.{list_any}
 use Rattle.std.proofs.{lemmas.List.Filters.dedup_is, lemmas.List.Sorted.list_any-IsPermutation, lemmas.Map.Keys.IsStrictlyIncreasing-dedup}
 use Rattle.bd_index.specs.Places.{CoverKeys, lent_bounds}
 use Rattle.bd_index_bounds.specs.Bounds.{is_among}
-use Rattle.bd_index.proofs.{EntryLemmas.count_kept, PlacesLemmas.among_once, PlacesLemmas.counted_within, PlacesLemmas.members_within}
+use Rattle.bd_index.proofs.{EntryLemmas.count_stored, PlacesLemmas.among_once, PlacesLemmas.counted_within, PlacesLemmas.members_within}
 use Rattle.bd_index.proofs.index.Index.places.Goals as goal
 
 pub places_in-requires : goal.places_in-requires
-places_in-requires c = rw (c.deref.ensures.value, ← (count_kept c.args.dump.now c.args.self.now c.requires)) (c.in_ok-spans.ensures c.requires).order
+places_in-requires c = rw (c.deref.ensures.value, ← (count_stored c.args.dump.now c.args.self.now c.requires)) (c.in_ok-spans.ensures c.requires).order
 
 pub returns : goal.returns
 returns c =

@@ -10,7 +10,7 @@ loop-self-init g c = record {
   so_far = λ is. next.starts c.args.self.now c.args.reader.now (search rules) is c.requires.empty;
   line = search rules;
   still = search rules;
-  quiet = search rules;
+  no_read = search rules;
   failed = search rules;
 }
 
@@ -30,7 +30,7 @@ returns-then-branch-clause-reads g c _ =
     let so = l.invariant.so_far (l.invariant.still going) in
     let is : c.take_part.result ≡ Ok true = search rules in
     let f = c.take_part.ensures.found is in
-    next.reads_line so going l.invariant.line c.take_part.new.self f.0 f.1 f.2 f.3 c.take_part.ensures.kept.0 (search rules) c.take_part.ensures.short
+    next.reads_line so going l.invariant.line c.take_part.new.self f.0 f.1 f.2 f.3 c.take_part.ensures.unchanged.0 (search rules) c.take_part.ensures.short
 
 pub fetch-requires-clause-part : goal.fetch-requires-clause-part
 fetch-requires-clause-part g c =
@@ -50,12 +50,12 @@ loop-self-preserved g c =
     let gave = c.in_ok-fetch.ensures.gives in
     let new = c.fetch.new.self in
     let line : new.line ≡ l.self.line ++ l.self.rest = search rules in
-    let left : c.take_part.new.self.left ≡ l.self.left = c.take_part.ensures.kept.0 in
+    let remaining : c.take_part.new.self.remaining ≡ l.self.remaining = c.take_part.ensures.unchanged.0 in
     record {
-      so_far = λ _. next.line_goes_on so going l.invariant.line n.0 new line c.fetch.new.reader (rw left at gave) c.in_ok-fetch.ensures.one;
+      so_far = λ _. next.line_goes_on so going l.invariant.line n.0 new line c.fetch.new.reader (rw remaining at gave) c.in_ok-fetch.ensures.one;
       line = next.line_grown so going l.invariant.line n.0 new.line line;
       still = λ _. was;
-      quiet = λ is_ended. absurd (search (rules, was, is_ended));
+      no_read = λ is_ended. absurd (search (rules, was, is_ended));
       failed = search rules;
     }
 
@@ -66,9 +66,9 @@ returns-in_err-fetch-clause-fails g c =
     let so = l.invariant.so_far (l.invariant.still going) in
     let is : c.take_part.result ≡ Ok false = search rules in
     let n = c.take_part.ensures.none is in
-    let left : c.take_part.new.self.left ≡ l.self.left = c.take_part.ensures.kept.0 in
+    let remaining : c.take_part.new.self.remaining ≡ l.self.remaining = c.take_part.ensures.unchanged.0 in
     let p = err_from_is_err_and c.from_residual-in_err-fetch.result c.from_residual-in_err-fetch.ensures.1 in
-    rw (p.1, p.2) (next.line_fails so going l.invariant.line n.0 c.take_part.new.self.line n.1 c.fetch.new.reader c.in_err-fetch.field-0.0 (rw left at c.in_err-fetch.ensures.fails))
+    rw (p.1, p.2) (next.line_fails so going l.invariant.line n.0 c.take_part.new.self.line n.1 c.fetch.new.reader c.in_err-fetch.field-0.0 (rw remaining at c.in_err-fetch.ensures.fails))
 
 pub returns-clause-end : goal.returns-clause-end
 returns-clause-end g c is =
@@ -77,4 +77,4 @@ returns-clause-end g c is =
     let empty : l.self.line ≡ [] = nil_from_length l.self.line none in
     let ended : l.self.ended ≡ true = search rules in
     let drained : l.self.rest ≡ [] = let i = c.self.invariant.3 in search (rules, i, ended) in
-    next.finds_no_line c.args.self.now l.self c.args.reader.now l.reader ended empty drained (λ was. (l.invariant.quiet was).3) l.invariant.so_far
+    next.finds_no_line c.args.self.now l.self c.args.reader.now l.reader ended empty drained (λ was. (l.invariant.no_read was).3) l.invariant.so_far

@@ -1,6 +1,6 @@
 use Rattle.std.proofs.Common.{◌||◌, false, sym, ap, refl}
-use Rattle.bd_path.specs.{Sort.earliest_key, Walk.stop_tree, declared.key.Key.TheVariants.Null, declared.walk.Stop.TheVariants.Value}
-use Rattle.bd_path.proofs.{SortLemmas.takes_earliest, WalkLemmas.no_value, WalkLemmas.no_value_keys}
+use Rattle.bd_path.specs.{Sort.earliest_key, PathWalk.stop_tree, declared.key.Key.TheVariants.Null, declared.path_walk.Stop.TheVariants.Value}
+use Rattle.bd_path.proofs.{SortLemmas.takes_earliest, PathWalkLemmas.no_value, PathWalkLemmas.no_value_keys}
 use Rattle.bd_path.proofs.sort.EarliestGathererGatherer.take.Goals as goal
 
 pub returns-in_default : goal.returns-in_default
@@ -14,5 +14,5 @@ returns-in_default g c = λ bytes at.
 pub returns : goal.returns
 returns g c = λ bytes. rw c.in-Value.is (λ is.
     takes_earliest g.N.Reading.tree g.N.Reading.source c.args.self.now.dir bytes c.args.earliest.now _ c.earliest_end-key.result
-    (Value (g.N.Reading.tree c.in-Value.node)) c.earliest_end-key.ensures.tree (rw is at c.earliest_end-key.ensures.kept) c.earliest_end-key.ensures.there
+    (Value (g.N.Reading.tree c.in-Value.node)) c.earliest_end-key.ensures.tree (rw is at c.earliest_end-key.ensures.same_source) c.earliest_end-key.ensures.at_stops
     c.earlier-2.ensures.tree c.earlier-2.ensures.either)

@@ -1,0 +1,33 @@
+-- What a check finds in each document of a dump. After a document with a fault it goes on at the end that its
+-- length gives. Only a bad length ends it, since where the next document begins is then not known.
+use Rattle.std.specs.Prelude.{ℕ, zero, suc, ◌+◌, List, [], ◌∷◌, ◌++◌, ◌≡◌, length, drop, map, Option, Some, None}
+use Rattle.std.specs.Prelude.{Result, Ok, Err}
+use Rattle.bd_value.specs.Tree.{Doc}
+use Rattle.bd_bson_check.specs.{Fault.Fault, Dump.frame_length, Dump.frame_fault, declared.fault.FaultKind.FaultKind}
+
+-- the first fault of a document, or None, followed by what is found after it;
+-- a bad length is the last that is found
+abbrev pub check_results_by : Option Fault → (ℕ → List (Option Fault)) → Result (Option ℕ) FaultKind → List (Option Fault)
+check_results_by first after (Ok None) = []
+check_results_by first after (Ok (Some n)) = first ∷ after n
+check_results_by first after (Err kind) = first ∷ []
+
+-- For each document in turn its first fault or None, if the first byte is at offset `base` of the dump.
+-- The first number bounds the turns: the count of the bytes is always enough.
+unfoldable pub check_results_from : ℕ → ℕ → List ℕ → List (Option Fault)
+check_results_from zero base bytes = []
+check_results_from (suc turns) base bytes =
+    check_results_by (frame_fault base bytes) (λ n. check_results_from turns (base + n) (drop n bytes)) (frame_length bytes)
+
+-- for each document in turn its first fault or None, if the first byte is at offset `base` of the dump
+unfoldable pub check_results_at : ℕ → List ℕ → List (Option Fault)
+check_results_at base bytes = check_results_from (length bytes) base bytes
+
+-- for each document of a dump in turn its first fault, or None if it is well-formed
+abbrev pub check_results : List ℕ → List (Option Fault)
+check_results bytes = check_results_at 0 bytes
+
+-- The results begin as a walk does: None for each of its documents, and then its fault, if it has one.
+abbrev pub BeginAs : List Doc → Option Fault → List (Option Fault) → Type 0
+BeginAs ds None vs = vs ≡ map (λ d. None) ds
+BeginAs ds (Some f) vs = (others : List (Option Fault)) × (vs ≡ map (λ d. None) ds ++ Some f ∷ others)

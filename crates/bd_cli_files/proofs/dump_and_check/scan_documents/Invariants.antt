@@ -1,0 +1,13 @@
+use Rattle.std.proofs.Common.{◌≡◌, false}
+use Rattle.bd_cli_files.proofs.ScanLemmas.{IsRead, SoFar}
+use Rattle.bd_cli_files.proofs.dump_and_check.scan_documents.Given as goal
+
+abbrev pub invariant-loop-alloc : goal.invariant-loop-alloc
+invariant-loop-alloc g l = record {
+  so_far : SoFar g.V.Visitor.texts (g.R.Input.state l.initial.input) (g.R.Input.state l.input) (g.O.Output.state l.initial.out) (g.O.Output.state l.out) l.buffer l.bad;
+  not_failed : l.buffer.failed ≡ false;
+  read : IsRead g.R.Input.read_gives l.initial.input l.input;
+}
+
+abbrev pub decreases-loop-alloc : goal.decreases-loop-alloc
+decreases-loop-alloc g l = l.buffer.remaining.bytes

@@ -1,0 +1,18 @@
+use Rattle.std.proofs.Common.{◌++◌, ◌∙◌, rules}
+use Rattle.bd_io_device.specs.Devices.{over}
+use Rattle.bd_cursor_request.specs.Refused.{refused_words}
+use Rattle.bd_cli_files.specs.{Output.ReportsMessage, Output.error_line, declared.output.Status.TheVariants.Failed}
+use Rattle.bd_cli_find.specs.Asking.{refused_option}
+use Rattle.bd_cli_find.proofs.AskingLemmas.{filter_reported, plain_reported}
+use Rattle.bd_cli_find.proofs.asking.report_refused.Goals as goal
+
+pub returns-in-Ok : goal.returns-in-Ok
+returns-in-Ok g c =
+    filter_reported (over g.E.Output.state c.args.err.now c.report_error.new.err) c.args.refused.now _ c.deref.result.now c.report_error.result c.in-BadFilter.is
+    (c.deref.ensures ∙ c.in-Ok.ensures) c.report_error.ensures
+
+pub returns-in_default : goal.returns-in_default
+returns-in_default g c =
+    let err = over g.E.Output.state c.args.err.now c.write_refused.new.err in
+    let reported : ReportsMessage err (error_line (refused_option c.args.refused.now ++ refused_words c.args.refused.now)) Failed c.status_of.result = search rules in
+    plain_reported err c.args.refused.now c.status_of.result c.in_default.not-BadFilter reported

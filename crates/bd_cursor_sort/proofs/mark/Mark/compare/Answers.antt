@@ -1,7 +1,0 @@
-use Rattle.bd_bson_dump.specs.Collection.{documents}
-use Rattle.bd_cursor_sort.proofs.MarkLemmas.{marked_order}
-use Rattle.bd_cursor_sort.proofs.mark.Mark.compare.Goals as goal
-
-pub returns : goal.returns
-returns c = λ ss is.
-    rw (c.then.ensures, c.compare_keys.ensures, c.cmp.ensures, c.deref.ensures.value, is, marked_order (documents c.args.dump.now) ss c.args.place c.args.self.now.place)

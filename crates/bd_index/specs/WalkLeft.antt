@@ -1,7 +1,0 @@
--- The document numbers that the walk of an index has left.
-use Rattle.std.specs.Prelude.{ℕ, List}
-use Rattle.bd_index.specs.{Walk.fresh_places, Walk.places_ahead, declared.walk.Walk.Walk}
-
--- the document numbers that a walk has yet to give, in its order, each once
-abbrev pub walk_left : Walk → List ℕ
-walk_left w = fresh_places w.seen.items (places_ahead w.order)

@@ -1,5 +1,0 @@
-use Rattle.bd_path.proofs.WalkLemmas as at
-use Rattle.bd_path.proofs.walk.name_at.Goals as goal
-
-pub returns : goal.returns
-returns c = rw (c.as_str.ensures.value, ← c.index-path-k.is) (at.name_at c.args.path.now c.args.k c.index-path-k.result c.requires c.index-path-k.is)

@@ -1,0 +1,480 @@
+//! A document with other numbers, from left to right.
+
+ghost use Rattle.std.specs.Prelude.{◌≡◌, ◌≤◌, ◌<◌, ◌+◌, ◌-◌, ◌++◌, List, ℕ, length, take, drop, vec_len, OnOk, OnErr, IfSome, IsTrue, Some};
+ghost use Rattle.std.specs.Io.{StartsWith};
+ghost use Rattle.bd_bson_view.specs.Spelling.{number};
+ghost use Rattle.bd_wide.specs.Changes.{Allows, IgnoresPaths, Leaves, Retypes, ServesAs};
+ghost use Rattle.bd_wide.specs.Rewritten.{least, holder_least, Adds, IsElement, IsPart, AreElements, IsBody, IsScoped, IsNested, IsRewritten, part_of, path_of, separator as separator_of, scope_at as scope_at_of};
+ghost use Rattle.bd_wide.specs.declared.element.Part.TheVariants as parts;
+ghost use Rattle.bd_bson_view.specs.declared.raw_parts.ElementType as element_type;
+ghost use Rattle.bd_bson_view.specs.declared.raw_parts.Holder.TheVariants as holders;
+
+use crate::element::{Change, Part, enter, first_element, looked_into, separator};
+use bd_bson_view::{ElementType, Holder, raw_parts as raw};
+use bd_value::{MOST_LEVELS, NoMemory};
+
+/// What is written of numbers.
+pub trait NumberWriter {
+    /// What may be written of an element that holds a number, by its path, its type, its head and its value.
+    ghost is_written: { Self →
+        List ℕ → element_type.ElementType → List ℕ → List ℕ → List ℕ → Type 0 };
+    /// What is written of bytes from the first element on that can't be passed on.
+    ghost others_of: { Self → List ℕ → List ℕ };
+
+    /// Whether what may be written of a number is the same at every path. If so, `element` may be given any path.
+    fn ignores_paths(&self) -> bool
+        ensures { IsTrue result → IgnoresPaths (is_written self.now) };
+
+    /// Whether each element with a number of this type may stay as it is.
+    fn leaves(&self, typed: ElementType) -> bool
+        ensures { IsTrue result → Leaves (is_written self.now) typed };
+
+    /// The type that each element with a number of this type may get, if it may otherwise stay as it is.
+    fn retyped(&self, typed: ElementType) -> Option<u8>
+        ensures { IfSome result (λ byte. Retypes (is_written self.now) typed byte) };
+
+    /// Appends what is written of an element that holds a number.
+    fn element(
+        &self,
+        path: &[u8],
+        typed: ElementType,
+        head: &[u8],
+        value: &[u8],
+        out: &mut Vec<u8>,
+    ) -> Result<(), NoMemory>
+        requires head { 2 ≤ length head.now }
+        requires value { least typed ≤ length value.now }
+        ensures ok { OnOk result (Adds
+            (is_written self.now path.now typed head.now value.now) out.old.items out.new.items) }
+        ensures prefix { OnErr result (StartsWith out.new.items out.old.items) };
+
+    /// Appends what is written of bytes from the first element on that can't be passed on.
+    fn others(&self, bytes: &[u8], out: &mut Vec<u8>) -> Result<(), NoMemory>
+        requires { 0 < length bytes.now }
+        ensures ok { OnOk result (out.new.items ≡ out.old.items ++ others_of self.now bytes.now) }
+        ensures prefix { OnErr result (StartsWith out.new.items out.old.items) };
+}
+
+/// Appends what is written of the document that all of the bytes are. `path` is a buffer.
+///
+/// # Errors
+/// `NoMemory` leaves `out` as it was.
+pub fn write_rewritten<W: NumberWriter>(
+    writer: &W,
+    bytes: &[u8],
+    path: &mut Vec<u8>,
+    out: &mut Vec<u8>,
+) -> Result<(), NoMemory>
+    ensures ok { OnOk result (Adds (IsRewritten (W.is_written writer.now)
+        (W.others_of writer.now) bytes.now) out.old.items out.new.items) }
+    ensures err { OnErr result (out.new.items ≡ out.old.items) }
+{
+    path.clear();
+    let before = out.len();
+    let written = whole(writer, bytes, path, out);
+    if written.is_err() {
+        out.truncate(before);
+    }
+    written
+}
+
+#[tactic(auto, using(bd_value::proofs::PrefixLemmas::prefixes), unfolding(crate::specs::Rewritten::IsRewritten))]
+fn whole<W: NumberWriter>(
+    writer: &W,
+    bytes: &[u8],
+    path: &mut Vec<u8>,
+    out: &mut Vec<u8>,
+) -> Result<(), NoMemory>
+    requires { length path.old.items ≡ 0 }
+    ensures ok { OnOk result (Adds (IsRewritten (W.is_written writer.now)
+        (W.others_of writer.now) bytes.now) out.old.items out.new.items) }
+    ensures prefix { OnErr result (StartsWith out.new.items out.old.items) }
+{
+    if bytes.len() < 5 {
+        out.extend_from_slice(bytes)?;
+        return Ok(());
+    }
+    nested(
+        writer,
+        MOST_LEVELS as u32,
+        Holder::Document,
+        bytes,
+        path,
+        out,
+    )
+}
+
+/// Appends elements, with so many levels left below them.
+#[cycle(rewriting)]
+#[tactic(auto, using(bd_value::proofs::PrefixLemmas::prefixes))]
+fn elements<W: NumberWriter>(
+    writer: &W,
+    depth_left: u32,
+    in_array: bool,
+    bytes: &[u8],
+    path: &mut Vec<u8>,
+    out: &mut Vec<u8>,
+) -> Result<(), NoMemory>
+    ensures ok { OnOk result (Adds (AreElements (W.is_written writer.now) (W.others_of writer.now)
+        (IsNested (W.is_written writer.now) (W.others_of writer.now) depth_left) (path_of
+        in_array path.old.items) (length bytes.now) bytes.now) out.old.items out.new.items) }
+    ensures path { OnOk result (path.new.items ≡ path.old.items) }
+    ensures prefix { OnErr result (StartsWith out.new.items out.old.items) }
+{
+    let mut run = bytes;
+    let mut rest = bytes;
+    while let Some((typed, k, n)) = first_element(rest) {
+        let (head, more) = rest.split_at(k);
+        let (value, after) = more.split_at(n);
+        match change(writer, typed) {
+            Change::Nothing => {}
+            Change::Type(byte) => {
+                put_run(run, rest, out)?;
+                out.push(byte)?;
+                let (_, named) = rest.split_at(1);
+                run = named;
+            }
+            Change::Part(part) => {
+                put_run(run, rest, out)?;
+                element(
+                    writer, depth_left, in_array, part, typed, head, value, path, out,
+                )?;
+                run = after;
+            }
+        }
+        rest = after;
+    }
+    put_run(run, rest, out)?;
+    if rest.is_empty() {
+        return Ok(());
+    }
+    writer.others(rest, out)
+}
+
+/// What of an element of this type changes.
+fn change<W: NumberWriter>(writer: &W, typed: ElementType) -> Change
+    ensures { Allows (W.is_written writer.now) typed result }
+{
+    match looked_into(typed) {
+        None => Change::Nothing,
+        Some(Part::Number) => number_change(writer, typed),
+        Some(part) => Change::Part(part),
+    }
+}
+
+/// What of an element with a number of this type changes.
+fn number_change<W: NumberWriter>(writer: &W, typed: ElementType) -> Change
+    requires { part_of typed ≡ Some parts.Number }
+    ensures { Allows (W.is_written writer.now) typed result }
+{
+    if writer.leaves(typed) {
+        return Change::Nothing;
+    }
+    match writer.retyped(typed) {
+        Some(byte) => Change::Type(byte),
+        None => Change::Part(Part::Number),
+    }
+}
+
+/// Appends the bytes of a run that end where the rest begins.
+#[tactic(auto, using(bd_value::proofs::PrefixLemmas::prefixes, crate::proofs::RunLemmas::nothing_before))]
+fn put_run(run: &[u8], rest: &[u8], out: &mut Vec<u8>) -> Result<(), NoMemory>
+    requires { length rest.now ≤ length run.now }
+    ensures ok { OnOk result (out.new.items ≡ out.old.items ++
+        take (length run.now - length rest.now) run.now) }
+    ensures prefix { OnErr result (StartsWith out.new.items out.old.items) }
+{
+    let count = run.len() - rest.len();
+    if count == 0 {
+        return Ok(());
+    }
+    let (same, _) = run.split_at(count);
+    out.extend_from_slice(same)
+}
+
+/// Appends an element that is looked into, with so many levels left below it.
+#[cycle(rewriting)]
+#[tactic(auto, using(bd_value::proofs::PrefixLemmas::prefixes))]
+fn element<W: NumberWriter>(
+    writer: &W,
+    depth_left: u32,
+    in_array: bool,
+    part: Part,
+    typed: ElementType,
+    head: &[u8],
+    value: &[u8],
+    path: &mut Vec<u8>,
+    out: &mut Vec<u8>,
+) -> Result<(), NoMemory>
+    requires part { part_of typed ≡ Some part }
+    requires head { 2 ≤ length head.now }
+    requires value { least typed ≤ length value.now }
+    ensures ok { OnOk result (Adds (IsElement (W.is_written writer.now)
+        (IsNested (W.is_written writer.now) (W.others_of writer.now) depth_left) (path_of
+        in_array path.old.items head.now) typed head.now value.now) out.old.items out.new.items) }
+    ensures path { OnOk result (path.new.items ≡ path.old.items) }
+    ensures prefix { OnErr result (StartsWith out.new.items out.old.items) }
+{
+    let before = path.len();
+    enter_element(writer, in_array, head, path)?;
+    entered(writer, depth_left, part, typed, head, value, path, out)?;
+    path.truncate(before);
+    Ok(())
+}
+
+/// Makes the path that of an element, unless the writer ignores paths.
+fn enter_element<W: NumberWriter>(
+    writer: &W,
+    in_array: bool,
+    head: &[u8],
+    path: &mut Vec<u8>,
+) -> Result<(), NoMemory>
+    requires { 2 ≤ length head.now }
+    ensures serves { OnOk result (ServesAs (W.is_written writer.now)
+        path.new.items (path_of in_array path.old.items head.now)) }
+    ensures begins { OnOk result (StartsWith path.new.items path.old.items) }
+{
+    if writer.ignores_paths() {
+        return Ok(());
+    }
+    enter(in_array, head, path)
+}
+
+/// Makes the path that before the names in a value, unless the writer ignores paths.
+fn enter_value<W: NumberWriter>(
+    writer: &W,
+    holder: Holder,
+    path: &mut Vec<u8>,
+) -> Result<(), NoMemory>
+    ensures serves { OnOk result (ServesAs (W.is_written writer.now)
+        path.new.items (path.old.items ++ separator_of holder)) }
+    ensures begins { OnOk result (StartsWith path.new.items path.old.items) }
+{
+    if writer.ignores_paths() {
+        return Ok(());
+    }
+    path.extend_from_slice(separator(holder))
+}
+
+/// Appends an element that is looked into, and whose path this is.
+#[cycle(rewriting)]
+#[tactic(auto, using(bd_value::proofs::PrefixLemmas::prefixes))]
+fn entered<W: NumberWriter>(
+    writer: &W,
+    depth_left: u32,
+    part: Part,
+    typed: ElementType,
+    head: &[u8],
+    value: &[u8],
+    path: &mut Vec<u8>,
+    out: &mut Vec<u8>,
+) -> Result<(), NoMemory>
+    requires part { part_of typed ≡ Some part }
+    requires head { 2 ≤ length head.now }
+    requires value { least typed ≤ length value.now }
+    ensures ok { OnOk result (Adds (IsPart (W.is_written writer.now) (IsNested
+        (W.is_written writer.now) (W.others_of writer.now) depth_left) (Some part)
+        path.old.items typed head.now value.now) out.old.items out.new.items) }
+    ensures path { OnOk result (StartsWith path.new.items path.old.items) }
+    ensures prefix { OnErr result (StartsWith out.new.items out.old.items) }
+{
+    let holder = match part {
+        Part::Number => return writer.element(path, typed, head, value, out),
+        Part::Values(holder) => holder,
+    };
+    enter_value(writer, holder, path)?;
+    out.extend_from_slice(head)?;
+    nested(writer, depth_left, holder, value, path, out)
+}
+
+/// Appends a value that holds values, with so many levels left for it.
+#[cycle(rewriting)]
+#[tactic(auto, using(bd_value::proofs::PrefixLemmas::prefixes), unfolding(crate::specs::Rewritten::IsNested, crate::specs::Rewritten::holder_least))]
+fn nested<W: NumberWriter>(
+    writer: &W,
+    depth_left: u32,
+    holder: Holder,
+    value: &[u8],
+    path: &mut Vec<u8>,
+    out: &mut Vec<u8>,
+) -> Result<(), NoMemory>
+    requires { holder_least holder ≤ length value.now }
+    ensures ok { OnOk result (Adds (IsNested (W.is_written writer.now) (W.others_of writer.now)
+        depth_left holder path.old.items value.now) out.old.items out.new.items) }
+    ensures path { OnOk result (path.new.items ≡ path.old.items) }
+    ensures prefix { OnErr result (StartsWith out.new.items out.old.items) }
+{
+    if depth_left == 0 {
+        out.extend_from_slice(value)?;
+        return Ok(());
+    }
+    match holder {
+        Holder::Document => body(writer, depth_left - 1, false, value, path, out),
+        Holder::Array => body(writer, depth_left - 1, true, value, path, out),
+        Holder::CodeScope => scoped(writer, depth_left - 1, value, path, out),
+    }
+}
+
+/// Appends a document or an array, with so many levels left below it.
+#[cycle(rewriting)]
+#[tactic(auto, using(bd_value::proofs::PrefixLemmas::prefixes), unfolding(crate::specs::Rewritten::IsBody))]
+fn body<W: NumberWriter>(
+    writer: &W,
+    depth_left: u32,
+    in_array: bool,
+    value: &[u8],
+    path: &mut Vec<u8>,
+    out: &mut Vec<u8>,
+) -> Result<(), NoMemory>
+    requires { 5 ≤ length value.now }
+    ensures ok { OnOk result (Adds (IsBody (W.is_written writer.now) (W.others_of writer.now)
+        (IsNested (W.is_written writer.now) (W.others_of writer.now) depth_left)
+        (path_of in_array path.old.items) value.now) out.old.items out.new.items) }
+    ensures path { OnOk result (path.new.items ≡ path.old.items) }
+    ensures prefix { OnErr result (StartsWith out.new.items out.old.items) }
+{
+    let (inner, last) = inner_and_last(value);
+    let at = out.len();
+    write_number(0, out)?;
+    elements(writer, depth_left, in_array, inner, path, out)?;
+    out.extend_from_slice(last)?;
+    seal(at, out);
+    Ok(())
+}
+
+/// The elements of a document or an array, and its last byte.
+fn inner_and_last(value: &[u8]) -> (&[u8], &[u8])
+    requires { 5 ≤ length value.now }
+    ensures inner { result.0.now ≡ take (length value.now - 5) (drop 4 value.now) }
+    ensures last { result.1.now ≡ drop (length value.now - 1) value.now }
+{
+    let (_, more) = value.split_at(4);
+    let (inner, _) = more.split_at(value.len() - 5);
+    let (_, last) = value.split_at(value.len() - 1);
+    (inner, last)
+}
+
+/// Appends code with scope, with so many levels left for its scope.
+#[cycle(rewriting)]
+#[tactic(auto, using(bd_value::proofs::PrefixLemmas::prefixes), unfolding(crate::specs::Rewritten::IsScoped))]
+fn scoped<W: NumberWriter>(
+    writer: &W,
+    depth_left: u32,
+    value: &[u8],
+    path: &mut Vec<u8>,
+    out: &mut Vec<u8>,
+) -> Result<(), NoMemory>
+    requires { 14 ≤ length value.now }
+    ensures ok { OnOk result
+        (Adds (IsScoped (IsNested (W.is_written writer.now) (W.others_of writer.now)
+        depth_left holders.Document path.old.items) value.now) out.old.items out.new.items) }
+    ensures path { OnOk result (path.new.items ≡ path.old.items) }
+    ensures prefix { OnErr result (StartsWith out.new.items out.old.items) }
+{
+    match scope_at(value) {
+        Some(at) => with_scope(writer, depth_left, at, value, path, out),
+        None => {
+            out.extend_from_slice(value)?;
+            Ok(())
+        }
+    }
+}
+
+/// Appends code with scope whose scope begins at a place, with so many levels left for the scope.
+#[cycle(rewriting)]
+#[tactic(auto, using(bd_value::proofs::PrefixLemmas::prefixes))]
+fn with_scope<W: NumberWriter>(
+    writer: &W,
+    depth_left: u32,
+    at: usize,
+    value: &[u8],
+    path: &mut Vec<u8>,
+    out: &mut Vec<u8>,
+) -> Result<(), NoMemory>
+    requires place { scope_at_of value.now ≡ Some at }
+    requires inside { (8 ≤ at) × (at + 5 ≤ length value.now) }
+    ensures ok { OnOk result
+        (Adds (IsScoped (IsNested (W.is_written writer.now) (W.others_of writer.now)
+        depth_left holders.Document path.old.items) value.now) out.old.items out.new.items) }
+    ensures path { OnOk result (path.new.items ≡ path.old.items) }
+    ensures prefix { OnErr result (StartsWith out.new.items out.old.items) }
+{
+    let (_, scope) = value.split_at(at);
+    let start = out.len();
+    write_code(at, value, out)?;
+    nested(writer, depth_left, Holder::Document, scope, path, out)?;
+    seal(start, out);
+    Ok(())
+}
+
+/// Appends a count of four bytes that is not known yet, and the code.
+#[tactic(auto, using(bd_value::proofs::PrefixLemmas::prefixes))]
+fn write_code(at: usize, value: &[u8], out: &mut Vec<u8>) -> Result<(), NoMemory>
+    requires { (8 ≤ at) × (at ≤ length value.now) }
+    ensures ok { OnOk result (out.new.items
+        ≡ (out.old.items ++ number 0) ++ take (at - 4) (drop 4 value.now)) }
+    ensures prefix { OnErr result (StartsWith out.new.items out.old.items) }
+{
+    let (_, more) = value.split_at(4);
+    let (code, _) = more.split_at(at - 4);
+    write_number(0, out)?;
+    out.extend_from_slice(code)
+}
+
+/// Where the scope of code with scope begins; none where it does not end where the code with scope does.
+#[tactic(auto, unfolding(crate::specs::Rewritten::scope_at))]
+pub(crate) fn scope_at(value: &[u8]) -> Option<usize>
+    requires { 14 ≤ length value.now }
+    ensures gives { result ≡ scope_at_of value.now }
+    ensures inside { IfSome result (λ at. (8 ≤ at) × (at + 5 ≤ length value.now)) }
+{
+    let (_, more) = value.split_at(4);
+    let count = raw::number(more) as usize;
+    let at = 8 + count;
+    if count == 0 || value.len() < at + 5 {
+        return None;
+    }
+    let (_, scope) = value.split_at(at);
+    if raw::number(scope) as usize != value.len() - at {
+        return None;
+    }
+    Some(at)
+}
+
+/// Puts the count of the bytes from a place on into the four bytes at that place.
+pub(crate) fn seal(at: usize, out: &mut Vec<u8>)
+    requires { at + 4 ≤ vec_len out.old }
+    ensures { out.new.items ≡ take at out.old.items ++ (number (length out.old.items - at) ++ drop
+        (at + 4) out.old.items) }
+{
+    let count = out.len() - at;
+    put_number(at, count as u64, out);
+}
+
+/// Puts a number into the four bytes at a place.
+#[tactic(auto, unfolding(bd_bson_view::specs::Spelling::number))]
+pub(crate) fn put_number(at: usize, n: u64, out: &mut Vec<u8>)
+    requires { at + 4 ≤ vec_len out.old }
+    ensures { out.new.items ≡ take at out.old.items ++ (number n ++ drop (at + 4) out.old.items) }
+{
+    let count = low_bytes(n);
+    let bytes: &mut [u8] = out;
+    bytes[at..at + 4].copy_from_slice(&count);
+}
+
+/// The four lowest bytes of a number, the lowest first.
+#[tactic(auto, unfolding(bd_bson_view::specs::Spelling::number))]
+pub(crate) fn low_bytes(n: u64) -> [u8; 4]
+    ensures { result ≡ number n }
+{
+    let bytes = n.to_le_bytes();
+    [bytes[0], bytes[1], bytes[2], bytes[3]]
+}
+
+/// Appends a number of four bytes.
+pub(crate) fn write_number(n: u64, out: &mut Vec<u8>) -> Result<(), NoMemory>
+    ensures ok { OnOk result (out.new.items ≡ out.old.items ++ number n) }
+    ensures err { OnErr result (out.new.items ≡ out.old.items) }
+{
+    out.extend_from_slice(&low_bytes(n))
+}

@@ -1,0 +1,116 @@
+#!/usr/bin/env python3
+"""Looks whether the identifiers of the crates use one word for one meaning: it counts the words that are gone.
+
+usage: tests/docs/words.py     Each line names a file and an identifier that has a word which is gone. The last line is 'N passed, M failed'.
+
+A part of an identifier is what stands between `_` and capitals: `front_of` has the word `front`, and so has `TextFront`. A name that a file
+imports from the kit is the kit's, and so is a label of a clause of the kit.
+"""
+import re
+import sys
+from collections.abc import Iterator
+from fnmatch import fnmatchcase
+from pathlib import Path
+
+CRATES = Path(__file__).resolve().parents[2] / "crates"
+
+# Each word that is gone, what to write, and where it stays: crates, or names that have another meaning. A name ends no pattern of crates.
+WORDS = {
+    "front fronts": ("prefix", ""),
+    "hits": ("matches_at", ""),
+    "suits": ("matches_element", ""),
+    "starved starves starve": ("out_of_memory, runs_out", ""),
+    "judge judges judged": ("check", ""),
+    "verdict verdicts": ("check_result", ""),
+    "fate": ("write_state", ""),
+    "obey obeys": ("execute", ""),
+    # A filter breaks a rule.
+    "breaks broke": ("write_fails, write_failed", "bd_query_filter"),
+    "asked asks": ("requested, requests", ""),
+    "room rooms": ("depth_left, buffer, capacity", ""),
+    # `held()` of `DocReader`; clap's own.
+    "held": ("buffered, contents, node_tree", "bd_bson_stream bd_bson_tests bd_cli_args bd_wide_args"),
+    # An operator of a filter, and what is said of a value of the JSON kit, holds or does not.
+    "hold holds": ("contains, buffers", "bd_query bd_query_filter bd_index_bounds bd_wide_order bd_extjson bd_cursor_request"),
+    "told tells tell untold": ("reports, reported, explain", ""),
+    "shown shows show": ("output, prints", ""),
+    "stands stand": ("meaning, is_at", ""),
+    # An index is walked.
+    "walk walks walked": ("scan, path_walk", "bd_index bd_cursor bd_cursor_sort bd_cli_service bd_growth_tests bd_query_tests bd_cli_args path_walk* PathWalk*"),
+    "mark marks": ("position, index_key, pivot", ""),
+    "past": ("skip, after, beyond", ""),
+    # Levels that are left; the left one of two.
+    "left": ("remaining", "*depth_left* apart_left each_left in_left left_nil or_left append_left"),
+    "cut cuts": ("split, cutoff, limited", "*cut_short* IsCutShort"),
+    "own": ("leaf, path_in", ""),
+    "seen": ("view_of, visited", ""),
+}
+# Labels of clauses that are gone, and what to write.
+LABELS = {
+    "vain": "visited", "quiet": "no_read", "works": "not_failed", "well": "no_failure", "put": "appended", "there": "in_range",
+    "further": "stops_reading", "few": "fits_u32", "kept": "unchanged, same_source, err",
+}
+
+IDENT = re.compile(r"[A-Za-z_][A-Za-z0-9_]*")
+PART = re.compile(r"[A-Z]+(?![a-z])|[A-Z]?[a-z0-9]+|[A-Z]")
+PLAIN = {
+    ".rt": re.compile(r'//[^\n]*|b?r(#*)".*?"\1|b?"(?:\\.|[^"\\])*"', re.S),
+    ".antt": re.compile(r'(?:(?<=\s)|^)--[^\n]*|"(?:\\.|[^"\\])*"', re.M),
+}
+USE = re.compile(r"\buse\s+(?:Rattle\.)?([A-Za-z]\w*)((?:::|\.)[^;\n]*?\{[^}]*\}|(?:::|\.)[^;\n]*)", re.S)
+KIT_LABEL = re.compile(r"\b(?:split_at[\w-]*\.ensures|splits)\.\w+")
+LABEL = re.compile(r"^\s*(?:ensures|requires|invariant|ghost) (\w+)(?: \{|:)", re.M)
+
+
+def code_of(path: Path, roots: set[str]) -> tuple[str, set[str]]:
+    """The code of a file without comments, texts and imports from the kit, and the names that it imports from there."""
+    text = PLAIN[path.suffix].sub(" ", path.read_text(encoding="utf-8"))
+    kits: set[str] = set()
+
+    def without(found: re.Match[str]) -> str:
+        if found[1] in roots:
+            return found[0]
+        names = found[2][found[2].index("{") + 1:].rstrip("} \n").split(",") if "{" in found[2] else [found[2]]
+        kits.update(IDENT.findall(name.split(" as ")[0])[-1] for name in names if IDENT.search(name.split(" as ")[0]))
+        return " ".join(name.split(" as ")[1] for name in names if " as " in name)
+
+    return KIT_LABEL.sub(" ", USE.sub(without, text)), kits
+
+
+def words_of(name: str) -> set[str]:
+    """The words of an identifier."""
+    return {it.lower() for it in PART.findall(name)}
+
+
+def faults_of(path: Path, roots: set[str]) -> Iterator[str]:
+    """What is to be written otherwise in a file."""
+    crate = path.relative_to(CRATES).parts[0]
+    code, kits = code_of(path, roots)
+    for name in sorted(set(IDENT.findall(code)) - kits):
+        for gone, (write, stays) in WORDS.items():
+            if words_of(name) & set(gone.split()) and not any(fnmatchcase(crate, it) or fnmatchcase(name, it) for it in stays.split()):
+                yield f"{name}: {gone.split()[0]} is gone, write {write}"
+    for label in LABEL.findall(code) if path.suffix == ".rt" else []:
+        if label in LABELS:
+            yield f"{label}: a clause has this label, write {LABELS[label]}"
+
+
+def main() -> int:
+    sources = [it for kind in ("src", "specs", "proofs") for it in CRATES.glob(f"*/{kind}/**/*") if it.suffix in PLAIN]
+    roots = {it.name for it in CRATES.iterdir()} | {"crate", "self", "super"}
+    for source in sources:
+        if source.suffix == ".rt":
+            roots |= set(re.findall(r"\bmod (\w+)", source.read_text(encoding="utf-8")))
+    passed = failed = 0
+    for source in sorted(sources):
+        faults = list(faults_of(source, roots))
+        for fault in faults:
+            print(f"{source.relative_to(CRATES)}: {fault}")
+        failed += len(faults)
+        passed += not faults
+    print(f"{passed} passed, {failed} failed")
+    return 1 if failed else 0
+
+
+if __name__ == "__main__":
+    sys.exit(main())
