@@ -63,13 +63,13 @@ pub scope_fails : (r : Stop) (nested : Nested) (q e : ℕ) (bytes parts : List �
     → FailsAtItem r (within (codes "$scope") (nested holders.Document q end scope)) → FailsAtItem r (skip_code_scope nested q e bytes)
 scope_fails r nested q e bytes parts end rest scope one two h = rw (one, two) (fails_then r (within (codes "$scope") (nested holders.Document q end scope)) _ h)
 
-pub element_fails : (r : Stop) (nested : Nested) (place : Option ℕ) (e : ℕ) (bytes : List ℕ) (type : ElementType) (more name rest : List ℕ)
+pub element_fails : (r : Stop) (nested : Nested) (index : Option ℕ) (e : ℕ) (bytes : List ℕ) (type : ElementType) (more name rest : List ℕ)
     → 0 < length bytes → type_at (get_or bytes 0 0) ≡ Some type
     → drop 1 bytes ≡ more → skip_name NameUnended e more ≡ Ok (name, rest)
-    → FailsAtItem r (within (label place name) (skip_typed nested type (e - length bytes) e rest)) → FailsAtItem r (skip_element nested place e bytes)
+    → FailsAtItem r (within (label index name) (skip_typed nested type (e - length bytes) e rest)) → FailsAtItem r (skip_element nested index e bytes)
 unfolding skip_element
-element_fails r nested place e [] type more name rest lt one splits two fails = absurd (omega arith)
-element_fails r nested place e (first ∷ bytes) type more name rest lt one splits two fails =
+element_fails r nested index e [] type more name rest lt one splits two fails = absurd (omega arith)
+element_fails r nested index e (first ∷ bytes) type more name rest lt one splits two fails =
     let here : skip_name NameUnended e bytes ≡ Ok (name, rest) = ap (skip_name NameUnended e) splits ∙ two in
     rw (one, here) fails
 
@@ -80,37 +80,37 @@ same_others (Ok x) f g h = h x refl
 same_others (Err d) f g h = refl
 
 -- any number of turns from the count of the bytes on is as good
-enough : (depth_left : ℕ) (nested : Nested) (below : NestedTakes depth_left nested) (place : Option ℕ) (n m e : ℕ) (bytes : List ℕ) → IsBytes bytes → length bytes ≤ n
-    → length bytes ≤ m → skip_elements nested place n e bytes ≡ skip_elements nested place m e bytes
+enough : (depth_left : ℕ) (nested : Nested) (below : NestedTakes depth_left nested) (index : Option ℕ) (n m e : ℕ) (bytes : List ℕ) → IsBytes bytes → length bytes ≤ n
+    → length bytes ≤ m → skip_elements nested index n e bytes ≡ skip_elements nested index m e bytes
 unfolding skip_elements
-enough depth_left nested below place n m e [] fits p q = elements_nil nested place n e ∙ sym (elements_nil nested place m e)
-enough depth_left nested below place zero m e (b ∷ bytes) fits p q = absurd (omega arith)
-enough depth_left nested below place (suc n) zero e (b ∷ bytes) fits p q = absurd (omega arith)
-enough depth_left nested below place (suc n) (suc m) e (b ∷ bytes) fits p q =
-    same_others (skip_element nested place e (b ∷ bytes)) _ _ (λ x is.
-    let r = element_takes depth_left nested below place e (b ∷ bytes) x fits is in
+enough depth_left nested below index n m e [] fits p q = elements_nil nested index n e ∙ sym (elements_nil nested index m e)
+enough depth_left nested below index zero m e (b ∷ bytes) fits p q = absurd (omega arith)
+enough depth_left nested below index (suc n) zero e (b ∷ bytes) fits p q = absurd (omega arith)
+enough depth_left nested below index (suc n) (suc m) e (b ∷ bytes) fits p q =
+    same_others (skip_element nested index e (b ∷ bytes)) _ _ (λ x is.
+    let r = element_takes depth_left nested below index e (b ∷ bytes) x fits is in
     let less = element_shrinks depth_left (b ∷ bytes) x r in
-    enough depth_left nested below (option_map suc place) n m e x r.takes.rest_fits (omega (arith, less)) (omega (arith, less)))
+    enough depth_left nested below (option_map suc index) n m e x r.takes.rest_fits (omega (arith, less)) (omega (arith, less)))
 
 -- the first element, what it leaves, and the others
-pub goes_on : (place : Option ℕ) (depth_left e : ℕ) (bytes after : List ℕ) → IsBytes bytes → skip_element (skip_nested depth_left) place e bytes ≡ Ok after → (length after < length bytes) × IsBytes after
-    × (skip_elements (skip_nested depth_left) place (length bytes) e bytes ≡ skip_elements (skip_nested depth_left) (option_map suc place) (length after) e after)
+pub goes_on : (index : Option ℕ) (depth_left e : ℕ) (bytes after : List ℕ) → IsBytes bytes → skip_element (skip_nested depth_left) index e bytes ≡ Ok after → (length after < length bytes) × IsBytes after
+    × (skip_elements (skip_nested depth_left) index (length bytes) e bytes ≡ skip_elements (skip_nested depth_left) (option_map suc index) (length after) e after)
 unfolding skip_element skip_elements
-goes_on place depth_left e [] after fits is = absurd cc
-goes_on place depth_left e (b ∷ bytes) after fits is =
-    let r = element_takes depth_left (skip_nested depth_left) (nested_takes depth_left) place e (b ∷ bytes) after fits is in
+goes_on index depth_left e [] after fits is = absurd cc
+goes_on index depth_left e (b ∷ bytes) after fits is =
+    let r = element_takes depth_left (skip_nested depth_left) (nested_takes depth_left) index e (b ∷ bytes) after fits is in
     let less = element_shrinks depth_left (b ∷ bytes) after r in
-    let k = enough depth_left (skip_nested depth_left) (nested_takes depth_left) (option_map suc place) (length bytes) (length after) e after r.takes.rest_fits (omega (arith, less)) (omega arith) in
+    let k = enough depth_left (skip_nested depth_left) (nested_takes depth_left) (option_map suc index) (length bytes) (length after) e after r.takes.rest_fits (omega (arith, less)) (omega arith) in
     (less, r.takes.rest_fits, rw (is, k) refl)
 
-pub no_first : (r : Stop) (place : Option ℕ) (depth_left e : ℕ) (bytes : List ℕ) → 0 < length bytes
-    → FailsAtItem r (skip_element (skip_nested depth_left) place e bytes) → FailsAtItem r (skip_elements (skip_nested depth_left) place (length bytes) e bytes)
+pub no_first : (r : Stop) (index : Option ℕ) (depth_left e : ℕ) (bytes : List ℕ) → 0 < length bytes
+    → FailsAtItem r (skip_element (skip_nested depth_left) index e bytes) → FailsAtItem r (skip_elements (skip_nested depth_left) index (length bytes) e bytes)
 unfolding skip_elements
-no_first r place depth_left e [] lt h = absurd (omega arith)
-no_first r place depth_left e (b ∷ bytes) lt h = fails_then r (skip_element (skip_nested depth_left) place e (b ∷ bytes)) _ h
+no_first r index depth_left e [] lt h = absurd (omega arith)
+no_first r index depth_left e (b ∷ bytes) lt h = fails_then r (skip_element (skip_nested depth_left) index e (b ∷ bytes)) _ h
 
 -- a place in an array stays below the count of the bytes
-pub counted_on : (place : Option ℕ) (more less all : ℕ) → IfSome place (λ i. i + more ≤ all) → less < more → IfSome (option_map suc place) (λ i. i + less ≤ all)
+pub counted_on : (index : Option ℕ) (more less all : ℕ) → IfSome index (λ i. i + more ≤ all) → less < more → IfSome (option_map suc index) (λ i. i + less ≤ all)
 counted_on None more less all h lt = tt
 counted_on (Some i) more less all h lt = omega arith
 
@@ -136,8 +136,8 @@ named bytes k is zero_here =
 pub element_gives : (bytes named value : List ℕ) (kind : Kind) (r : Option (Bor (List ℕ))) → 0 < length bytes → drop 1 bytes ≡ named → type_at (get_or bytes 0 0) ≡ Some (Kept kind)
     → (k : ℕ) × (position is_zero named ≡ Some k) × (is_utf8 (take k named) ≡ true) × (k < length named) × (value ≡ drop (k + 1) named)
     → IfSome r (λ x. (nested : Nested) (q e : ℕ) → skip_value nested kind q e value ≡ Ok x.now)
-    → IfSome r (λ x. (nested : Nested) (place : Option ℕ) (e : ℕ) → skip_element nested place e bytes ≡ Ok x.now)
+    → IfSome r (λ x. (nested : Nested) (index : Option ℕ) (e : ℕ) → skip_element nested index e bytes ≡ Ok x.now)
 unfolding skip_element skip_name
 element_gives bytes named value kind None lt splits type name above = tt
 element_gives [] named value kind (Some x) lt splits type name above = absurd (omega arith)
-element_gives (b ∷ bytes) named value kind (Some x) lt splits type name above = λ nested place e. rw (splits, type, name.1, name.2, ← name.4, above nested (e - suc (length named)) e) refl
+element_gives (b ∷ bytes) named value kind (Some x) lt splits type name above = λ nested index e. rw (splits, type, name.1, name.2, ← name.4, above nested (e - suc (length named)) e) refl

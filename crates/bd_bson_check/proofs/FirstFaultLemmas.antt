@@ -19,7 +19,7 @@ use Rattle.bd_bson_check.specs.FirstFault.{skip_code_scope, skip_nested, skip_do
 use Rattle.bd_bson_check.specs.{Fault.Fault, declared.fault.FaultKind.FaultKind}
 use Rattle.bd_bson_view.proofs.ValueAtLemmas.{framed_length, scoped_length}
 use Rattle.bd_bson_view.specs.declared.raw_parts.ElementType.{ElementType}
-use Rattle.bd_bson_view.specs.Unique.{number_length, number_value, number_prefix, zero_place, string_after, string_length, binary_whole, binary_count}
+use Rattle.bd_bson_view.specs.Unique.{number_length, number_value, number_prefix, zero_offset, string_after, string_length, binary_whole, binary_count}
 use Rattle.bd_bson_view.specs.Unique.{binary_subtype, after_five, regex_whole, scalar_size}
 use Rattle.bd_bson_view.specs.Spelling.{number, long, string, data_of, scoped, IsName, IsText, IsScalar, framed, element, IsValue, AreItems, AreFields, depth, items_depth}
 use Rattle.bd_bson_view.specs.Spelling.{fields_depth, IsDocument}
@@ -133,10 +133,10 @@ unfolding skip_name
 name_takes kind e bytes x fits is = up_to (position (λ b. b == 0) bytes) refl is
   where
     up_to : (o : Option ℕ) → position (λ b. b == 0) bytes ≡ o → skip_name kind e bytes ≡ Ok x → Takes bytes (x.0 ++ 0 ∷ []) x.1 × IsName x.0
-    up_to None place is = absurd (let e = rw place at is in cc)
-    up_to (Some k) place is =
-        let p = position-Some (λ b. b == 0) bytes k 0 place in
-        let a = bind_ok (text_at (e - length bytes) (take k bytes)) _ x (rw place at is) in
+    up_to None index is = absurd (let e = rw index at is in cc)
+    up_to (Some k) index is =
+        let p = position-Some (λ b. b == 0) bytes k 0 index in
+        let a = bind_ok (text_at (e - length bytes) (take k bytes)) _ x (rw index at is) in
         let t = text_takes (e - length bytes) (take k bytes) a.0 a.1 in
         let z : get_or bytes k 0 ≡ 0 = eqb-true _ _ p.1 in
         let c = skip_zero_splits bytes k (drop (k + 1) bytes) fits (omega (arith, p.0)) (rw (add-one, drop-cons bytes k 0 p.0, z) refl) in
@@ -460,33 +460,33 @@ module _ (depth_left : ℕ) (nested : Nested) (below : NestedTakes depth_left ne
   typed_takes types.Decimal128 q e bytes rest fits is = absurd cc
   typed_takes (types.Kept kind) q e bytes rest fits is = (kind, refl, value_takes kind q e bytes rest fits is)
 
-  pub element_takes : (place : Option ℕ) (e : ℕ) (bytes rest : List ℕ) → IsBytes bytes → skip_element nested place e bytes ≡ Ok rest → TakesElement depth_left bytes rest
+  pub element_takes : (index : Option ℕ) (e : ℕ) (bytes rest : List ℕ) → IsBytes bytes → skip_element nested index e bytes ≡ Ok rest → TakesElement depth_left bytes rest
   unfolding skip_element
-  element_takes place e [] rest fits is = absurd cc
-  element_takes place e (b ∷ bytes) rest fits is =
+  element_takes index e [] rest fits is = absurd cc
+  element_takes index e (b ∷ bytes) rest fits is =
       let q = e - suc (length bytes) in
       let unknown : Fault = record { kind = UnknownType; offset = q; path = [] } in
       let f = bind_ok (ok_or (type_at b) unknown) _ rest is in
       let x = bind_ok (skip_name NameUnended e bytes) _ rest f.2 in
       let name = x.0.0 in
       let n = name_takes NameUnended e bytes x.0 (IsBytes-drop 1 (b ∷ bytes) fits) x.1 in
-      let typed = typed_takes f.0 q e x.0.1 rest n.0.rest_fits (within_ok (label place name) (skip_typed nested f.0 q e x.0.1) rest x.2) in
+      let typed = typed_takes f.0 q e x.0.1 rest n.0.rest_fits (within_ok (label index name) (skip_typed nested f.0 q e x.0.1) rest x.2) in
       let v = typed.2 in
       let same : type_byte (kind_of v.tree) ≡ b = ap type_byte v.kinded ∙ ap byte_stated (sym typed.1) ∙ sym (type_takes unknown b f.0 f.1) in
       let joined = Takes-then n.0 v.takes in
       let parts : b ∷ bytes ≡ element v.tree name v.value ++ rest = rw same (ap (λ (x : List ℕ). b ∷ x) (joined.parts ∙ ap (λ (x : List ℕ). x ++ rest) (append_assoc name (0 ∷ []) v.value))) in
       record { name = name; tree = v.tree; value = v.value; named = n.1; spells = v.spells; takes = record { parts = parts; rest_fits = v.takes.rest_fits }; shallow = v.shallow }
 
-  elements_take : (place : Option ℕ) (n e : ℕ) (bytes : List ℕ) → IsBytes bytes → length bytes ≤ n → skip_elements nested place n e bytes ≡ Ok tt
+  elements_take : (index : Option ℕ) (n e : ℕ) (bytes : List ℕ) → IsBytes bytes → length bytes ≤ n → skip_elements nested index n e bytes ≡ Ok tt
       → (fields : Fields) × AreFields fields bytes × (fields_depth fields ≤ depth_left)
   unfolding skip_elements
-  elements_take place n e [] fits le is = (no_fields, refl, omega arith)
-  elements_take place zero e (b ∷ bytes) fits le is = absurd (omega arith)
-  elements_take place (suc n) e (b ∷ bytes) fits le is =
-      let a = bind_ok (skip_element nested place e (b ∷ bytes)) _ tt is in
-      let r = element_takes place e (b ∷ bytes) a.0 fits a.1 in
+  elements_take index n e [] fits le is = (no_fields, refl, omega arith)
+  elements_take index zero e (b ∷ bytes) fits le is = absurd (omega arith)
+  elements_take index (suc n) e (b ∷ bytes) fits le is =
+      let a = bind_ok (skip_element nested index e (b ∷ bytes)) _ tt is in
+      let r = element_takes index e (b ∷ bytes) a.0 fits a.1 in
       let less = element_shrinks depth_left (b ∷ bytes) a.0 r in
-      let rec = elements_take (option_map suc place) n e a.0 r.takes.rest_fits (omega (arith, less)) a.2 in
+      let rec = elements_take (option_map suc index) n e a.0 r.takes.rest_fits (omega (arith, less)) a.2 in
       (field r.name r.tree rec.0, (r.value, a.0, r.named, r.spells, rec.1, r.takes.parts), omega (arith, r.shallow, rec.2))
 
   body_takes : (in_array : Bool) (e : ℕ) (bytes rest : List ℕ) → IsBytes bytes → skip_body nested in_array e bytes ≡ Ok rest → TakesBody (suc depth_left) bytes rest
@@ -547,16 +547,16 @@ number_again short e n rest lt =
     let long : ltb (length (number n ++ rest)) 4 ≡ false = le-ltb _ _ (omega (arith, length-append (number n) rest)) in
     rw (long, take_at (number n) rest 4 len, drop_at (number n) rest 4 len, number_value n lt) refl
 
-name_place : (name rest : List ℕ) → AllByRecursion (λ b. b ≢ 0) name → position (λ b. b == 0) (name ++ 0 ∷ rest) ≡ Some (length name)
-name_place name rest h =
+name_offset : (name rest : List ℕ) → AllByRecursion (λ b. b ≢ 0) name → position (λ b. b == 0) (name ++ 0 ∷ rest) ≡ Some (length name)
+name_offset name rest h =
     let long : ltb (length name) (length (name ++ 0 ∷ rest)) ≡ true = grind (arith, nat_tests, length-append name (0 ∷ rest)) in
-    rw (zero_place name rest h, long) refl
+    rw (zero_offset name rest h, long) refl
 
 name_again : (kind : FaultKind) (e : ℕ) (name rest : List ℕ) → IsName name → skip_name kind e (name ++ 0 ∷ rest) ≡ Ok (name, rest)
 unfolding skip_name
 name_again kind e name rest h =
     let after : drop (length name + 1) (name ++ 0 ∷ rest) ≡ rest = sym (drop-drop 1 (length name) (name ++ 0 ∷ rest)) ∙ ap (drop 1) (drop_at name (0 ∷ rest) (length name) refl) in
-    rw (name_place name rest h.1, take_at name (0 ∷ rest) (length name) refl, after, is_utf8-from_IsUtf8 name h.0) refl
+    rw (name_offset name rest h.1, take_at name (0 ∷ rest) (length name) refl, after, is_utf8-from_IsUtf8 name h.0) refl
 
 string_again : (e : ℕ) (s rest : List ℕ) → IsText s → skip_string e (string s ++ rest) ≡ Ok rest
 unfolding skip_string
@@ -584,28 +584,28 @@ frame_again top e body rest short all =
     ap (skip_frame top e) (framed_after body rest)
     ∙ rw (number_again (cond top ShortLength ValueShort) e n more (omega (arith, total, short)), tests, k, drop_at body (0 ∷ rest) (length body) refl, take_at body (0 ∷ rest) (length body) refl) refl
 
-element_again : (nested : Nested) (place : Option ℕ) (e : ℕ) (t : Tree) (name value rest : List ℕ) → IsName name → ((q : ℕ) → skip_value nested (kind_of t) q e (value ++ rest) ≡ Ok rest)
-    → skip_element nested place e (element t name value ++ rest) ≡ Ok rest
+element_again : (nested : Nested) (index : Option ℕ) (e : ℕ) (t : Tree) (name value rest : List ℕ) → IsName name → ((q : ℕ) → skip_value nested (kind_of t) q e (value ++ rest) ≡ Ok rest)
+    → skip_element nested index e (element t name value ++ rest) ≡ Ok rest
 unfolding skip_element
-element_again nested place e t name value rest named h =
+element_again nested index e t name value rest named h =
     let whole : (name ++ 0 ∷ value) ++ rest ≡ name ++ 0 ∷ (value ++ rest) = append_assoc name (0 ∷ value) rest in
     let q = e - suc (length (name ++ 0 ∷ (value ++ rest))) in
-    ap (λ (x : List ℕ). skip_element nested place e (type_byte (kind_of t) ∷ x)) whole ∙ rw (type_is (kind_of t), name_again NameUnended e name (value ++ rest) named, h q) refl
+    ap (λ (x : List ℕ). skip_element nested index e (type_byte (kind_of t) ∷ x)) whole ∙ rw (type_is (kind_of t), name_again NameUnended e name (value ++ rest) named, h q) refl
 
 -- one element more
-next_again : (nested : Nested) (place : Option ℕ) (n e : ℕ) (t : Tree) (name value rest bytes : List ℕ) → IsName name → bytes ≡ element t name value ++ rest → length bytes ≤ n
-    → ((q : ℕ) → skip_value nested (kind_of t) q e (value ++ rest) ≡ Ok rest) → ((m : ℕ) → length rest ≤ m → skip_elements nested (option_map suc place) m e rest ≡ Ok tt)
-    → skip_elements nested place n e bytes ≡ Ok tt
+next_again : (nested : Nested) (index : Option ℕ) (n e : ℕ) (t : Tree) (name value rest bytes : List ℕ) → IsName name → bytes ≡ element t name value ++ rest → length bytes ≤ n
+    → ((q : ℕ) → skip_value nested (kind_of t) q e (value ++ rest) ≡ Ok rest) → ((m : ℕ) → length rest ≤ m → skip_elements nested (option_map suc index) m e rest ≡ Ok tt)
+    → skip_elements nested index n e bytes ≡ Ok tt
 unfolding skip_elements
-next_again nested place zero e t name value rest bytes named is turns first others = absurd (omega (arith, ap length is))
-next_again nested place (suc n) e t name value rest bytes named is turns first others =
-    rw (is, element_again nested place e t name value rest named first) (others n (omega (arith, ap length is, length-append (element t name value) rest)))
+next_again nested index zero e t name value rest bytes named is turns first others = absurd (omega (arith, ap length is))
+next_again nested index (suc n) e t name value rest bytes named is turns first others =
+    rw (is, element_again nested index e t name value rest named first) (others n (omega (arith, ap length is, length-append (element t name value) rest)))
 
 -- no elements have no fault
-pub elements_nil : (nested : Nested) (place : Option ℕ) (n e : ℕ) → skip_elements nested place n e [] ≡ Ok tt
+pub elements_nil : (nested : Nested) (index : Option ℕ) (n e : ℕ) → skip_elements nested index n e [] ≡ Ok tt
 unfolding skip_elements
-elements_nil nested place zero e = refl
-elements_nil nested place (suc n) e = refl
+elements_nil nested index zero e = refl
+elements_nil nested index (suc n) e = refl
 
 body_again : (nested : Nested) (in_array : Bool) (e : ℕ) (body rest : List ℕ) → length (framed body) ≤ longest_document
     → ((e : ℕ) → skip_elements nested (cond in_array (Some 0) None) (length body) e body ≡ Ok tt)
@@ -719,21 +719,21 @@ mutual
       let less : length h.0 ≤ longest_document = omega (arith, parts, framed_length h.0, length-append (string s) (framed h.0)) in
       rw h.2 (code_nested r q e s h.0 rest h.3 parts (λ end. fields_again fs None r (length h.0) end h.0 h.1 (omega arith) less (omega arith)))
 
-  fields_again : (fs : Fields) (place : Option ℕ) (depth_left n e : ℕ) (bytes : List ℕ) → AreFields fs bytes → fields_depth fs ≤ depth_left
-      → length bytes ≤ longest_document → length bytes ≤ n → skip_elements (skip_nested depth_left) place n e bytes ≡ Ok tt
-  fields_again no_fields place depth_left n e bytes h deep short turns = rw h (elements_nil (skip_nested depth_left) place n e)
-  fields_again (field name t fs) place depth_left n e bytes h deep short turns =
+  fields_again : (fs : Fields) (index : Option ℕ) (depth_left n e : ℕ) (bytes : List ℕ) → AreFields fs bytes → fields_depth fs ≤ depth_left
+      → length bytes ≤ longest_document → length bytes ≤ n → skip_elements (skip_nested depth_left) index n e bytes ≡ Ok tt
+  fields_again no_fields index depth_left n e bytes h deep short turns = rw h (elements_nil (skip_nested depth_left) index n e)
+  fields_again (field name t fs) index depth_left n e bytes h deep short turns =
       let size = parts_length t name h.0 h.1 bytes h.5 in
-      next_again (skip_nested depth_left) place n e t name h.0 h.1 bytes h.2 h.5 turns (λ q. value_again t depth_left q e h.0 h.1 h.3 (omega arith) (omega (arith, size)))
-      (λ m le. fields_again fs (option_map suc place) depth_left m e h.1 h.4 (omega arith) (omega (arith, size)) le)
+      next_again (skip_nested depth_left) index n e t name h.0 h.1 bytes h.2 h.5 turns (λ q. value_again t depth_left q e h.0 h.1 h.3 (omega arith) (omega (arith, size)))
+      (λ m le. fields_again fs (option_map suc index) depth_left m e h.1 h.4 (omega arith) (omega (arith, size)) le)
 
-  items_again : (ts : Items) (place : Option ℕ) (depth_left n e : ℕ) (bytes : List ℕ) → AreItems ts bytes → items_depth ts ≤ depth_left
-      → length bytes ≤ longest_document → length bytes ≤ n → skip_elements (skip_nested depth_left) place n e bytes ≡ Ok tt
-  items_again no_items place depth_left n e bytes h deep short turns = rw h (elements_nil (skip_nested depth_left) place n e)
-  items_again (item t ts) place depth_left n e bytes h deep short turns =
+  items_again : (ts : Items) (index : Option ℕ) (depth_left n e : ℕ) (bytes : List ℕ) → AreItems ts bytes → items_depth ts ≤ depth_left
+      → length bytes ≤ longest_document → length bytes ≤ n → skip_elements (skip_nested depth_left) index n e bytes ≡ Ok tt
+  items_again no_items index depth_left n e bytes h deep short turns = rw h (elements_nil (skip_nested depth_left) index n e)
+  items_again (item t ts) index depth_left n e bytes h deep short turns =
       let size = parts_length t h.0 h.1 h.2 bytes h.6 in
-      next_again (skip_nested depth_left) place n e t h.0 h.1 h.2 bytes h.3 h.6 turns (λ q. value_again t depth_left q e h.1 h.2 h.4 (omega arith) (omega (arith, size)))
-      (λ m le. items_again ts (option_map suc place) depth_left m e h.2 h.5 (omega arith) (omega (arith, size)) le)
+      next_again (skip_nested depth_left) index n e t h.0 h.1 h.2 bytes h.3 h.6 turns (λ q. value_again t depth_left q e h.1 h.2 h.4 (omega arith) (omega (arith, size)))
+      (λ m le. items_again ts (option_map suc index) depth_left m e h.2 h.5 (omega arith) (omega (arith, size)) le)
 
 -- a document's bytes have no fault
 pub document_again : (e : ℕ) (bytes : List ℕ) (d : Doc) → IsDocument d bytes → skip_document e bytes ≡ Ok tt

@@ -43,7 +43,7 @@ pub record IsFault (number : ℕ) (f : Fault) (e : FaultInMemory) : Type 0 where
   pub document : e.document ≡ number
 
 -- The fault in memory has this kind, and document 0, offset 0 and the empty path.
-pub record HasNoPlace (fault : FaultKind) (e : FaultInMemory) : Type 0 where
+pub record HasNoOffset (fault : FaultKind) (e : FaultInMemory) : Type 0 where
   pub kind : e.kind ≡ fault
   pub document : e.document ≡ 0
   pub offset : e.offset ≡ 0
@@ -51,7 +51,7 @@ pub record HasNoPlace (fault : FaultKind) (e : FaultInMemory) : Type 0 where
 
 -- The fault in memory says that memory ran out.
 abbrev pub IsWantOfMemory : FaultInMemory → Type 0
-IsWantOfMemory e = HasNoPlace FaultKind.NoMemory e
+IsWantOfMemory e = HasNoOffset FaultKind.NoMemory e
 
 -- The fault in memory is the one at which a reader stopped, of the document with that number;
 -- or it says that memory ran out.

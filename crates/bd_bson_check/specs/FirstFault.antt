@@ -141,7 +141,7 @@ skip_typed nested (ElementType.Kept kind) q e bytes = skip_value nested kind q e
 
 -- how the path of a fault names an element: in an array by its index, in a document by its name
 abbrev pub label : Option ℕ → List ℕ → List ℕ
-label place name = option_map_or decimal place name
+label index name = option_map_or decimal index name
 
 -- the same result, with the name put before the path of a fault in it
 abbrev pub within : {A : Type 0} → List ℕ → Result A Fault → Result A Fault
@@ -150,20 +150,20 @@ within name (Err f) = Err (longer name f)
 
 -- the bytes after an element: its type byte, its name, its value
 unfoldable pub skip_element : Nested → Option ℕ → ℕ → List ℕ → Result (List ℕ) Fault
-skip_element nested place e [] = fault UnknownType e
-skip_element nested place e (b ∷ bytes) = do
+skip_element nested index e [] = fault UnknownType e
+skip_element nested index e (b ∷ bytes) = do
   type ← ok_or (type_at b) (record { kind = UnknownType; offset = e - suc (length bytes); path = [] })
   name ← skip_name NameUnended e bytes
-  within (label place name.0) (skip_typed nested type (e - suc (length bytes)) e name.1)
+  within (label index name.0) (skip_typed nested type (e - suc (length bytes)) e name.1)
 
 -- All elements of a document or an array. The first number bounds the turns:
 -- the count of the bytes is always enough.
 unfoldable pub skip_elements : Nested → Option ℕ → ℕ → ℕ → List ℕ → Result (Unit {0}) Fault
-skip_elements nested place zero e bytes = Ok tt
-skip_elements nested place (suc n) e [] = Ok tt
-skip_elements nested place (suc n) e (b ∷ bytes) = do
-  rest ← skip_element nested place e (b ∷ bytes)
-  skip_elements nested (option_map suc place) n e rest
+skip_elements nested index zero e bytes = Ok tt
+skip_elements nested index (suc n) e [] = Ok tt
+skip_elements nested index (suc n) e (b ∷ bytes) = do
+  rest ← skip_element nested index e (b ∷ bytes)
+  skip_elements nested (option_map suc index) n e rest
 
 -- the bytes after a document, or after an array, whose elements are counted from 0
 abbrev pub skip_body : Nested → Bool → ℕ → List ℕ → Result (List ℕ) Fault

@@ -87,7 +87,7 @@ pub fn next_frame(
     ensures meaning { IfOk result (λ f.
         IfSome f (λ x. (x.start ≡ at) × (at + x.length ≤ length bytes.now))) }
     ensures fault { IfErr result (λ e. frame_length (drop at bytes.now) ≡ Err e.kind) }
-    ensures place { IfErr result (λ e. (e.document ≡ number)
+    ensures location { IfErr result (λ e. (e.document ≡ number)
         × (e.offset ≡ at) × (e.path.items ≡ [])) }
 {
     let rest = &bytes[at..];
@@ -152,24 +152,24 @@ fn elements(
     ensures { GivesItem (λ x. tt) result (skip_elements (skip_nested depth_left)
         (if in_array then Some 0 else None) (length bytes.now) e bytes.now) }
 {
-    let mut place = if in_array { Some(0) } else { None };
+    let mut index = if in_array { Some(0) } else { None };
     let mut rest = bytes;
     while !rest.is_empty() {
         rest = match skip_scalar(rest) {
             Some(after) => after,
-            None => element(alloc, depth_left, place, e, rest)?,
+            None => element(alloc, depth_left, index, e, rest)?,
         };
-        place = next(place);
+        index = next(index);
     }
     Ok(())
 }
 
 /// The place of the next element: an element of a document has none.
-fn next(place: Option<usize>) -> Option<usize>
-    requires { IfSome place (λ i. i < usize.MAX) }
-    ensures { result ≡ option_map suc place }
+fn next(index: Option<usize>) -> Option<usize>
+    requires { IfSome index (λ i. i < usize.MAX) }
+    ensures { result ≡ option_map suc index }
 {
-    match place {
+    match index {
         None => None,
         Some(i) => Some(i + 1),
     }
@@ -181,14 +181,14 @@ fn next(place: Option<usize>) -> Option<usize>
 fn element(
     alloc: Global,
     depth_left: u32,
-    place: Option<usize>,
+    index: Option<usize>,
     e: u64,
     bytes: &[u8],
 ) -> Skipped<'_>
     requires some { 0 < length bytes.now }
     requires inside { length bytes.now ≤ e }
     ensures gives { GivesItem (λ x.
-        x.now) result (skip_element (skip_nested depth_left) place e bytes.now) }
+        x.now) result (skip_element (skip_nested depth_left) index e bytes.now) }
     ensures after { IfOk result (λ x. length x.now < length bytes.now) }
 {
     let q = e - bytes.len() as u64;
@@ -199,7 +199,7 @@ fn element(
     let (name, rest) = name(alloc, FaultKind::NameUnended, e, rest)?;
     match value(alloc, depth_left, element_type, q, e, rest) {
         Ok(rest) => Ok(rest),
-        Err(stop) => Err(within(alloc, place, name, stop)),
+        Err(stop) => Err(within(alloc, index, name, stop)),
     }
 }
 

@@ -122,24 +122,24 @@ pub fn fault_at(alloc: Global, kind: FaultKind, offset: u64) -> Stop
 }
 
 /// An element on a path: in an array its index, in a document its name.
-fn label_of(alloc: Global, place: Option<usize>, name: &str) -> Result<String, AllocError>
-    ensures { IfOk result (λ s. string_bytes s ≡ label place name.now) }
+fn label_of(alloc: Global, index: Option<usize>, name: &str) -> Result<String, AllocError>
+    ensures { IfOk result (λ s. string_bytes s ≡ label index name.now) }
 {
-    match place {
+    match index {
         None => String::from_str(alloc, name),
         Some(i) => i.to_string(alloc),
     }
 }
 
 /// The stop as it is seen from one level up.
-pub fn within(alloc: Global, place: Option<usize>, name: &str, stop: Stop) -> Stop
+pub fn within(alloc: Global, index: Option<usize>, name: &str, stop: Stop) -> Stop
     ensures { (f : Where) →
-        ReportsStop stop f → ReportsStop result (longer (label place name.now) f) }
+        ReportsStop stop f → ReportsStop result (longer (label index name.now) f) }
 {
     let Stop::Found(mut found) = stop else {
         return Stop::NoMemory;
     };
-    let Ok(label) = label_of(alloc, place, name) else {
+    let Ok(label) = label_of(alloc, index, name) else {
         return Stop::NoMemory;
     };
     match found.path.push(label) {

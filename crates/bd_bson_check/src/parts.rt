@@ -201,8 +201,8 @@ fn text(alloc: Global, at: u64, bytes: &[u8]) -> Result<&str, Stop>
 #[inline(always)]
 pub fn skip_scalar(bytes: &[u8]) -> Option<&[u8]>
     requires { 0 < length bytes.now }
-    ensures gives { IfSome result (λ x. (nested : Nested) (place : Option ℕ) (e : ℕ) →
-        skip_element nested place e bytes.now ≡ Ok x.now) }
+    ensures gives { IfSome result (λ x. (nested : Nested) (index : Option ℕ) (e : ℕ) →
+        skip_element nested index e bytes.now ≡ Ok x.now) }
     ensures after { IfSome result (λ x. length x.now < length bytes.now) }
 {
     let (_, named) = bytes.split_at(1);

@@ -2,7 +2,7 @@
 use Rattle.std.specs.Prelude.{◌≡◌, ◌<◌, ◌≤◌, ◌⊎◌, ℕ, List, [], length, slice_get, slice_index_or}
 use Rattle.std.specs.List.{filter_map}
 use Rattle.bd_value.specs.{Limits.longest_input, Tree.Doc, Tree.Tree, Tree.doc, Tree.fields_of}
-use Rattle.bd_bson_check.specs.{Dump.FailsAfter, Fault.fault_view, Fault.HasNoPlace, Fault.IsWantOfMemory}
+use Rattle.bd_bson_check.specs.{Dump.FailsAfter, Fault.fault_view, Fault.HasNoOffset, Fault.IsWantOfMemory}
 use Rattle.bd_bson_check.specs.declared.fault.{Fault.Fault, FaultKind.FaultKind}
 use Rattle.bd_bson_dump.specs.{Starts.documents_starting_at, declared.collection.Dump.Dump}
 
@@ -24,7 +24,7 @@ pub record IsFirstFault (bytes : List ℕ) (e : Fault) : Type 0 where
 -- Why bytes were not read as a dump: there are too many, which is tried first, or memory ran out,
 -- or a document has a fault, of which the first is reported.
 abbrev pub IsUnread : List ℕ → Fault → Type 0
-IsUnread bytes e = ((longest_input < length bytes) × HasNoPlace FaultKind.DumpTooLong e)
+IsUnread bytes e = ((longest_input < length bytes) × HasNoOffset FaultKind.DumpTooLong e)
     ⊎ ((length bytes ≤ longest_input) × (IsWantOfMemory e ⊎ IsFirstFault bytes e))
 
 -- the document with that number; the empty document if there is none

@@ -45,8 +45,8 @@ abbrev pub limits_remaining : DocBuffer → Limits
 limits_remaining documents = documents.remaining
 
 -- the offset of the next document's first byte
-abbrev pub next_place : DocBuffer → ℕ
-next_place documents = documents.place
+abbrev pub next_offset : DocBuffer → ℕ
+next_offset documents = documents.offset
 
 -- the number of the next document
 abbrev pub next_number : DocBuffer → ℕ
@@ -96,7 +96,7 @@ CountsReads before after file = (after.remaining.turns ≤ before.remaining.turn
 
 -- No document is buffered, and the next one is still the same.
 pub record BuffersNone (before after : DocBuffer) : Type 0 where
-  pub offset : after.place ≡ before.place
+  pub offset : after.offset ≡ before.offset
   pub number : after.number ≡ before.number
   pub capacity : after.remaining.bytes ≡ before.remaining.bytes
   pub empty : after.size ≡ 0
@@ -126,7 +126,7 @@ module _ {R : Type 0} (state : R → Reader) where
       pub frame : IsFrame (buffered_bytes after)
       pub gave : Consumes (state old).remaining (state new).remaining (buffered_bytes after)
       pub reads : AreReads gives (before.remaining.turns - after.remaining.turns) old (buffered_bytes after) new
-      pub offset : after.place ≡ before.place + after.size
+      pub offset : after.offset ≡ before.offset + after.size
       pub number : after.number ≡ before.number + 1
       pub capacity : after.remaining.bytes + after.size ≡ before.remaining.bytes
       pub counted : CountsReads before after (over state old new)
@@ -138,7 +138,7 @@ module _ {R : Type 0} (state : R → Reader) where
     -- of a bad length no byte is read past what it counts
     abbrev pub IsReason : DocBuffer → R → R → List ℕ → List ℕ → DocFault → Type 0
     IsReason before old new head given (DocFault.Frame f) =
-        (f.offset ≡ before.place) × (f.document ≡ before.number) × HasNoFrame head (state old).remaining f.kind
+        (f.offset ≡ before.offset) × (f.document ≡ before.number) × HasNoFrame head (state old).remaining f.kind
         × (frame_length (head ++ given) ≡ Err f.kind) × (length (head ++ given) ≤ before.remaining.bytes)
         × ((state new).failures ≡ (state old).failures) × IsWithinOne (head ++ given)
         × ReadsToFault gives head old given new

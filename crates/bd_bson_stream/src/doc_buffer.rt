@@ -68,33 +68,33 @@ pub struct DocBuffer {
     /// The length of the document that is held.
     size: usize,
     /// The offset of the next document among all bytes that the device gave.
-    place: u64,
+    offset: u64,
     /// The number of the next document.
     number: u32,
     failed: bool,
     ghost within_limit: { length buffer.items ≤ longest_document },
     ghost inside: { size ≤ length buffer.items },
-    ghost short: { place + remaining.bytes ≤ longest_input },
-    ghost counted: { number * 5 ≤ place },
+    ghost short: { offset + remaining.bytes ≤ longest_input },
+    ghost counted: { number * 5 ≤ offset },
     ghost emptied: { failed ≡ true → size ≡ 0 },
 }
 
 impl DocBuffer {
     ghost use Rattle.bd_bson_stream.specs.Stream.{CountsReads, FailsToRead, FindsEnd, BuffersAsMuch, BuffersNone, IsFrame, KeepsBuffer, ReadsDocument};
-    ghost use Rattle.bd_bson_stream.specs.Stream.{buffer_bytes, has_failed, buffered_bytes, held_size, limits_remaining, next_number, next_place};
+    ghost use Rattle.bd_bson_stream.specs.Stream.{buffer_bytes, has_failed, buffered_bytes, held_size, limits_remaining, next_number, next_offset};
 
     /// No document yet. No memory is taken. `limits.bytes` is at most 4,294,967,295.
     pub fn new(alloc: Global, limits: Limits) -> DocBuffer
         requires { limits.bytes ≤ longest_input }
         ensures starts { (limits_remaining result ≡ limits)
-            × (next_place result ≡ 0) × (next_number result ≡ 0) × (has_failed result ≡ false) }
+            × (next_offset result ≡ 0) × (next_number result ≡ 0) × (has_failed result ≡ false) }
         ensures empty { (held_size result ≡ 0) × (buffer_bytes result ≡ []) }
     {
         DocBuffer {
             remaining: limits,
             buffer: Vec::new(alloc),
             size: 0,
-            place: 0,
+            offset: 0,
             number: 0,
             failed: false,
         }
@@ -141,10 +141,10 @@ impl DocBuffer {
     }
 
     /// The offset of the next document's first byte, counted from the first byte that the device gave.
-    pub fn place(&self) -> u64
-        ensures { result ≡ next_place self.now }
+    pub fn offset(&self) -> u64
+        ensures { result ≡ next_offset self.now }
     {
-        self.place
+        self.offset
     }
 
     /// The number of the next document, counted from 0.
@@ -227,7 +227,7 @@ impl DocBuffer {
         ensures reads { OnOk result ((given : List ℕ) × (buffered_bytes self.new ≡ head ++ given)
             × AreReads R.read_gives (self.old.remaining.turns
             - self.new.remaining.turns) reader.old given reader.new) }
-        ensures place { OnOk result ((self.new.place ≡ self.old.place + self.new.size)
+        ensures offset { OnOk result ((self.new.offset ≡ self.old.offset + self.new.size)
             × (self.new.number ≡ self.old.number + 1)
             × (self.new.remaining.bytes + self.new.size ≡ self.old.remaining.bytes)) }
         ensures state { self.new.failed ≡ self.old.failed }
@@ -258,12 +258,12 @@ impl DocBuffer {
     /// A fault of the next document as a whole.
     fn fault(&self, kind: FaultKind) -> DocFault
         ensures { (f : FrameFault) × (result ≡ framed f)
-            × (f.kind ≡ kind) × (f.offset ≡ self.now.place) × (f.document ≡ self.now.number) }
+            × (f.kind ≡ kind) × (f.offset ≡ self.now.offset) × (f.document ≡ self.now.number) }
     {
         DocFault::Frame(FrameFault {
             kind,
             document: self.number,
-            offset: self.place,
+            offset: self.offset,
         })
     }
 
@@ -273,7 +273,7 @@ impl DocBuffer {
         requires size { (5 ≤ size)
             × (size ≤ self.old.remaining.bytes) × (size ≤ length self.old.buffer.items) }
         ensures sized { self.new.size ≡ size }
-        ensures place { (self.new.place ≡ self.old.place + size)
+        ensures offset { (self.new.offset ≡ self.old.offset + size)
             × (self.new.number ≡ self.old.number + 1) }
         ensures remaining { (self.new.remaining.bytes + size ≡ self.old.remaining.bytes)
             × (self.new.remaining.turns ≡ self.old.remaining.turns) }
@@ -281,7 +281,7 @@ impl DocBuffer {
             × (self.new.failed ≡ self.old.failed) }
     {
         self.remaining.bytes -= size as u64;
-        self.place += size as u64;
+        self.offset += size as u64;
         self.number += 1;
         self.size = size;
     }

@@ -6,7 +6,7 @@ ghost use Rattle.std.specs.Io.BufRead.{Rests};
 ghost use Rattle.std.specs.Borrow.{sem};
 ghost use Rattle.bd_value.specs.Limits.{longest_document, longest_input};
 ghost use Rattle.bd_bson_stream.specs.Stream.{FailsToRead, FindsEnd, BuffersNone, IsFrame, KeepsBuffer, Leaves, ReadsDocument};
-ghost use Rattle.bd_bson_stream.specs.Stream.{buffer_bytes, buffer_of, device_of, has_failed, buffered_bytes, held_size, limits_remaining, next_number, next_place};
+ghost use Rattle.bd_bson_stream.specs.Stream.{buffer_bytes, buffer_of, device_of, has_failed, buffered_bytes, held_size, limits_remaining, next_number, next_offset};
 ghost use Rattle.bd_bson_stream.specs.declared.doc_buffer.DocBuffer.{DocBuffer};
 
 use crate::doc_buffer::{DocBuffer, DocFault};
@@ -40,7 +40,7 @@ impl<R: Input + Drop> DocReader<R> {
         ensures reader { (device_of result ≡ reader)
             × (limits_remaining (buffer_of result) ≡ limits)
             × (has_failed (buffer_of result) ≡ false) }
-        ensures place { (next_place (buffer_of result) ≡ 0)
+        ensures offset { (next_offset (buffer_of result) ≡ 0)
             × (next_number (buffer_of result) ≡ 0) }
         ensures empty { (held_size (buffer_of result) ≡ 0)
             × (buffer_bytes (buffer_of result) ≡ []) }
@@ -67,7 +67,7 @@ impl<R: Input + Drop> DocReader<R> {
         ensures prefix { IfOk result (λ o. IfSome o (λ d.
             IfSome (R.state (device_of self.old)).remaining (λ xs. StartsWith xs d.bytes.now))) }
         ensures is_at { IfOk result (λ o. IfSome o (λ d.
-            (d.start ≡ next_place (buffer_of self.old))
+            (d.start ≡ next_offset (buffer_of self.old))
             × (d.number ≡ next_number (buffer_of self.old)))) }
         ensures end { result ≡ Ok None → IsAtEnd (R.state (device_of self.old)).remaining }
         ensures refused { (result ≡ Err DocFault.Failed)
@@ -76,7 +76,7 @@ impl<R: Input + Drop> DocReader<R> {
             Leaves R.state R.read_gives (buffer_of self.old) (device_of self.old) result
             (buffer_of new) (device_of new))) }
     {
-        let start = self.documents.place();
+        let start = self.documents.offset();
         let number = self.documents.number();
         if !self.advance()? {
             return Ok(None);

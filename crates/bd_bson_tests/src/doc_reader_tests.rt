@@ -160,8 +160,8 @@ const POSITIONS: [(u32, u64, &[u8]); 4] = [
 ];
 
 /// Whether a buffer holds these bytes, of the document before that number, which ends there.
-fn is_at(documents: &DocBuffer, number: u32, place: u64, bytes: &[u8]) -> bool {
-    documents.number() == number && documents.place() == place && documents.bytes() == bytes
+fn is_at(documents: &DocBuffer, number: u32, offset: u64, bytes: &[u8]) -> bool {
+    documents.number() == number && documents.offset() == offset && documents.bytes() == bytes
 }
 
 /// Whether a buffer takes the three documents and the end, after so many reads.
@@ -171,11 +171,11 @@ fn takes_three(alloc: Global, input: &mut MemoryInput<'_>, counts: [u64; 4]) -> 
         return false;
     }
     for i in 0..4 {
-        let (number, place, bytes) = POSITIONS[i];
+        let (number, offset, bytes) = POSITIONS[i];
         let Ok(is_there) = documents.read_next(input) else {
             return false;
         };
-        let is_right = is_at(&documents, number, place, bytes);
+        let is_right = is_at(&documents, number, offset, bytes);
         if !is_right || is_there == (i == 3) || input.calls() != counts[i] {
             return false;
         }

@@ -18,11 +18,11 @@ fn dates(alloc: Global) -> Result<Document, NoMemory> {
 }
 
 /// Whether the pair there is this name with this date.
-fn has_date(document: &Document, place: usize, name: &str, date: i64) -> bool {
-    if place >= document.len() {
+fn has_date(document: &Document, offset: usize, name: &str, date: i64) -> bool {
+    if offset >= document.len() {
         return false;
     }
-    let (found, value) = document.pair(place);
+    let (found, value) = document.pair(offset);
     found == name && matches!(value, Value::Date(it) if *it == date)
 }
 
@@ -33,8 +33,8 @@ fn keeps_pairs_in_their_order(rt: HostRuntime) -> Result<(), Fail> {
     assert!(rt; Document::new(rt.alloc()).is_empty());
     let document = dates(rt.alloc())?;
     assert!(rt; !document.is_empty() && document.len() == 4);
-    for (place, (name, date)) in DATES.iter().enumerate() {
-        assert!(rt; has_date(&document, place, name, *date), "at {place}");
+    for (offset, (name, date)) in DATES.iter().enumerate() {
+        assert!(rt; has_date(&document, offset, name, *date), "at {place}");
     }
     assert!(rt; matches!(document.first("b"), Some(Value::Date(0))));
     assert!(rt; document.first("c").is_none());

@@ -9,7 +9,7 @@ use Rattle.bd_value.specs.declared.node.Kind.{Kind}
 use Rattle.bd_bson_view.specs.declared.raw_parts.ElementType.TheVariants.{Kept}
 use Rattle.bd_bson_view.specs.Spelling.{type_byte, type_at, IsName, IsValue, AreFields, element, IsShort}
 use Rattle.bd_bson_view.specs.Sizes.{zero_at, name_of, NameAt}
-use Rattle.bd_bson_view.specs.Unique.{zero_place, name_prefix, byte_is_not_zero, type_is, element_after}
+use Rattle.bd_bson_view.specs.Unique.{zero_offset, name_prefix, byte_is_not_zero, type_is, element_after}
 use Rattle.bd_bson_view.specs.Sound.{Sound, Remaining, meaning, extent, elements_remaining, meaning_is, extent_is, remaining_is}
 use Rattle.bd_bson_view.proofs.ValueAtLemmas.{name_reads}
 
@@ -91,7 +91,7 @@ module _ {bytes : List ℕ} {at : ℕ} {remaining : Fields} (s : Next bytes at r
   name_is tail t = ap name_of (t ∙ tail_splits) ∙ name_prefix s.name (s.value ++ (s.rest ++ 0 ∷ s.after)) s.named
 
   pub name_ends : (tail : List ℕ) → tail ≡ drop (at + 1) bytes → zero_at tail ≡ length s.name
-  name_ends tail t = ap zero_at (t ∙ tail_splits) ∙ zero_place s.name (s.value ++ (s.rest ++ 0 ∷ s.after)) s.named.1
+  name_ends tail t = ap zero_at (t ∙ tail_splits) ∙ zero_offset s.name (s.value ++ (s.rest ++ 0 ∷ s.after)) s.named.1
 
   pub value_splits : (k : ℕ) → k ≡ length s.name → drop (at + k + 2) bytes ≡ s.value ++ (s.rest ++ 0 ∷ s.after)
   value_splits k p =

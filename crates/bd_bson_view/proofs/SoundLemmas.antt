@@ -46,10 +46,10 @@ same_tree s t = meaning_is s t ∙ sym (meaning_is t t)
 -- ---- places
 
 -- where a view stands
-pub placed : (bytes : List ℕ) (start byte : ℕ) (kind : Kind) (s : Sound kind (drop start bytes)) → start ≤ length bytes → byte ≡ type_byte kind
+pub located : (bytes : List ℕ) (start byte : ℕ) (kind : Kind) (s : Sound kind (drop start bytes)) → start ≤ length bytes → byte ≡ type_byte kind
     → IsAt bytes (record { kind = byte; start = start }) (meaning s)
 unfolding meaning
-placed bytes start byte kind s inside is = (inside, subst (λ (n : ℕ). Begins n (drop start bytes) s.tree) (sym is) s.begins)
+located bytes start byte kind s inside is = (inside, subst (λ (n : ℕ). Begins n (drop start bytes) s.tree) (sym is) s.begins)
 
 -- a view of what stands there
 pub sound_there : (bytes : List ℕ) (at : At) (kind : Kind) → IsPlace bytes at → type_at at.kind ≡ Some (Kept kind) → Sound kind (drop at.start bytes)

@@ -10,7 +10,7 @@ use Rattle.bd_value.specs.View.{scalar_kind, kind_of}
 use Rattle.bd_value.specs.declared.node.Kind.{Kind}
 use Rattle.bd_bson_view.specs.Spelling.{number, string, data_of, scoped, framed, IsName, IsText, IsScalar, IsValue, LeafIsShort}
 use Rattle.bd_bson_view.specs.Sizes.{number_of, after_name, size_of, TextAt, NameAt, BinaryAt, HasBytesOf}
-use Rattle.bd_bson_view.specs.Unique.{number_length, number_prefix, zero_place, name_prefix, name_after, string_length, string_number, string_text, binary_count}
+use Rattle.bd_bson_view.specs.Unique.{number_length, number_prefix, zero_offset, name_prefix, name_after, string_length, string_number, string_text, binary_count}
 use Rattle.bd_bson_view.specs.Unique.{binary_subtype, regex_whole, scalar_size, same_kind, framed_after}
 use Rattle.bd_bson_view.specs.Sound.{Sound, extent, extent_is, meaning, meaning_is}
 
@@ -23,7 +23,7 @@ text_reads s rest h = record {
 
 pub name_reads : (name rest : List ℕ) → IsName name → NameAt (name ++ 0 ∷ rest)
 name_reads name rest h = record {
-  inside = omega (arith, zero_place name rest h.1, length-append name (0 ∷ rest));
+  inside = omega (arith, zero_offset name rest h.1, length-append name (0 ∷ rest));
   utf8 = subst IsUtf8 (sym (name_prefix name rest h)) h.0;
 }
 

@@ -70,18 +70,18 @@ not_zero : (b : ℕ) → b ≢ 0 → eqb b 0 ≡ false
 not_zero b h = grind (arith, nat_tests, h)
 
 -- the first zero after a name without zeros is at the offset of the name's length
-pub zero_place : (name rest : List ℕ) → AllByRecursion (λ b. b ≢ 0) name → zero_at (name ++ 0 ∷ rest) ≡ length name
-zero_place [] rest h = refl
-zero_place (b ∷ name) rest h = let e : 1 + length name ≡ suc (length name) = omega arith in
-    rw (not_zero b h.0) (ap (λ (k : ℕ). 1 + k) (zero_place name rest h.1) ∙ e)
+pub zero_offset : (name rest : List ℕ) → AllByRecursion (λ b. b ≢ 0) name → zero_at (name ++ 0 ∷ rest) ≡ length name
+zero_offset [] rest h = refl
+zero_offset (b ∷ name) rest h = let e : 1 + length name ≡ suc (length name) = omega arith in
+    rw (not_zero b h.0) (ap (λ (k : ℕ). 1 + k) (zero_offset name rest h.1) ∙ e)
 
 -- a `cstring` reads back as its name, whatever follows it
 pub name_prefix : (name rest : List ℕ) → IsName name → name_of (name ++ 0 ∷ rest) ≡ name
-name_prefix name rest h = rw (zero_place name rest h.1) (take_at name (0 ∷ rest) (length name) refl)
+name_prefix name rest h = rw (zero_offset name rest h.1) (take_at name (0 ∷ rest) (length name) refl)
 
 -- after a `cstring` come the bytes that follow its zero
 pub name_after : (name rest : List ℕ) → IsName name → after_name (name ++ 0 ∷ rest) ≡ rest
-name_after name rest h = rw (zero_place name rest h.1, ← append_assoc name (0 ∷ []) rest)
+name_after name rest h = rw (zero_offset name rest h.1, ← append_assoc name (0 ∷ []) rest)
     (drop_at (name ++ 0 ∷ []) rest (length name + 1) (length-append name (0 ∷ [])))
 
 -- a `string` and what follows it: the length, the text, a zero, the rest
@@ -196,8 +196,8 @@ scalar_size (trees.db_pointer s id) v r h = rw (h.2, append_assoc (string s) id 
 scalar_size (trees.binary k s) v r h = let d = data_of k s in
     rw h.2 (omega (arith, binary_count k d r h.1, length-append (number (length d)) (k ∷ d), number_length (length d)))
 scalar_size (trees.regex p o) v r h = let rest = o ++ 0 ∷ r in
-    let first = zero_place p rest h.0.1 in
-    let second = ap zero_at (name_after p rest h.0) ∙ zero_place o r h.1.1 in
+    let first = zero_offset p rest h.0.1 in
+    let second = ap zero_at (name_after p rest h.0) ∙ zero_offset o r h.1.1 in
     rw (h.2, regex_whole p o r)
     (omega (arith, first, second, length-append p (0 ∷ (o ++ 0 ∷ [])), length-append o (0 ∷ [])))
 scalar_size _ v r h = rw h refl

@@ -116,7 +116,7 @@ fn zeros(bytes: u8x16) -> u64
 /// The place of the first zero.
 #[inline(always)]
 pub fn first_zero(bytes: &[u8]) -> Option<usize>
-    ensures place { result ≡ position (λ b. b == 0) bytes.now }
+    ensures offset { result ≡ position (λ b. b == 0) bytes.now }
     ensures inside { IfSome result (λ k. k < length bytes.now) }
 {
     if bytes.len() >= LANES {

@@ -297,7 +297,7 @@ impl At {
     /// The value of that type which stands there in the bytes.
     pub fn value_in(self, bytes: &[u8]) -> RawValue<'_>
         requires short { length bytes.now ≤ longest_input }
-        requires place { IsPlace bytes.now self }
+        requires offset { IsPlace bytes.now self }
         ensures value { (tree : Tree) → IsAt bytes.now self tree → meaning result.sound ≡ tree }
         ensures same_source { result.bytes.now ≡ bytes.now }
     {

@@ -85,17 +85,17 @@ lines_more : (us : List CheckResult) (v : CheckResult) → check_result_lines 0 
 lines_more us v = lines_after us (v ∷ []) ∙ ap (λ x. check_result_lines 0 us ++ x) (append-nil (check_result_line (length us) v))
 
 -- the verdict on a document by its length, and those on what follows it
-turn_on : (place : ℕ) (frame rest : List ℕ) (v : CheckResult) → IsFrame frame → first_fault place frame ≡ v → check_results_at place (frame ++ rest) ≡ v ∷ check_results_at (place + length frame) rest
-turn_on place frame rest v is first =
-    turn_at place (length frame) (frame ++ rest) (frame_on frame rest is)
-    ∙ ap₂ (λ (x y : List ℕ). first_fault place x ∷ check_results_at (place + length frame) y) (take_at frame rest (length frame) refl) (drop_at frame rest (length frame) refl)
-    ∙ ap (λ (x : CheckResult). x ∷ check_results_at (place + length frame) rest) first
+turn_on : (offset : ℕ) (frame rest : List ℕ) (v : CheckResult) → IsFrame frame → first_fault offset frame ≡ v → check_results_at offset (frame ++ rest) ≡ v ∷ check_results_at (offset + length frame) rest
+turn_on offset frame rest v is first =
+    turn_at offset (length frame) (frame ++ rest) (frame_on frame rest is)
+    ∙ ap₂ (λ (x y : List ℕ). first_fault offset x ∷ check_results_at (offset + length frame) y) (take_at frame rest (length frame) refl) (drop_at frame rest (length frame) refl)
+    ∙ ap (λ (x : CheckResult). x ∷ check_results_at (offset + length frame) rest) first
 
 -- what was written of a document is the line of its verdict
-line_of : (number place : ℕ) (frame : List ℕ) (v : CheckResult) (piece : List ℕ) → IsTextOf check_texts number place frame v piece
-    → (first_fault place frame ≡ v) × (piece ≡ check_result_line number v)
-line_of number place frame None piece (d, spelled, line) = (document_faultless place frame d spelled, line)
-line_of number place frame (Some f) piece (first, line) = (first, cc)
+line_of : (number offset : ℕ) (frame : List ℕ) (v : CheckResult) (piece : List ℕ) → IsTextOf check_texts number offset frame v piece
+    → (first_fault offset frame ≡ v) × (piece ≡ check_result_line number v)
+line_of number offset frame None piece (d, spelled, line) = (document_faultless offset frame d spelled, line)
+line_of number offset frame (Some f) piece (first, line) = (first, cc)
 
 -- what was written of documents are the lines of their verdicts, and these begin all verdicts
 checked : (vs : List CheckResult) (given text : List ℕ) → AreVisited check_texts vs given text
@@ -113,10 +113,10 @@ checked vs given text (more_visited us prefix before v frame piece visited is pr
     )
 
 -- the one verdict on bytes whose length is bad
-check_result_on : (place : ℕ) (bytes all : List ℕ) (f : reported.Fault) → frame_length bytes ≡ Err f.kind → frame_length all ≡ Err f.kind
-    → framed_fault place all (frame_length all) ≡ Some (fault_view f) → check_results_at place bytes ≡ Some (fault_view f) ∷ []
-check_result_on place bytes all f is long fails =
-    last_at place bytes f.kind is ∙ ap (λ (v : CheckResult). v ∷ []) (sym (ap (framed_fault place all) long) ∙ fails)
+check_result_on : (offset : ℕ) (bytes all : List ℕ) (f : reported.Fault) → frame_length bytes ≡ Err f.kind → frame_length all ≡ Err f.kind
+    → framed_fault offset all (frame_length all) ≡ Some (fault_view f) → check_results_at offset bytes ≡ Some (fault_view f) ∷ []
+check_result_on offset bytes all f is long fails =
+    last_at offset bytes f.kind is ∙ ap (λ (v : CheckResult). v ∷ []) (sym (ap (framed_fault offset all) long) ∙ fails)
 
 -- a text that was taken whole and a front of the next are a front of both and more
 within_both : (old new : Writer) (whole piece more all : List ℕ) → WriteFailsAfter (between old new) whole piece → all ≡ whole ++ (piece ++ more) → WriteFailsWithin (between old new) all

@@ -94,9 +94,9 @@ packs_some number (line ∷ lines) = by_blank (is_empty_line line) refl (packs_s
     by_reading : (o : Option Doc) → reading line ≡ o → is_empty_line line ≡ false → HasPacking (suc number) lines → HasPacking number (line ∷ lines)
     by_reading None none full rest =
         let fault : JsonFault = record { kind = kinds.Syntax; at = utf8_valid_len line } in
-        let placed : IsPlaced (length line) fault = record { inside = utf8_valid_len_le line; whole = λ e. absurd cc; memory = λ e. absurd cc } in
+        let offset_is : IsPlaced (length line) fault = record { inside = utf8_valid_len_le line; whole = λ e. absurd cc; memory = λ e. absurd cc } in
         let bytes : ReportsBadUtf8 line fault = record { kind = λ _. refl; at = λ _. refl } in
-        ([], Some (record { number = number; fault = faults.Unread fault }), inr (inr (full, (faults.Unread fault, (λ e. cc, λ d is. cc, placed, bytes), refl, refl))))
+        ([], Some (record { number = number; fault = faults.Unread fault }), inr (inr (full, (faults.Unread fault, (λ e. cc, λ d is. cc, offset_is, bytes), refl, refl))))
     by_reading (Some d) is full rest = short d full is rest (cases_lt longest_document (length (plain d)))
 
     by_blank : (b : Bool) → is_empty_line line ≡ b → HasPacking (suc number) lines → HasPacking number (line ∷ lines)

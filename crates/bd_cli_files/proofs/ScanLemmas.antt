@@ -76,9 +76,9 @@ framed_rest (Some xs) None part f gave none is = absurd gave
 framed_rest (Some xs) (Some ys) part f gave none is = (ys, sym gave, subst (λ (x : List ℕ). frame_length x ≡ Err f.kind) (none.1 ∙ gave) none.2)
 
 -- the fault that is in a document of which all bytes were given
-fault_inside : (place : ℕ) (frame rest : List ℕ) (f : Fault) → IsFrame frame → first_fault place frame ≡ Some f → frame_fault place (frame ++ rest) ≡ Some f
-fault_inside place frame rest f is first =
-    ap (framed_fault place (frame ++ rest)) (frame_on frame rest is) ∙ ap (first_fault place) (take_at frame rest (length frame) refl) ∙ first
+fault_inside : (offset : ℕ) (frame rest : List ℕ) (f : Fault) → IsFrame frame → first_fault offset frame ≡ Some f → frame_fault offset (frame ++ rest) ≡ Some f
+fault_inside offset frame rest f is first =
+    ap (framed_fault offset (frame ++ rest)) (frame_on frame rest is) ∙ ap (first_fault offset) (take_at frame rest (length frame) refl) ∙ first
 
 -- ---- one step
 
@@ -93,7 +93,7 @@ pub record Gives (old new : Reader) (buffer : ℕ) (part : List ℕ) : Type 0 wh
 pub record Read (old new : Reader) (before after : DocBuffer) (bytes : List ℕ) : Type 0 where
   pub frame : IsFrame bytes
   pub gives : Gives old new before.remaining.bytes bytes
-  pub place : after.place ≡ before.place + length bytes
+  pub offset : after.offset ≡ before.offset + length bytes
   pub number : after.number ≡ before.number + 1
   pub buffer : after.remaining.bytes + length bytes ≡ before.remaining.bytes
   pub fewer : after.remaining.turns ≤ before.remaining.turns
@@ -105,10 +105,10 @@ document_read {R} {state} {gives} {before} {after} {old} {new} {bytes} read outp
     let size : length bytes ≡ after.size = ap (λ xs. length xs) output ∙ length-take-le after.size after.buffer.items inside in
     let frame : IsFrame bytes = rw output read.frame in
     let buffer = read.capacity in
-    let place = read.offset in record {
+    let offset = read.offset in record {
       frame = frame;
       gives = record { gave = rw output read.gave; short = omega (arith, size, buffer); within = frame_within bytes frame; no_failure = read.no_failure };
-      place = omega (arith, size, place);
+      offset = omega (arith, size, offset);
       number = read.number;
       buffer = omega (arith, size, buffer);
       fewer = read.counted.0;
@@ -161,17 +161,17 @@ pub record SoFar (texts : Texts) (old new : Reader) (out_old out_new : Writer) (
   pub text : List ℕ
   pub visited : AreVisited texts done given text
   pub gave : Consumes old.remaining new.remaining given
-  pub placed : buffer.place ≡ length given
+  pub located : buffer.offset ≡ length given
   pub counted : buffer.number ≡ length done
   pub bad_counted : bad ≡ faulty_count done
   pub few : bad ≤ buffer.number
-  pub fits : buffer.remaining.bytes + buffer.place ≡ longest_input
+  pub fits : buffer.remaining.bytes + buffer.offset ≡ longest_input
   pub turned : buffer.remaining.turns ≤ most_reads
   pub many : most_reads - buffer.remaining.turns ≤ length given
   pub no_failure : new.failures ≡ old.failures
   pub wrote : TakesText (between out_old out_new) text
 
-pub begins : (texts : Texts) (old : Reader) (out : Writer) (buffer : DocBuffer) → buffer.place ≡ 0 → buffer.number ≡ 0 → buffer.remaining.bytes ≡ longest_input
+pub begins : (texts : Texts) (old : Reader) (out : Writer) (buffer : DocBuffer) → buffer.offset ≡ 0 → buffer.number ≡ 0 → buffer.remaining.bytes ≡ longest_input
     → buffer.remaining.turns ≡ most_reads → SoFar texts old old out out buffer 0
 begins texts old out buffer p n r t = record {
   done = [];
@@ -179,7 +179,7 @@ begins texts old out buffer p n r t = record {
   text = [];
   visited = none_visited;
   gave = Consumes-nil old.remaining;
-  placed = p;
+  located = p;
   counted = n;
   bad_counted = refl;
   few = omega arith;
@@ -191,14 +191,14 @@ begins texts old out buffer p n r t = record {
 }
 
 module _ {texts : Texts} {old mid : Reader} {out_old out_mid : Writer} {buffer : DocBuffer} {bad : ℕ} (s : SoFar texts old mid out_old out_mid buffer bad) where
-  next_of : (frame : List ℕ) (v : Option Fault) (piece : List ℕ) → IsTextOf texts buffer.number buffer.place frame v piece
+  next_of : (frame : List ℕ) (v : Option Fault) (piece : List ℕ) → IsTextOf texts buffer.number buffer.offset frame v piece
       → IsTextOf texts (length s.done) (length s.given) frame v piece
   next_of frame v piece is =
-      subst (λ n. IsTextOf texts n (length s.given) frame v piece) s.counted (subst (λ p. IsTextOf texts buffer.number p frame v piece) s.placed is)
+      subst (λ n. IsTextOf texts n (length s.given) frame v piece) s.counted (subst (λ p. IsTextOf texts buffer.number p frame v piece) s.located is)
 
   -- a document was gone over
   pub goes_on : {new : Reader} {after : DocBuffer} {frame : List ℕ} (out_new : Writer) (v : Option Fault) (piece : List ℕ) (worse : ℕ) → Read mid new buffer after frame
-      → IsTextOf texts buffer.number buffer.place frame v piece → worse ≡ bad + faulty_count (v ∷ []) → TakesText (between out_mid out_new) piece
+      → IsTextOf texts buffer.number buffer.offset frame v piece → worse ≡ bad + faulty_count (v ∷ []) → TakesText (between out_mid out_new) piece
       → SoFar texts old new out_old out_new after worse
   goes_on {new} {after} {frame} out_new v piece worse r prints worse_is wrote = record {
     done = s.done ++ v ∷ [];
@@ -206,11 +206,11 @@ module _ {texts : Texts} {old mid : Reader} {out_old out_mid : Writer} {buffer :
     text = s.text ++ piece;
     visited = more_visited s.done s.given s.text v frame piece s.visited r.frame (next_of frame v piece prints);
     gave = Consumes-trans old.remaining mid.remaining new.remaining s.given frame s.gave r.gives.gave;
-    placed = let p = s.placed in let m = r.place in omega (arith, length-append s.given frame);
+    located = let p = s.located in let m = r.offset in omega (arith, length-append s.given frame);
     counted = let c = s.counted in let m = r.number in omega (arith, length-append s.done (v ∷ []));
     bad_counted = worse_is ∙ ap (λ n. n + faulty_count (v ∷ [])) s.bad_counted ∙ sym (faulty_append s.done (v ∷ []));
     few = let f = s.few in let n = r.number in let one = one_bad v in omega arith;
-    fits = let f = s.fits in let m = r.place in let l = r.buffer in omega arith;
+    fits = let f = s.fits in let m = r.offset in let l = r.buffer in omega arith;
     turned = let t = s.turned in let c = r.fewer in omega arith;
     many = let h = s.many in let t = s.turned in let c = r.fewer in let m = r.many in omega (arith, length-append s.given frame);
     no_failure = r.gives.no_failure ∙ s.no_failure;
@@ -218,7 +218,7 @@ module _ {texts : Texts} {old mid : Reader} {out_old out_mid : Writer} {buffer :
   }
 
   within : (part : List ℕ) → length part ≤ buffer.remaining.bytes → length (s.given ++ part) ≤ longest_input
-  within part le = let f = s.fits in let p = s.placed in omega (arith, length-append s.given part)
+  within part le = let f = s.fits in let p = s.located in omega (arith, length-append s.given part)
 
   abbrev Ended : Reader → Writer → Ending → Type 0
   Ended new out ending = ScansDocuments texts (between old new) (between out_old out) (record { count = buffer.number; bad = bad; ending = ending })
@@ -247,7 +247,7 @@ module _ {texts : Texts} {old mid : Reader} {out_old out_mid : Writer} {buffer :
     runs_out = (s.done, s.given, s.text, s.visited, (part, at), g.no_failure ∙ s.no_failure, s.wrote)
 
     -- what is to be written of the next document was not written
-    pub stops_by : (out_new : Writer) (v : Option Fault) (piece : List ℕ) (stopped : OutputFault) → IsFrame part → IsTextOf texts buffer.number buffer.place part v piece
+    pub stops_by : (out_new : Writer) (v : Option Fault) (piece : List ℕ) (stopped : OutputFault) → IsFrame part → IsTextOf texts buffer.number buffer.offset part v piece
         → StopsWriting piece (between out_mid out_new) stopped → StopsScan texts (between old new) (between out_old out_new) stopped
     stops_by out_new v piece NoMemory is prints same = rw same runs_out
     stops_by out_new v piece Unwritten is prints failed_write =
@@ -264,25 +264,25 @@ module _ {texts : Texts} {old mid : Reader} {out_old out_mid : Writer} {buffer :
     abbrev IsLast : ℕ → List ℕ → reported.Fault → Type 0
     IsLast number bytes f = (texts.bad number (fault_view f) ≡ None) ⊎ ((frame_length part ≡ Err f.kind) × (frame_length bytes ≡ Err f.kind))
 
-    ends_at : (rest : List ℕ) (f : reported.Fault) → IfSome mid.remaining (λ xs. part ++ rest ≡ xs) → f.document ≡ buffer.number → frame_fault buffer.place (part ++ rest) ≡ Some (fault_view f)
+    ends_at : (rest : List ℕ) (f : reported.Fault) → IfSome mid.remaining (λ xs. part ++ rest ≡ xs) → f.document ≡ buffer.number → frame_fault buffer.offset (part ++ rest) ≡ Some (fault_view f)
         → IsLast buffer.number (part ++ rest) f → EndsScan texts (between old new) (length s.done) s.given (endings.Faulty f)
     ends_at rest f known numbered fails last =
         let all = streams (s.given ++ (part ++ rest)) (known_after old.remaining mid.remaining s.given (part ++ rest) s.gave known) in
-        let fault = subst (λ p. frame_fault p (part ++ rest) ≡ Some (fault_view f)) s.placed fails in
+        let fault = subst (λ p. frame_fault p (part ++ rest) ≡ Some (fault_view f)) s.located fails in
         (part, rest, all, at, numbered ∙ s.counted, fault, subst (λ n. IsLast n (part ++ rest) f) s.counted last)
 
-    pub ends_faulty : (f : reported.Fault) → IsFrame part → first_fault buffer.place part ≡ Some (fault_view f) → f.document ≡ buffer.number
+    pub ends_faulty : (f : reported.Fault) → IsFrame part → first_fault buffer.offset part ≡ Some (fault_view f) → f.document ≡ buffer.number
         → texts.bad buffer.number (fault_view f) ≡ None → Ended new out_mid (endings.Faulty f)
     ends_faulty f is first numbered none =
         let rest = rest_of new.remaining in
-        let end = ends_at rest f (known_whole mid.remaining new.remaining part g.gave) numbered (fault_inside buffer.place part rest (fault_view f) is first) (inl none) in
+        let end = ends_at rest f (known_whole mid.remaining new.remaining part g.gave) numbered (fault_inside buffer.offset part rest (fault_view f) is first) (inl none) in
         ends_so new (endings.Faulty f) end (ap (λ (o : Option (List ℕ)). unwrap_or o []) (subst (λ n. texts.bad n (fault_view f) ≡ None) s.counted none))
 
-    pub ends_framed : (f : reported.Fault) → HasNoFrame [] mid.remaining f.kind → frame_length part ≡ Err f.kind → f.offset ≡ buffer.place → f.document ≡ buffer.number → f.path.items ≡ []
+    pub ends_framed : (f : reported.Fault) → HasNoFrame [] mid.remaining f.kind → frame_length part ≡ Err f.kind → f.offset ≡ buffer.offset → f.document ≡ buffer.number → f.path.items ≡ []
         → EndsScan texts (between old new) (length s.done) s.given (endings.Faulty f)
     ends_framed f none is offset numbered path =
         let r = framed_rest mid.remaining new.remaining part f g.gave none is in
-        let fails = ap (framed_fault buffer.place (part ++ r.0)) r.2
+        let fails = ap (framed_fault buffer.offset (part ++ r.0)) r.2
         ∙ ap₂ (λ (o : ℕ) (p : List (List ℕ)). Some (record { kind = f.kind; offset = o; path = p })) (sym offset) (sym (ap (map string_bytes) path)) in
         ends_at r.0 f r.1 numbered fails (inr (is, r.2))
 
@@ -341,7 +341,7 @@ module _ {texts : Texts} {R : Type 0} {state : R → Reader} {gives : R → Opti
           let parts = ap (λ (x : List ℕ). s.given ++ x) reason.2 ∙ sym (append_assoc s.given reason.0 reason.1) in
           let frames = visited_frames s.done s.given s.text s.visited in
           let beyond : longest_input < length (s.given ++ reason.0) + length reason.1
-          = let r = reason.5 in let f = s.fits in let p = s.placed in omega (arith, length-append s.given reason.0) in
+          = let r = reason.5 in let f = s.fits in let p = s.located in omega (arith, length-append s.given reason.0) in
           let ends_in : EndsWithinOne (s.given ++ reason.0) reason.1 = (frames.0, s.given, reason.0, frames.1, refl, subst IsWithinOne reason.2 reason.6) in
           (reason.0, (reason.1, subst (Consumes old.remaining (state n).remaining) parts gave, within s reason.0 reason.4, beyond, ends_in, reason.7 ∙ s.no_failure), reason.3)
       by_fault reads.TooManyTurns other part gave reason =

@@ -164,8 +164,8 @@ MeetsFault wanted out (Err stopped) = (text : List ℕ) × (wanted ≡ Some text
 -- This is written of the document of that number, which has these bytes at that offset,
 -- and this fault or none.
 abbrev pub IsTextOf : Texts → ℕ → ℕ → List ℕ → Option Fault → List ℕ → Type 0
-IsTextOf texts number place bytes None text = (d : Doc) × IsDocument d bytes × (text ≡ texts.good d)
-IsTextOf texts number place bytes (Some f) text = (first_fault place bytes ≡ Some f) × (texts.bad number f ≡ Some text)
+IsTextOf texts number offset bytes None text = (d : Doc) × IsDocument d bytes × (text ≡ texts.good d)
+IsTextOf texts number offset bytes (Some f) text = (first_fault offset bytes ≡ Some f) × (texts.bad number f ≡ Some text)
 
 -- The walk went over these documents: for each its first fault or None, their bytes,
 -- and what is written of them.

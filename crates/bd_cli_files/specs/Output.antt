@@ -30,14 +30,14 @@ abbrev pub error_line : List ℕ → List ℕ
 error_line message = codes "bsonfind: " ++ (message ++ 10 ∷ [])
 
 -- where a fault is: its document number, and its byte offset from the start of the dump
-abbrev pub place_text : ℕ → ℕ → List ℕ
-place_text number offset = codes "document " ++ (decimal number ++ (codes ", byte " ++ decimal offset))
+abbrev pub location_text : ℕ → ℕ → List ℕ
+location_text number offset = codes "document " ++ (decimal number ++ (codes ", byte " ++ decimal offset))
 
 -- the message of a dump fault: where it is, its path,
 -- the names joined by dots as a JSON string, and what is wrong
 abbrev pub fault_text : ℕ → Fault → List ℕ
 fault_text number f =
-    place_text number f.offset
+    location_text number f.offset
     ++ (codes ", path " ++ (quoted (join_with_byte 46 f.path) ++ (codes ": " ++ fault_words f.kind)))
 
 -- the message of a run that ran out of memory

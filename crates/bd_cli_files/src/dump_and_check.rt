@@ -202,7 +202,7 @@ pub(crate) fn scan_documents<R: Input, O: Output, V: Visitor<O>>(
     let mut buffer = DocBuffer::new(alloc, LIMITS);
     let mut bad = 0;
     loop {
-        let base = buffer.place();
+        let base = buffer.offset();
         let count = buffer.number();
         match buffer.read_next(input) {
             Ok(true) => match check_document(alloc, buffer.bytes(), base, count) {

@@ -6,7 +6,7 @@ ghost use Rattle.bd_io_device.specs.Devices.{WriteFailsWithin, TakesText, over, 
 ghost use Rattle.bd_bson_check.specs.Fault.{fault_view};
 ghost use Rattle.bd_bson_check.specs.declared.fault.FaultKind.TheVariants as kinds;
 ghost use Rattle.bd_extjson_text.specs.Text.{quoted};
-ghost use Rattle.bd_cli_files.specs.Output.{ReportsMessage, cannot_write, error_line, fault_text, no_memory, place_text, stop_words, reported_bytes, wrong_line, wrong_status};
+ghost use Rattle.bd_cli_files.specs.Output.{ReportsMessage, cannot_write, error_line, fault_text, no_memory, location_text, stop_words, reported_bytes, wrong_line, wrong_status};
 ghost use Rattle.bd_cli_files.specs.declared.output.OutputFault.TheVariants.{NoMemory as memory, Unwritten};
 ghost use Rattle.bd_cli_files.specs.declared.output.Status.TheVariants.{Failed};
 
@@ -232,9 +232,9 @@ pub fn push_path(path: &[String], text: &mut String) -> Result<(), NoMemory>
 }
 
 /// Appends where a fault stands. `NoMemory` may leave a front of it.
-fn push_place(fault: &Fault, text: &mut String) -> Result<(), NoMemory>
+fn push_location(fault: &Fault, text: &mut String) -> Result<(), NoMemory>
     ensures { OnOk result (string_bytes text.new
-        ≡ string_bytes text.old ++ place_text fault.now.document fault.now.offset) }
+        ≡ string_bytes text.old ++ location_text fault.now.document fault.now.offset) }
 {
     text.push_str("document ")?;
     push_number(u64::from(fault.document), text)?;
@@ -247,7 +247,7 @@ pub(crate) fn push_fault(fault: &Fault, text: &mut String) -> Result<(), NoMemor
     ensures { OnOk result (string_bytes text.new
         ≡ string_bytes text.old ++ fault_text fault.now.document (fault_view fault.now)) }
 {
-    push_place(fault, text)?;
+    push_location(fault, text)?;
     text.push_str(", path ")?;
     push_path(&fault.path, text)?;
     text.push_str(": ")?;

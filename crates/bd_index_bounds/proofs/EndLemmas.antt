@@ -15,7 +15,7 @@ use Rattle.bd_path.proofs.SortLemmas.{absent}
 use Rattle.bd_path.proofs.ReachLemmas.{In, Found, found_from, any_at}
 use Rattle.bd_query_filter.specs.Filter.{Operator, equals, compares, is_in, has_all, has_type, has_size, exists, Operators, no_operators, operator}
 use Rattle.bd_query_filter.specs.FilterMatch.{accepts, all_accept, any_candidate, any_equal, candidates, is_array, is_nonempty, is_of_size, is_of_type, is_related, is_value, value_or_null}
-use Rattle.bd_query_filter.specs.Word.{is_kind}
+use Rattle.bd_query_filter.specs.NameKind.{is_kind}
 use Rattle.bd_value.specs.contracts.node.Kind.{the_type}
 use denote.Enum.Bare.{same_true}
 use Rattle.bd_query_filter.specs.declared.operand.Relation.{Relation}

@@ -12,7 +12,7 @@ use Rattle.bd_path.specs.Reach.{Names}
 use Rattle.bd_query_filter.specs.Filter.{Filter, all_of, some_of, none_of, at_path, Filters, no_filters, filter, Operator}
 use Rattle.bd_query_filter.specs.Filter.{equals, compares, is_in, has_all, has_type, has_size, exists, negates, has_element}
 use Rattle.bd_query_filter.specs.Filter.{has_document, Operators, no_operators, operator}
-use Rattle.bd_query_filter.specs.{FilterMatch.is_array, FilterMatch.is_related, Word.is_kind}
+use Rattle.bd_query_filter.specs.{FilterMatch.is_array, FilterMatch.is_related, NameKind.is_kind}
 
 -- ---- sets of keys
 

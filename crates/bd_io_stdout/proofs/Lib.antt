@@ -1,1 +1,1 @@
-pub mod GatheringLemmas
+pub mod OutputBufferLemmas

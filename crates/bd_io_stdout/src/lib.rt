@@ -1,22 +1,22 @@
 //! Standard output in large writes, tied to what is read and to standard error.
 //!
-//! What was written, what of it a device has, and what waits: `specs/Gathering.antt`.
+//! What was written, what of it a device has, and what waits: `specs/OutputBuffer.antt`.
 //!
-//! An example, which `bd_io_tests` proves and runs as `examples::gathered`:
+//! An example, which `bd_io_tests` proves and runs as `examples::buffered`:
 //!
 //! ```
 //! let system = SystemOutput::new(Vec::new(alloc));
-//! let gathering = RefCell::new(Gathering::new(alloc, system));
-//! let mut out = SystemOutput::new(GatheredOutput {
-//!     gathering: &gathering,
+//! let output_buffer = RefCell::new(OutputBuffer::new(alloc, system));
+//! let mut out = SystemOutput::new(BufferedOutput {
+//!     output_buffer: &output_buffer,
 //! });
 //! assert!(rt; write_all(&mut out, b"a line\n").is_ok());
-//! assert!(rt; hand_on(&gathering) == WriteState::Intact);
+//! assert!(rt; hand_on(&output_buffer) == WriteState::Intact);
 //! ```
 //!
-//! - `gathering`: `Gathering`, what waits to be written; `GatheredOutput`, `FlushingInput` and `FlushingError` over one.
+//! - `output_buffer`: `OutputBuffer`, what waits to be written; `BufferedOutput`, `FlushingInput` and `FlushingError` over one.
 #![tactic(auto)]
 
-mod gathering;
+mod output_buffer;
 
-pub use gathering::{FlushingError, FlushingInput, GatheredOutput, Gathering, WriteState, hand_on};
+pub use output_buffer::{FlushingError, FlushingInput, BufferedOutput, OutputBuffer, WriteState, hand_on};

@@ -2,7 +2,7 @@
 use crate::numbered::Numbered;
 use bd_io_device::{Limits, MemoryInput, MemoryOutput, SystemOutput, read_all, write_all};
 use bd_io_lines::{LineBuffer, serve};
-use bd_io_stdout::{GatheredOutput, Gathering, WriteState, hand_on};
+use bd_io_stdout::{BufferedOutput, OutputBuffer, WriteState, hand_on};
 use std::cell::RefCell;
 use std::test::Fail;
 
@@ -55,13 +55,13 @@ fn device(rt: HostRuntime) -> Result<(), Fail> {
 }
 
 #[test]
-fn gathered(rt: HostRuntime) {
+fn buffered(rt: HostRuntime) {
     let alloc = rt.alloc();
     let system = SystemOutput::new(Vec::new(alloc));
-    let gathering = RefCell::new(Gathering::new(alloc, system));
-    let mut out = SystemOutput::new(GatheredOutput {
-        gathering: &gathering,
+    let output_buffer = RefCell::new(OutputBuffer::new(alloc, system));
+    let mut out = SystemOutput::new(BufferedOutput {
+        output_buffer: &output_buffer,
     });
     assert!(rt; write_all(&mut out, b"a line\n").is_ok());
-    assert!(rt; hand_on(&gathering) == WriteState::Intact);
+    assert!(rt; hand_on(&output_buffer) == WriteState::Intact);
 }

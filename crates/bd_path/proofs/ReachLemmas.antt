@@ -6,7 +6,7 @@ use Rattle.bd_value.specs.Tree.{Scalar, Tree, Doc, leaf, doc, array, Items, no_i
 use Rattle.bd_value.specs.Tree.{items_of-list_of, tree_size, items_size, fields_size}
 use Rattle.bd_value.specs.{Tree.values_of, Tree.elements_in, Tree.length_of, Tree.AreParts, Tree.first_of, View.kind_of, View.scalar_kind}
 use Rattle.bd_value.specs.declared.node.Kind.TheVariants as kinds
-use Rattle.bd_path.specs.Reach.{index_of, Names, Gathering, gathering, gathering_at, each_gathering, first_gathering, End, ends, is_document, reach}
+use Rattle.bd_path.specs.Reach.{index_of, Names, Collecting, collecting, collecting_at, each_collecting, first_collecting, End, ends, is_document, reach}
 use Rattle.std.proofs.lemmas.Bool.{false≢true, or_cases, or_from, or_left, or_parts, or_right}
 use Rattle.std.proofs.lemmas.List.Folds.{list_any-append}
 
@@ -51,48 +51,48 @@ length_elements _ k = refl
 
 -- ---- what is gathered
 
-module _ {A : Type 0} (g : Gathering A) where
-  found_in : (fs : Fields) (name : List ℕ) (r : Names) (u : Tree) → first_of name (pairs_of fs) ≡ Some u → first_gathering g fs name r ≡ gathering g u r
+module _ {A : Type 0} (g : Collecting A) where
+  found_in : (fs : Fields) (name : List ℕ) (r : Names) (u : Tree) → first_of name (pairs_of fs) ≡ Some u → first_collecting g fs name r ≡ collecting g u r
   found_in no_fields name r u e = absurd cc
   found_in (field n t fs) name r u e = grind (arith, found_in fs name r u)
 
-  lost_in : (fs : Fields) (name : List ℕ) (r : Names) → first_of name (pairs_of fs) ≡ None → first_gathering g fs name r ≡ g.missing
+  lost_in : (fs : Fields) (name : List ℕ) (r : Names) → first_of name (pairs_of fs) ≡ None → first_collecting g fs name r ≡ g.missing
   lost_in no_fields name r e = refl
   lost_in (field n t fs) name r e = grind (arith, lost_in fs name r)
 
-  pub found : (t u : Tree) (name : List ℕ) (r : Names) → kind_of t ≡ kinds.Doc → first_of name (pairs_in t) ≡ Some u → gathering g t (name ∷ r) ≡ gathering g u r
+  pub found : (t u : Tree) (name : List ℕ) (r : Names) → kind_of t ≡ kinds.Doc → first_of name (pairs_in t) ≡ Some u → collecting g t (name ∷ r) ≡ collecting g u r
   found (doc fs) u name r k e = found_in fs name r u e
   found _ u name r k e = absurd cc
 
-  pub lost : (t : Tree) (name : List ℕ) (r : Names) → kind_of t ≡ kinds.Doc → first_of name (pairs_in t) ≡ None → gathering g t (name ∷ r) ≡ g.missing
+  pub lost : (t : Tree) (name : List ℕ) (r : Names) → kind_of t ≡ kinds.Doc → first_of name (pairs_in t) ≡ None → collecting g t (name ∷ r) ≡ g.missing
   lost (doc fs) name r k e = lost_in fs name r e
   lost (array ts) name r k e = absurd cc
   lost _ name r k e = refl
 
-  pub of_other : (t : Tree) (name : List ℕ) (r : Names) → (kind_of t ≡ kinds.Doc → ⊥) → (kind_of t ≡ kinds.Array → ⊥) → gathering g t (name ∷ r) ≡ g.missing
+  pub of_other : (t : Tree) (name : List ℕ) (r : Names) → (kind_of t ≡ kinds.Doc → ⊥) → (kind_of t ≡ kinds.Array → ⊥) → collecting g t (name ∷ r) ≡ g.missing
   of_other (doc fs) name r a b = absurd (a refl)
   of_other (array ts) name r a b = absurd (b refl)
   of_other _ name r a b = refl
 
   -- from the documents in an array, and from the element at the index
   pub of_elements : (t : Tree) (name : List ℕ) (r : Names) → kind_of t ≡ kinds.Array
-      → gathering g t (name ∷ r) ≡ g.of_array (each_gathering g (items_of (elements_in t)) (name ∷ r) ++ gathering_at g (items_of (elements_in t)) (index_of name) r)
+      → collecting g t (name ∷ r) ≡ g.of_array (each_collecting g (items_of (elements_in t)) (name ∷ r) ++ collecting_at g (items_of (elements_in t)) (index_of name) r)
   of_elements (array ts) name r k = rw (items_of-list_of ts)
   of_elements (leaf s) name r k = absurd (scalar_is_no_array s k)
   of_elements _ name r k = absurd cc
 
-  pub no_index : (es : List Tree) (r : Names) → gathering_at g (items_of es) None r ≡ []
+  pub no_index : (es : List Tree) (r : Names) → collecting_at g (items_of es) None r ≡ []
   no_index [] r = refl
   no_index (e ∷ es) r = refl
 
-  pub beyond_index : (es : List Tree) (i : ℕ) (r : Names) → length es ≤ i → gathering_at g (items_of es) (Some i) r ≡ []
+  pub beyond_index : (es : List Tree) (i : ℕ) (r : Names) → length es ≤ i → collecting_at g (items_of es) (Some i) r ≡ []
   beyond_index [] i r l = refl
   beyond_index (e ∷ es) zero r l = absurd (omega arith)
   beyond_index (e ∷ es) (suc i) r l = beyond_index es i r (omega arith)
 
-  pub at_index : (es : List Tree) (i : ℕ) (u : Tree) (r : Names) → slice_get es i ≡ Some u → gathering_at g (items_of es) (Some i) r ≡ gathering g u r
+  pub at_index : (es : List Tree) (i : ℕ) (u : Tree) (r : Names) → slice_get es i ≡ Some u → collecting_at g (items_of es) (Some i) r ≡ collecting g u r
   at_index [] i u r e = absurd cc
-  at_index (x ∷ es) zero u r e = let same : x ≡ u = cc in ap (λ (y : Tree). gathering g y r) same
+  at_index (x ∷ es) zero u r e = let same : x ≡ u = cc in ap (λ (y : Tree). collecting g y r) same
   at_index (x ∷ es) (suc i) u r e = at_index es i u r e
 
 -- The value is a member of the list.
@@ -172,12 +172,12 @@ pub in_second : (f : End → Bool) (a b : Bool) (es fs all : List End) → a ≡
 in_second f a b es fs all is failed second joined = grind (arith, list_any-append f es fs)
 
 -- one more element of an array
-pub document_passed : (f : End → Bool) (p : Names) (u : Tree) (ts us : List Tree) (all : Bool) → list_any f (each_gathering ends (items_of ts) p) ≡ all → ts ≡ u ∷ us → is_document u ≡ true
-    → list_any f (reach u p) ≡ false → list_any f (each_gathering ends (items_of us) p) ≡ all
+pub document_passed : (f : End → Bool) (p : Names) (u : Tree) (ts us : List Tree) (all : Bool) → list_any f (each_collecting ends (items_of ts) p) ≡ all → ts ≡ u ∷ us → is_document u ≡ true
+    → list_any f (reach u p) ≡ false → list_any f (each_collecting ends (items_of us) p) ≡ all
 document_passed f p u ts us all so_far is d none = rw (← so_far, is, d, list_any-append, none)
 
-pub other_passed : (f : End → Bool) (p : Names) (u : Tree) (ts us : List Tree) (all : Bool) → list_any f (each_gathering ends (items_of ts) p) ≡ all → ts ≡ u ∷ us → is_document u ≡ false
-    → list_any f (each_gathering ends (items_of us) p) ≡ all
+pub other_passed : (f : End → Bool) (p : Names) (u : Tree) (ts us : List Tree) (all : Bool) → list_any f (each_collecting ends (items_of ts) p) ≡ all → ts ≡ u ∷ us → is_document u ≡ false
+    → list_any f (each_collecting ends (items_of us) p) ≡ all
 other_passed f p u ts us all so_far is d = rw (← so_far, is, d)
 
 pub keeps_ends : (f : End → Bool) (xs : List End) → list_any f xs ≡ false → list_any f xs ≡ false

@@ -3,7 +3,7 @@ use Rattle.std.specs.Prelude.{◌≡◌, ℕ, List, [], ◌∷◌, ◌++◌, Boo
 use Rattle.std.specs.List.{flat_map, list_any}
 use Rattle.bd_value.specs.Order.{equal}
 use Rattle.bd_value.specs.Tree.{Tree, leaf, null, undefined, array, no_items, list_of}
-use Rattle.bd_path.specs.{Reach.Gathering, Reach.Names, Reach.gathering, PathWalk.Stops, declared.key.Key.Key}
+use Rattle.bd_path.specs.{Reach.Collecting, Reach.Names, Reach.collecting, PathWalk.Stops, declared.key.Key.Key}
 use Rattle.bd_path.specs.{declared.path_walk.Stop.Stop, declared.path_walk.Stop.TheVariants.Value}
 use Rattle.bd_path.specs.declared.key.Key.TheVariants.{Node, Null, Undefined}
 
@@ -24,12 +24,12 @@ end_keys (array ts) = or_else (list_of ts) (leaf undefined ∷ [])
 end_keys t = t ∷ []
 
 -- gathers the keys on a path; an array that gives no key gives what a missing field gives
-abbrev pub key_gathering : List Tree → Gathering Tree
-key_gathering missing = record { at_end = end_keys; missing = missing; of_array = λ ks. or_else ks missing }
+abbrev pub key_collecting : List Tree → Collecting Tree
+key_collecting missing = record { at_end = end_keys; missing = missing; of_array = λ ks. or_else ks missing }
 
 -- the keys of a document on a path, equal ones repeated
 abbrev pub all_keys : Bool → Tree → Names → List Tree
-all_keys sparse t path = gathering (key_gathering (missing_key sparse)) t path
+all_keys sparse t path = collecting (key_collecting (missing_key sparse)) t path
 
 -- the keys and one more, unless it equals one of them
 abbrev pub with_key : List Tree → Tree → List Tree

@@ -4,7 +4,7 @@ use Rattle.std.specs.Prelude.{◌≡◌, ℕ, suc, List, [], ◌∷◌, ◌++◌
 use Rattle.std.specs.Prelude.{slice_index_or}
 use Rattle.std.specs.List.{list_any}
 use Rattle.bd_value.specs.Tree.{Tree}
-use Rattle.bd_path.specs.Reach.{End, Gathering, Names, gathering, bounded_index, index_gathering}
+use Rattle.bd_path.specs.Reach.{End, Collecting, Names, collecting, bounded_index, index_collecting}
 use Rattle.bd_path.specs.declared.path_walk.{Positions.Positions, Step.Step, Stop.Stop, Visits.Visits}
 use Rattle.bd_path.specs.declared.path_walk.Step.TheVariants.{Field, Element}
 use Rattle.bd_path.specs.declared.path_walk.Stop.TheVariants.{Value, Missing, NoBranch}
@@ -47,8 +47,8 @@ pub record LedTo (step : Step) (path : Names) (w : Visits) (k : ℕ) : Type 0 wh
 
 -- Nothing passes the test that is gathered below the value on the rest of the path,
 -- from any position from which it was walked.
-abbrev pub GathersNone : {A : Type 0} → (A → Bool) → Gathering A → Tree → Names → Visits → Type 0
-GathersNone test g t path w = (k : ℕ) → IsVisited w k → list_any test (gathering g t (drop k path)) ≡ false
+abbrev pub CollectsNone : {A : Type 0} → (A → Bool) → Collecting A → Tree → Names → Visits → Type 0
+CollectsNone test g t path w = (k : ℕ) → IsVisited w k → list_any test (collecting g t (drop k path)) ≡ false
 
 -- the stops of a walk down a path, in order: a value, a missing field,
 -- or an array below which the path reaches nothing
@@ -72,18 +72,18 @@ or_stop [] = NoBranch ∷ []
 or_stop (s ∷ ss) = s ∷ ss
 
 -- gathers each stop of a walk down a path
-abbrev pub stopping : Gathering (Stop Tree)
+abbrev pub stopping : Collecting (Stop Tree)
 stopping = record { at_end = λ t. Value t ∷ []; missing = Missing ∷ []; of_array = or_stop }
 
 -- where a walk down a path stops, in stored order;
 -- unlike `reach` it also names an array below which nothing is reached
 abbrev pub stops : Tree → Names → Stops
-stops t path = gathering stopping t path
+stops t path = collecting stopping t path
 
 -- the stops below an array that come after those in its documents; the Boolean says whether there were such
 abbrev pub later_stops : Bool → Tree → Names → Stops
-later_stops true t path = index_gathering stopping t path
-later_stops false t path = or_stop (index_gathering stopping t path)
+later_stops true t path = index_collecting stopping t path
+later_stops false t path = or_stop (index_collecting stopping t path)
 
 -- whether what a path reaches at a stop passes a test
 abbrev pub is_passed : (End → Bool) → Stop Tree → Bool

@@ -31,7 +31,7 @@ is_document _ = false
 
 -- What is gathered on the way down a path: from a value at its end, from a missing field,
 -- and of what the elements of an array gave.
-pub record Gathering (A : Type 0) : Type 0 where
+pub record Collecting (A : Type 0) : Type 0 where
   pub at_end : Tree → List A
   pub missing : List A
   pub of_array : List A → List A
@@ -39,51 +39,51 @@ pub record Gathering (A : Type 0) : Type 0 where
 abbrev mutual
   -- what is gathered from a value down a path: a name leads from a document to its first field of that name,
   -- from an array into each document in it, and if it is an index, to that element too
-  pub gathering : {A : Type 0} → Gathering A → Tree → Names → List A
-  gathering g t [] = g.at_end t
-  gathering g (leaf s) (name ∷ rest) = g.missing
-  gathering g (doc fs) (name ∷ rest) = first_gathering g fs name rest
-  gathering g (array ts) (name ∷ rest) =
-      g.of_array (each_gathering g ts (name ∷ rest) ++ gathering_at g ts (index_of name) rest)
-  gathering g (code_scope s fs) (name ∷ rest) = g.missing
+  pub collecting : {A : Type 0} → Collecting A → Tree → Names → List A
+  collecting g t [] = g.at_end t
+  collecting g (leaf s) (name ∷ rest) = g.missing
+  collecting g (doc fs) (name ∷ rest) = first_collecting g fs name rest
+  collecting g (array ts) (name ∷ rest) =
+      g.of_array (each_collecting g ts (name ∷ rest) ++ collecting_at g ts (index_of name) rest)
+  collecting g (code_scope s fs) (name ∷ rest) = g.missing
 
   -- what is gathered from the first field of that name; as from a missing field if there is none
-  pub first_gathering : {A : Type 0} → Gathering A → Fields → List ℕ → Names → List A
-  first_gathering g no_fields name rest = g.missing
-  first_gathering g (field n t fs) name rest = if bytes_eq n name then gathering g t rest
-      else first_gathering g fs name rest
+  pub first_collecting : {A : Type 0} → Collecting A → Fields → List ℕ → Names → List A
+  first_collecting g no_fields name rest = g.missing
+  first_collecting g (field n t fs) name rest = if bytes_eq n name then collecting g t rest
+      else first_collecting g fs name rest
 
   -- what is gathered from each element that is a document, with the same path
-  pub each_gathering : {A : Type 0} → Gathering A → Items → Names → List A
-  each_gathering g no_items path = []
-  each_gathering g (item t ts) path = (if is_document t then gathering g t path else []) ++ each_gathering g ts path
+  pub each_collecting : {A : Type 0} → Collecting A → Items → Names → List A
+  each_collecting g no_items path = []
+  each_collecting g (item t ts) path = (if is_document t then collecting g t path else []) ++ each_collecting g ts path
 
   -- what is gathered from the element at an index, with the rest of the path; nothing if there is none
-  pub gathering_at : {A : Type 0} → Gathering A → Items → Option ℕ → Names → List A
-  gathering_at g no_items i rest = []
-  gathering_at g (item t ts) None rest = []
-  gathering_at g (item t ts) (Some zero) rest = gathering g t rest
-  gathering_at g (item t ts) (Some (suc i)) rest = gathering_at g ts (Some i) rest
+  pub collecting_at : {A : Type 0} → Collecting A → Items → Option ℕ → Names → List A
+  collecting_at g no_items i rest = []
+  collecting_at g (item t ts) None rest = []
+  collecting_at g (item t ts) (Some zero) rest = collecting g t rest
+  collecting_at g (item t ts) (Some (suc i)) rest = collecting_at g ts (Some i) rest
 
 -- what a path reaches: a value, or None for a missing field
 abbrev pub End : Type 0
 End = Option Tree
 
 -- gathers each value that a path reaches, and None for each field that is missing
-abbrev pub ends : Gathering End
+abbrev pub ends : Collecting End
 ends = record { at_end = λ t. Some t ∷ []; missing = None ∷ []; of_array = λ es. es }
 
 -- what a path reaches from a value, in stored order: values, and None for each missing field;
 -- an array with no document in it may give nothing
 abbrev pub reach : Tree → Names → List End
-reach t path = gathering ends t path
+reach t path = collecting ends t path
 
 -- what is gathered from the documents in an array, with the whole path
-abbrev pub document_gathering : {A : Type 0} → Gathering A → Tree → Names → List A
-document_gathering g t path = each_gathering g (items_of (elements_in t)) path
+abbrev pub document_collecting : {A : Type 0} → Collecting A → Tree → Names → List A
+document_collecting g t path = each_collecting g (items_of (elements_in t)) path
 
 -- what is gathered from the element whose index the first name of the path is;
 -- nothing if there is no such element
-abbrev pub index_gathering : {A : Type 0} → Gathering A → Tree → Names → List A
-index_gathering g t [] = []
-index_gathering g t (name ∷ rest) = gathering_at g (items_of (elements_in t)) (index_of name) rest
+abbrev pub index_collecting : {A : Type 0} → Collecting A → Tree → Names → List A
+index_collecting g t [] = []
+index_collecting g t (name ∷ rest) = collecting_at g (items_of (elements_in t)) (index_of name) rest

@@ -13,7 +13,7 @@ ghost use Rattle.bd_path.specs.PathNames.{names_of};
 ghost use Rattle.bd_path.specs.PathWalk.{IsStopOf, Stops, TakesOrEnds, stop_tree, stops};
 
 use crate::path::Path;
-use crate::path_walk::{Gatherer, Stop, path_walk};
+use crate::path_walk::{Collector, Stop, path_walk};
 use bd_value::{Kind, NoMemory, Reading, Tree, Value, compare_nodes, to_value};
 use std::alloc::{AllocError, Global};
 use std::cmp::Ordering;
@@ -70,8 +70,8 @@ pub fn all_key_nodes<N: Reading>(
         AreKeysAt sparse (stops (N.tree doc) (names_of path.now)) ks.items) }
 {
     let mut all = Vec::new(alloc);
-    let gatherer = KeyGatherer { sparse };
-    if !path_walk(&gatherer, &mut all, doc, path) {
+    let collector = KeyCollector { sparse };
+    if !path_walk(&collector, &mut all, doc, path) {
         return Err(AllocError);
     }
     Ok(all)
@@ -92,11 +92,11 @@ pub fn keys<N: Reading>(alloc: Global, doc: N, path: &Path) -> Result<Vec<Value>
 /// Gathers the keys. One that equals the last is not appended: a path that repeats an index comes to a value, or to a field that is
 /// missing, once from each of its positions.
 #[derive(Clone, Copy)]
-struct KeyGatherer {
+struct KeyCollector {
     sparse: bool,
 }
 
-impl<N: Reading> Gatherer<N> for KeyGatherer {
+impl<N: Reading> Collector<N> for KeyCollector {
     type Found = Vec<Key<N>>;
 
     ghost amounts = { λ s keys bytes ss. AreKeysFrom N.tree N.source s.sparse keys.items bytes ss };

@@ -10,8 +10,8 @@ ghost use Rattle.bd_value.specs.Tree as trees;
 ghost use Rattle.bd_value.specs.declared.node.Kind.TheVariants as kinds;
 ghost use Rattle.bd_path.specs.Path.{component_names};
 ghost use Rattle.bd_path.specs.PathNames.{names_of};
-ghost use Rattle.bd_path.specs.Reach.{document_gathering, index_of, is_document, reach};
-ghost use Rattle.bd_path.specs.PathWalk.{GathersNone, IsOpen, IsStopOf, IsVisited, KeepsKnown, Leads, LedTo, Stops, Takes, TakesOrEnds};
+ghost use Rattle.bd_path.specs.Reach.{document_collecting, index_of, is_document, reach};
+ghost use Rattle.bd_path.specs.PathWalk.{CollectsNone, IsOpen, IsStopOf, IsVisited, KeepsKnown, Leads, LedTo, Stops, Takes, TakesOrEnds};
 ghost use Rattle.bd_path.specs.PathWalk.{is_open, is_passed, is_visited, later_stops, stop_tree, stopping, stops};
 ghost use Rattle.bd_path.specs.declared.path_walk.Step.TheVariants as steps;
 ghost use Rattle.bd_path.specs.declared.path_walk.Stop as stop_type;
@@ -38,17 +38,17 @@ pub trait EndTest {
 pub fn any_end<N: Reading, T: EndTest>(node: N, path: &Path, test: &T) -> bool
     ensures { result ≡ list_any (T.passes test.now) (reach (N.tree node) (names_of path.now)) }
 {
-    let gatherer = EndGatherer { test };
-    !path_walk(&gatherer, &mut (), node, path)
+    let collector = EndCollector { test };
+    !path_walk(&collector, &mut (), node, path)
 }
 
 /// Looks for an end that passes, and ends the walk at the first.
 #[derive(Drop)]
-struct EndGatherer<'a, T> {
+struct EndCollector<'a, T> {
     test: &'a T,
 }
 
-impl<N: Reading, T: EndTest> Gatherer<N> for EndGatherer<'_, T> {
+impl<N: Reading, T: EndTest> Collector<N> for EndCollector<'_, T> {
     type Found = ();
 
     ghost amounts = { λ _ _ _ _. Unit {0} };
@@ -72,7 +72,7 @@ impl<N: Reading, T: EndTest> Gatherer<N> for EndGatherer<'_, T> {
 }
 
 /// What a walk down a path gathers.
-pub(crate) trait Gatherer<N: Reading> {
+pub(crate) trait Collector<N: Reading> {
     /// What was found.
     type Found;
 
@@ -91,18 +91,18 @@ pub(crate) trait Gatherer<N: Reading> {
 }
 
 /// Walks down a path, and says whether it came to the end.
-pub(crate) fn path_walk<N: Reading, G: Gatherer<N>>(
-    gatherer: &G,
+pub(crate) fn path_walk<N: Reading, G: Collector<N>>(
+    collector: &G,
     found: &mut G::Found,
     node: N,
     path: &Path,
 ) -> bool
-    requires { KeepsKnown (G.amounts gatherer.now) (G.is_new gatherer.now) }
-    ensures { TakesOrEnds (G.amounts gatherer.now) (G.is_new gatherer.now) (G.ends gatherer.now)
+    requires { KeepsKnown (G.amounts collector.now) (G.is_new collector.now) }
+    ensures { TakesOrEnds (G.amounts collector.now) (G.is_new collector.now) (G.ends collector.now)
         result (N.source node) found.old found.new (stops (N.tree node) (names_of path.now)) }
 {
     let components = path.components();
-    path_walk_from(gatherer, found, node, components, 0, &Visits::Nowhere)
+    path_walk_from(collector, found, node, components, 0, &Visits::Nowhere)
 }
 
 /// Walks down the rest of a path, from a component on.
@@ -110,8 +110,8 @@ pub(crate) fn path_walk<N: Reading, G: Gatherer<N>>(
 /// An array may lead to a value from two positions of the path, and a path that repeats an index in as many ways as there are
 /// of counting up to it. So a value is gone into once from each position: the second time nothing in it is new.
 #[cycle(path_walk)]
-fn path_walk_from<N: Reading, G: Gatherer<N>>(
-    gatherer: &G,
+fn path_walk_from<N: Reading, G: Collector<N>>(
+    collector: &G,
     found: &mut G::Found,
     node: N,
     path: &[Component],
@@ -120,32 +120,32 @@ fn path_walk_from<N: Reading, G: Gatherer<N>>(
 ) -> bool
     requires within_limit { length path.now ≤ most_names }
     requires at { k ≤ length path.now }
-    requires known { KeepsKnown (G.amounts gatherer.now) (G.is_new gatherer.now) }
-    requires visited { GathersNone (G.is_new gatherer.now found.old) stopping
+    requires known { KeepsKnown (G.amounts collector.now) (G.is_new collector.now) }
+    requires visited { CollectsNone (G.is_new collector.now found.old) stopping
         (N.tree node) (component_names path.now) visits.now }
-    ensures { TakesOrEnds (G.amounts gatherer.now)
-        (G.is_new gatherer.now) (G.ends gatherer.now) result (N.source node) found.old found.new
+    ensures { TakesOrEnds (G.amounts collector.now)
+        (G.is_new collector.now) (G.ends collector.now) result (N.source node) found.old found.new
         (stops (N.tree node) (drop k (component_names path.now))) }
 {
     if visits.has(k) {
         return true;
     }
     if k == path.len() {
-        return gatherer.take(found, Stop::Value(node));
+        return collector.take(found, Stop::Value(node));
     }
     match node.kind() {
         Kind::Doc => {
             let name = name_at(path, k);
             let Some(value) = node.first(name) else {
-                return gatherer.take(found, Stop::Missing);
+                return collector.take(found, Stop::Missing);
             };
             let inside = visits.at_field(path, name);
-            path_walk_from(gatherer, found, value, path, k + 1, &inside)
+            path_walk_from(collector, found, value, path, k + 1, &inside)
         }
-        Kind::Array => match path_walk_documents(gatherer, found, node, path, k, visits) {
+        Kind::Array => match path_walk_documents(collector, found, node, path, k, visits) {
             None => false,
             Some(has_document) => path_walk_index(
-                gatherer,
+                collector,
                 found,
                 node,
                 path,
@@ -154,14 +154,14 @@ fn path_walk_from<N: Reading, G: Gatherer<N>>(
                 has_document,
             ),
         },
-        _ => gatherer.take(found, Stop::Missing),
+        _ => collector.take(found, Stop::Missing),
     }
 }
 
 /// The same in the documents of an array. It says whether there is one; none where the walk ended.
 #[cycle(path_walk)]
-fn path_walk_documents<N: Reading, G: Gatherer<N>>(
-    gatherer: &G,
+fn path_walk_documents<N: Reading, G: Collector<N>>(
+    collector: &G,
     found: &mut G::Found,
     node: N,
     path: &[Component],
@@ -171,12 +171,12 @@ fn path_walk_documents<N: Reading, G: Gatherer<N>>(
     requires within_limit { length path.now ≤ most_names }
     requires at { k < length path.now }
     requires kind { kind_of (N.tree node) ≡ kinds.Array }
-    requires known { KeepsKnown (G.amounts gatherer.now) (G.is_new gatherer.now) }
-    requires visited { GathersNone (G.is_new gatherer.now found.old) stopping
+    requires known { KeepsKnown (G.amounts collector.now) (G.is_new collector.now) }
+    requires visited { CollectsNone (G.is_new collector.now found.old) stopping
         (N.tree node) (component_names path.now) visits.now }
-    ensures taken { TakesOrEnds (G.amounts gatherer.now) (G.is_new gatherer.now)
-        (G.ends gatherer.now) (is_some result) (N.source node) found.old found.new
-        (document_gathering stopping (N.tree node) (drop k (component_names path.now))) }
+    ensures taken { TakesOrEnds (G.amounts collector.now) (G.is_new collector.now)
+        (G.ends collector.now) (is_some result) (N.source node) found.old found.new
+        (document_collecting stopping (N.tree node) (drop k (component_names path.now))) }
     ensures has { IfSome result (λ has_document.
         has_document ≡ list_any is_document (elements_in (N.tree node))) }
 {
@@ -188,7 +188,7 @@ fn path_walk_documents<N: Reading, G: Gatherer<N>>(
         };
         if is_document(next.1) {
             let inside = visits.at_document(path, i);
-            if !path_walk_from(gatherer, found, next.1, path, k, &inside) {
+            if !path_walk_from(collector, found, next.1, path, k, &inside) {
                 return None;
             }
             has_document = true;
@@ -202,8 +202,8 @@ fn path_walk_documents<N: Reading, G: Gatherer<N>>(
 
 /// The same in the element of an array whose index the component is, after its documents. An array with neither is a stop.
 #[cycle(path_walk)]
-fn path_walk_index<N: Reading, G: Gatherer<N>>(
-    gatherer: &G,
+fn path_walk_index<N: Reading, G: Collector<N>>(
+    collector: &G,
     found: &mut G::Found,
     node: N,
     path: &[Component],
@@ -214,21 +214,21 @@ fn path_walk_index<N: Reading, G: Gatherer<N>>(
     requires within_limit { length path.now ≤ most_names }
     requires at { k < length path.now }
     requires kind { kind_of (N.tree node) ≡ kinds.Array }
-    requires known { KeepsKnown (G.amounts gatherer.now) (G.is_new gatherer.now) }
-    requires visited { GathersNone (G.is_new gatherer.now found.old) stopping
+    requires known { KeepsKnown (G.amounts collector.now) (G.is_new collector.now) }
+    requires visited { CollectsNone (G.is_new collector.now found.old) stopping
         (N.tree node) (component_names path.now) visits.now }
-    requires documents { list_any (G.is_new gatherer.now found.old)
-        (document_gathering stopping (N.tree node) (drop k (component_names path.now))) ≡ false }
-    ensures { TakesOrEnds (G.amounts gatherer.now)
-        (G.is_new gatherer.now) (G.ends gatherer.now) result (N.source node) found.old found.new
+    requires documents { list_any (G.is_new collector.now found.old)
+        (document_collecting stopping (N.tree node) (drop k (component_names path.now))) ≡ false }
+    ensures { TakesOrEnds (G.amounts collector.now)
+        (G.is_new collector.now) (G.ends collector.now) result (N.source node) found.old found.new
         (later_stops has_document (N.tree node) (drop k (component_names path.now))) }
 {
     match indexed_element(node, &path[k]) {
         Some(indexed) => {
             let inside = visits.at_index(path, k, indexed.0, is_document(indexed.1));
-            path_walk_from(gatherer, found, indexed.1, path, k + 1, &inside)
+            path_walk_from(collector, found, indexed.1, path, k + 1, &inside)
         }
-        None => has_document || gatherer.take(found, Stop::NoBranch),
+        None => has_document || collector.take(found, Stop::NoBranch),
     }
 }
 

@@ -9,7 +9,7 @@ ghost use Rattle.bd_path.specs.PathWalk.{IsStopOf, TakesOrEnds, stop_tree, stops
 
 use crate::key::{Key, compare_keys, key_value};
 use crate::path::Path;
-use crate::path_walk::{Gatherer, Stop, path_walk};
+use crate::path_walk::{Collector, Stop, path_walk};
 use bd_value::{Kind, NoMemory, Reading, Value};
 use std::alloc::Global;
 use std::cmp::Ordering;
@@ -48,8 +48,8 @@ pub fn sort_key_node<N: Reading>(doc: N, path: &Path, dir: Dir) -> Key<N>
     ensures at_stops { IsKeyAt false (stops (N.tree doc) (names_of path.now)) result }
 {
     let mut earliest = None;
-    let gatherer = EarliestGatherer { dir };
-    let _whole = path_walk(&gatherer, &mut earliest, doc, path);
+    let collector = EarliestCollector { dir };
+    let _whole = path_walk(&collector, &mut earliest, doc, path);
     match earliest {
         Some(key) => key,
         None => Key::Null,
@@ -76,11 +76,11 @@ pub fn compare_in<M: Reading, N: Reading>(dir: Dir, a: Key<M>, b: Key<N>) -> Ord
 
 /// Finds the earliest key; the first of equal ones.
 #[derive(Clone, Copy)]
-struct EarliestGatherer {
+struct EarliestCollector {
     dir: Dir,
 }
 
-impl<N: Reading> Gatherer<N> for EarliestGatherer {
+impl<N: Reading> Collector<N> for EarliestCollector {
     type Found = Option<Key<N>>;
 
     ghost amounts = { λ s key bytes ss. IsEarliestFrom N.tree N.source s.dir key bytes ss };

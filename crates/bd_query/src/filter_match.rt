@@ -8,8 +8,8 @@ ghost use Rattle.bd_value.specs.Tree.{elements_in};
 ghost use Rattle.bd_value.specs.declared.node.Kind.TheVariants as kinds;
 ghost use Rattle.bd_path.specs.Path.{component_names};
 ghost use Rattle.bd_path.specs.PathNames.{names_of};
-ghost use Rattle.bd_path.specs.Reach.{document_gathering, ends, index_gathering, reach};
-ghost use Rattle.bd_path.specs.PathWalk.{GathersNone};
+ghost use Rattle.bd_path.specs.Reach.{document_collecting, ends, index_collecting, reach};
+ghost use Rattle.bd_path.specs.PathWalk.{CollectsNone};
 ghost use Rattle.bd_query.specs.FilterMatch.{is_matching, matches_element};
 ghost use Rattle.bd_query_filter.specs.Filter.{filters_from, operators_from, filter_tree, operator_tree};
 ghost use Rattle.bd_query_filter.specs.FilterMatch.{accepts, all_accept, all_hold, all_match, holds, matches, some_match};
@@ -116,7 +116,7 @@ fn reaches_suited<N: Reading>(node: N, path: &Path, body: &Body) -> bool
 fn any_end_matches<N: Reading>(node: N, k: usize, visits: &Visits, path_walk: &PathWalk) -> bool
     requires within_limit { length path_walk.now.path.now ≤ most_names }
     requires at { k ≤ length path_walk.now.path.now }
-    requires visited { GathersNone (is_matching path_walk.now.body.now) ends
+    requires visited { CollectsNone (is_matching path_walk.now.body.now) ends
         (N.tree node) (component_names path_walk.now.path.now) visits.now }
     ensures { result ≡ list_any (is_matching path_walk.now.body.now)
         (reach (N.tree node) (drop k (component_names path_walk.now.path.now))) }
@@ -149,7 +149,7 @@ fn any_end_matches_in_field<N: Reading>(
     requires within_limit { length path_walk.now.path.now ≤ most_names }
     requires at { k < length path_walk.now.path.now }
     requires kind { kind_of (N.tree node) ≡ kinds.Doc }
-    requires visited { GathersNone (is_matching path_walk.now.body.now) ends
+    requires visited { CollectsNone (is_matching path_walk.now.body.now) ends
         (N.tree node) (component_names path_walk.now.path.now) visits.now }
     ensures { result ≡ list_any (is_matching path_walk.now.body.now)
         (reach (N.tree node) (drop k (component_names path_walk.now.path.now))) }
@@ -176,10 +176,10 @@ fn any_end_matches_in_documents<N: Reading>(
     requires within_limit { length path_walk.now.path.now ≤ most_names }
     requires at { k < length path_walk.now.path.now }
     requires kind { kind_of (N.tree node) ≡ kinds.Array }
-    requires visited { GathersNone (is_matching path_walk.now.body.now) ends
+    requires visited { CollectsNone (is_matching path_walk.now.body.now) ends
         (N.tree node) (component_names path_walk.now.path.now) visits.now }
     ensures { result ≡ list_any (is_matching path_walk.now.body.now)
-        (document_gathering ends (N.tree node) (drop k (component_names path_walk.now.path.now))) }
+        (document_collecting ends (N.tree node) (drop k (component_names path_walk.now.path.now))) }
 {
     let mut remaining = node.parts();
     for i in 0..usize::MAX {
@@ -210,12 +210,12 @@ fn any_end_matches_at_index<N: Reading>(
     requires within_limit { length path_walk.now.path.now ≤ most_names }
     requires at { k < length path_walk.now.path.now }
     requires kind { kind_of (N.tree node) ≡ kinds.Array }
-    requires visited { GathersNone (is_matching path_walk.now.body.now) ends
+    requires visited { CollectsNone (is_matching path_walk.now.body.now) ends
         (N.tree node) (component_names path_walk.now.path.now) visits.now }
-    requires documents { list_any (is_matching path_walk.now.body.now) (document_gathering ends
+    requires documents { list_any (is_matching path_walk.now.body.now) (document_collecting ends
         (N.tree node) (drop k (component_names path_walk.now.path.now))) ≡ false }
     ensures { result ≡ list_any (is_matching path_walk.now.body.now)
-        (index_gathering ends (N.tree node) (drop k (component_names path_walk.now.path.now))) }
+        (index_collecting ends (N.tree node) (drop k (component_names path_walk.now.path.now))) }
 {
     let path = path_walk.path;
     match path[k].index {

@@ -8,7 +8,7 @@ ghost use Rattle.bd_value.specs.Tree as trees;
 ghost use Rattle.bd_value.specs.View.{tree_of};
 ghost use Rattle.bd_query_filter.specs.FilterMatch.{is_nonempty, is_of_type, is_related};
 ghost use Rattle.bd_query_filter.specs.Filter.{trees_in};
-ghost use Rattle.bd_query_filter.specs.Word.{is_kind};
+ghost use Rattle.bd_query_filter.specs.NameKind.{is_kind};
 
 use bd_query_filter::{Members, Relation, relates};
 use bd_value::{Kind, Reading, Tree, Value, class_of_node, compare_nodes};

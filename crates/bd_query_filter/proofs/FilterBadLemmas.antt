@@ -5,8 +5,8 @@ use Rattle.std.specs.Prelude.{IsTrue, IsFalse, decimal, is_err}
 use Rattle.bd_value.specs.Limits.{most_filter_levels}
 use Rattle.bd_value.specs.Tree.{Tree, leaf, doc, array, code_scope, Doc, Fields, no_fields, field, Items, no_items, item, fields_of}
 use Rattle.bd_path.specs.{Reach.Names, Path.path_of, declared.path.PathFault.PathFault}
-use Rattle.bd_query_filter.specs.{Fault.Refusal, Fault.refuse, Word.word_of}
-use Rattle.bd_query_filter.specs.{declared.filter_of.PlainOperator.PlainOperator, declared.filter_of.Word.Word}
+use Rattle.bd_query_filter.specs.{Fault.Refusal, Fault.refuse, NameKind.name_kind_of}
+use Rattle.bd_query_filter.specs.{declared.filter_of.PlainOperator.PlainOperator, declared.filter_of.NameKind.NameKind}
 use Rattle.bd_query_filter.specs.Filter.{Filter, all_of, filters_from, operators_from, Operator, equals, has_all, has_document, has_element}
 use Rattle.bd_query_filter.specs.Filter.{is_in, negates, negation_of}
 use Rattle.bd_query_filter.specs.FilterBad.{AreBadFilters, BreaksHere, BreaksInside, BreaksUnder, HasBadElement, HasBadMember, HasBadOperator, HasBadPair, IsBadAt}
@@ -16,7 +16,7 @@ use Rattle.bd_query_filter.specs.FilterOf.{member_filter, member_filters, member
 use Rattle.bd_query_filter.specs.FilterOf.{operators_of, pair_filter, path_operators, plain_operator, read_as, read_at}
 use Rattle.bd_query_filter.specs.declared.fault.FilterFaultKind.TheVariants as faults
 use Rattle.bd_query_filter.specs.declared.filter_of.PlainOperator.TheVariants as plain
-use Rattle.bd_query_filter.specs.declared.filter_of.Word.TheVariants as words
+use Rattle.bd_query_filter.specs.declared.filter_of.NameKind.TheVariants as name_kinds
 
 -- which refusals are true of a part
 abbrev Refusals : Type 1
@@ -83,22 +83,22 @@ plain_agrees p t = itself_agrees (plain_operator p t)
 -- ---- pairs, by what their names stand for
 
 path_agrees : (path : Result Names PathFault) (fs : Result (List Filter) Refusal) (os : Result (List Operator) Refusal) (IsBad : Refusals)
-    → Agrees os IsBad → Agrees (pair_filter words.Field path fs os) (λ r. (IsTrue (is_err path) × BreaksHere faults.Path r) ⊎ IsBad r)
+    → Agrees os IsBad → Agrees (pair_filter name_kinds.Field path fs os) (λ r. (IsTrue (is_err path) × BreaksHere faults.Path r) ⊎ IsBad r)
 path_agrees (Ok names) fs (Ok xs) IsBad h = λ r e. elim e [ inl a ↦ true_is_not a.0 | inr b ↦ h r b ]
 path_agrees (Ok names) fs (Err r) IsBad h = inr h
 path_agrees (Err fault) fs os IsBad h = inl (refl, refl)
 
-pair_agrees : (w : Word) (name : List ℕ) (fs : Result (List Filter) Refusal) (os : Result (List Operator) Refusal) (AreBad IsBad : Refusals)
+pair_agrees : (w : NameKind) (name : List ℕ) (fs : Result (List Filter) Refusal) (os : Result (List Operator) Refusal) (AreBad IsBad : Refusals)
     → Agrees fs AreBad → Agrees os IsBad → Agrees (pair_filter w (path_of name) fs os) (IsBadPair w name AreBad IsBad)
-pair_agrees (words.Logical l) name fs os AreBad IsBad h k = as_agrees (logical_filter l) fs AreBad h
-pair_agrees words.Field name fs os AreBad IsBad h k = path_agrees (path_of name) fs os IsBad k
+pair_agrees (name_kinds.Logical l) name fs os AreBad IsBad h k = as_agrees (logical_filter l) fs AreBad h
+pair_agrees name_kinds.Field name fs os AreBad IsBad h k = path_agrees (path_of name) fs os IsBad k
 pair_agrees w name fs os AreBad IsBad h k = refl
 
-operator_agrees : (w : Word) (t : Tree) (inverse element : Result Operator Refusal) (InNot InElemMatch : Refusals)
+operator_agrees : (w : NameKind) (t : Tree) (inverse element : Result Operator Refusal) (InNot InElemMatch : Refusals)
     → Agrees inverse InNot → Agrees element InElemMatch → Agrees (operator_of w t inverse element) (IsBadOperator w t InNot InElemMatch)
-operator_agrees (words.Plain p) t inverse element InNot InElemMatch h k = plain_agrees p t
-operator_agrees words.Not t inverse element InNot InElemMatch h k = h
-operator_agrees words.ElemMatch t inverse element InNot InElemMatch h k = k
+operator_agrees (name_kinds.Plain p) t inverse element InNot InElemMatch h k = plain_agrees p t
+operator_agrees name_kinds.Not t inverse element InNot InElemMatch h k = h
+operator_agrees name_kinds.ElemMatch t inverse element InNot InElemMatch h k = k
 operator_agrees w t inverse element InNot InElemMatch h k = refl
 
 -- ---- documents, by how they begin
@@ -128,7 +128,7 @@ mutual
   pairs_agree : (depth_left : ℕ) (fs : Fields) → Agrees (filters_of depth_left fs) (HasBadPair depth_left fs)
   pairs_agree depth_left no_fields = λ r e. e
   pairs_agree depth_left (field n t fs) =
-      let w = word_of n in
+      let w = name_kind_of n in
       let one = pair_agrees w n (operand_filters depth_left t) (path_operators depth_left t) (AreBadFilters depth_left t) (IsBadValue depth_left t) (logical_agrees depth_left t) (value_agrees depth_left t) in
       each_agrees n (pair_filter w (path_of n) (operand_filters depth_left t) (path_operators depth_left t)) (filters_of depth_left fs)
       (IsBadPair w n (AreBadFilters depth_left t) (IsBadValue depth_left t)) (HasBadPair depth_left fs) one (pairs_agree depth_left fs)
@@ -163,7 +163,7 @@ mutual
   operators_agree : (depth_left : ℕ) (fs : Fields) → Agrees (operators_of depth_left fs) (HasBadOperator depth_left fs)
   operators_agree depth_left no_fields = λ r e. e
   operators_agree depth_left (field n t fs) =
-      let w = word_of n in
+      let w = name_kind_of n in
       let one = operator_agrees w t (not_operator depth_left t) (element_operator depth_left t) (IsBadNot depth_left t) (IsBadElemMatch depth_left t) (not_agrees depth_left t) (element_agrees depth_left t) in
       each_agrees n (operator_of w t (not_operator depth_left t) (element_operator depth_left t)) (operators_of depth_left fs)
       (IsBadOperator w t (IsBadNot depth_left t) (IsBadElemMatch depth_left t)) (HasBadOperator depth_left fs) one (operators_agree depth_left fs)

@@ -5,13 +5,13 @@ use Rattle.std.specs.Prelude.{◌≡◌, ◌⊎◌, ℕ, zero, ◌+◌, ◌-◌,
 use Rattle.bd_value.specs.Limits.{most_filter_levels}
 use Rattle.bd_value.specs.Tree.{Tree, doc, array, Items, no_items, item, Fields, no_fields, field, Doc, fields_of}
 use Rattle.bd_path.specs.Path.{path_of}
-use Rattle.bd_query_filter.specs.{Fault.Refusal, Fault.deeper, Word.word_of, declared.fault.FilterFaultKind.FilterFaultKind}
-use Rattle.bd_query_filter.specs.declared.filter_of.{PlainOperator.PlainOperator, Word.Word}
+use Rattle.bd_query_filter.specs.{Fault.Refusal, Fault.deeper, NameKind.name_kind_of, declared.fault.FilterFaultKind.FilterFaultKind}
+use Rattle.bd_query_filter.specs.declared.filter_of.{PlainOperator.PlainOperator, NameKind.NameKind}
 use Rattle.bd_query_filter.specs.FilterOf.{first_is_operator, has_value_form, member_value, not_operator, path_operators}
 use Rattle.bd_query_filter.specs.FilterOf.{plain_operator}
 use Rattle.bd_query_filter.specs.declared.fault.FilterFaultKind.TheVariants as faults
 use Rattle.bd_query_filter.specs.declared.filter_of.PlainOperator.TheVariants as plain
-use Rattle.bd_query_filter.specs.declared.filter_of.Word.TheVariants as words
+use Rattle.bd_query_filter.specs.declared.filter_of.NameKind.TheVariants as name_kinds
 
 -- The refusal is of this rule, at the pair or member itself.
 abbrev pub BreaksHere : FilterFaultKind → Refusal → Type 0
@@ -41,20 +41,20 @@ IsBadPlain p t r = plain_operator p t ≡ Err r
 
 -- A pair of a filter is refused, by what its name is: `$and` and its kin by their filters,
 -- a field by its path or by its value, each whatever the other is. No other operator may be there.
-abbrev pub IsBadPair : Word → List ℕ → (Refusal → Type 0) → (Refusal → Type 0) → Refusal → Type 0
-IsBadPair (words.Logical l) name AreBad IsBad r = AreBad r
-IsBadPair words.Field name AreBad IsBad r = (IsTrue (is_err (path_of name)) × BreaksHere faults.Path r) ⊎ IsBad r
-IsBadPair words.Omitted name AreBad IsBad r = BreaksHere faults.NotInProfile r
+abbrev pub IsBadPair : NameKind → List ℕ → (Refusal → Type 0) → (Refusal → Type 0) → Refusal → Type 0
+IsBadPair (name_kinds.Logical l) name AreBad IsBad r = AreBad r
+IsBadPair name_kinds.Field name AreBad IsBad r = (IsTrue (is_err (path_of name)) × BreaksHere faults.Path r) ⊎ IsBad r
+IsBadPair name_kinds.Omitted name AreBad IsBad r = BreaksHere faults.NotInProfile r
 IsBadPair w name AreBad IsBad r = BreaksHere faults.UnknownOperator r
 
 -- A pair among operators is refused, by what its name is:
 -- `$not` and `$elemMatch` by their bodies, others by their operand.
-abbrev pub IsBadOperator : Word → Tree → (Refusal → Type 0) → (Refusal → Type 0) → Refusal → Type 0
-IsBadOperator (words.Plain p) t InNot InElemMatch r = IsBadPlain p t r
-IsBadOperator words.Not t InNot InElemMatch r = InNot r
-IsBadOperator words.ElemMatch t InNot InElemMatch r = InElemMatch r
-IsBadOperator words.Omitted t InNot InElemMatch r = BreaksHere faults.NotInProfile r
-IsBadOperator words.Field t InNot InElemMatch r = BreaksHere faults.MixedOperators r
+abbrev pub IsBadOperator : NameKind → Tree → (Refusal → Type 0) → (Refusal → Type 0) → Refusal → Type 0
+IsBadOperator (name_kinds.Plain p) t InNot InElemMatch r = IsBadPlain p t r
+IsBadOperator name_kinds.Not t InNot InElemMatch r = InNot r
+IsBadOperator name_kinds.ElemMatch t InNot InElemMatch r = InElemMatch r
+IsBadOperator name_kinds.Omitted t InNot InElemMatch r = BreaksHere faults.NotInProfile r
+IsBadOperator name_kinds.Field t InNot InElemMatch r = BreaksHere faults.MixedOperators r
 IsBadOperator w t InNot InElemMatch r = BreaksHere faults.UnknownOperator r
 
 abbrev mutual
@@ -62,7 +62,7 @@ abbrev mutual
   pub HasBadPair : ℕ → Fields → Refusal → Type 0
   HasBadPair depth_left no_fields r = ⊥
   HasBadPair depth_left (field n t fs) r =
-      BreaksUnder n (IsBadPair (word_of n) n (AreBadFilters depth_left t) (IsBadValue depth_left t)) r ⊎ HasBadPair depth_left fs r
+      BreaksUnder n (IsBadPair (name_kind_of n) n (AreBadFilters depth_left t) (IsBadValue depth_left t)) r ⊎ HasBadPair depth_left fs r
 
   -- The operand of `$and`, `$or` or `$nor` is refused: it is no array, or empty, or some member is refused.
   pub AreBadFilters : ℕ → Tree → Refusal → Type 0
@@ -89,7 +89,7 @@ abbrev mutual
   pub HasBadOperator : ℕ → Fields → Refusal → Type 0
   HasBadOperator depth_left no_fields r = ⊥
   HasBadOperator depth_left (field n t fs) r =
-      BreaksUnder n (IsBadOperator (word_of n) t (IsBadNot depth_left t) (IsBadElemMatch depth_left t)) r ⊎ HasBadOperator depth_left fs r
+      BreaksUnder n (IsBadOperator (name_kind_of n) t (IsBadNot depth_left t) (IsBadElemMatch depth_left t)) r ⊎ HasBadOperator depth_left fs r
 
   -- The operand of `$not` is refused: it must be a document of operators, which is a level further in.
   pub IsBadNot : ℕ → Tree → Refusal → Type 0

@@ -10,7 +10,7 @@ use Rattle.bd_path.specs.Reach.{End, is_document, reach}
 use Rattle.bd_query_filter.specs.Filter.{Filter, all_of, some_of, none_of, at_path, Filters, no_filters, filter, Operator}
 use Rattle.bd_query_filter.specs.Filter.{equals, compares, is_in, has_all, has_type, has_size, exists, negates, has_element}
 use Rattle.bd_query_filter.specs.Filter.{has_document, Operators, no_operators, operator}
-use Rattle.bd_query_filter.specs.{Word.is_kind, declared.operand.Relation.Relation}
+use Rattle.bd_query_filter.specs.{NameKind.is_kind, declared.operand.Relation.Relation}
 use Rattle.bd_query_filter.specs.declared.operand.Relation.TheVariants as relation
 
 -- whether a value is an array

@@ -9,15 +9,15 @@ use Rattle.bd_value.specs.Tree.{Scalar, Tree, leaf, doc, array, Items, no_items,
 use Rattle.bd_value.specs.Tree.{fields_of}
 use Rattle.bd_path.specs.{Reach.Names, Path.path_of, declared.path.PathFault.PathFault}
 use Rattle.bd_query_filter.specs.Fault.{Refusal, deeper, refuse}
-use Rattle.bd_query_filter.specs.declared.filter_of.{LogicalOperator.LogicalOperator, PlainOperator.PlainOperator, Word.Word}
+use Rattle.bd_query_filter.specs.declared.filter_of.{LogicalOperator.LogicalOperator, PlainOperator.PlainOperator, NameKind.NameKind}
 use Rattle.bd_query_filter.specs.Filter.{Filter, all_of, some_of, none_of, at_path, filters_from, Operator, equals, compares}
 use Rattle.bd_query_filter.specs.Filter.{is_in, has_all, has_type, has_size, exists, negates, has_element, has_document}
 use Rattle.bd_query_filter.specs.Filter.{negation_of, operators_from}
-use Rattle.bd_query_filter.specs.Word.{begins_with_dollar, kinds_named, kinds_numbered, word_of}
+use Rattle.bd_query_filter.specs.NameKind.{begins_with_dollar, kinds_named, kinds_numbered, name_kind_of}
 use Rattle.bd_query_filter.specs.declared.fault.FilterFaultKind.TheVariants as faults
 use Rattle.bd_query_filter.specs.declared.filter_of.LogicalOperator.TheVariants as logical
 use Rattle.bd_query_filter.specs.declared.filter_of.PlainOperator.TheVariants as plain
-use Rattle.bd_query_filter.specs.declared.filter_of.Word.TheVariants as words
+use Rattle.bd_query_filter.specs.declared.filter_of.NameKind.TheVariants as name_kinds
 
 -- what is made of a part that is not refused; a refusal stays
 abbrev pub read_as : {A B : Type 0} → (A → B) → Result A Refusal → Result B Refusal
@@ -134,34 +134,34 @@ inner_part zero part = refuse faults.TooDeep
 inner_part depth_left part = part
 
 -- whether `$elemMatch` has operators for an element if its body begins with this name
-abbrev pub is_value_form : Word → Bool
-is_value_form (words.Logical l) = false
-is_value_form words.Field = false
+abbrev pub is_value_form : NameKind → Bool
+is_value_form (name_kinds.Logical l) = false
+is_value_form name_kinds.Field = false
 is_value_form w = true
 
 -- whether the body of `$elemMatch` is operators for an element:
 -- its first name begins with `$`, and is not `$and`, `$or` or `$nor`
 abbrev pub has_value_form : Fields → Bool
 has_value_form no_fields = false
-has_value_form (field n t fs) = is_value_form (word_of n)
+has_value_form (field n t fs) = is_value_form (name_kind_of n)
 
 -- the filter of a pair, by what its name is:
 -- `$and` and its kin of their filters, a field of its path and operators
-abbrev pub pair_filter : Word → Result Names PathFault → Result (List Filter) Refusal → Result (List Operator) Refusal
+abbrev pub pair_filter : NameKind → Result Names PathFault → Result (List Filter) Refusal → Result (List Operator) Refusal
     → Result Filter Refusal
-pair_filter (words.Logical l) path filters operators = read_as (logical_filter l) filters
-pair_filter words.Field (Err fault) filters operators = refuse faults.Path
-pair_filter words.Field (Ok path) filters operators = read_as (λ os. at_path path (operators_from os)) operators
-pair_filter words.Omitted path filters operators = refuse faults.NotInProfile
+pair_filter (name_kinds.Logical l) path filters operators = read_as (logical_filter l) filters
+pair_filter name_kinds.Field (Err fault) filters operators = refuse faults.Path
+pair_filter name_kinds.Field (Ok path) filters operators = read_as (λ os. at_path path (operators_from os)) operators
+pair_filter name_kinds.Omitted path filters operators = refuse faults.NotInProfile
 pair_filter w path filters operators = refuse faults.UnknownOperator
 
 -- the operator of a pair among operators, by what its name is
-abbrev pub operator_of : Word → Tree → Result Operator Refusal → Result Operator Refusal → Result Operator Refusal
-operator_of (words.Plain p) t inverse element = plain_operator p t
-operator_of words.Not t inverse element = inverse
-operator_of words.ElemMatch t inverse element = element
-operator_of words.Omitted t inverse element = refuse faults.NotInProfile
-operator_of words.Field t inverse element = refuse faults.MixedOperators
+abbrev pub operator_of : NameKind → Tree → Result Operator Refusal → Result Operator Refusal → Result Operator Refusal
+operator_of (name_kinds.Plain p) t inverse element = plain_operator p t
+operator_of name_kinds.Not t inverse element = inverse
+operator_of name_kinds.ElemMatch t inverse element = element
+operator_of name_kinds.Omitted t inverse element = refuse faults.NotInProfile
+operator_of name_kinds.Field t inverse element = refuse faults.MixedOperators
 operator_of w t inverse element = refuse faults.UnknownOperator
 
 abbrev mutual
@@ -170,7 +170,7 @@ abbrev mutual
   pub filters_of : ℕ → Fields → Result (List Filter) Refusal
   filters_of depth_left no_fields = Ok []
   filters_of depth_left (field n t fs) =
-      read_at n (pair_filter (word_of n) (path_of n) (operand_filters depth_left t) (path_operators depth_left t))
+      read_at n (pair_filter (name_kind_of n) (path_of n) (operand_filters depth_left t) (path_operators depth_left t))
       (filters_of depth_left fs)
 
   -- the filters of `$and`, `$or` or `$nor`: their operand is an array that is not empty
@@ -197,7 +197,7 @@ abbrev mutual
   pub operators_of : ℕ → Fields → Result (List Operator) Refusal
   operators_of depth_left no_fields = Ok []
   operators_of depth_left (field n t fs) =
-      read_at n (operator_of (word_of n) t (not_operator depth_left t) (element_operator depth_left t)) (operators_of depth_left fs)
+      read_at n (operator_of (name_kind_of n) t (not_operator depth_left t) (element_operator depth_left t)) (operators_of depth_left fs)
 
   -- `$not`: a document of operators, a level further in;
   -- the manual has a regular expression there too, which is not supported

@@ -4,4 +4,4 @@ pub mod FilterBad
 pub mod FilterMatch
 pub mod FilterOf
 pub mod Indexes
-pub mod Word
+pub mod NameKind

@@ -10,7 +10,7 @@ ghost use Rattle.bd_query_filter.specs.Filter.{filter_tree, operator_tree};
 ghost use Rattle.bd_query_filter.specs.FilterBad.{IsBadAt};
 ghost use Rattle.bd_query_filter.specs.FilterOf.{element_operator, filter_of, filters_of, has_value_form, member_filter, member_filters, not_operator};
 ghost use Rattle.bd_query_filter.specs.FilterOf.{operand_filters, operator_of, operators_of, pair_filter, path_operators};
-ghost use Rattle.bd_query_filter.specs.Word.{begins_with_dollar, is_omitted, known_operator, word_of};
+ghost use Rattle.bd_query_filter.specs.NameKind.{begins_with_dollar, is_omitted, known_operator, name_kind_of};
 
 use crate::fault::{FilterFault, FilterFaultKind, Stop, stop_at, under};
 use crate::filter::{Filter, Operator};
@@ -74,11 +74,11 @@ fn read_pair<N: Reading>(
     name: &str,
     value: N,
 ) -> Result<Filter, Stop>
-    ensures { ReadsPart filter_tree result (pair_filter (word_of name.now) (path_of name.now)
+    ensures { ReadsPart filter_tree result (pair_filter (name_kind_of name.now) (path_of name.now)
         (operand_filters depth_left (N.tree value)) (path_operators depth_left (N.tree value))) }
 {
-    match Word::from_name(name) {
-        Word::Logical(logical) => {
+    match NameKind::from_name(name) {
+        NameKind::Logical(logical) => {
             let filters = read_operand(alloc, depth_left, value)?;
             Ok(match logical {
                 LogicalOperator::And => Filter::And(filters),
@@ -86,7 +86,7 @@ fn read_pair<N: Reading>(
                 LogicalOperator::Nor => Filter::Nor(filters),
             })
         }
-        Word::Field => match Path::parse(alloc, name) {
+        NameKind::Field => match Path::parse(alloc, name) {
             Ok(path) => {
                 let operators = read_value(alloc, depth_left, value)?;
                 Ok(Filter::Field { path, operators })
@@ -94,7 +94,7 @@ fn read_pair<N: Reading>(
             Err(PathFault::NoMemory) => Err(Stop::NoMemory),
             Err(_) => Err(stop_at(alloc, FilterFaultKind::Path)),
         },
-        Word::Omitted => Err(stop_at(alloc, FilterFaultKind::NotInProfile)),
+        NameKind::Omitted => Err(stop_at(alloc, FilterFaultKind::NotInProfile)),
         _ => Err(stop_at(alloc, FilterFaultKind::UnknownOperator)),
     }
 }
@@ -193,15 +193,15 @@ fn read_operator<N: Reading>(
     operand: N,
 ) -> Result<Operator, Stop>
     ensures { ReadsPart operator_tree result
-        (operator_of (word_of name.now) (N.tree operand) (not_operator depth_left (N.tree operand))
+        (operator_of (name_kind_of name.now) (N.tree operand) (not_operator depth_left (N.tree operand))
         (element_operator depth_left (N.tree operand))) }
 {
-    match Word::from_name(name) {
-        Word::Plain(plain) => plain_operator(alloc, plain, operand),
-        Word::Not => read_not(alloc, depth_left, operand),
-        Word::ElemMatch => read_elem_match(alloc, depth_left, operand),
-        Word::Omitted => Err(stop_at(alloc, FilterFaultKind::NotInProfile)),
-        Word::Field => Err(stop_at(alloc, FilterFaultKind::MixedOperators)),
+    match NameKind::from_name(name) {
+        NameKind::Plain(plain) => plain_operator(alloc, plain, operand),
+        NameKind::Not => read_not(alloc, depth_left, operand),
+        NameKind::ElemMatch => read_elem_match(alloc, depth_left, operand),
+        NameKind::Omitted => Err(stop_at(alloc, FilterFaultKind::NotInProfile)),
+        NameKind::Field => Err(stop_at(alloc, FilterFaultKind::MixedOperators)),
         _ => Err(stop_at(alloc, FilterFaultKind::UnknownOperator)),
     }
 }
@@ -249,12 +249,12 @@ fn is_value_form<N: Reading>(pairs: &N::Rest) -> bool
     let Some((name, _, _)) = N::next(pairs) else {
         return false;
     };
-    !matches!(Word::from_name(name), Word::Logical(_) | Word::Field)
+    !matches!(NameKind::from_name(name), NameKind::Logical(_) | NameKind::Field)
 }
 
 /// What a name stands for in a filter.
 #[derive(Clone, Copy)]
-pub enum Word {
+pub enum NameKind {
     /// An operator whose operand is an array of filters.
     Logical(LogicalOperator),
     /// An operator whose operand is values.
@@ -294,45 +294,45 @@ pub enum PlainOperator {
 }
 
 /// The operators that are known.
-const OPERATORS: [(&str, Word); 17] = [
-    ("$and", Word::Logical(LogicalOperator::And)),
-    ("$or", Word::Logical(LogicalOperator::Or)),
-    ("$nor", Word::Logical(LogicalOperator::Nor)),
-    ("$eq", Word::Plain(PlainOperator::Equal)),
-    ("$ne", Word::Plain(PlainOperator::NotEqual)),
-    ("$gt", Word::Plain(PlainOperator::Order(Relation::Above))),
-    ("$gte", Word::Plain(PlainOperator::Order(Relation::AtLeast))),
-    ("$lt", Word::Plain(PlainOperator::Order(Relation::Below))),
-    ("$lte", Word::Plain(PlainOperator::Order(Relation::AtMost))),
-    ("$in", Word::Plain(PlainOperator::In)),
-    ("$nin", Word::Plain(PlainOperator::NotIn)),
-    ("$all", Word::Plain(PlainOperator::All)),
-    ("$size", Word::Plain(PlainOperator::Size)),
-    ("$exists", Word::Plain(PlainOperator::Exists)),
-    ("$type", Word::Plain(PlainOperator::Type)),
-    ("$not", Word::Not),
-    ("$elemMatch", Word::ElemMatch),
+const OPERATORS: [(&str, NameKind); 17] = [
+    ("$and", NameKind::Logical(LogicalOperator::And)),
+    ("$or", NameKind::Logical(LogicalOperator::Or)),
+    ("$nor", NameKind::Logical(LogicalOperator::Nor)),
+    ("$eq", NameKind::Plain(PlainOperator::Equal)),
+    ("$ne", NameKind::Plain(PlainOperator::NotEqual)),
+    ("$gt", NameKind::Plain(PlainOperator::Order(Relation::Above))),
+    ("$gte", NameKind::Plain(PlainOperator::Order(Relation::AtLeast))),
+    ("$lt", NameKind::Plain(PlainOperator::Order(Relation::Below))),
+    ("$lte", NameKind::Plain(PlainOperator::Order(Relation::AtMost))),
+    ("$in", NameKind::Plain(PlainOperator::In)),
+    ("$nin", NameKind::Plain(PlainOperator::NotIn)),
+    ("$all", NameKind::Plain(PlainOperator::All)),
+    ("$size", NameKind::Plain(PlainOperator::Size)),
+    ("$exists", NameKind::Plain(PlainOperator::Exists)),
+    ("$type", NameKind::Plain(PlainOperator::Type)),
+    ("$not", NameKind::Not),
+    ("$elemMatch", NameKind::ElemMatch),
 ];
 
-impl Word {
+impl NameKind {
     /// What a name stands for.
-    #[tactic(auto, unfolding(crate::specs::Word::word_of))]
-    pub(crate) fn from_name(name: &str) -> Word
-        ensures { result ≡ word_of name.now }
+    #[tactic(auto, unfolding(crate::specs::NameKind::name_kind_of))]
+    pub(crate) fn from_name(name: &str) -> NameKind
+        ensures { result ≡ name_kind_of name.now }
     {
         if !begins_with_dollar(name) {
-            return Word::Field;
+            return NameKind::Field;
         }
         match known_operator(name) {
-            Some(word) => word,
-            None if is_omitted(name) => Word::Omitted,
-            None => Word::Unknown,
+            Some(name_kind) => name_kind,
+            None if is_omitted(name) => NameKind::Omitted,
+            None => NameKind::Unknown,
         }
     }
 }
 
 /// What the name of a known operator stands for.
-fn known_operator(name: &str) -> Option<Word>
+fn known_operator(name: &str) -> Option<NameKind>
     ensures { result ≡ known_operator name.now }
 {
     OPERATORS.iter().find(|row| row.0 == name).map(|row| row.1)
@@ -372,7 +372,7 @@ const OMITTED: [&str; 19] = [
 ];
 
 /// Whether it is the name of an operator of the manual that is left out, or a part of a DBRef.
-#[tactic(auto, unfolding(crate::specs::Word::is_omitted))]
+#[tactic(auto, unfolding(crate::specs::NameKind::is_omitted))]
 fn is_omitted(name: &str) -> bool
     ensures { result ≡ is_omitted name.now }
 {

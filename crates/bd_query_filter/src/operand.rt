@@ -8,7 +8,7 @@ ghost use Rattle.bd_query_filter.specs.Filter.{compares, operator_tree};
 ghost use Rattle.bd_query_filter.specs.FilterMatch.{relates};
 ghost use Rattle.bd_query_filter.specs.FilterOf.{all_kinds, has_operators, is_bound, is_regex, member_value, member_values, members_of, operand_kinds};
 ghost use Rattle.bd_query_filter.specs.FilterOf.{or_bad_operand, plain_operator, size_value, truth_value, type_kinds, unless_omitted};
-ghost use Rattle.bd_query_filter.specs.Word.{kinds_named, kinds_numbered};
+ghost use Rattle.bd_query_filter.specs.NameKind.{kinds_named, kinds_numbered};
 
 use crate::fault::{FilterFaultKind, Stop, stop_at, under};
 use crate::filter::{Members, Operator};
@@ -235,7 +235,7 @@ const TYPES: [(i64, &str, &[Kind]); 21] = [
 ];
 
 /// The kinds of a type by its name; `number` stands for the two whole numbers.
-#[tactic(auto, unfolding(crate::specs::Word::kinds_named))]
+#[tactic(auto, unfolding(crate::specs::NameKind::kinds_named))]
 fn kinds_named(name: &str) -> Option<&'static [Kind]>
     ensures { option_map (λ kinds. kinds.now) result ≡ kinds_named name.now }
 {
@@ -246,7 +246,7 @@ fn kinds_named(name: &str) -> Option<&'static [Kind]>
 }
 
 /// The kinds of a type by its number.
-#[tactic(auto, unfolding(crate::specs::Word::kinds_numbered))]
+#[tactic(auto, unfolding(crate::specs::NameKind::kinds_numbered))]
 fn kinds_numbered(number: i64) -> Option<&'static [Kind]>
     ensures { option_map (λ kinds. kinds.now) result ≡ kinds_numbered number }
 {

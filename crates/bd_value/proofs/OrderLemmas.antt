@@ -66,16 +66,16 @@ scopes_cmp t u v w ps qs kind other first second a b same =
 
 -- ---- the order is total
 
-abbrev place_of : Tree → ℕ
-place_of t = class_rank (class_of t)
+abbrev class_rank_of : Tree → ℕ
+class_rank_of t = class_rank (class_of t)
 
 abbrev pair_cmp : (Tree → Tree → Ordering) → Pair → Pair → Ordering
-pair_cmp R = then_cmp (on (λ (p : Pair). place_of p.1) nat_cmp) (then_cmp (on (λ (p : Pair). p.0) bytes_cmp) (on (λ (p : Pair). p.1) R))
+pair_cmp R = then_cmp (on (λ (p : Pair). class_rank_of p.1) nat_cmp) (then_cmp (on (λ (p : Pair). p.0) bytes_cmp) (on (λ (p : Pair). p.1) R))
 
 -- the order, looked at so many levels deep
 abbrev parts_cmp : (Tree → Tree → Ordering) → Tree → Tree → Ordering
 parts_cmp R =
-    then_cmp (on place_of nat_cmp) (then_cmp (on rank_in rank_cmp)
+    then_cmp (on class_rank_of nat_cmp) (then_cmp (on rank_in rank_cmp)
     (then_cmp (on (λ t. pairs_of (fields_in t)) (slice_cmp (pair_cmp R))) (on (λ t. list_of (items_in t)) (slice_cmp R))))
 
 abbrev cmp_to : ℕ → Tree → Tree → Ordering
@@ -89,12 +89,12 @@ rank_total =
     (then_total (on_total (λ (r : Rank). r.bytes) nat_list_cmp_total) (on_total (λ (r : Rank). r.more) nat_list_cmp_total)))
 
 pair_total : (R : Tree → Tree → Ordering) → IsTotalOrder R → IsTotalOrder (pair_cmp R)
-pair_total R t = then_total (on_total (λ (p : Pair). place_of p.1) nat_cmp_total) (then_total (on_total (λ (p : Pair). p.0) nat_list_cmp_total) (on_total (λ (p : Pair). p.1) t))
+pair_total R t = then_total (on_total (λ (p : Pair). class_rank_of p.1) nat_cmp_total) (then_total (on_total (λ (p : Pair). p.0) nat_list_cmp_total) (on_total (λ (p : Pair). p.1) t))
 
 total_to : (n : ℕ) → IsTotalOrder (cmp_to n)
 total_to zero = record { antisymm = λ x y. refl; trans = λ x y z e f. e; congr = λ x y z e. refl }
 total_to (suc n) =
-    then_total (on_total place_of nat_cmp_total) (then_total (on_total rank_in rank_total)
+    then_total (on_total class_rank_of nat_cmp_total) (then_total (on_total rank_in rank_total)
     (then_total (on_total (λ t. pairs_of (fields_in t)) (lists_total (pair_total (cmp_to n) (total_to n)))) (on_total (λ t. list_of (items_in t)) (lists_total (total_to n)))))
 
 then_equal : (o : Ordering) → o ≡ ordering_then o Equal
@@ -123,7 +123,7 @@ pub record IsPlain (k : ℕ) : Type 0 where
   pub not6 : k ≢ 6
   pub not15 : k ≢ 15
 
-pub plain : (s : Scalar) → IsPlain (place_of (leaf s))
+pub plain : (s : Scalar) → IsPlain (class_rank_of (leaf s))
 plain min_key = record { not5 = omega arith; not6 = omega arith; not15 = omega arith }
 plain _ = record { not5 = omega arith; not6 = omega arith; not15 = omega arith }
 
@@ -151,21 +151,21 @@ mutual
   agree : (a : Tree) (n : ℕ) (b : Tree) → height a ≤ n → cmp a b ≡ cmp_to n a b
   agree (leaf s) zero b h = absurd (omega arith)
   agree (leaf s) (suc n) (leaf t) h = ap (ordering_then (class_cmp (leaf s) (leaf t))) (then_equal (rank_cmp (rank_in (leaf s)) (rank_in (leaf t))))
-  agree (leaf s) (suc n) (doc fs) h = apart (place_of (leaf s)) 5 _ _ (plain s).not5
-  agree (leaf s) (suc n) (array ts) h = apart (place_of (leaf s)) 6 _ _ (plain s).not6
-  agree (leaf s) (suc n) (code_scope t fs) h = apart (place_of (leaf s)) 15 _ _ (plain s).not15
+  agree (leaf s) (suc n) (doc fs) h = apart (class_rank_of (leaf s)) 5 _ _ (plain s).not5
+  agree (leaf s) (suc n) (array ts) h = apart (class_rank_of (leaf s)) 6 _ _ (plain s).not6
+  agree (leaf s) (suc n) (code_scope t fs) h = apart (class_rank_of (leaf s)) 15 _ _ (plain s).not15
   agree (doc fs) zero b h = absurd (omega arith)
-  agree (doc fs) (suc n) (leaf t) h = apart 5 (place_of (leaf t)) _ _ (ne_sym (place_of (leaf t)) 5 (plain t).not5)
+  agree (doc fs) (suc n) (leaf t) h = apart 5 (class_rank_of (leaf t)) _ _ (ne_sym (class_rank_of (leaf t)) 5 (plain t).not5)
   agree (doc fs) (suc n) (doc gs) h = agree_fields fs n gs (omega arith) ∙ then_equal (slice_cmp (pair_cmp (cmp_to n)) (pairs_of fs) (pairs_of gs))
   agree (doc fs) (suc n) (array ts) h = refl
   agree (doc fs) (suc n) (code_scope t gs) h = refl
   agree (array ts) zero b h = absurd (omega arith)
-  agree (array ts) (suc n) (leaf t) h = apart 6 (place_of (leaf t)) _ _ (ne_sym (place_of (leaf t)) 6 (plain t).not6)
+  agree (array ts) (suc n) (leaf t) h = apart 6 (class_rank_of (leaf t)) _ _ (ne_sym (class_rank_of (leaf t)) 6 (plain t).not6)
   agree (array ts) (suc n) (doc gs) h = refl
   agree (array ts) (suc n) (array us) h = agree_items ts n us (omega arith)
   agree (array ts) (suc n) (code_scope t gs) h = refl
   agree (code_scope s fs) zero b h = absurd (omega arith)
-  agree (code_scope s fs) (suc n) (leaf u) h = apart 15 (place_of (leaf u)) _ _ (ne_sym (place_of (leaf u)) 15 (plain u).not15)
+  agree (code_scope s fs) (suc n) (leaf u) h = apart 15 (class_rank_of (leaf u)) _ _ (ne_sym (class_rank_of (leaf u)) 15 (plain u).not15)
   agree (code_scope s fs) (suc n) (doc gs) h = refl
   agree (code_scope s fs) (suc n) (array us) h = refl
   agree (code_scope s fs) (suc n) (code_scope u gs) h =

@@ -8,7 +8,7 @@ use Rattle.bd_bson_view.specs.declared.raw_parts.Holder.TheVariants as holders
 use Rattle.bd_wide.specs.declared.find.Refusal.{Refusal}
 use Rattle.std.specs.Option.{is_some}
 use Rattle.bd_wide.specs.declared.find.Found.{Found}
-use Rattle.bd_wide.specs.Refused.{Refused, Refuses, Element, Finds, FindsPlaced, first_of_two, refused_body, refused_element, refused_elements, refused_nested, refused_part, refused_scope}
+use Rattle.bd_wide.specs.Refused.{Refused, Refuses, Element, Finds, FindsLocated, first_of_two, refused_body, refused_element, refused_elements, refused_nested, refused_part, refused_scope}
 use Rattle.bd_wide.proofs.RewriteLemmas.{path_back, shorter, first_element_nil}
 
 -- one turn, by what stands at the front
@@ -90,14 +90,14 @@ passed_on element b old at here bytes rest head more value after path new t k n 
     )
 
 pub restored : (F : List ℕ → Option Refused) (b : Bool) (old head path_in after new : List ℕ) (size : ℕ) (found : Option Found) → path_in ≡ path_of b old head → size ≡ length old
-    → FindsPlaced (F path_in) path_in after found → is_some found ≡ false → new ≡ take size after → Finds (F (path_of b old head)) old new found
-restored F b old head path_in after new size (Some f) is here placed none splits = absurd (true≢false none)
-restored F b old head path_in after new size None is here placed none splits = (ap F (sym is) ∙ placed.0, path_back b old head path_in after new size is here placed.1 splits)
+    → FindsLocated (F path_in) path_in after found → is_some found ≡ false → new ≡ take size after → Finds (F (path_of b old head)) old new found
+restored F b old head path_in after new size (Some f) is here located none splits = absurd (true≢false none)
+restored F b old head path_in after new size None is here located none splits = (ap F (sym is) ∙ located.0, path_back b old head path_in after new size is here located.1 splits)
 
 pub kept_path : (F : List ℕ → Option Refused) (b : Bool) (old head path_in after : List ℕ) (found : Option Found) → path_in ≡ path_of b old head
-    → FindsPlaced (F path_in) path_in after found → is_some found ≡ true → Finds (F (path_of b old head)) old after found
-kept_path F b old head path_in after None is placed yes_is = absurd (true≢false (sym yes_is))
-kept_path F b old head path_in after (Some f) is placed yes_is = ap F (sym is) ∙ placed
+    → FindsLocated (F path_in) path_in after found → is_some found ≡ true → Finds (F (path_of b old head)) old after found
+kept_path F b old head path_in after None is located yes_is = absurd (true≢false (sym yes_is))
+kept_path F b old head path_in after (Some f) is located yes_is = ap F (sym is) ∙ located
 
 pub part_refused : (refuses : List ℕ → ElementType → List ℕ → Option Refusal) (nested : Holder → List ℕ → ℕ → List ℕ → Option Refused) (part : Option Part) (type : ElementType) (path : List ℕ) (at k : ℕ) (value : List ℕ)
     → part ≡ part_of type → refused_element refuses nested type path at k value ≡ refused_part refuses nested part type path at k value

@@ -12,7 +12,7 @@ use Rattle.bd_bson_view.specs.declared.raw_parts.Holder.TheVariants as holders
 use Rattle.bd_bson_view.specs.Spelling.{type_byte, number, string, framed, scoped, element, IsName, IsText, IsScalar, IsValue, AreFields, AreItems, IsDocument}
 use Rattle.bd_bson_view.specs.Sizes.{number_of, size_of}
 use Rattle.bd_bson_view.specs.Sound.{Sound, extent_is}
-use Rattle.bd_bson_view.specs.Unique.{type_is, number_length, number_after, string_number, string_length, regex_whole, zero_place, scalar_size}
+use Rattle.bd_bson_view.specs.Unique.{type_is, number_length, number_after, string_number, string_length, regex_whole, zero_offset, scalar_size}
 use Rattle.bd_bson_view.proofs.ValueAtLemmas as values
 use Rattle.bd_wide.specs.Rewritten.{◌>>=◌, Writes, Others, Nested, fixed, counted, first_zero, two_texts, size_at, first_element, part_of, path_of, scope_at, IsElement, AreElements, IsBody, IsScoped, IsNested, IsRewritten}
 use Rattle.bd_wide.proofs.RewriteLemmas.{Turn, to_turn, none_only, no_turn, ScopeTurn, to_scope}
@@ -23,7 +23,7 @@ use Rattle.bd_wide.proofs.SameLemmas.{scope_count}
 
 zero_there : (name rest : List ℕ) → IsName name → first_zero (name ++ 0 ∷ rest) ≡ Some (length name)
 zero_there name rest h =
-    let at = zero_place name rest h.1 in
+    let at = zero_offset name rest h.1 in
     let some : nat_lt (length name) (length (name ++ 0 ∷ rest)) ≡ true = grind (arith, nat_tests, length-append name (0 ∷ rest)) in
     rw (at, some) refl
 

@@ -96,6 +96,6 @@ Finds refused old new None = (refused ≡ None) × (new ≡ old)
 Finds refused old new (Some f) = refused ≡ Some (record { at = f.at; path = new; why = f.why })
 
 -- This number was found to be refused, and the path is its path; if none was, the path may have grown.
-abbrev pub FindsPlaced : Option Refused → List ℕ → List ℕ → Option Found → Type 0
-FindsPlaced refused old new None = (refused ≡ None) × StartsWith new old
-FindsPlaced refused old new (Some f) = refused ≡ Some (record { at = f.at; path = new; why = f.why })
+abbrev pub FindsLocated : Option Refused → List ℕ → List ℕ → Option Found → Type 0
+FindsLocated refused old new None = (refused ≡ None) × StartsWith new old
+FindsLocated refused old new (Some f) = refused ≡ Some (record { at = f.at; path = new; why = f.why })

@@ -6,7 +6,7 @@ ghost use Rattle.bd_bson_view.specs.declared.raw_parts.ElementType as element_ty
 ghost use Rattle.bd_bson_view.specs.declared.raw_parts.Holder.TheVariants as holders;
 ghost use Rattle.bd_wide.specs.Rewritten.{holder_least, least, part_of, path_of};
 ghost use Rattle.bd_wide.specs.declared.element.Part as parts;
-ghost use Rattle.bd_wide.specs.Refused.{Finds, FindsPlaced, first_refused, refused_at, refused_body, refused_element, refused_elements, refused_part, refused_nested, refused_scope};
+ghost use Rattle.bd_wide.specs.Refused.{Finds, FindsLocated, first_refused, refused_at, refused_body, refused_element, refused_elements, refused_part, refused_nested, refused_scope};
 ghost use Rattle.bd_wide.specs.declared.find.Refusal as refusal;
 
 use crate::element::{Part, enter, first_element, looked_into, separator};
@@ -165,7 +165,7 @@ fn entered<R: Refuser>(
     requires part { part_of typed ≡ Some part }
     requires value { least typed ≤ length value.now }
     requires fits { at + size + length value.now < 2 ^ 64 }
-    ensures { IfOk result (FindsPlaced (refused_part
+    ensures { IfOk result (FindsLocated (refused_part
         (R.refuses refuser.now depth_left) (refused_nested (R.refuses refuser.now) depth_left)
         (Some part) typed path.old.items at size value.now) path.old.items path.new.items) }
 {

@@ -391,7 +391,7 @@ fn with_scope<W: NumberWriter>(
     path: &mut Vec<u8>,
     out: &mut Vec<u8>,
 ) -> Result<(), NoMemory>
-    requires place { scope_at_of value.now ≡ Some at }
+    requires offset { scope_at_of value.now ≡ Some at }
     requires inside { (8 ≤ at) × (at + 5 ≤ length value.now) }
     ensures ok { OnOk result
         (Adds (IsScoped (IsNested (W.is_written writer.now) (W.others_of writer.now)

@@ -51,16 +51,16 @@ nil_same into path_in n new h = h
 
 -- the same count of bytes, and the same fault or none
 abbrev pub ElementsAlike : Nested → Nested → ℕ → List ℕ → List ℕ → Type 0
-ElementsAlike f g n bytes new = (length new ≡ length bytes) × ((place : Option ℕ) (e : ℕ) → skip_elements g place n e new ≡ wide_elements f place n e bytes)
+ElementsAlike f g n bytes new = (length new ≡ length bytes) × ((index : Option ℕ) (e : ℕ) → skip_elements g index n e new ≡ wide_elements f index n e bytes)
 
 stopped : (f g : Nested) → NestedFails f g → (n b : ℕ) (bytes new : List ℕ) → first_element (b ∷ bytes) ≡ None → new ≡ masked_others (b ∷ bytes) → ElementsAlike f g (suc n) (b ∷ bytes) new
 unfolding skip_elements wide_elements
 stopped f g below n b bytes new is t = (
   ap (λ (x : List ℕ). length x) t,
-  λ place e.
-      let bad = bad_element f g below place e b bytes is in
-      ap (skip_elements g place (suc n) e) t ∙ ap (λ (a : Result (List ℕ) Fault). a >>= λ rest. skip_elements g (option_map suc place) n e rest) bad.2
-      ∙ sym (ap (λ (a : Result (List ℕ) Fault). a >>= λ rest. wide_elements f (option_map suc place) n e rest) bad.1),
+  λ index e.
+      let bad = bad_element f g below index e b bytes is in
+      ap (skip_elements g index (suc n) e) t ∙ ap (λ (a : Result (List ℕ) Fault). a >>= λ rest. skip_elements g (option_map suc index) n e rest) bad.2
+      ∙ sym (ap (λ (a : Result (List ℕ) Fault). a >>= λ rest. wide_elements f (option_map suc index) n e rest) bad.1),
 )
 
 goes_on : (f g : Nested) (n : ℕ) (b : ℕ) (bytes name v r one two new : List ℕ) → b ∷ bytes ≡ b ∷ (name ++ 0 ∷ (v ++ r)) → Stepped f g b name v r one → ElementsAlike f g n r two → new ≡ one ++ two
@@ -69,23 +69,23 @@ unfolding skip_elements wide_elements
 goes_on f g n b bytes name v r one two new whole s later joined =
     let is : new ≡ s.first ∷ (s.others ++ two) = joined ∙ ap (λ (x : List ℕ). x ++ two) s.is in (
       omega (arith, ap (λ (x : List ℕ). length x) joined, length-append one two, s.size, later.0, ap (λ (x : List ℕ). length x) whole, length-append name (0 ∷ (v ++ r)), length-append v r),
-      λ place e.
-          let a = s.alike place e two later.0 in
-          ap (skip_elements g place (suc n) e) is ∙ ap (λ (y : Result (List ℕ) Fault). y >>= λ rest. skip_elements g (option_map suc place) n e rest) a.2
-          ∙ both place e a.0
-          ∙ sym (ap (wide_elements f place (suc n) e) whole ∙ ap (λ (y : Result (List ℕ) Fault). y >>= λ rest. wide_elements f (option_map suc place) n e rest) a.1),
+      λ index e.
+          let a = s.alike index e two later.0 in
+          ap (skip_elements g index (suc n) e) is ∙ ap (λ (y : Result (List ℕ) Fault). y >>= λ rest. skip_elements g (option_map suc index) n e rest) a.2
+          ∙ both index e a.0
+          ∙ sym (ap (wide_elements f index (suc n) e) whole ∙ ap (λ (y : Result (List ℕ) Fault). y >>= λ rest. wide_elements f (option_map suc index) n e rest) a.1),
     )
   where
-    both : (place : Option ℕ) (e : ℕ) (t : Result (Unit {0}) Fault) → (gives t two >>= λ rest. skip_elements g (option_map suc place) n e rest) ≡ (gives t r >>= λ rest. wide_elements f (option_map suc place) n e rest)
-    both place e (Ok u) = later.1 (option_map suc place) e
-    both place e (Err d) = refl
+    both : (index : Option ℕ) (e : ℕ) (t : Result (Unit {0}) Fault) → (gives t two >>= λ rest. skip_elements g (option_map suc index) n e rest) ≡ (gives t r >>= λ rest. wide_elements f (option_map suc index) n e rest)
+    both index e (Ok u) = later.1 (option_map suc index) e
+    both index e (Err d) = refl
 
 pub elements_alike : (f g : Nested) (into : written.Nested) → NestedFails f g → NestedAlike f g into → (path_in : List ℕ → List ℕ) (n : ℕ) (bytes new : List ℕ) → IsBytes bytes
     → AreElements IsMasked masked_others into path_in n bytes new → ElementsAlike f g n bytes new
 unfolding skip_elements wide_elements
-elements_alike f g into fails below path_in zero bytes new fits h = (ap (λ (x : List ℕ). length x) (none_same into path_in bytes new h), λ place e. refl)
+elements_alike f g into fails below path_in zero bytes new fits h = (ap (λ (x : List ℕ). length x) (none_same into path_in bytes new h), λ index e. refl)
 elements_alike f g into fails below path_in (suc n) [] new fits h =
-    let nil = nil_same into path_in n new h in (ap (λ (x : List ℕ). length x) nil, λ place e. ap (skip_elements g place (suc n) e) nil)
+    let nil = nil_same into path_in n new h in (ap (λ (x : List ℕ). length x) nil, λ index e. ap (skip_elements g index (suc n) e) nil)
 elements_alike f g into fails below path_in (suc n) (b ∷ bytes) new fits h =
     let all : List ℕ = b ∷ bytes in
     let here : (o : Option (ElementType × ℕ × ℕ)) → first_element all ≡ o → Turn into path_in n all o new → ElementsAlike f g (suc n) all new = elim [

@@ -85,7 +85,7 @@ double_byte b at is =
 -- ---- an element, by what is said of its name and of its value
 
 abbrev pub named_value : Result (Unit {0}) Fault → Option ℕ → List ℕ → Result (List ℕ) Fault → Result (List ℕ) Fault
-named_value text place name value = text >>= λ u. within (label place name) value
+named_value text index name value = text >>= λ u. within (label index name) value
 
 text_named : (at : ℕ) (name rest : List ℕ) (f : List ℕ → List ℕ → Result (List ℕ) Fault) → ((text_at at name >>= λ t. let p : List ℕ × List ℕ = (t, rest) in Ok p) >>= λ n. f n.0 n.1) ≡ (text_checked at name >>= λ u. f name rest)
 text_named at name rest f = goes (is_utf8 name) refl
@@ -94,23 +94,23 @@ text_named at name rest f = goes (is_utf8 name) refl
     goes true is = rw is refl
     goes false is = rw is refl
 
-pub wide_element_is : (f : Nested) (place : Option ℕ) (e b : ℕ) (type : ElementType) (name rest : List ℕ) → type_at b ≡ Some type → NoZero name
-    → wide_element f place e (b ∷ (name ++ 0 ∷ rest)) ≡ named_value (text_checked (e - length (name ++ 0 ∷ rest)) name) place name (wide_typed f type (e - suc (length (name ++ 0 ∷ rest))) e rest)
+pub wide_element_is : (f : Nested) (index : Option ℕ) (e b : ℕ) (type : ElementType) (name rest : List ℕ) → type_at b ≡ Some type → NoZero name
+    → wide_element f index e (b ∷ (name ++ 0 ∷ rest)) ≡ named_value (text_checked (e - length (name ++ 0 ∷ rest)) name) index name (wide_typed f type (e - suc (length (name ++ 0 ∷ rest))) e rest)
 unfolding wide_element
-wide_element_is f place e b type name rest is h =
-    rw (is, name_is NameUnended e name rest h) (text_named (e - length (name ++ 0 ∷ rest)) name rest (λ n more. within (label place n) (wide_typed f type (e - suc (length (name ++ 0 ∷ rest))) e more)))
+wide_element_is f index e b type name rest is h =
+    rw (is, name_is NameUnended e name rest h) (text_named (e - length (name ++ 0 ∷ rest)) name rest (λ n more. within (label index n) (wide_typed f type (e - suc (length (name ++ 0 ∷ rest))) e more)))
 
-pub skip_element_is : (f : Nested) (place : Option ℕ) (e b : ℕ) (type : ElementType) (name rest : List ℕ) → type_at b ≡ Some type → NoZero name
-    → skip_element f place e (b ∷ (name ++ 0 ∷ rest)) ≡ named_value (text_checked (e - length (name ++ 0 ∷ rest)) name) place name (skip_typed f type (e - suc (length (name ++ 0 ∷ rest))) e rest)
+pub skip_element_is : (f : Nested) (index : Option ℕ) (e b : ℕ) (type : ElementType) (name rest : List ℕ) → type_at b ≡ Some type → NoZero name
+    → skip_element f index e (b ∷ (name ++ 0 ∷ rest)) ≡ named_value (text_checked (e - length (name ++ 0 ∷ rest)) name) index name (skip_typed f type (e - suc (length (name ++ 0 ∷ rest))) e rest)
 unfolding skip_element
-skip_element_is f place e b type name rest is h =
-    rw (is, name_is NameUnended e name rest h) (text_named (e - length (name ++ 0 ∷ rest)) name rest (λ n more. within (label place n) (skip_typed f type (e - suc (length (name ++ 0 ∷ rest))) e more)))
+skip_element_is f index e b type name rest is h =
+    rw (is, name_is NameUnended e name rest h) (text_named (e - length (name ++ 0 ∷ rest)) name rest (λ n more. within (label index n) (skip_typed f type (e - suc (length (name ++ 0 ∷ rest))) e more)))
 
 -- ---- an element that can't be passed on
 
-pub named_fail : (text : Result (Unit {0}) Fault) (place : Option ℕ) (name : List ℕ) (a b : Result (List ℕ) Fault) → FailAlike a b → FailAlike (named_value text place name a) (named_value text place name b)
-named_fail (Ok u) place name a b (f, p, q) = (_, ap (within (label place name)) p, ap (within (label place name)) q)
-named_fail (Err d) place name a b h = (d, refl, refl)
+pub named_fail : (text : Result (Unit {0}) Fault) (index : Option ℕ) (name : List ℕ) (a b : Result (List ℕ) Fault) → FailAlike a b → FailAlike (named_value text index name a) (named_value text index name b)
+named_fail (Ok u) index name a b (f, p, q) = (_, ap (within (label index name)) p, ap (within (label index name)) q)
+named_fail (Err d) index name a b h = (d, refl, refl)
 
 -- If the length of what holds values is bad, both checks report the same fault.
 abbrev pub NestedFails : Nested → Nested → Type 0

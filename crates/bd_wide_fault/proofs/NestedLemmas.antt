@@ -86,11 +86,11 @@ body_alike f g into fails below path_in v new some count fits h =
 
 pub body_goes : (f g : Nested) (in_array : Bool) (e : ℕ) (v new r two : List ℕ) → BodyAlike f g v new → length two ≡ length r → Alike r two (wide_body f in_array e (v ++ r)) (skip_body g in_array e (new ++ two))
 body_goes f g in_array e v new r two a long =
-    let place : Option ℕ = if in_array then Some 0 else None in
+    let index : Option ℕ = if in_array then Some 0 else None in
     let inner : List ℕ = inner_of v in
     let body : List ℕ = a.body in
-    let wide : List ℕ → ℕ → Result (Unit {0}) Fault = λ b at. wide_elements f place (length b) at b in
-    let beyond : List ℕ → ℕ → Result (Unit {0}) Fault = λ b at. skip_elements g place (length b) at b in
+    let wide : List ℕ → ℕ → Result (Unit {0}) Fault = λ b at. wide_elements f index (length b) at b in
+    let beyond : List ℕ → ℕ → Result (Unit {0}) Fault = λ b at. skip_elements g index (length b) at b in
     let s : Result (Unit {0}) Fault = body_checked e (length inner) a.last (length r) (wide inner (e - suc (length r))) in
     let one : wide_body f in_array e (v ++ r) ≡ gives s r =
     ap (wide_body f in_array e) (a.old_whole r)
@@ -101,8 +101,8 @@ body_goes f g in_array e v new r two a long =
     ∙ ap (λ (y : Result (List ℕ × ℕ × List ℕ) Fault). y >>= λ f. (beyond f.0 f.1 >>= λ u. Ok f.2)) (frame_is false e (number (length body + 5)) body a.last two (number_length (length body + 5)) a.new_count (λ is. absurd cc))
     ∙ frame_then e body a.last two beyond in
     let same : body_checked e (length body) a.last (length two) (beyond body (e - suc (length two))) ≡ s =
-    ap₂ (λ k l. body_checked e k a.last l (skip_elements g place k (e - suc l) body)) a.inside.0 long
-    ∙ ap (body_checked e (length inner) a.last (length r)) (a.inside.1 place (e - suc (length r))) in
+    ap₂ (λ k l. body_checked e k a.last l (skip_elements g index k (e - suc l) body)) a.inside.0 long
+    ∙ ap (body_checked e (length inner) a.last (length r)) (a.inside.1 index (e - suc (length r))) in
     (s, one, other ∙ ap (λ t. gives t two) same)
 
 -- ---- code with scope

@@ -44,27 +44,27 @@ typed_other f g below (types.Kept kind) q e bytes o = goes (kind_is kind)
         let value = ap (λ k. skip_value g k q e bytes) is ∙ holder_value h g q e bytes in
         ap (λ k. skip_value f k q e bytes) is ∙ holder_value h f q e bytes ∙ below h q e bytes (subst Other value o) ∙ sym value
 
-element_other : (f g : Nested) → SameOthers f g → (place : Option ℕ) (e : ℕ) (bytes : List ℕ) → Other (skip_element g place e bytes) → wide_element f place e bytes ≡ skip_element g place e bytes
+element_other : (f g : Nested) → SameOthers f g → (index : Option ℕ) (e : ℕ) (bytes : List ℕ) → Other (skip_element g index e bytes) → wide_element f index e bytes ≡ skip_element g index e bytes
 unfolding wide_element skip_element
-element_other f g below place e [] o = refl
-element_other f g below place e (b ∷ bytes) o =
+element_other f g below index e [] o = refl
+element_other f g below index e (b ∷ bytes) o =
     other_bind (ok_or (type_at b) (record { kind = UnknownType; offset = e - suc (length bytes); path = [] })) _ _ o
     (λ type o. other_bind (skip_name NameUnended e bytes) _ _ o
-    (λ name o. ap (within (label place name.0)) (typed_other f g below type (e - suc (length bytes)) e name.1 (other_within (label place name.0) (skip_typed g type (e - suc (length bytes)) e name.1) o))))
+    (λ name o. ap (within (label index name.0)) (typed_other f g below type (e - suc (length bytes)) e name.1 (other_within (label index name.0) (skip_typed g type (e - suc (length bytes)) e name.1) o))))
 
-elements_other : (f g : Nested) → SameOthers f g → (place : Option ℕ) (n e : ℕ) (bytes : List ℕ) → Other (skip_elements g place n e bytes) → wide_elements f place n e bytes ≡ skip_elements g place n e bytes
+elements_other : (f g : Nested) → SameOthers f g → (index : Option ℕ) (n e : ℕ) (bytes : List ℕ) → Other (skip_elements g index n e bytes) → wide_elements f index n e bytes ≡ skip_elements g index n e bytes
 unfolding wide_elements skip_elements
-elements_other f g below place zero e bytes o = refl
-elements_other f g below place (suc n) e [] o = refl
-elements_other f g below place (suc n) e (b ∷ bytes) o =
-    other_two (skip_element g place e (b ∷ bytes)) (wide_element f place e (b ∷ bytes)) _ _ (element_other f g below place e (b ∷ bytes)) o
-    (λ rest o. elements_other f g below (option_map suc place) n e rest o)
+elements_other f g below index zero e bytes o = refl
+elements_other f g below index (suc n) e [] o = refl
+elements_other f g below index (suc n) e (b ∷ bytes) o =
+    other_two (skip_element g index e (b ∷ bytes)) (wide_element f index e (b ∷ bytes)) _ _ (element_other f g below index e (b ∷ bytes)) o
+    (λ rest o. elements_other f g below (option_map suc index) n e rest o)
 
 body_other : (f g : Nested) → SameOthers f g → (in_array : Bool) (e : ℕ) (bytes : List ℕ) → Other (skip_body g in_array e bytes) → wide_body f in_array e bytes ≡ skip_body g in_array e bytes
 body_other f g below in_array e bytes o =
-    let place : Option ℕ = if in_array then Some 0 else None in
+    let index : Option ℕ = if in_array then Some 0 else None in
     other_bind (skip_frame false e bytes) _ _ o
-    (λ fr o. other_two (skip_elements g place (length fr.0) fr.1 fr.0) (wide_elements f place (length fr.0) fr.1 fr.0) _ _ (elements_other f g below place (length fr.0) fr.1 fr.0) o
+    (λ fr o. other_two (skip_elements g index (length fr.0) fr.1 fr.0) (wide_elements f index (length fr.0) fr.1 fr.0) _ _ (elements_other f g below index (length fr.0) fr.1 fr.0) o
     (λ u o. refl))
 
 scope_other : (f g : Nested) → SameOthers f g → (q e : ℕ) (bytes : List ℕ) → Other (skip_code_scope g q e bytes) → wide_code_scope f g q e bytes ≡ skip_code_scope g q e bytes

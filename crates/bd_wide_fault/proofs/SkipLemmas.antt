@@ -4,7 +4,7 @@ use Rattle.std.specs.{List.AllByRecursion, Int.w32, Int.from_le_bytes}
 use Rattle.std.proofs.lemmas.Bool.{eqb-true, eqb-false, le-ltb}
 use Rattle.std.proofs.lemmas.{Bool.Decides.nat_tests, List.Quantifiers.position-Some, List.length-take-le}
 use Rattle.std.proofs.Math.Seq.{drop-cons}
-use Rattle.bd_bson_view.specs.{Sizes.number_of, Unique.zero_place}
+use Rattle.bd_bson_view.specs.{Sizes.number_of, Unique.zero_offset}
 use Rattle.bd_bson_check.specs.declared.fault.FaultKind.{FaultKind}
 use Rattle.bd_bson_check.specs.declared.fault.FaultKind.TheVariants.{StringUnended, BadBoolean, ValueShort}
 use Rattle.bd_bson_check.specs.Fault.{Fault}
@@ -168,17 +168,17 @@ zero_split bytes k is =
     let splits : drop k bytes ≡ 0 ∷ drop (suc k) bytes = drop-cons bytes k 0 p.0 ∙ ap (λ b. b ∷ drop (suc k) bytes) z in
     record { name = take k bytes; rest = drop (suc k) bytes; no_zero = none_zero bytes k (omega (arith, p.0)) p.2; size = length-take-le k bytes (omega (arith, p.0)); whole = sym (take-append-drop k bytes) ∙ ap (λ (x : List ℕ). take k bytes ++ x) splits }
 
-pub zero_place_is : (name rest : List ℕ) → NoZero name → first_zero (name ++ 0 ∷ rest) ≡ Some (length name)
-zero_place_is name rest h =
+pub zero_offset_is : (name rest : List ℕ) → NoZero name → first_zero (name ++ 0 ∷ rest) ≡ Some (length name)
+zero_offset_is name rest h =
     let long : nat_lt (length name) (length (name ++ 0 ∷ rest)) ≡ true = grind (arith, nat_tests, length-append name (0 ∷ rest)) in
-    rw (zero_place name rest h, long) refl
+    rw (zero_offset name rest h, long) refl
 
 -- past a name and its zero comes what follows it, if the name is UTF-8
 pub name_is : (kind : FaultKind) (e : ℕ) (name rest : List ℕ) → NoZero name → skip_name kind e (name ++ 0 ∷ rest) ≡ (text_at (e - length (name ++ 0 ∷ rest)) name >>= λ t. Ok (t, rest))
 unfolding skip_name
 name_is kind e name rest h =
     let after : drop (length name + 1) (name ++ 0 ∷ rest) ≡ rest = sym (drop-drop 1 (length name) (name ++ 0 ∷ rest)) ∙ ap (drop 1) (drop_at name (0 ∷ rest) (length name) refl) in
-    rw (zero_place_is name rest h, take_at name (0 ∷ rest) (length name) refl, after) refl
+    rw (zero_offset_is name rest h, take_at name (0 ∷ rest) (length name) refl, after) refl
 
 abbrev pub skip_text : ℕ → List ℕ → Result (List ℕ) Fault
 skip_text e bytes = skip_name StringUnended e bytes >>= λ x. Ok x.1

@@ -24,19 +24,19 @@ use Rattle.bd_wide_fault.proofs.ElementLemmas.{Alike, FailAlike, NestedFails, ho
 
 -- ---- an element that can't be passed on
 
-no_type : (f g : Nested) (place : Option ℕ) (e b : ℕ) (bytes : List ℕ) → type_at b ≡ None → FailAlike (wide_element f place e (b ∷ bytes)) (skip_element g place e (b ∷ bytes))
+no_type : (f g : Nested) (index : Option ℕ) (e b : ℕ) (bytes : List ℕ) → type_at b ≡ None → FailAlike (wide_element f index e (b ∷ bytes)) (skip_element g index e (b ∷ bytes))
 unfolding wide_element skip_element
-no_type f g place e b bytes is = (record { kind = UnknownType; offset = e - suc (length bytes); path = [] }, rw is refl, rw is refl)
+no_type f g index e b bytes is = (record { kind = UnknownType; offset = e - suc (length bytes); path = [] }, rw is refl, rw is refl)
 
-no_name : (f g : Nested) (place : Option ℕ) (e b : ℕ) (type : ElementType) (bytes : List ℕ) → type_at b ≡ Some type → first_zero bytes ≡ None → FailAlike (wide_element f place e (b ∷ bytes)) (skip_element g place e (b ∷ bytes))
+no_name : (f g : Nested) (index : Option ℕ) (e b : ℕ) (type : ElementType) (bytes : List ℕ) → type_at b ≡ Some type → first_zero bytes ≡ None → FailAlike (wide_element f index e (b ∷ bytes)) (skip_element g index e (b ∷ bytes))
 unfolding wide_element skip_element
-no_name f g place e b type bytes is none = let n = name_fails NameUnended e bytes none in let m = n.1 in (n.0, rw (is, m) refl, rw (is, m) refl)
+no_name f g index e b type bytes is none = let n = name_fails NameUnended e bytes none in let m = n.1 in (n.0, rw (is, m) refl, rw (is, m) refl)
 
-no_value : (f g : Nested) (place : Option ℕ) (e b c : ℕ) (type other : ElementType) (name rest : List ℕ) → type_at b ≡ Some type → type_at c ≡ Some other → NoZero name
-    → ((q : ℕ) → FailAlike (wide_typed f type q e rest) (skip_typed g other q e rest)) → FailAlike (wide_element f place e (b ∷ (name ++ 0 ∷ rest))) (skip_element g place e (c ∷ (name ++ 0 ∷ rest)))
-no_value f g place e b c type other name rest p q h fails =
-    let n = named_fail (text_checked (e - length (name ++ 0 ∷ rest)) name) place name _ _ (fails (e - suc (length (name ++ 0 ∷ rest)))) in
-    (n.0, wide_element_is f place e b type name rest p h ∙ n.1, skip_element_is g place e c other name rest q h ∙ n.2)
+no_value : (f g : Nested) (index : Option ℕ) (e b c : ℕ) (type other : ElementType) (name rest : List ℕ) → type_at b ≡ Some type → type_at c ≡ Some other → NoZero name
+    → ((q : ℕ) → FailAlike (wide_typed f type q e rest) (skip_typed g other q e rest)) → FailAlike (wide_element f index e (b ∷ (name ++ 0 ∷ rest))) (skip_element g index e (c ∷ (name ++ 0 ∷ rest)))
+no_value f g index e b c type other name rest p q h fails =
+    let n = named_fail (text_checked (e - length (name ++ 0 ∷ rest)) name) index name _ _ (fails (e - suc (length (name ++ 0 ∷ rest)))) in
+    (n.0, wide_element_is f index e b type name rest p h ∙ n.1, skip_element_is g index e c other name rest q h ∙ n.2)
 
 abbrev pub masked_byte : ℕ → Bool → ℕ
 masked_byte b named = if b == 1 && named then 18 else b
@@ -58,15 +58,15 @@ no_size : (type : ElementType) (k : ℕ) (o : Option ℕ) → written.◌>>=◌ 
 no_size type k None is = refl
 no_size type k (Some n) is = absurd cc
 
-bad_value : (f g : Nested) → NestedFails f g → (place : Option ℕ) (e b : ℕ) (type : ElementType) (bytes : List ℕ) (k : ℕ) → type_at b ≡ Some type → (s : Split bytes k) → size_at type s.rest ≡ None
-    → FailAlike (wide_element f place e (b ∷ bytes)) (skip_element g place e (masked_byte b true ∷ bytes))
+bad_value : (f g : Nested) → NestedFails f g → (index : Option ℕ) (e b : ℕ) (type : ElementType) (bytes : List ℕ) (k : ℕ) → type_at b ≡ Some type → (s : Split bytes k) → size_at type s.rest ≡ None
+    → FailAlike (wide_element f index e (b ∷ bytes)) (skip_element g index e (masked_byte b true ∷ bytes))
 unfolding size_at
-bad_value f g below place e b type bytes k is s none = subst (λ (x : List ℕ). FailAlike (wide_element f place e (b ∷ x)) (skip_element g place e (masked_byte b true ∷ x))) (sym s.whole) (goes (b == 1) refl)
+bad_value f g below index e b type bytes k is s none = subst (λ (x : List ℕ). FailAlike (wide_element f index e (b ∷ x)) (skip_element g index e (masked_byte b true ∷ x))) (sym s.whole) (goes (b == 1) refl)
   where
     tail : List ℕ
     tail = s.name ++ 0 ∷ s.rest
 
-    goes : (t : Bool) → (b == 1) ≡ t → FailAlike (wide_element f place e (b ∷ (s.name ++ 0 ∷ s.rest))) (skip_element g place e (masked_byte b true ∷ (s.name ++ 0 ∷ s.rest)))
+    goes : (t : Bool) → (b == 1) ≡ t → FailAlike (wide_element f index e (b ∷ (s.name ++ 0 ∷ s.rest))) (skip_element g index e (masked_byte b true ∷ (s.name ++ 0 ∷ s.rest)))
     goes true at =
         let one : b ≡ 1 = eqb-true b 1 at in
         let same : Some type ≡ Some Double = sym is ∙ ap type_at one in
@@ -75,16 +75,16 @@ bad_value f g below place e b type bytes k is s none = subst (λ (x : List ℕ).
         let value : (q : ℕ) → FailAlike (wide_typed f type q e s.rest) (skip_typed g (Kept kinds.Int64) q e s.rest) = λ q.
         let d = fixed_fails 8 e s.rest short in (d.0, ap (λ t. wide_typed f t q e s.rest) double ∙ d.1, d.1) in
         let splits : masked_byte b true ≡ 18 = ap (λ t. if t && true then 18 else b) at in
-        no_value f g place e b (masked_byte b true) type (Kept kinds.Int64) s.name s.rest is (ap type_at splits) s.no_zero value
+        no_value f g index e b (masked_byte b true) type (Kept kinds.Int64) s.name s.rest is (ap type_at splits) s.no_zero value
     goes false at =
         let other = not_double_is type (λ double. double_byte b at (is ∙ ap Some double)) in
         let splits : masked_byte b true ≡ b = ap (λ t. if t && true then 18 else b) at in
-        no_value f g place e b (masked_byte b true) type type s.name s.rest is (ap type_at splits ∙ is) s.no_zero (λ q. typed_fail f g below type q e s.rest other none)
+        no_value f g index e b (masked_byte b true) type type s.name s.rest is (ap type_at splits ∙ is) s.no_zero (λ q. typed_fail f g below type q e s.rest other none)
 
-pub bad_element : (f g : Nested) → NestedFails f g → (place : Option ℕ) (e b : ℕ) (bytes : List ℕ) → first_element (b ∷ bytes) ≡ None
-    → FailAlike (wide_element f place e (b ∷ bytes)) (skip_element g place e (masked_byte b (is_some (first_zero bytes)) ∷ bytes))
+pub bad_element : (f g : Nested) → NestedFails f g → (index : Option ℕ) (e b : ℕ) (bytes : List ℕ) → first_element (b ∷ bytes) ≡ None
+    → FailAlike (wide_element f index e (b ∷ bytes)) (skip_element g index e (masked_byte b (is_some (first_zero bytes)) ∷ bytes))
 unfolding first_element
-bad_element f g below place e b bytes none = goes (type_at b) refl (first_zero bytes) refl none
+bad_element f g below index e b bytes none = goes (type_at b) refl (first_zero bytes) refl none
   where
     untyped : type_at b ≡ None → (n t : Bool) → (b == 1) ≡ t → masked_byte b n ≡ b
     untyped is n true at =
@@ -93,26 +93,26 @@ bad_element f g below place e b bytes none = goes (type_at b) refl (first_zero b
 
     goes : (t : Option ElementType) → type_at b ≡ t → (o : Option ℕ) → first_zero bytes ≡ o
         → written.◌>>=◌ t (λ type. written.◌>>=◌ o (λ k. written.◌>>=◌ (size_at type (drop (k + 1) bytes)) (λ n. let x : ElementType × ℕ × ℕ = (type, k + 2, n) in Some x))) ≡ None
-        → FailAlike (wide_element f place e (b ∷ bytes)) (skip_element g place e (masked_byte b (is_some (first_zero bytes)) ∷ bytes))
+        → FailAlike (wide_element f index e (b ∷ bytes)) (skip_element g index e (masked_byte b (is_some (first_zero bytes)) ∷ bytes))
     goes None is o at h =
         let splits : masked_byte b (is_some (first_zero bytes)) ≡ b = untyped is (is_some (first_zero bytes)) (b == 1) refl in
-        subst (λ c. FailAlike (wide_element f place e (b ∷ bytes)) (skip_element g place e (c ∷ bytes))) (sym splits) (no_type f g place e b bytes is)
+        subst (λ c. FailAlike (wide_element f index e (b ∷ bytes)) (skip_element g index e (c ∷ bytes))) (sym splits) (no_type f g index e b bytes is)
     goes (Some type) is None at h =
         let splits : masked_byte b (is_some (first_zero bytes)) ≡ b = ap (λ z. masked_byte b (is_some z)) at ∙ ap (λ t. if t then 18 else b) (and_false (b == 1)) in
-        subst (λ c. FailAlike (wide_element f place e (b ∷ bytes)) (skip_element g place e (c ∷ bytes))) (sym splits) (no_name f g place e b type bytes is at)
+        subst (λ c. FailAlike (wide_element f index e (b ∷ bytes)) (skip_element g index e (c ∷ bytes))) (sym splits) (no_name f g index e b type bytes is at)
     goes (Some type) is (Some k) at h =
         let s = zero_split bytes k at in
         let size = no_size type k (size_at type (drop (k + 1) bytes)) h in
-        subst (λ z. FailAlike (wide_element f place e (b ∷ bytes)) (skip_element g place e (masked_byte b (is_some z) ∷ bytes))) (sym at)
-        (bad_value f g below place e b type bytes k is s (ap (size_at type) (sym (after_zero bytes k s)) ∙ size))
+        subst (λ z. FailAlike (wide_element f index e (b ∷ bytes)) (skip_element g index e (masked_byte b (is_some z) ∷ bytes))) (sym at)
+        (bad_value f g below index e b type bytes k is s (ap (size_at type) (sym (after_zero bytes k s)) ∙ size))
 
 -- ---- an element that is passed on
 
 pub record FirstElement (b : ℕ) (bytes : List ℕ) (x : ElementType × ℕ × ℕ) : Type 0 where
   pub typed : type_at b ≡ Some x.0
-  pub place : ℕ
-  pub split : Split bytes place
-  pub head : x.1 ≡ place + 2
+  pub index : ℕ
+  pub split : Split bytes index
+  pub head : x.1 ≡ index + 2
   pub size : size_at x.0 split.rest ≡ Some x.2
 
 prefix_sized : (b : ℕ) (bytes : List ℕ) (x : ElementType × ℕ × ℕ) (type : ElementType) (k : ℕ) (s : Split bytes k) (o : Option ℕ) → type_at b ≡ Some type → size_at type s.rest ≡ o
@@ -121,7 +121,7 @@ prefix_sized b bytes x type k s None is at h = absurd cc
 prefix_sized b bytes x type k s (Some n) is at h =
     let y : ElementType × ℕ × ℕ = (type, k + 2, n) in
     let same : y ≡ x = cc in
-    subst (λ (z : ElementType × ℕ × ℕ). FirstElement b bytes z) same (record { typed = is; place = k; split = s; head = refl; size = at })
+    subst (λ (z : ElementType × ℕ × ℕ). FirstElement b bytes z) same (record { typed = is; index = k; split = s; head = refl; size = at })
 
 pub first_element_is : (b : ℕ) (bytes : List ℕ) (x : ElementType × ℕ × ℕ) → first_element (b ∷ bytes) ≡ Some x → FirstElement b bytes x
 unfolding first_element
@@ -141,12 +141,12 @@ pub record Stepped (f g : Nested) (b : ℕ) (name v r one : List ℕ) : Type 0 w
   pub others : List ℕ
   pub is : one ≡ first ∷ others
   pub size : length one ≡ length name + 2 + length v
-  pub alike : (place : Option ℕ) (e : ℕ) (two : List ℕ) → length two ≡ length r → Alike r two (wide_element f place e (b ∷ (name ++ 0 ∷ (v ++ r)))) (skip_element g place e (first ∷ (others ++ two)))
+  pub alike : (index : Option ℕ) (e : ℕ) (two : List ℕ) → length two ≡ length r → Alike r two (wide_element f index e (b ∷ (name ++ 0 ∷ (v ++ r)))) (skip_element g index e (first ∷ (others ++ two)))
 
-named_alike : (r two : List ℕ) (text : Result (Unit {0}) Fault) (place : Option ℕ) (name : List ℕ) (a b : Result (List ℕ) Fault) → Alike r two a b → Alike r two (named_value text place name a) (named_value text place name b)
-named_alike r two (Err d) place name a b h = (Err d, refl, refl)
-named_alike r two (Ok u) place name a b (Ok v, p, q) = (Ok tt, ap (within (label place name)) p, ap (within (label place name)) q)
-named_alike r two (Ok u) place name a b (Err d, p, q) = (within (label place name) (Err d), ap (within (label place name)) p, ap (within (label place name)) q)
+named_alike : (r two : List ℕ) (text : Result (Unit {0}) Fault) (index : Option ℕ) (name : List ℕ) (a b : Result (List ℕ) Fault) → Alike r two a b → Alike r two (named_value text index name a) (named_value text index name b)
+named_alike r two (Err d) index name a b h = (Err d, refl, refl)
+named_alike r two (Ok u) index name a b (Ok v, p, q) = (Ok tt, ap (within (label index name)) p, ap (within (label index name)) q)
+named_alike r two (Ok u) index name a b (Err d, p, q) = (within (label index name) (Err d), ap (within (label index name)) p, ap (within (label index name)) q)
 
 stepped : (f g : Nested) (b c : ℕ) (type other : ElementType) (name v new r one : List ℕ) → type_at b ≡ Some type → type_at c ≡ Some other → NoZero name → length new ≡ length v
     → ((q e : ℕ) (two : List ℕ) → length two ≡ length r → Alike r two (wide_typed f type q e (v ++ r)) (skip_typed g other q e (new ++ two)))
@@ -156,14 +156,14 @@ stepped f g b c type other name v new r one p q h same value is = record {
   others = name ++ 0 ∷ new;
   is = is;
   size = omega (arith, ap (λ (x : List ℕ). length x) is, length-append name (0 ∷ new), same);
-  alike = λ place e two long.
+  alike = λ index e two long.
       let tail : List ℕ = name ++ 0 ∷ (v ++ r) in
       let count : length (name ++ 0 ∷ (new ++ two)) ≡ length tail = omega (arith, length-append name (0 ∷ (new ++ two)), length-append name (0 ∷ (v ++ r)), length-append new two, length-append v r, same, long) in
-      let n = named_alike r two (text_checked (e - length tail) name) place name _ _ (value (e - suc (length tail)) e two long) in (
+      let n = named_alike r two (text_checked (e - length tail) name) index name _ _ (value (e - suc (length tail)) e two long) in (
         n.0,
-        wide_element_is f place e b type name (v ++ r) p h ∙ n.1,
-        ap (λ (x : List ℕ). skip_element g place e (c ∷ x)) (append_assoc name (0 ∷ new) two) ∙ skip_element_is g place e c other name (new ++ two) q h
-            ∙ ap (λ k. named_value (text_checked (e - k) name) place name (skip_typed g other (e - suc k) e (new ++ two))) count ∙ n.2,
+        wide_element_is f index e b type name (v ++ r) p h ∙ n.1,
+        ap (λ (x : List ℕ). skip_element g index e (c ∷ x)) (append_assoc name (0 ∷ new) two) ∙ skip_element_is g index e c other name (new ++ two) q h
+            ∙ ap (λ k. named_value (text_checked (e - k) name) index name (skip_typed g other (e - suc k) e (new ++ two))) count ∙ n.2,
       );
 }
 
@@ -188,26 +188,26 @@ decimal_value f q e v r size =
     let long : nat_lt (length (v ++ r)) 16 ≡ false = le-ltb _ _ (omega (arith, length-append v r)) in
     rw (long, drop_at v r 16 size) refl
 
-decimal_alike : (f g : Nested) (b : ℕ) (name v r : List ℕ) (place : Option ℕ) (e : ℕ) (two : List ℕ) → type_at b ≡ Some Decimal128 → NoZero name → length v ≡ 16 → length two ≡ length r
-    → Alike r two (wide_element f place e (b ∷ (name ++ 0 ∷ (v ++ r)))) (skip_element g place e (7 ∷ ((name ++ (35 ∷ 35 ∷ 35 ∷ 35 ∷ [])) ++ 0 ∷ (drop 4 v ++ two))))
-decimal_alike f g b name v r place e two is h size long =
+decimal_alike : (f g : Nested) (b : ℕ) (name v r : List ℕ) (index : Option ℕ) (e : ℕ) (two : List ℕ) → type_at b ≡ Some Decimal128 → NoZero name → length v ≡ 16 → length two ≡ length r
+    → Alike r two (wide_element f index e (b ∷ (name ++ 0 ∷ (v ++ r)))) (skip_element g index e (7 ∷ ((name ++ (35 ∷ 35 ∷ 35 ∷ 35 ∷ [])) ++ 0 ∷ (drop 4 v ++ two))))
+decimal_alike f g b name v r index e two is h size long =
     let longer : List ℕ = name ++ (35 ∷ 35 ∷ 35 ∷ 35 ∷ []) in
     let tail : List ℕ = name ++ 0 ∷ (v ++ r) in
     let other : List ℕ = longer ++ 0 ∷ (drop 4 v ++ two) in
     let count : length other ≡ length tail = omega (arith, length-append longer (0 ∷ (drop 4 v ++ two)), length-append name (35 ∷ 35 ∷ 35 ∷ 35 ∷ []), length-append (drop 4 v) two, length-drop 4 v, length-append name (0 ∷ (v ++ r)), length-append v r, size, long) in
     let text : Result (Unit {0}) Fault = text_checked (e - length tail) name in
-    let wide : wide_element f place e (b ∷ tail) ≡ named_value text place name (Ok r) =
-    wide_element_is f place e b Decimal128 name (v ++ r) is h ∙ ap (named_value text place name) (decimal_value f (e - suc (length tail)) e v r size) in
+    let wide : wide_element f index e (b ∷ tail) ≡ named_value text index name (Ok r) =
+    wide_element_is f index e b Decimal128 name (v ++ r) is h ∙ ap (named_value text index name) (decimal_value f (e - suc (length tail)) e v r size) in
     let splits : skip_fixed 12 e (drop 4 v ++ two) ≡ Ok two = fixed_skip_of 12 e (drop 4 v) two (omega (arith, length-drop 4 v, size)) in
-    let beyond : skip_element g place e (7 ∷ other) ≡ named_value text place longer (Ok two) =
-    skip_element_is g place e 7 (Kept kinds.ObjectId) longer (drop 4 v ++ two) refl (no_zero_longer name h)
-    ∙ ap (λ (t : Result (Unit {0}) Fault). named_value t place longer (skip_fixed 12 e (drop 4 v ++ two))) (ap (λ k. text_checked (e - k) longer) count ∙ text_longer (e - length tail) name)
-    ∙ ap (named_value text place longer) splits in
+    let beyond : skip_element g index e (7 ∷ other) ≡ named_value text index longer (Ok two) =
+    skip_element_is g index e 7 (Kept kinds.ObjectId) longer (drop 4 v ++ two) refl (no_zero_longer name h)
+    ∙ ap (λ (t : Result (Unit {0}) Fault). named_value t index longer (skip_fixed 12 e (drop 4 v ++ two))) (ap (λ k. text_checked (e - k) longer) count ∙ text_longer (e - length tail) name)
+    ∙ ap (named_value text index longer) splits in
     goes text wide beyond
   where
-    goes : (t : Result (Unit {0}) Fault) → wide_element f place e (b ∷ (name ++ 0 ∷ (v ++ r))) ≡ named_value t place name (Ok r)
-        → skip_element g place e (7 ∷ ((name ++ (35 ∷ 35 ∷ 35 ∷ 35 ∷ [])) ++ 0 ∷ (drop 4 v ++ two))) ≡ named_value t place (name ++ (35 ∷ 35 ∷ 35 ∷ 35 ∷ [])) (Ok two)
-        → Alike r two (wide_element f place e (b ∷ (name ++ 0 ∷ (v ++ r)))) (skip_element g place e (7 ∷ ((name ++ (35 ∷ 35 ∷ 35 ∷ 35 ∷ [])) ++ 0 ∷ (drop 4 v ++ two))))
+    goes : (t : Result (Unit {0}) Fault) → wide_element f index e (b ∷ (name ++ 0 ∷ (v ++ r))) ≡ named_value t index name (Ok r)
+        → skip_element g index e (7 ∷ ((name ++ (35 ∷ 35 ∷ 35 ∷ 35 ∷ [])) ++ 0 ∷ (drop 4 v ++ two))) ≡ named_value t index (name ++ (35 ∷ 35 ∷ 35 ∷ 35 ∷ [])) (Ok two)
+        → Alike r two (wide_element f index e (b ∷ (name ++ 0 ∷ (v ++ r)))) (skip_element g index e (7 ∷ ((name ++ (35 ∷ 35 ∷ 35 ∷ 35 ∷ [])) ++ 0 ∷ (drop 4 v ++ two))))
     goes (Ok u) p q = (Ok tt, p, q)
     goes (Err d) p q = (Err d, p, q)
 
@@ -225,9 +225,9 @@ decimal_stepped f g b name v r one is h size given =
       others = (name ++ hash) ++ 0 ∷ drop 4 v;
       is = whole;
       size = omega (arith, ap (λ (x : List ℕ). length x) whole, length-append (name ++ hash) (0 ∷ drop 4 v), length-append name hash, length-drop 4 v, size);
-      alike = λ place e two long.
-          let d = decimal_alike f g b name v r place e two is h size long in
-          (d.0, d.1, ap (λ (x : List ℕ). skip_element g place e (7 ∷ x)) (append_assoc (name ++ hash) (0 ∷ drop 4 v) two) ∙ d.2);
+      alike = λ index e two long.
+          let d = decimal_alike f g b name v r index e two is h size long in
+          (d.0, d.1, ap (λ (x : List ℕ). skip_element g index e (7 ∷ x)) (append_assoc (name ++ hash) (0 ∷ drop 4 v) two) ∙ d.2);
     }
 
 -- ---- each type

@@ -23,21 +23,21 @@ wide_typed nested (ElementType.Kept kind) q e bytes = skip_value nested kind q e
 
 -- the bytes after an element, in which doubles and decimal128 are read: its type byte, its name, its value
 unfoldable pub wide_element : Nested → Option ℕ → ℕ → List ℕ → Result (List ℕ) Fault
-wide_element nested place e [] = fault UnknownType e
-wide_element nested place e (b ∷ bytes) = do
+wide_element nested index e [] = fault UnknownType e
+wide_element nested index e (b ∷ bytes) = do
   type ← ok_or (type_at b)
       (record { kind = UnknownType; offset = e - suc (length bytes); path = [] })
   name ← skip_name NameUnended e bytes
-  within (label place name.0) (wide_typed nested type (e - suc (length bytes)) e name.1)
+  within (label index name.0) (wide_typed nested type (e - suc (length bytes)) e name.1)
 
 -- All elements, in which doubles and decimal128 are read. The first number bounds the turns:
 -- the count of the bytes is always enough.
 unfoldable pub wide_elements : Nested → Option ℕ → ℕ → ℕ → List ℕ → Result (Unit {0}) Fault
-wide_elements nested place zero e bytes = Ok tt
-wide_elements nested place (suc n) e [] = Ok tt
-wide_elements nested place (suc n) e (b ∷ bytes) = do
-  rest ← wide_element nested place e (b ∷ bytes)
-  wide_elements nested (option_map suc place) n e rest
+wide_elements nested index zero e bytes = Ok tt
+wide_elements nested index (suc n) e [] = Ok tt
+wide_elements nested index (suc n) e (b ∷ bytes) = do
+  rest ← wide_element nested index e (b ∷ bytes)
+  wide_elements nested (option_map suc index) n e rest
 
 -- the bytes after a document, or after an array, in which doubles and decimal128 are read
 abbrev pub wide_body : Nested → Bool → ℕ → List ℕ → Result (List ℕ) Fault

@@ -10,15 +10,15 @@ use Rattle.bd_path.specs.declared.path.PathFault.TheVariants.{EmptyComponent, To
 use Rattle.bd_query_filter.specs.Fault.{Refusal, refuse}
 use Rattle.bd_query_filter.specs.Filter.{Filter, all_of, some_of, none_of, at_path, filters_from, filter, Operator, equals, compares, is_in, has_all, has_type, has_size, exists, negates, has_element, has_document}
 use Rattle.bd_query_filter.specs.Filter.{negation_of, operators_from, operator}
-use Rattle.bd_query_filter.specs.Word.{word_of}
+use Rattle.bd_query_filter.specs.NameKind.{name_kind_of}
 use Rattle.bd_query_filter.specs.FilterOf.{read_as, read_at, is_regex, is_bound, first_is_operator, has_operators, unless_omitted, member_value, member_values, members_of}
 use Rattle.bd_query_filter.specs.FilterOf.{size_value, truth_value, operand_kinds, or_bad_operand, plain_operator, logical_filter, inner_part, has_value_form, pair_filter, operator_of}
 use Rattle.bd_query_filter.specs.FilterOf.{filters_of, operand_filters, member_filters, member_filter, path_operators, operators_of, not_operator, element_operator, filter_of}
-use Rattle.bd_query_filter.specs.declared.filter_of.{LogicalOperator.LogicalOperator, PlainOperator.PlainOperator, Word.Word}
+use Rattle.bd_query_filter.specs.declared.filter_of.{LogicalOperator.LogicalOperator, PlainOperator.PlainOperator, NameKind.NameKind}
 use Rattle.bd_query_filter.specs.declared.fault.FilterFaultKind.TheVariants as faults
 use Rattle.bd_query_filter.specs.declared.filter_of.LogicalOperator.TheVariants as logical
 use Rattle.bd_query_filter.specs.declared.filter_of.PlainOperator.TheVariants as plain
-use Rattle.bd_query_filter.specs.declared.filter_of.Word.TheVariants as words
+use Rattle.bd_query_filter.specs.declared.filter_of.NameKind.TheVariants as name_kinds
 use Rattle.bd_cursor_request.specs.Refused.{Reason, bad_filter, plain as plain_reason, then_part, error_as}
 use Rattle.bd_cursor_request.specs.Request.{Request, request_of, request_text, request_with, sort_of}
 use Rattle.bd_cursor_request.specs.declared.results.Refused.TheVariants as reasons
@@ -134,19 +134,19 @@ module _ (c : Codes) where
   logical_stays logical.Or fs = ap some_of (filters_stay fs)
   logical_stays logical.Nor fs = ap none_of (filters_stay fs)
 
-  operator_stays : (w : Word) (depth_left : ℕ) (t : Tree)
+  operator_stays : (w : NameKind) (depth_left : ℕ) (t : Tree)
       → not_operator depth_left (query_inverse c t) ≡ read_as (renumber_operator c) (not_operator depth_left t)
       → element_operator depth_left (query_element c t) ≡ read_as (renumber_operator c) (element_operator depth_left t)
       → operator_of w (operand w t (r t) (query_inverse c t) (query_element c t)) (not_operator depth_left (operand w t (r t) (query_inverse c t) (query_element c t)))
       (element_operator depth_left (operand w t (r t) (query_inverse c t) (query_element c t)))
       ≡ read_as (renumber_operator c) (operator_of w t (not_operator depth_left t) (element_operator depth_left t))
-  operator_stays (words.Plain p) depth_left t a b = plain_stays p t
-  operator_stays words.Not depth_left t a b = a
-  operator_stays words.ElemMatch depth_left t a b = b
-  operator_stays words.Omitted depth_left t a b = refl
-  operator_stays words.Field depth_left t a b = refl
-  operator_stays words.Unknown depth_left t a b = refl
-  operator_stays (words.Logical l) depth_left t a b = refl
+  operator_stays (name_kinds.Plain p) depth_left t a b = plain_stays p t
+  operator_stays name_kinds.Not depth_left t a b = a
+  operator_stays name_kinds.ElemMatch depth_left t a b = b
+  operator_stays name_kinds.Omitted depth_left t a b = refl
+  operator_stays name_kinds.Field depth_left t a b = refl
+  operator_stays name_kinds.Unknown depth_left t a b = refl
+  operator_stays (name_kinds.Logical l) depth_left t a b = refl
 
   -- ---- the first name of what was renumbered
 
@@ -195,24 +195,24 @@ module _ (c : Codes) where
       (inner_part depth_left (read_as (λ xs. has_document (filters_from xs)) (filters_of (depth_left - 1) (query_fields c fs))))) (fields_form_stays fs ∙ e) ∙ k
 
 -- a pair: its value has the codes below the names of its path
-pair_stays : (c : Codes) (names : Names) (w : Word) (path : Result Names PathFault) (depth_left : ℕ) (t : Tree) → ((p : Names) → path ≡ Ok p → p ≡ names)
+pair_stays : (c : Codes) (names : Names) (w : NameKind) (path : Result Names PathFault) (depth_left : ℕ) (t : Tree) → ((p : Names) → path ≡ Ok p → p ≡ names)
     → operand_filters depth_left (query_members c t) ≡ read_as (map (renumber_filter c)) (operand_filters depth_left t)
     → path_operators depth_left (query_value (below names c) t) ≡ read_as (map (renumber_operator (below names c))) (path_operators depth_left t)
     → pair_filter w path (operand_filters depth_left (pair_value w (query_members c t) (query_value (below names c) t)))
     (path_operators depth_left (pair_value w (query_members c t) (query_value (below names c) t)))
     ≡ read_as (renumber_filter c) (pair_filter w path (operand_filters depth_left t) (path_operators depth_left t))
-pair_stays c names (words.Logical l) path depth_left t is a b =
+pair_stays c names (name_kinds.Logical l) path depth_left t is a b =
     read_on (map (renumber_filter c)) (renumber_filter c) (logical_filter l) (logical_filter l) (logical_stays c l) (operand_filters depth_left t) (operand_filters depth_left (query_members c t)) a
-pair_stays c names words.Field (Err fault) depth_left t is a b = refl
-pair_stays c names words.Field (Ok path) depth_left t is a b =
+pair_stays c names name_kinds.Field (Err fault) depth_left t is a b = refl
+pair_stays c names name_kinds.Field (Ok path) depth_left t is a b =
     read_on (map (renumber_operator (below names c))) (renumber_filter c) (λ os. at_path path (operators_from os)) (λ os. at_path path (operators_from os))
     (λ os. ap (at_path path) (operators_stay (below names c) os ∙ ap (λ p. renumber_operators (below p c) (operators_from os)) (sym (is path refl))))
     (path_operators depth_left t) (path_operators depth_left (query_value (below names c) t)) b
-pair_stays c names words.Omitted path depth_left t is a b = refl
-pair_stays c names words.Unknown path depth_left t is a b = refl
-pair_stays c names (words.Plain p) path depth_left t is a b = refl
-pair_stays c names words.Not path depth_left t is a b = refl
-pair_stays c names words.ElemMatch path depth_left t is a b = refl
+pair_stays c names name_kinds.Omitted path depth_left t is a b = refl
+pair_stays c names name_kinds.Unknown path depth_left t is a b = refl
+pair_stays c names (name_kinds.Plain p) path depth_left t is a b = refl
+pair_stays c names name_kinds.Not path depth_left t is a b = refl
+pair_stays c names name_kinds.ElemMatch path depth_left t is a b = refl
 
 -- ---- filters
 
@@ -221,9 +221,9 @@ mutual
   filters_read c no_fields depth_left = refl
   filters_read c (field n t fs) depth_left =
       ap₂ (read_at n)
-      (pair_stays c (components_of n) (word_of n) (path_of n) depth_left t (names_are n) (operand_read c t depth_left) (value_read (λ names. c (components_of n ++ names)) t depth_left))
+      (pair_stays c (components_of n) (name_kind_of n) (path_of n) depth_left t (names_are n) (operand_read c t depth_left) (value_read (λ names. c (components_of n ++ names)) t depth_left))
       (filters_read c fs depth_left)
-      ∙ read_in_turn (renumber_filter c) n (pair_filter (word_of n) (path_of n) (operand_filters depth_left t) (path_operators depth_left t)) (filters_of depth_left fs)
+      ∙ read_in_turn (renumber_filter c) n (pair_filter (name_kind_of n) (path_of n) (operand_filters depth_left t) (path_operators depth_left t)) (filters_of depth_left fs)
 
   operand_read : (c : Codes) (t : Tree) (depth_left : ℕ) → operand_filters depth_left (query_members c t) ≡ read_as (map (renumber_filter c)) (operand_filters depth_left t)
   operand_read c (leaf s) depth_left = refl
@@ -256,8 +256,8 @@ mutual
   operators_read : (c : Codes) (fs : Fields) (depth_left : ℕ) → operators_of depth_left (query_operators c fs) ≡ read_as (map (renumber_operator c)) (operators_of depth_left fs)
   operators_read c no_fields depth_left = refl
   operators_read c (field n t fs) depth_left =
-      ap₂ (read_at n) (operator_stays c (word_of n) depth_left t (inverse_read c t depth_left) (element_read c t depth_left)) (operators_read c fs depth_left)
-      ∙ read_in_turn (renumber_operator c) n (operator_of (word_of n) t (not_operator depth_left t) (element_operator depth_left t)) (operators_of depth_left fs)
+      ap₂ (read_at n) (operator_stays c (name_kind_of n) depth_left t (inverse_read c t depth_left) (element_read c t depth_left)) (operators_read c fs depth_left)
+      ∙ read_in_turn (renumber_operator c) n (operator_of (name_kind_of n) t (not_operator depth_left t) (element_operator depth_left t)) (operators_of depth_left fs)
 
   inverse_read : (c : Codes) (t : Tree) (depth_left : ℕ) → not_operator depth_left (query_inverse c t) ≡ read_as (renumber_operator c) (not_operator depth_left t)
   inverse_read c (leaf s) depth_left = cases (is_regex (leaf s))

@@ -6,8 +6,8 @@ use Rattle.std.specs.Ordering.{is_lt, ordering_reverse, ordering_then}
 use Rattle.std.proofs.lemmas.{List.map-append, List.Elements.recursion_from_All, Slice.Eq.bytes_eq-Decides}
 use Rattle.bd_value.specs.{Order.equal}
 use Rattle.bd_value.specs.Tree.{Tree, leaf, null, undefined, doc, array, code_scope, Items, no_items, item, Fields, no_fields, field, list_of}
-use Rattle.bd_path.specs.Reach.{Names, Gathering, gathering, first_gathering, each_gathering, gathering_at, index_of, is_index, is_document, End, ends, reach}
-use Rattle.bd_path.specs.Key.{missing_key, or_else, end_keys, key_gathering, all_keys, with_key, with_keys, indexed_keys, keys}
+use Rattle.bd_path.specs.Reach.{Names, Collecting, collecting, first_collecting, each_collecting, collecting_at, index_of, is_index, is_document, End, ends, reach}
+use Rattle.bd_path.specs.Key.{missing_key, or_else, end_keys, key_collecting, all_keys, with_key, with_keys, indexed_keys, keys}
 use Rattle.bd_path.specs.Sort.{dir_cmp, earlier_key, earliest_key, sort_key, SortPath, sort_cmp}
 use Rattle.bd_path.specs.{declared.sort.Dir.Dir, declared.sort.Dir.TheVariants.Up, declared.sort.Dir.TheVariants.Down}
 use Rattle.bd_wide_order.specs.Renumber.{Codes, under, below, AreIncreasing, LeadTo, PassOverIndexes, ReadsAlike, SortsReadAlike, IsOf, ItemsAreOf, FieldsAreOf}
@@ -60,7 +60,7 @@ index_some name = go (is_index name)
 
 -- ---- what is gathered from a renumbered value is what was gathered from it, mapped
 
-pub record Carries {A B : Type 0} (end : Codes) (h : A → B) (from : Gathering A) (to : Gathering B) : Type 0 where
+pub record Carries {A B : Type 0} (end : Codes) (h : A → B) (from : Collecting A) (to : Collecting B) : Type 0 where
   pub at_end : (t : Tree) → to.at_end (renumber end t) ≡ map h (from.at_end t)
   pub missing : to.missing ≡ map h from.missing
   pub of_array : (xs : List A) → to.of_array (map h xs) ≡ map h (from.of_array xs)
@@ -71,7 +71,7 @@ document_stays c (doc fs) = refl
 document_stays c (array ts) = refl
 document_stays c (code_scope s fs) = refl
 
-module _ {A B : Type 0} (end : Codes) (h : A → B) (from : Gathering A) (to : Gathering B) (carries : Carries end h from to) where
+module _ {A B : Type 0} (end : Codes) (h : A → B) (from : Collecting A) (to : Collecting B) (carries : Carries end h from to) where
   chosen : (b : Bool) (ys zs : List B) (xs ws : List A) → (b ≡ true → ys ≡ map h xs) → zs ≡ map h ws → cond b ys zs ≡ map h (cond b xs ws)
   chosen true ys zs xs ws y z = y refl
   chosen false ys zs xs ws y z = z
@@ -83,83 +83,83 @@ module _ {A B : Type 0} (end : Codes) (h : A → B) (from : Gathering A) (to : G
   ended c t is = ap (λ e. to.at_end (renumber e t)) is ∙ carries.at_end t
 
   mutual
-    pub gathers : (c : Codes) (t : Tree) (p : Names) → LeadTo c p end → gathering to (renumber c t) p ≡ map h (gathering from t p)
-    gathers c (leaf s) [] lead = ended c (leaf s) lead
-    gathers c (doc fs) [] lead = ended c (doc fs) lead
-    gathers c (array ts) [] lead = ended c (array ts) lead
-    gathers c (code_scope s fs) [] lead = ended c (code_scope s fs) lead
-    gathers c (leaf s) (name ∷ rest) lead = carries.missing
-    gathers c (doc fs) (name ∷ rest) lead = first c fs name rest lead.0
-    gathers c (array ts) (name ∷ rest) lead =
-        ap to.of_array (joined _ _ (each_gathering from ts (name ∷ rest)) (gathering_at from ts (index_of name) rest)
+    pub collects : (c : Codes) (t : Tree) (p : Names) → LeadTo c p end → collecting to (renumber c t) p ≡ map h (collecting from t p)
+    collects c (leaf s) [] lead = ended c (leaf s) lead
+    collects c (doc fs) [] lead = ended c (doc fs) lead
+    collects c (array ts) [] lead = ended c (array ts) lead
+    collects c (code_scope s fs) [] lead = ended c (code_scope s fs) lead
+    collects c (leaf s) (name ∷ rest) lead = carries.missing
+    collects c (doc fs) (name ∷ rest) lead = first c fs name rest lead.0
+    collects c (array ts) (name ∷ rest) lead =
+        ap to.of_array (joined _ _ (each_collecting from ts (name ∷ rest)) (collecting_at from ts (index_of name) rest)
         (each c ts (name ∷ rest) lead) (indexed c ts (index_of name) rest (λ e. lead.1 (index_some name e))))
-        ∙ carries.of_array (each_gathering from ts (name ∷ rest) ++ gathering_at from ts (index_of name) rest)
-    gathers c (code_scope s fs) (name ∷ rest) lead = carries.missing
+        ∙ carries.of_array (each_collecting from ts (name ∷ rest) ++ collecting_at from ts (index_of name) rest)
+    collects c (code_scope s fs) (name ∷ rest) lead = carries.missing
 
     first : (c : Codes) (fs : Fields) (name : List ℕ) (rest : Names) → LeadTo (under name c) rest end
-        → first_gathering to (renumber_fields c fs) name rest ≡ map h (first_gathering from fs name rest)
+        → first_collecting to (renumber_fields c fs) name rest ≡ map h (first_collecting from fs name rest)
     first c no_fields name rest lead = carries.missing
     first c (field n t fs) name rest lead =
-        chosen (bytes_eq n name) _ _ (gathering from t rest) (first_gathering from fs name rest)
-        (λ e. gathers (under n c) t rest (to_field c end n name rest lead e)) (first c fs name rest lead)
+        chosen (bytes_eq n name) _ _ (collecting from t rest) (first_collecting from fs name rest)
+        (λ e. collects (under n c) t rest (to_field c end n name rest lead e)) (first c fs name rest lead)
 
-    each : (c : Codes) (ts : Items) (p : Names) → LeadTo c p end → each_gathering to (renumber_items c ts) p ≡ map h (each_gathering from ts p)
+    each : (c : Codes) (ts : Items) (p : Names) → LeadTo c p end → each_collecting to (renumber_items c ts) p ≡ map h (each_collecting from ts p)
     each c no_items p lead = refl
     each c (item t ts) p lead =
-        joined _ _ (cond (is_document t) (gathering from t p) []) (each_gathering from ts p)
-        (ap (λ b. cond b (gathering to (renumber c t) p) []) (document_stays c t)
-        ∙ chosen (is_document t) (gathering to (renumber c t) p) [] (gathering from t p) [] (λ e. gathers c t p lead) refl)
+        joined _ _ (cond (is_document t) (collecting from t p) []) (each_collecting from ts p)
+        (ap (λ b. cond b (collecting to (renumber c t) p) []) (document_stays c t)
+        ∙ chosen (is_document t) (collecting to (renumber c t) p) [] (collecting from t p) [] (λ e. collects c t p lead) refl)
         (each c ts p lead)
 
     indexed : (c : Codes) (ts : Items) (i : Option ℕ) (rest : Names) → (is_some i ≡ true → LeadTo c rest end)
-        → gathering_at to (renumber_items c ts) i rest ≡ map h (gathering_at from ts i rest)
+        → collecting_at to (renumber_items c ts) i rest ≡ map h (collecting_at from ts i rest)
     indexed c no_items i rest lead = refl
     indexed c (item t ts) None rest lead = refl
-    indexed c (item t ts) (Some zero) rest lead = gathers c t rest (lead refl)
+    indexed c (item t ts) (Some zero) rest lead = collects c t rest (lead refl)
     indexed c (item t ts) (Some (suc i)) rest lead = indexed c ts (Some i) rest lead
 
 -- ---- what is gathered has a property that each value with such numbers has
 
-pub record Gives {A : Type 0} (end : Codes) (Q : A → Type 0) (from : Gathering A) : Type 0 where
+pub record Gives {A : Type 0} (end : Codes) (Q : A → Type 0) (from : Collecting A) : Type 0 where
   pub at_end : (t : Tree) → IsOf end t → Each Q (from.at_end t)
   pub missing : Each Q from.missing
   pub of_array : (xs : List A) → Each Q xs → Each Q (from.of_array xs)
 
-module _ {A : Type 0} (end : Codes) (Q : A → Type 0) (from : Gathering A) (gives : Gives end Q from) where
+module _ {A : Type 0} (end : Codes) (Q : A → Type 0) (from : Collecting A) (gives : Gives end Q from) where
   given : (c : Codes) (t : Tree) → IsOf c t → c ≡ end → Each Q (from.at_end t)
   given c t a is = gives.at_end t (subst (λ e. IsOf e t) is a)
 
   mutual
-    pub gathered : (c : Codes) (t : Tree) (p : Names) → IsOf c t → LeadTo c p end → Each Q (gathering from t p)
-    gathered c (leaf s) [] a lead = given c (leaf s) a lead
-    gathered c (doc fs) [] a lead = given c (doc fs) a lead
-    gathered c (array ts) [] a lead = given c (array ts) a lead
-    gathered c (code_scope s fs) [] a lead = given c (code_scope s fs) a lead
-    gathered c (leaf s) (name ∷ rest) a lead = gives.missing
-    gathered c (doc fs) (name ∷ rest) a lead = first_gathered c fs name rest a lead.0
-    gathered c (array ts) (name ∷ rest) a lead =
-        gives.of_array (each_gathering from ts (name ∷ rest) ++ gathering_at from ts (index_of name) rest)
-        (each_append Q (each_gathering from ts (name ∷ rest)) (gathering_at from ts (index_of name) rest) (each_gathered c ts (name ∷ rest) a lead)
-        (index_gathered c ts (index_of name) rest a (λ e. lead.1 (index_some name e))))
-    gathered c (code_scope s fs) (name ∷ rest) a lead = gives.missing
+    pub collected : (c : Codes) (t : Tree) (p : Names) → IsOf c t → LeadTo c p end → Each Q (collecting from t p)
+    collected c (leaf s) [] a lead = given c (leaf s) a lead
+    collected c (doc fs) [] a lead = given c (doc fs) a lead
+    collected c (array ts) [] a lead = given c (array ts) a lead
+    collected c (code_scope s fs) [] a lead = given c (code_scope s fs) a lead
+    collected c (leaf s) (name ∷ rest) a lead = gives.missing
+    collected c (doc fs) (name ∷ rest) a lead = first_collected c fs name rest a lead.0
+    collected c (array ts) (name ∷ rest) a lead =
+        gives.of_array (each_collecting from ts (name ∷ rest) ++ collecting_at from ts (index_of name) rest)
+        (each_append Q (each_collecting from ts (name ∷ rest)) (collecting_at from ts (index_of name) rest) (each_collected c ts (name ∷ rest) a lead)
+        (index_collected c ts (index_of name) rest a (λ e. lead.1 (index_some name e))))
+    collected c (code_scope s fs) (name ∷ rest) a lead = gives.missing
 
-    first_gathered : (c : Codes) (fs : Fields) (name : List ℕ) (rest : Names) → FieldsAreOf c fs → LeadTo (under name c) rest end → Each Q (first_gathering from fs name rest)
-    first_gathered c no_fields name rest a lead = gives.missing
-    first_gathered c (field n t fs) name rest a lead =
-        each_chosen Q (bytes_eq n name) (gathering from t rest) (first_gathering from fs name rest)
-        (λ e. gathered (under n c) t rest a.0 (to_field c end n name rest lead e)) (first_gathered c fs name rest a.1 lead)
+    first_collected : (c : Codes) (fs : Fields) (name : List ℕ) (rest : Names) → FieldsAreOf c fs → LeadTo (under name c) rest end → Each Q (first_collecting from fs name rest)
+    first_collected c no_fields name rest a lead = gives.missing
+    first_collected c (field n t fs) name rest a lead =
+        each_chosen Q (bytes_eq n name) (collecting from t rest) (first_collecting from fs name rest)
+        (λ e. collected (under n c) t rest a.0 (to_field c end n name rest lead e)) (first_collected c fs name rest a.1 lead)
 
-    each_gathered : (c : Codes) (ts : Items) (p : Names) → ItemsAreOf c ts → LeadTo c p end → Each Q (each_gathering from ts p)
-    each_gathered c no_items p a lead = tt
-    each_gathered c (item t ts) p a lead =
-        each_append Q (cond (is_document t) (gathering from t p) []) (each_gathering from ts p)
-        (each_chosen Q (is_document t) (gathering from t p) [] (λ e. gathered c t p a.0 lead) tt) (each_gathered c ts p a.1 lead)
+    each_collected : (c : Codes) (ts : Items) (p : Names) → ItemsAreOf c ts → LeadTo c p end → Each Q (each_collecting from ts p)
+    each_collected c no_items p a lead = tt
+    each_collected c (item t ts) p a lead =
+        each_append Q (cond (is_document t) (collecting from t p) []) (each_collecting from ts p)
+        (each_chosen Q (is_document t) (collecting from t p) [] (λ e. collected c t p a.0 lead) tt) (each_collected c ts p a.1 lead)
 
-    index_gathered : (c : Codes) (ts : Items) (i : Option ℕ) (rest : Names) → ItemsAreOf c ts → (is_some i ≡ true → LeadTo c rest end) → Each Q (gathering_at from ts i rest)
-    index_gathered c no_items i rest a lead = tt
-    index_gathered c (item t ts) None rest a lead = tt
-    index_gathered c (item t ts) (Some zero) rest a lead = gathered c t rest a.0 (lead refl)
-    index_gathered c (item t ts) (Some (suc i)) rest a lead = index_gathered c ts (Some i) rest a.1 lead
+    index_collected : (c : Codes) (ts : Items) (i : Option ℕ) (rest : Names) → ItemsAreOf c ts → (is_some i ≡ true → LeadTo c rest end) → Each Q (collecting_at from ts i rest)
+    index_collected c no_items i rest a lead = tt
+    index_collected c (item t ts) None rest a lead = tt
+    index_collected c (item t ts) (Some zero) rest a lead = collected c t rest a.0 (lead refl)
+    index_collected c (item t ts) (Some (suc i)) rest a lead = index_collected c ts (Some i) rest a.1 lead
 
 -- ---- ends
 
@@ -168,7 +168,7 @@ ends_carry end = record { at_end = λ t. refl; missing = refl; of_array = λ xs.
 
 -- a path reaches in a renumbered value the renumbered values that it reaches in the value
 pub reach_stays : (c : Codes) (p : Names) → ReadsAlike c p → (t : Tree) → reach (renumber c t) p ≡ map (option_map (renumber (below p c))) (reach t p)
-reach_stays c p lead t = gathers (below p c) (option_map (renumber (below p c))) ends ends (ends_carry (below p c)) c t p lead
+reach_stays c p lead t = collects (below p c) (option_map (renumber (below p c))) ends ends (ends_carry (below p c)) c t p lead
 
 abbrev pub EndIsOf : Codes → End → Type 0
 EndIsOf c None = Unit {0}
@@ -176,7 +176,7 @@ EndIsOf c (Some t) = IsOf c t
 
 pub ends_are_of : (c : Codes) (t : Tree) (p : Names) → ReadsAlike c p → IsOf c t → Each (EndIsOf (below p c)) (reach t p)
 ends_are_of c t p lead a =
-    gathered (below p c) (EndIsOf (below p c)) ends (record { at_end = λ u b. (b, tt); missing = (tt, tt); of_array = λ xs b. b }) c t p a lead
+    collected (below p c) (EndIsOf (below p c)) ends (record { at_end = λ u b. (b, tt); missing = (tt, tt); of_array = λ xs b. b }) c t p a lead
 
 -- ---- keys
 
@@ -198,7 +198,7 @@ missing_stays : (c : Codes) (sparse : Bool) → missing_key sparse ≡ map (renu
 missing_stays c true = refl
 missing_stays c false = refl
 
-keys_carry : (end : Codes) (sparse : Bool) → Carries end (renumber end) (key_gathering (missing_key sparse)) (key_gathering (missing_key sparse))
+keys_carry : (end : Codes) (sparse : Bool) → Carries end (renumber end) (key_collecting (missing_key sparse)) (key_collecting (missing_key sparse))
 keys_carry end sparse = record {
   at_end = end_stays end;
   missing = missing_stays end sparse;
@@ -207,7 +207,7 @@ keys_carry end sparse = record {
 
 all_stay : (c : Codes) (sparse : Bool) (t : Tree) (p : Names) → ReadsAlike c p → all_keys sparse (renumber c t) p ≡ map (renumber (below p c)) (all_keys sparse t p)
 all_stay c sparse t p lead =
-    gathers (below p c) (renumber (below p c)) (key_gathering (missing_key sparse)) (key_gathering (missing_key sparse)) (keys_carry (below p c) sparse) c t p lead
+    collects (below p c) (renumber (below p c)) (key_collecting (missing_key sparse)) (key_collecting (missing_key sparse)) (keys_carry (below p c) sparse) c t p lead
 
 pub list_is_of : (c : Codes) (ts : Items) → ItemsAreOf c ts → Each (IsOf c) (list_of ts)
 list_is_of c no_items a = tt
@@ -229,7 +229,7 @@ missing_is_of c false = (tt, tt)
 
 all_are_of : (c : Codes) (sparse : Bool) (t : Tree) (p : Names) → ReadsAlike c p → IsOf c t → Each (IsOf (below p c)) (all_keys sparse t p)
 all_are_of c sparse t p lead a =
-    gathered (below p c) (IsOf (below p c)) (key_gathering (missing_key sparse))
+    collected (below p c) (IsOf (below p c)) (key_collecting (missing_key sparse))
     (record { at_end = end_is_of (below p c); missing = missing_is_of (below p c) sparse; of_array = λ xs b. or_is_of (below p c) xs (missing_key sparse) b (missing_is_of (below p c) sparse) }) c t p a lead
 
 module _ (c : Codes) (up : AreIncreasing c) where

@@ -6,17 +6,17 @@ use Rattle.std.specs.Prelude.{ℕ, List, if◌then◌else◌}
 use Rattle.bd_value.specs.Tree.{Tree, doc, array, Items, no_items, item, Fields, no_fields, field, Doc, fields_of, pairs_of}
 use Rattle.bd_path.specs.Path.{components_of}
 use Rattle.bd_query_filter.specs.FilterOf.{first_is_operator, has_value_form}
-use Rattle.bd_query_filter.specs.Word.{word_of}
-use Rattle.bd_query_filter.specs.declared.filter_of.{PlainOperator.PlainOperator, Word.Word}
+use Rattle.bd_query_filter.specs.NameKind.{name_kind_of}
+use Rattle.bd_query_filter.specs.declared.filter_of.{PlainOperator.PlainOperator, NameKind.NameKind}
 use Rattle.bd_query_filter.specs.declared.filter_of.PlainOperator.TheVariants as plain
-use Rattle.bd_query_filter.specs.declared.filter_of.Word.TheVariants as words
+use Rattle.bd_query_filter.specs.declared.filter_of.NameKind.TheVariants as name_kinds
 use Rattle.bd_cursor_request.specs.Request.{Request}
 use Rattle.bd_wide_order.specs.Renumber.{FilterNeeds, Codes, SortsReadAlike, below, renumber, renumber_fields}
 use Rattle.bd_wide_order.specs.Renumber.{renumber_filter}
 
 -- the value of a pair of a query, by its name: filters for `$and` and its kin, else what a path is asked
-abbrev pub pair_value : Word → Tree → Tree → Tree
-pair_value (words.Logical l) members value = members
+abbrev pub pair_value : NameKind → Tree → Tree → Tree
+pair_value (name_kinds.Logical l) members value = members
 pair_value w members value = value
 
 -- the operand of an operator: `$size`, `$exists` and `$type` keep theirs, others get the new value
@@ -27,10 +27,10 @@ plain_operand plain.Type t value = t
 plain_operand p t value = value
 
 -- the operand of an operator, by its name
-abbrev pub operand : Word → Tree → Tree → Tree → Tree → Tree
-operand (words.Plain p) t value inverse element = plain_operand p t value
-operand words.Not t value inverse element = inverse
-operand words.ElemMatch t value inverse element = element
+abbrev pub operand : NameKind → Tree → Tree → Tree → Tree → Tree
+operand (name_kinds.Plain p) t value inverse element = plain_operand p t value
+operand name_kinds.Not t value inverse element = inverse
+operand name_kinds.ElemMatch t value inverse element = element
 operand w t value inverse element = t
 
 abbrev mutual
@@ -39,7 +39,7 @@ abbrev mutual
   query_fields c no_fields = no_fields
   query_fields c (field n t fs) =
       field n
-      (pair_value (word_of n) (query_members c t) (query_value (below (components_of n) c) t))
+      (pair_value (name_kind_of n) (query_members c t) (query_value (below (components_of n) c) t))
       (query_fields c fs)
 
   -- the operand of `$and`, `$or` and `$nor`, with other numbers
@@ -68,7 +68,7 @@ abbrev mutual
   query_operators c no_fields = no_fields
   query_operators c (field n t fs) =
       field n
-      (operand (word_of n) t (renumber c t) (query_inverse c t) (query_element c t))
+      (operand (name_kind_of n) t (renumber c t) (query_inverse c t) (query_element c t))
       (query_operators c fs)
 
   -- the operand of `$not`, with other numbers

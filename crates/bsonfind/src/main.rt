@@ -6,7 +6,7 @@ use bd_cli_args::{Order, WordsFault, parse_words};
 use bd_cli_files::Status;
 use bd_cli_files::output::CANNOT_WRITE;
 use bd_io_device::{BufferedInput, ReadFault, SystemInput, SystemOutput, write_all};
-use bd_io_stdout::{FlushingError, FlushingInput, GatheredOutput, Gathering, WriteState, hand_on};
+use bd_io_stdout::{FlushingError, FlushingInput, BufferedOutput, OutputBuffer, WriteState, hand_on};
 use std::cell::RefCell;
 use std::io::{BufReader, Read, Stdout};
 use std::os::fd::AsRawFd;
@@ -31,30 +31,30 @@ fn order(rt: &HostRuntime) -> Result<Order, WordsFault> {
 const BUFFER: usize = 65_536;
 
 /// What waits to be written to standard output.
-type Waiting = RefCell<Gathering<SystemOutput<Stdout>>>;
+type Waiting = RefCell<OutputBuffer<SystemOutput<Stdout>>>;
 
 /// Tells why there is no order to be carried out.
-fn refuse(rt: &HostRuntime, fault: &WordsFault, gathering: &Waiting) -> Status {
+fn refuse(rt: &HostRuntime, fault: &WordsFault, output_buffer: &Waiting) -> Status {
     let writer = rt.stderr();
-    let mut out = SystemOutput::new(GatheredOutput { gathering });
-    let mut err = SystemOutput::new(FlushingError { writer, gathering });
+    let mut out = SystemOutput::new(BufferedOutput { output_buffer });
+    let mut err = SystemOutput::new(FlushingError { writer, output_buffer });
     report(fault, &mut out, &mut err)
 }
 
 /// Carries out an order over the input that its file is.
-fn run<F: Read + Drop>(rt: &HostRuntime, order: &Order, reader: F, gathering: &Waiting) -> Status {
+fn run<F: Read + Drop>(rt: &HostRuntime, order: &Order, reader: F, output_buffer: &Waiting) -> Status {
     let alloc = rt.alloc();
-    let file = FlushingInput { reader, gathering };
+    let file = FlushingInput { reader, output_buffer };
     let Ok(file) = BufReader::with_capacity(alloc, BUFFER, file) else {
-        return refuse(rt, &WordsFault::NoMemory, gathering);
+        return refuse(rt, &WordsFault::NoMemory, output_buffer);
     };
     let mut file = BufferedInput::new(file);
     let reader = rt.reader();
     // They are read in blocks as it is.
-    let mut commands = SystemInput::new(FlushingInput { reader, gathering });
+    let mut commands = SystemInput::new(FlushingInput { reader, output_buffer });
     let writer = rt.stderr();
-    let mut out = SystemOutput::new(GatheredOutput { gathering });
-    let mut err = SystemOutput::new(FlushingError { writer, gathering });
+    let mut out = SystemOutput::new(BufferedOutput { output_buffer });
+    let mut err = SystemOutput::new(FlushingError { writer, output_buffer });
     bd_cli::run(alloc, order, &mut file, &mut commands, &mut out, &mut err)
 }
 
@@ -70,10 +70,10 @@ fn report_error(rt: &HostRuntime, message: &str, file: &str) -> Status {
 }
 
 /// Does what the process's words say.
-fn execute(rt: &HostRuntime, gathering: &Waiting) -> Status {
+fn execute(rt: &HostRuntime, output_buffer: &Waiting) -> Status {
     let order = match order(rt) {
         Ok(order) => order,
-        Err(fault) => return refuse(rt, &fault, gathering),
+        Err(fault) => return refuse(rt, &fault, output_buffer),
     };
     let (Order::Dump { file }
     | Order::Check { file }
@@ -81,7 +81,7 @@ fn execute(rt: &HostRuntime, gathering: &Waiting) -> Status {
     | Order::Find { file, .. }
     | Order::Serve { file }) = &order;
     if file.as_str() == "-" {
-        return run(rt, &order, rt.reader(), gathering);
+        return run(rt, &order, rt.reader(), output_buffer);
     }
     let Ok(opened) = fs::open(rt, file) else {
         return report_error(rt, "cannot open ", file);
@@ -90,16 +90,16 @@ fn execute(rt: &HostRuntime, gathering: &Waiting) -> Status {
     if opened.as_raw_fd() == 0 && matches!(&order, Order::Serve { .. }) {
         return report_error(rt, ReadFault::Device.words(), "");
     }
-    run(rt, &order, opened, gathering)
+    run(rt, &order, opened, output_buffer)
 }
 
 /// Does what the process's words say, up to the last byte of standard output. A loss of which the run did not learn is told
 /// here; nothing else was told then.
 fn status(rt: &HostRuntime) -> Status {
     let system = SystemOutput::new(rt.stdout());
-    let gathering = RefCell::new(Gathering::new(rt.alloc(), system));
-    let status = execute(rt, &gathering);
-    if hand_on(&gathering) == WriteState::Lost {
+    let output_buffer = RefCell::new(OutputBuffer::new(rt.alloc(), system));
+    let status = execute(rt, &output_buffer);
+    if hand_on(&output_buffer) == WriteState::Lost {
         return report_error(rt, CANNOT_WRITE, "");
     }
     status

@@ -3,7 +3,7 @@
 
 use bd_cli_args::WordsFault;
 use bd_io_device::{BufferedInput, SystemOutput, write_all};
-use bd_io_stdout::{FlushingError, FlushingInput, GatheredOutput, Gathering, WriteState, hand_on};
+use bd_io_stdout::{FlushingError, FlushingInput, BufferedOutput, OutputBuffer, WriteState, hand_on};
 use bd_wide::read_order;
 use bd_wide_args::{Order, parse_words};
 use bd_wide_cli::{CANNOT_WRITE, Filter, Status, report};
@@ -42,13 +42,13 @@ fn filter(rt: &HostRuntime) -> Result<(Filter, String), WordsFault> {
 const BUFFER: usize = 65_536;
 
 /// What waits to be written to standard output.
-type Waiting = RefCell<Gathering<SystemOutput<Stdout>>>;
+type Waiting = RefCell<OutputBuffer<SystemOutput<Stdout>>>;
 
 /// Tells why there is no order to be carried out.
-fn refuse(rt: &HostRuntime, fault: WordsFault, gathering: &Waiting) -> Status {
+fn refuse(rt: &HostRuntime, fault: WordsFault, output_buffer: &Waiting) -> Status {
     let writer = rt.stderr();
-    let mut out = SystemOutput::new(GatheredOutput { gathering });
-    let mut err = SystemOutput::new(FlushingError { writer, gathering });
+    let mut out = SystemOutput::new(BufferedOutput { output_buffer });
+    let mut err = SystemOutput::new(FlushingError { writer, output_buffer });
     report(fault, &mut out, &mut err)
 }
 
@@ -57,17 +57,17 @@ fn run<F: Read + Drop>(
     rt: &HostRuntime,
     filter: &Filter,
     reader: F,
-    gathering: &Waiting,
+    output_buffer: &Waiting,
 ) -> Status {
     let alloc = rt.alloc();
-    let file = FlushingInput { reader, gathering };
+    let file = FlushingInput { reader, output_buffer };
     let Ok(file) = BufReader::with_capacity(alloc, BUFFER, file) else {
-        return refuse(rt, WordsFault::NoMemory, gathering);
+        return refuse(rt, WordsFault::NoMemory, output_buffer);
     };
     let mut file = BufferedInput::new(file);
     let writer = rt.stderr();
-    let mut out = SystemOutput::new(GatheredOutput { gathering });
-    let mut err = SystemOutput::new(FlushingError { writer, gathering });
+    let mut out = SystemOutput::new(BufferedOutput { output_buffer });
+    let mut err = SystemOutput::new(FlushingError { writer, output_buffer });
     bd_wide_cli::run(alloc, filter, &mut file, &mut out, &mut err)
 }
 
@@ -83,27 +83,27 @@ fn report_error(rt: &HostRuntime, message: &str, file: &str) -> Status {
 }
 
 /// Does what the process's words say.
-fn execute(rt: &HostRuntime, gathering: &Waiting) -> Status {
+fn execute(rt: &HostRuntime, output_buffer: &Waiting) -> Status {
     let (filter, file) = match filter(rt) {
         Ok(both) => both,
-        Err(fault) => return refuse(rt, fault, gathering),
+        Err(fault) => return refuse(rt, fault, output_buffer),
     };
     if file.as_str() == "-" {
-        return run(rt, &filter, rt.reader(), gathering);
+        return run(rt, &filter, rt.reader(), output_buffer);
     }
     let Ok(opened) = fs::open(rt, &file) else {
         return report_error(rt, "cannot open ", &file);
     };
-    run(rt, &filter, opened, gathering)
+    run(rt, &filter, opened, output_buffer)
 }
 
 /// Does what the process's words say, up to the last byte of standard output. A loss of which the run did not learn is told
 /// here; nothing else was told then.
 fn status(rt: &HostRuntime) -> Status {
     let system = SystemOutput::new(rt.stdout());
-    let gathering = RefCell::new(Gathering::new(rt.alloc(), system));
-    let status = execute(rt, &gathering);
-    if hand_on(&gathering) == WriteState::Lost {
+    let output_buffer = RefCell::new(OutputBuffer::new(rt.alloc(), system));
+    let status = execute(rt, &output_buffer);
+    if hand_on(&output_buffer) == WriteState::Lost {
         return report_error(rt, CANNOT_WRITE, "");
     }
     status

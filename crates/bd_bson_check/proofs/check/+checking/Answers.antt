@@ -8,10 +8,10 @@ use Rattle.bd_bson_check.proofs.check.+checking.Goals as goal
 
 pub element-returns-in-Err-clause-gives : goal.element-returns-in-Err-clause-gives
 element-returns-in-Err-clause-gives t c =
-    above.element_fails c.within.result (skip_nested c.args.depth_left) c.args.place c.args.e c.args.bytes.now c.in-Some.element_type
+    above.element_fails c.within.result (skip_nested c.args.depth_left) c.args.index c.args.e c.args.bytes.now c.in-Some.element_type
     c.split_at.result.1.now c.in_ok-name.name.now c.in_ok-name.rest.now c.requires.some (sym c.in-Some.ensures)
     (sym c.split_at.ensures.back) c.in_ok-name.ensures.gives
-    (fails_within c.in-Err.stop c.within.result (label c.args.place c.in_ok-name.name.now) _ c.within.ensures c.in-Err.ensures.gives)
+    (fails_within c.in-Err.stop c.within.result (label c.args.index c.in_ok-name.name.now) _ c.within.ensures c.in-Err.ensures.gives)
 
 pub elements-returns-in_err-rest-in-None : goal.elements-returns-in_err-rest-in-None
 elements-returns-in_err-rest-in-None t c =
@@ -19,30 +19,30 @@ elements-returns-in_err-rest-in-None t c =
     let l = c.loop-rest in
     let stop = c.in_err-rest-in-None.field-0.0 in
     let some : 0 < length l.rest.now = grind (arith, nat_tests, c.loop-rest-test.ensures) in
-    rw (p.1, p.2) (subst (FailsAtItem stop) l.invariant.so_far (above.no_first stop l.place c.args.depth_left c.args.e l.rest.now some c.in_err-rest-in-None.ensures.gives))
+    rw (p.1, p.2) (subst (FailsAtItem stop) l.invariant.so_far (above.no_first stop l.index c.args.depth_left c.args.e l.rest.now some c.in_err-rest-in-None.ensures.gives))
 
 pub elements-loop-rest-preserved : goal.elements-loop-rest-preserved
 elements-loop-rest-preserved t c =
     let l = c.loop-rest in
     let i = l.invariant in
-    let gives : skip_element (skip_nested c.args.depth_left) l.place c.args.e l.rest.now ≡ Ok c.match-skip_scalar.rest.now =
+    let gives : skip_element (skip_nested c.args.depth_left) l.index c.args.e l.rest.now ≡ Ok c.match-skip_scalar.rest.now =
     elim c.match-skip_scalar.branch [
-      | elements-in-Some w ↦ rw w.rest-is (w.in-Some.ensures.gives (skip_nested c.args.depth_left) l.place c.args.e)
+      | elements-in-Some w ↦ rw w.rest-is (w.in-Some.ensures.gives (skip_nested c.args.depth_left) l.index c.args.e)
       | elements-in-None+in_ok-rest-in-None w ↦ rw w.rest-is w.in_ok-rest-in-None.ensures.gives
     ] in
-    let on = above.goes_on l.place c.args.depth_left c.args.e l.rest.now c.match-skip_scalar.rest.now i.fits gives in
+    let on = above.goes_on l.index c.args.depth_left c.args.e l.rest.now c.match-skip_scalar.rest.now i.fits gives in
     record {
       inside = omega (arith, i.inside, on.0);
       fits = on.1;
-      counted = rw c.next-place.ensures (above.counted_on l.place _ _ _ i.counted on.0);
-      so_far = rw c.next-place.ensures (sym on.2 ∙ i.so_far);
+      counted = rw c.next-index.ensures (above.counted_on l.index _ _ _ i.counted on.0);
+      so_far = rw c.next-index.ensures (sym on.2 ∙ i.so_far);
     }
 
 pub elements-returns : goal.elements-returns
 elements-returns t c =
     let l = c.loop-rest in
     let none = nil_from_length l.rest.now (eqb-true _ _ (sym c.loop-rest-test.ensures)) in
-    sym l.invariant.so_far ∙ rw none (elements_nil (skip_nested c.args.depth_left) l.place 0 c.args.e)
+    sym l.invariant.so_far ∙ rw none (elements_nil (skip_nested c.args.depth_left) l.index 0 c.args.e)
 
 pub nested-returns-then-depth_left-eq0-clause-gives : goal.nested-returns-then-depth_left-eq0-clause-gives
 nested-returns-then-depth_left-eq0-clause-gives t c =

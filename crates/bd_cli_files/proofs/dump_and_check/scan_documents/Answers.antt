@@ -48,34 +48,34 @@ returns-in_err-meet-in-Err-clause-stops g c =
     let l = c.loop-alloc in
     let read = scans.document_read (c.read_next.ensures.reads (search rules)) c.bytes.ensures c.read_next.new.self.inside in
     let fault = c.in-Err.fault in
-    let f = scans.found c.number-count.result (first_fault c.place-base.result c.bytes.result.now) fault c.in-Err.ensures.first (search rules) in
+    let f = scans.found c.number-count.result (first_fault c.offset-base.result c.bytes.result.now) fault c.in-Err.ensures.first (search rules) in
     let r = c.from_residual-in_err-meet-in-Err in
     let p = err_from_is_err_and r.result r.ensures.1 in
     let stopped = c.in_err-meet-in-Err in
     let met = rw (f.1 ∙ c.number-count.ensures) at stopped.ensures in
     rw (p.1, p.2) (scans.stops_by l.invariant.so_far read.gives (g.O.Output.state c.meet.new.out) (Some (fault_view fault)) met.0 stopped.field-0.0
-    read.frame (rw c.place-base.ensures at f.0, met.1) met.2)
+    read.frame (rw c.offset-base.ensures at f.0, met.1) met.2)
 
 pub returns-then-not-branch-clause-scans : goal.returns-then-not-branch-clause-scans
 returns-then-not-branch-clause-scans g c =
     let l = c.loop-alloc in
     let read = scans.document_read (c.read_next.ensures.reads (search rules)) c.bytes.ensures c.read_next.new.self.inside in
     let fault = c.in-Err.fault in
-    let f = scans.found c.number-count.result (first_fault c.place-base.result c.bytes.result.now) fault c.in-Err.ensures.first (search rules) in
+    let f = scans.found c.number-count.result (first_fault c.offset-base.result c.bytes.result.now) fault c.in-Err.ensures.first (search rules) in
     let ends : c.in_ok-meet-in-Err.field-0 ≡ false = search rules in
     let met = rw (ends, f.1 ∙ c.number-count.ensures) at c.in_ok-meet-in-Err.ensures in
-    rw (c.number-count.ensures, met.1) (scans.ends_faulty l.invariant.so_far read.gives fault read.frame (rw c.place-base.ensures at f.0) (f.1 ∙ c.number-count.ensures) met.0)
+    rw (c.number-count.ensures, met.1) (scans.ends_faulty l.invariant.so_far read.gives fault read.frame (rw c.offset-base.ensures at f.0) (f.1 ∙ c.number-count.ensures) met.0)
 
 pub loop-alloc-preserved : goal.loop-alloc-preserved
 loop-alloc-preserved g c =
     let l = c.loop-alloc in
     let read = scans.document_read (c.read_next.ensures.reads (search rules)) c.bytes.ensures c.read_next.new.self.inside in
     let fault = c.in-Err.fault in
-    let f = scans.found c.number-count.result (first_fault c.place-base.result c.bytes.result.now) fault c.in-Err.ensures.first (search rules) in
+    let f = scans.found c.number-count.result (first_fault c.offset-base.result c.bytes.result.now) fault c.in-Err.ensures.first (search rules) in
     let met = rw (c.if-not-branch.false, f.1 ∙ c.number-count.ensures) at c.in_ok-meet-in-Err.ensures in
     record {
       so_far = scans.goes_on l.invariant.so_far (g.O.Output.state c.meet.new.out) (Some (fault_view fault)) met.0 (l.bad + 1) read
-          (rw c.place-base.ensures at f.0, met.1) (omega arith) met.2;
+          (rw c.offset-base.ensures at f.0, met.1) (omega arith) met.2;
       not_failed = search rules;
       read = scans.read_document l.invariant.read (c.read_next.ensures.reads (search rules));
     }

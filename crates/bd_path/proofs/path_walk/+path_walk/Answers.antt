@@ -3,7 +3,7 @@ use Rattle.std.specs.List.{list_any}
 use Rattle.std.proofs.{lemmas.Bool.or_left, lemmas.List.drop_all, lemmas.List.Folds.list_any-append}
 use Rattle.bd_value.specs.{Tree.first_of, Tree.values_of, Tree.elements_in, Tree.Doc, Tree.fields_of, Tree.fields_size, Tree.pairs_in}
 use Rattle.bd_value.proofs.PartsLemmas as parted
-use Rattle.bd_path.specs.{Path.component_names, Reach.document_gathering, Reach.is_document, PathWalk.TakesStops, PathWalk.stopping}
+use Rattle.bd_path.specs.{Path.component_names, Reach.document_collecting, Reach.is_document, PathWalk.TakesStops, PathWalk.stopping}
 use Rattle.bd_path.proofs.ReachLemmas as down
 use Rattle.bd_path.proofs.PathWalkLemmas as visits
 use Rattle.bd_path.proofs.path_walk.+path_walk.Goals.{path_walk_documents-then-is_document+else-not-path_walk_from, path_walk_documents-else-is_document}
@@ -32,7 +32,7 @@ path_walk_from-path_walk_from-requires g t c κs within =
     let small = down.first_smaller s.now n u e in
     let d = c.decreases in
     let below : c.args.k + 1 ≤ length c.args.path.now = omega (arith, c.requires.at, c.if-k-path.false) in
-    let f = g.G.Gatherer.is_new c.args.gatherer.now c.args.found.now in
+    let f = g.G.Collector.is_new c.args.collector.now c.args.found.now in
     let visited = visits.field_inside f stopping (visits.keeps_stops f) n c.args.path.now c.args.visits.now c.requires.visited s u c.at_field-inside.result
     (sym c.kind.ensures ∙ c.in-Doc.is) e c.at_field-inside.ensures in
     (omega arith, assumption (visited, below))
@@ -61,8 +61,8 @@ path_walk_from-path_walk_index-requires g t c κs within =
     let n = g.N.Reading.tree c.args.node in
     let names = component_names c.args.path.now in
     let d = c.decreases in
-    let fact : TakesStops (g.G.Gatherer.amounts c.args.gatherer.now) (g.G.Gatherer.is_new c.args.gatherer.now) (g.N.Reading.source c.args.node) c.args.found.now
-    c.path_walk_documents.new.found (document_gathering stopping n (drop c.args.k names)) = c.in-Some-path_walk_documents.ensures.taken in
+    let fact : TakesStops (g.G.Collector.amounts c.args.collector.now) (g.G.Collector.is_new c.args.collector.now) (g.N.Reading.source c.args.node) c.args.found.now
+    c.path_walk_documents.new.found (document_collecting stopping n (drop c.args.k names)) = c.in-Some-path_walk_documents.ensures.taken in
     let visited = visits.still_vain _ _ n names c.args.visits.now fact.still c.requires.visited in
     let below : c.args.k < length c.args.path.now = omega (arith, c.requires.at, c.if-k-path.false) in
     let array = sym c.kind.ensures ∙ c.in-Array.is in
@@ -110,7 +110,7 @@ path_walk_documents-path_walk_from-requires g t c κs within =
     let small = down.element_smaller n c.loop-i.i u here in
     let d = c.decreases in
     let below : c.args.k ≤ length c.args.path.now = omega (arith, c.requires.at) in
-    let f = g.G.Gatherer.is_new c.args.gatherer.now c.loop-i.found in
+    let f = g.G.Collector.is_new c.args.collector.now c.loop-i.found in
     let before = visits.still_vain _ f n (component_names c.args.path.now) c.args.visits.now c.loop-i.invariant.so_far.still c.requires.visited in
     let visited = visits.document_inside f stopping (visits.keeps_stops f) n c.args.path.now c.args.visits.now before c.requires.kind c.loop-i.i u c.at_document-inside.result here
     (omega (arith, c.loop-i-test.true)) (sym c.is_document.ensures ∙ c.if-is_document.true) c.at_document-inside.ensures in
@@ -163,7 +163,7 @@ path_walk_index-path_walk_from-requires g t c κs within =
     let small = down.element_smaller n i u c.in-Some.ensures.element in
     let d = c.decreases in
     let below : c.args.k + 1 ≤ length c.args.path.now = omega (arith, c.requires.at) in
-    let f = g.G.Gatherer.is_new c.args.gatherer.now c.args.found.now in
+    let f = g.G.Collector.is_new c.args.collector.now c.args.found.now in
     let visited = visits.index_inside f stopping (visits.keeps_stops f) n c.args.path.now c.args.visits.now c.requires.visited c.requires.kind c.args.k i u c.at_index-inside.result
     c.in-Some.ensures.element c.in-Some.ensures.index.0 c.is_document.result c.is_document.ensures c.requires.documents c.at_index-inside.ensures in
     (omega arith, assumption (visited, below))

@@ -4,7 +4,7 @@ use Rattle.bd_value.specs.{Tree.first_of, Tree.elements_in, Tree.values_of}
 use Rattle.bd_value.specs.Tree.{Doc, Tree, fields_of, fields_size, items_of, pairs_in}
 use Rattle.bd_value.proofs.PartsLemmas as parted
 use Rattle.bd_path.specs.{Reach.Names, Path.component_names, PathNames.names_of, Reach.bounded_index, declared.component.Component.Component}
-use Rattle.bd_path.specs.Reach.{document_gathering, each_gathering, ends, index_gathering, is_document, reach}
+use Rattle.bd_path.specs.Reach.{document_collecting, each_collecting, ends, index_collecting, is_document, reach}
 use Rattle.bd_path.proofs.ReachLemmas as down
 use Rattle.bd_path.proofs.PathWalkLemmas as visits
 use Rattle.bd_query.specs.FilterMatch.{is_matching, matches_element}
@@ -26,7 +26,7 @@ any_end_matches-returns-then-any_end_matches_in_documents g t c =
     let cs = c.args.path_walk.now.path.now in
     let many = visits.as_many cs in
     let m = visits.named (component_names cs) c.args.k (omega (arith, many, c.requires.at, c.if-k-path.false)) in
-    down.in_first (is_matching c.args.path_walk.now.body.now) c.any_end_matches_in_documents.result _ (index_gathering ends n (drop c.args.k (component_names cs))) _
+    down.in_first (is_matching c.args.path_walk.now.body.now) c.any_end_matches_in_documents.result _ (index_collecting ends n (drop c.args.k (component_names cs))) _
     c.any_end_matches_in_documents.ensures c.if-any_end_matches_in_documents.true
     (visits.parts_are ends n (component_names cs) c.args.k m.name (sym c.kind.ensures ∙ c.in-Array.is) m.is_there)
 
@@ -37,7 +37,7 @@ any_end_matches-returns-else-any_end_matches_in_documents g t c =
     let many = visits.as_many cs in
     let m = visits.named (component_names cs) c.args.k (omega (arith, many, c.requires.at, c.if-k-path.false)) in
     down.in_second (is_matching c.args.path_walk.now.body.now) c.any_end_matches_in_documents.result c.any_end_matches_at_index.result
-    (document_gathering ends n (drop c.args.k (component_names cs))) (index_gathering ends n (drop c.args.k (component_names cs))) _
+    (document_collecting ends n (drop c.args.k (component_names cs))) (index_collecting ends n (drop c.args.k (component_names cs))) _
     c.any_end_matches_in_documents.ensures c.if-any_end_matches_in_documents.false c.any_end_matches_at_index.ensures
     (visits.parts_are ends n (component_names cs) c.args.k m.name (sym c.kind.ensures ∙ c.in-Array.is) m.is_there)
 
@@ -103,7 +103,7 @@ any_end_matches_in_documents-loop-i-init g t c =
     let parts = down.parts_are n ps c.requires.kind c.parts-remaining.ensures.parts in
     record {
       remaining = parts;
-      so_far = ap (λ (es : List Tree). list_any (is_matching c.args.path_walk.now.body.now) (each_gathering ends (items_of es) (drop c.args.k (component_names c.args.path_walk.now.path.now)))) parts;
+      so_far = ap (λ (es : List Tree). list_any (is_matching c.args.path_walk.now.body.now) (each_collecting ends (items_of es) (drop c.args.k (component_names c.args.path_walk.now.path.now)))) parts;
       smaller = parted.parts_smaller n ps c.parts-remaining.ensures.parts;
     }
 

@@ -1,7 +1,7 @@
 use Rattle.std.proofs.Common.{◌≡◌, ◌≤◌, ◌<◌, ◌+◌, ◌*◌, drop, length, map}
 use Rattle.std.specs.List.{list_any}
 use Rattle.bd_value.specs.Tree.{elements_in, values_of, fields_of, fields_size, items_of, tree_size}
-use Rattle.bd_path.specs.{PathNames.names_of, Path.component_names, Reach.each_gathering, Reach.ends, Reach.reach}
+use Rattle.bd_path.specs.{PathNames.names_of, Path.component_names, Reach.each_collecting, Reach.ends, Reach.reach}
 use Rattle.bd_query.specs.FilterMatch.{is_matching, matches_element}
 use Rattle.bd_query_filter.specs.Filter.{filters_from, operators_from, filter_tree, operator_tree}
 use Rattle.bd_query_filter.specs.FilterMatch.{all_accept, all_hold, all_match, some_match}
@@ -84,8 +84,8 @@ invariant-all_accept-loop-operator g l = record {
 abbrev pub invariant-any_end_matches_in_documents-loop-i : goal.invariant-any_end_matches_in_documents-loop-i
 invariant-any_end_matches_in_documents-loop-i g l = record {
   remaining : values_of (g.N.Reading.remaining l.remaining) ≡ drop l.i (elements_in (g.N.Reading.tree l.fn.node));
-  so_far : list_any (is_matching l.path_walk.body.now) (each_gathering ends (items_of (values_of (g.N.Reading.remaining l.remaining))) (drop l.k (component_names l.path_walk.path.now)))
-      ≡ list_any (is_matching l.path_walk.body.now) (each_gathering ends (items_of (elements_in (g.N.Reading.tree l.fn.node))) (drop l.k (component_names l.path_walk.path.now)));
+  so_far : list_any (is_matching l.path_walk.body.now) (each_collecting ends (items_of (values_of (g.N.Reading.remaining l.remaining))) (drop l.k (component_names l.path_walk.path.now)))
+      ≡ list_any (is_matching l.path_walk.body.now) (each_collecting ends (items_of (elements_in (g.N.Reading.tree l.fn.node))) (drop l.k (component_names l.path_walk.path.now)));
   smaller : fields_size (fields_of (g.N.Reading.remaining l.remaining)) < tree_size (g.N.Reading.tree l.fn.node);
 }
 

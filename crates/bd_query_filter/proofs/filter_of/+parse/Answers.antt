@@ -2,7 +2,7 @@ use Rattle.std.proofs.Common.{◌≡◌, map, length, length-append, [], ◌∷�
 use Rattle.std.proofs.lemmas.Result.{err_from_is_err_and}
 use Rattle.bd_value.specs.{Tree.values_of, Tree.fields_of, Tree.items_of}
 use Rattle.bd_path.specs.Path.{path_of}
-use Rattle.bd_query_filter.specs.{Fault.ReadsPart, Word.word_of}
+use Rattle.bd_query_filter.specs.{Fault.ReadsPart, NameKind.name_kind_of}
 use Rattle.bd_query_filter.specs.Filter.{all_of, filters_from, has_document, has_element, negates, operators_from, filter_tree, operator_tree}
 use Rattle.bd_query_filter.specs.FilterOf.{element_operator, filters_of, member_filter, member_filters, not_operator, operand_filters, operator_of, operators_of, pair_filter}
 use Rattle.bd_query_filter.specs.FilterOf.{path_operators, read_as, read_at}
@@ -46,7 +46,7 @@ pub read_filters-returns-in-Err : goal.read_filters-returns-in-Err
 read_filters-returns-in-Err g t c =
     let name = c.in-Some.next.0.now in
     let value = g.N.Reading.tree c.in-Some.next.1 in
-    refused (map filter_tree c.loop-next.filters.items) name (pair_filter (word_of name) (path_of name) (operand_filters c.args.depth_left value) (path_operators c.args.depth_left value)) _ _ _
+    refused (map filter_tree c.loop-next.filters.items) name (pair_filter (name_kind_of name) (path_of name) (operand_filters c.args.depth_left value) (path_operators c.args.depth_left value)) _ _ _
     c.in-Err.stop c.under.result (ap (λ ps. filters_of c.args.depth_left (fields_of ps)) c.in-Some.ensures.some) c.loop-next.invariant c.under.ensures c.in-Err.ensures
 
 pub read_member-returns-in_err-filters : goal.read_member-returns-in_err-filters
@@ -98,7 +98,7 @@ read_operand-returns g t c =
 pub read_operators-returns-in-Err : goal.read_operators-returns-in-Err
 read_operators-returns-in-Err g t c =
     let value = g.N.Reading.tree c.in-Some.next.1 in
-    let part = operator_of (word_of c.in-Some.next.0.now) value (not_operator c.args.depth_left value) (element_operator c.args.depth_left value) in
+    let part = operator_of (name_kind_of c.in-Some.next.0.now) value (not_operator c.args.depth_left value) (element_operator c.args.depth_left value) in
     refused (map operator_tree c.loop-next.operators.items) c.in-Some.next.0.now part _ _ _ c.in-Err.stop c.under.result
     (ap (λ ps. operators_of c.args.depth_left (fields_of ps)) c.in-Some.ensures.some) c.loop-next.invariant c.under.ensures c.in-Err.ensures
 
@@ -116,7 +116,7 @@ read_filters-loop-next-preserved g t c =
     let name = c.in-Some.next.0.now in
     let value = g.N.Reading.tree c.in-Some.next.1 in
     one_read filter_tree c.loop-next.filters.items c.push.new.self.items c.in-Ok.filter name
-    (pair_filter (word_of name) (path_of name) (operand_filters c.args.depth_left value) (path_operators c.args.depth_left value)) _ _ _
+    (pair_filter (name_kind_of name) (path_of name) (operand_filters c.args.depth_left value) (path_operators c.args.depth_left value)) _ _ _
     c.in_ok-push-in-Ok.ensures.items c.in-Ok.ensures (ap (λ ps. filters_of c.args.depth_left (fields_of ps)) c.in-Some.ensures.some) c.loop-next.invariant
 
 pub read_filters-returns : goal.read_filters-returns
@@ -130,7 +130,7 @@ read_operators-loop-next-init g t c = none_read operator_tree c.new-operators.re
 pub read_operators-loop-next-preserved : goal.read_operators-loop-next-preserved
 read_operators-loop-next-preserved g t c =
     let value = g.N.Reading.tree c.in-Some.next.1 in
-    let part = operator_of (word_of c.in-Some.next.0.now) value (not_operator c.args.depth_left value) (element_operator c.args.depth_left value) in
+    let part = operator_of (name_kind_of c.in-Some.next.0.now) value (not_operator c.args.depth_left value) (element_operator c.args.depth_left value) in
     one_read operator_tree c.loop-next.operators.items c.push.new.self.items c.in-Ok.operator c.in-Some.next.0.now part _ _ _
     c.in_ok-push-in-Ok.ensures.items c.in-Ok.ensures (ap (λ ps. operators_of c.args.depth_left (fields_of ps)) c.in-Some.ensures.some) c.loop-next.invariant
 

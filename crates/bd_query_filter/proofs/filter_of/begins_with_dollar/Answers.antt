@@ -1,6 +1,6 @@
 use Rattle.std.proofs.Common.{◌≡◌, ◌==◌, ◌∙◌, ℕ, Option, List, [], ◌∷◌, false, refl, ap, slice_get}
 use Rattle.std.specs.Option.{option_map_or}
-use Rattle.bd_query_filter.specs.Word.{begins_with_dollar}
+use Rattle.bd_query_filter.specs.NameKind.{begins_with_dollar}
 use Rattle.bd_query_filter.proofs.filter_of.begins_with_dollar.Goals as goal
 
 -- the first byte decides

@@ -1,14 +1,14 @@
 use Rattle.std.proofs.Common.{rules, tests, ◌∙◌, ap, refl, map, List, ℕ, option_map}
 use Rattle.std.proofs.{lemmas.Iterator.YieldsList-from_slice, lemmas.Iterator.Search.find_from_yields_List}
 use Rattle.std.specs.{List.find, Str.bytes_eq}
-use Rattle.bd_query_filter.specs.{Word.known_operator, declared.filter_of.Word.Word}
+use Rattle.bd_query_filter.specs.{NameKind.known_operator, declared.filter_of.NameKind.NameKind}
 use Rattle.bd_query_filter.proofs.FilterOfLemmas.{row_found}
 use Rattle.bd_query_filter.proofs.filter_of.known_operator.Goals as goal
 
 pub returns : goal.returns
 unfolding known_operator
 returns c =
-    let test = λ (row : List ℕ × Word). bytes_eq row.0 c.args.name.now in
+    let test = λ (row : List ℕ × NameKind). bytes_eq row.0 c.args.name.now in
     search rules
     ∙ row_found (λ row. (row.0.now, row.1)) test (λ row. row.1) c.iter.result.rest.now c.find.result
     (find_from_yields_List (λ row. bytes_eq row.0.now c.args.name.now) _ _ _ c.find.ensures.ran (YieldsList-from_slice _ refl) (λ x b q k. search (rules, tests)))

@@ -4,7 +4,7 @@ use Rattle.std.proofs.lemmas.Iterator.Search.{find_from_yields_List}
 use Rattle.std.specs.{List.find, Str.bytes_eq}
 use Rattle.bd_value.specs.declared.node.Kind.{Kind}
 use Rattle.bd_value.specs.declared.node.Kind.TheVariants as kinds
-use Rattle.bd_query_filter.specs.Word.{kinds_named, query_types}
+use Rattle.bd_query_filter.specs.NameKind.{kinds_named, query_types}
 use Rattle.bd_query_filter.proofs.FilterOfLemmas.{else_is, row_found}
 use Rattle.bd_query_filter.proofs.operand.kinds_named.Goals as goal
 

@@ -2,7 +2,7 @@ use Rattle.std.proofs.Common.{rules, tests, ◌∙◌, ap, refl, map, List, ℕ,
 use Rattle.std.proofs.{lemmas.Iterator.YieldsList-from_slice, lemmas.Iterator.Search.find_from_yields_List}
 use Rattle.std.specs.{List.find, Ordering.int_eq}
 use Rattle.bd_value.specs.declared.node.Kind.{Kind}
-use Rattle.bd_query_filter.specs.Word.{kinds_numbered}
+use Rattle.bd_query_filter.specs.NameKind.{kinds_numbered}
 use Rattle.bd_query_filter.proofs.FilterOfLemmas.{row_found}
 use Rattle.bd_query_filter.proofs.operand.kinds_numbered.Goals as goal
 

@@ -138,7 +138,7 @@ with_scope-returns-clause-ok g t c =
     let at : c.len-start.result ≡ length c.args.out.now.items = search rules in
     let f = c.requires.inside in
     rewrites.scoped_ok (IsNested (g.W.NumberWriter.is_written c.args.writer.now) (g.W.NumberWriter.others_of c.args.writer.now) c.args.depth_left holders.Document c.args.path.now.items) c.args.value.now c.args.out.now.items c.write_code.new.out.items c.nested.new.out.items c.seal.new.out.items
-    c.split_at.result.1.now c.len-start.result c.args.at (sym c.requires.place) f.0 f.1
+    c.split_at.result.1.now c.len-start.result c.args.at (sym c.requires.offset) f.0 f.1
     c.split_at.ensures.back at c.in_ok-write_code.ensures.ok c.in_ok-nested.ensures.ok c.seal.ensures
 
 pub nested-returns-in-Document-clause-ok : goal.nested-returns-in-Document-clause-ok

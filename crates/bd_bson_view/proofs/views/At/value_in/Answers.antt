@@ -6,10 +6,10 @@ use Rattle.bd_bson_view.proofs.SoundLemmas.{sound_there, tree_there}
 use Rattle.bd_bson_view.proofs.views.At.value_in.Goals as goal
 
 pub same_source-requires : goal.same_source-requires
-same_source-requires c = (kind_of c.requires.place.0, sym (ap type_at c.requires.place.1.1.typed) ∙ type_is (kind_of c.requires.place.0))
+same_source-requires c = (kind_of c.requires.offset.0, sym (ap type_at c.requires.offset.1.1.typed) ∙ type_is (kind_of c.requires.offset.0))
 
 pub invariant_of-result : goal.invariant_of-result
-invariant_of-result c = record { short = c.requires.short; inside = c.requires.place.1.0; sound = sound_there c.args.bytes.now c.args.self c.same_source.result c.requires.place c.same_source.ensures }
+invariant_of-result c = record { short = c.requires.short; inside = c.requires.offset.1.0; sound = sound_there c.args.bytes.now c.args.self c.same_source.result c.requires.offset c.same_source.ensures }
 
 pub returns-clause-value : goal.returns-clause-value
 returns-clause-value c tree h = tree_there c.args.bytes.now c.args.self c.same_source.result _ tree h c.same_source.ensures

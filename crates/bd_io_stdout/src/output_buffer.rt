@@ -9,7 +9,7 @@
 ghost use Rattle.std.specs.Prelude.{◌≡◌, ◌≢◌, [], length, IfOk, None};
 ghost use Rattle.std.specs.Io.{WritesAtMost};
 ghost use Rattle.std.specs.Io.KnownBytes.{WriteAppends};
-ghost use Rattle.bd_io_stdout.specs.declared.gathering.WriteState.TheVariants.{Intact};
+ghost use Rattle.bd_io_stdout.specs.declared.output_buffer.WriteState.TheVariants.{Intact};
 
 use bd_io_device::{DeviceFault, Output, write_all};
 use std::alloc::Global;
@@ -19,7 +19,7 @@ use std::io::{ErrorKind, Read, Write};
 use std::marker::Model;
 
 /// How many bytes wait at most.
-const GATHERED: usize = 65_536;
+const CAPACITY: usize = 65_536;
 
 /// What became of the bytes that were written.
 #[derive(Debug, Clone, Copy, PartialEq, Eq)]
@@ -34,19 +34,19 @@ pub enum WriteState {
 
 /// What waits to be handed to a device.
 #[derive(Drop)]
-pub struct Gathering<D: Output + Drop> {
+pub struct OutputBuffer<D: Output + Drop> {
     waiting: Vec<u8>,
     device: D,
     write_state: WriteState,
 }
 
 /// A contract sees the bytes that wait, the device, and what became of the bytes before.
-impl<D: Output + Drop> Model for Gathering<D> {
+impl<D: Output + Drop> Model for OutputBuffer<D> {
     ghost use Rattle.std.specs.Prelude.{◌≡◌, ◌≢◌, ◌≤◌, [], length};
-    ghost use Rattle.bd_io_stdout.specs.Gathering.{Gathered};
-    ghost use Rattle.bd_io_stdout.specs.declared.gathering.WriteState.TheVariants.{Intact};
+    ghost use Rattle.bd_io_stdout.specs.OutputBuffer.{BufferState};
+    ghost use Rattle.bd_io_stdout.specs.declared.output_buffer.WriteState.TheVariants.{Intact};
 
-    ghost Value = { Gathered D };
+    ghost Value = { BufferState D };
 
     ghost view = { λ s.
         record { waiting = s.waiting.items; device = s.device; write_state = s.write_state } };
@@ -55,21 +55,21 @@ impl<D: Output + Drop> Model for Gathering<D> {
         × (s.write_state ≢ Intact → s.waiting.items ≡ []) };
 }
 
-impl<D: Output + Drop> Gathering<D> {
+impl<D: Output + Drop> OutputBuffer<D> {
     ghost use Rattle.std.specs.Prelude.{◌++◌, IsErr, OnErr, OnOk, false, true};
     ghost use Rattle.std.specs.Io.{ReadsAtMost, WritesAtMost};
     ghost use Rattle.std.specs.Io.KnownBytes.{ReadConsumes, WriteAppends};
-    ghost use Rattle.bd_io_stdout.specs.Gathering.{WriteFails};
-    ghost use Rattle.bd_io_stdout.specs.Gathering.{Gathers, HandsOn};
-    ghost use Rattle.bd_io_stdout.specs.declared.gathering.WriteState.TheVariants.{Lost, Reported};
+    ghost use Rattle.bd_io_stdout.specs.OutputBuffer.{WriteFails};
+    ghost use Rattle.bd_io_stdout.specs.OutputBuffer.{Buffers, HandsOn};
+    ghost use Rattle.bd_io_stdout.specs.declared.output_buffer.WriteState.TheVariants.{Lost, Reported};
 
     /// Nothing yet, for this device.
-    pub fn new(alloc: Global, device: D) -> Gathering<D>
+    pub fn new(alloc: Global, device: D) -> OutputBuffer<D>
         ensures device { result.device ≡ device }
         ensures empty { result.waiting ≡ [] }
         ensures intact { result.write_state ≡ Intact }
     {
-        Gathering {
+        OutputBuffer {
             waiting: Vec::new(alloc),
             device,
             write_state: WriteState::Intact,
@@ -104,16 +104,16 @@ impl<D: Output + Drop> Gathering<D> {
         ensures device { self.new.device ≡ self.old.device }
         ensures write_state { self.new.write_state ≡ self.old.write_state }
     {
-        bytes.len() < GATHERED
-            && bytes.len() <= GATHERED - self.waiting.len()
+        bytes.len() < CAPACITY
+            && bytes.len() <= CAPACITY - self.waiting.len()
             && self.waiting.extend_from_slice(bytes).is_ok()
     }
 
     /// Takes bytes after those that wait; these are handed on before, where both do not fit. The bytes go to the device
     /// themselves where they are many, or where there is no memory for them.
-    fn gather(&mut self, bytes: &[u8]) -> Result<(), DeviceFault>
-        ensures gathered { OnOk result ((self.old.write_state ≡ Intact)
-            × (self.new.write_state ≡ Intact) × Gathers D.Output self.old bytes.now self.new) }
+    fn append(&mut self, bytes: &[u8]) -> Result<(), DeviceFault>
+        ensures buffered { OnOk result ((self.old.write_state ≡ Intact)
+            × (self.new.write_state ≡ Intact) × Buffers D.Output self.old bytes.now self.new) }
         ensures write_failed { OnErr result (self.old.write_state ≡ Intact →
             WriteFails D.Output self.old.device (self.old.waiting ++ bytes.now) self.new.device) }
         ensures empty { OnErr result (self.new.waiting ≡ []) }
@@ -138,13 +138,13 @@ impl<D: Output + Drop> Gathering<D> {
     /// The same; an error answers the bytes by the loss.
     fn take(&mut self, bytes: &[u8]) -> Result<(), DeviceFault>
         ensures taken { OnOk result ((self.old.write_state ≡ Intact)
-            × (self.new.write_state ≡ Intact) × Gathers D.Output self.old bytes.now self.new) }
+            × (self.new.write_state ≡ Intact) × Buffers D.Output self.old bytes.now self.new) }
         ensures write_failed { OnErr result (self.old.write_state ≡ Intact →
             WriteFails D.Output self.old.device (self.old.waiting ++ bytes.now) self.new.device) }
         ensures reported { OnErr result (self.new.write_state ≡ Reported) }
         ensures after_loss { self.old.write_state ≢ Intact → self.new.device ≡ self.old.device }
     {
-        let taken = self.gather(bytes);
+        let taken = self.append(bytes);
         if taken.is_err() {
             self.write_state = WriteState::Reported;
         }
@@ -153,7 +153,7 @@ impl<D: Output + Drop> Gathering<D> {
 
     /// Reads after all that waits was handed on. After a loss it fails and asks the reader for nothing, since that could wait
     /// for bytes that serve no one.
-    #[tactic(auto, using(crate::proofs::GatheringLemmas::hands_none))]
+    #[tactic(auto, using(crate::proofs::OutputBufferLemmas::hands_none))]
     fn read_after<R: Read>(&mut self, reader: &mut R, buffer: &mut [u8]) -> io::Result<usize>
         ensures handed { HandsOn D.Output self.old self.new }
         ensures empty { self.new.waiting ≡ [] }
@@ -171,7 +171,7 @@ impl<D: Output + Drop> Gathering<D> {
 
     /// Writes to another writer after all that waits was handed on. It fails and writes nothing while a loss is untold, so that
     /// no count is shown of lines that did not arrive.
-    #[tactic(auto, using(crate::proofs::GatheringLemmas::hands_none))]
+    #[tactic(auto, using(crate::proofs::OutputBufferLemmas::hands_none))]
     fn write_after<E: Write>(&mut self, writer: &mut E, bytes: &[u8]) -> io::Result<usize>
         ensures handed { HandsOn D.Output self.old self.new }
         ensures empty { self.new.waiting ≡ [] }
@@ -193,34 +193,34 @@ fn refusal() -> io::Error {
     io::Error::from(ErrorKind::Other)
 }
 
-// What goes over one `Gathering`, which they share in a cell. No contract knows what a cell holds, so what they do with it is
-// said of the methods of `Gathering`.
+// What goes over one `OutputBuffer`, which they share in a cell. No contract knows what a cell holds, so what they do with it is
+// said of the methods of `OutputBuffer`.
 
 /// Hands on what waits, and tells what became of the bytes so far.
-pub fn hand_on<D: Output + Drop>(gathering: &RefCell<Gathering<D>>) -> WriteState {
-    match gathering.try_borrow_mut() {
-        Ok(mut gathering) => gathering.hand_on(),
+pub fn hand_on<D: Output + Drop>(output_buffer: &RefCell<OutputBuffer<D>>) -> WriteState {
+    match output_buffer.try_borrow_mut() {
+        Ok(mut output_buffer) => output_buffer.hand_on(),
         Err(_) => WriteState::Lost,
     }
 }
 
 /// Standard output: what is written is gathered.
 #[derive(Drop)]
-pub struct GatheredOutput<'a, D: Output + Drop> {
-    pub gathering: &'a RefCell<Gathering<D>>,
+pub struct BufferedOutput<'a, D: Output + Drop> {
+    pub output_buffer: &'a RefCell<OutputBuffer<D>>,
 }
 
-impl<D: Output + Drop> Write for GatheredOutput<'_, D> {
+impl<D: Output + Drop> Write for BufferedOutput<'_, D> {
     /// All bytes are taken, or none.
     fn write(&mut self, bytes: &[u8]) -> io::Result<usize>
         ensures bound { WritesAtMost result bytes.now }
         ensures bytes { WriteAppends None None result bytes.now }
         ensures whole { IfOk result (λ n. n ≡ length bytes.now) }
     {
-        let Ok(mut gathering) = self.gathering.try_borrow_mut() else {
+        let Ok(mut output_buffer) = self.output_buffer.try_borrow_mut() else {
             return Err(refusal());
         };
-        match gathering.take(bytes) {
+        match output_buffer.take(bytes) {
             Ok(()) => Ok(bytes.len()),
             Err(_) => Err(refusal()),
         }
@@ -235,7 +235,7 @@ impl<D: Output + Drop> Write for GatheredOutput<'_, D> {
 #[derive(Drop)]
 pub struct FlushingInput<'a, R: Read + Drop, D: Output + Drop> {
     pub reader: R,
-    pub gathering: &'a RefCell<Gathering<D>>,
+    pub output_buffer: &'a RefCell<OutputBuffer<D>>,
 }
 
 impl<R: Read + Drop, D: Output + Drop> Read for FlushingInput<'_, R, D> {
@@ -243,8 +243,8 @@ impl<R: Read + Drop, D: Output + Drop> Read for FlushingInput<'_, R, D> {
     ghost remaining = { λ s. R.remaining s.reader };
 
     fn read(&mut self, buffer: &mut [u8]) -> io::Result<usize> {
-        match self.gathering.try_borrow_mut() {
-            Ok(mut gathering) => gathering.read_after(&mut self.reader, buffer),
+        match self.output_buffer.try_borrow_mut() {
+            Ok(mut output_buffer) => output_buffer.read_after(&mut self.reader, buffer),
             Err(_) => Err(refusal()),
         }
     }
@@ -254,7 +254,7 @@ impl<R: Read + Drop, D: Output + Drop> Read for FlushingInput<'_, R, D> {
 #[derive(Drop)]
 pub struct FlushingError<'a, E: Write + Drop, D: Output + Drop> {
     pub writer: E,
-    pub gathering: &'a RefCell<Gathering<D>>,
+    pub output_buffer: &'a RefCell<OutputBuffer<D>>,
 }
 
 impl<E: Write + Drop, D: Output + Drop> Write for FlushingError<'_, E, D> {
@@ -262,8 +262,8 @@ impl<E: Write + Drop, D: Output + Drop> Write for FlushingError<'_, E, D> {
     ghost contents = { λ s. E.contents s.writer };
 
     fn write(&mut self, bytes: &[u8]) -> io::Result<usize> {
-        match self.gathering.try_borrow_mut() {
-            Ok(mut gathering) => gathering.write_after(&mut self.writer, bytes),
+        match self.output_buffer.try_borrow_mut() {
+            Ok(mut output_buffer) => output_buffer.write_after(&mut self.writer, bytes),
             Err(_) => Err(refusal()),
         }
     }

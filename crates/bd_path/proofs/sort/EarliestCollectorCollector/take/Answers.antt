@@ -1,7 +1,7 @@
 use Rattle.std.proofs.Common.{◌||◌, false, sym, ap, refl}
 use Rattle.bd_path.specs.{Sort.earliest_key, PathWalk.stop_tree, declared.key.Key.TheVariants.Null, declared.path_walk.Stop.TheVariants.Value}
 use Rattle.bd_path.proofs.{SortLemmas.takes_earliest, PathWalkLemmas.no_value, PathWalkLemmas.no_value_keys}
-use Rattle.bd_path.proofs.sort.EarliestGathererGatherer.take.Goals as goal
+use Rattle.bd_path.proofs.sort.EarliestCollectorCollector.take.Goals as goal
 
 pub returns-in_default : goal.returns-in_default
 returns-in_default g c = λ bytes at.

@@ -2,11 +2,11 @@
 use Rattle.std.specs.Prelude.{◌≡◌, ◌≢◌, ◌<◌, ◌⊎◌, ℕ, List, [], ◌++◌, take, Option, None, Some}
 use Rattle.bd_io_device.specs.Devices.{WriteFailsWithin, TakesText, over}
 use Rattle.bd_io_device.specs.declared.output.Output.{Ghosts as Output}
-use Rattle.bd_io_stdout.specs.declared.gathering.WriteState.{WriteState}
-use Rattle.bd_io_stdout.specs.declared.gathering.WriteState.TheVariants.{Intact, Lost}
+use Rattle.bd_io_stdout.specs.declared.output_buffer.WriteState.{WriteState}
+use Rattle.bd_io_stdout.specs.declared.output_buffer.WriteState.TheVariants.{Intact, Lost}
 
 -- the bytes that wait, the device that they wait for, and what became of the bytes before
-pub record Gathered (D : Type 0) : Type 0 where
+pub record BufferState (D : Type 0) : Type 0 where
   pub waiting : List ℕ
   pub device : D
   pub write_state : WriteState
@@ -33,12 +33,12 @@ pub record WriteFails {D : Type 0} (o : Output D) (old : D) (bytes : List ℕ) (
 -- These bytes were written, and no write of the device failed:
 -- what it took meanwhile, joined with what waits, is what waited
 -- before, joined with these bytes.
-abbrev pub Gathers : {D : Type 0} (o : Output D) → Gathered D → List ℕ → Gathered D → Type 0
-Gathers o old bytes new = (handed : List ℕ) × (old.waiting ++ bytes ≡ handed ++ new.waiting)
+abbrev pub Buffers : {D : Type 0} (o : Output D) → BufferState D → List ℕ → BufferState D → Type 0
+Buffers o old bytes new = (handed : List ℕ) × (old.waiting ++ bytes ≡ handed ++ new.waiting)
     × TakesAllBytes o old.device handed new.device
 
 -- bytes that waited were handed on, or a write of them failed; after a loss there is no write
-pub record HandsOn {D : Type 0} (o : Output D) (old new : Gathered D) : Type 0 where
-  pub intact : new.write_state ≡ Intact → (old.write_state ≡ Intact) × Gathers o old [] new
+pub record HandsOn {D : Type 0} (o : Output D) (old new : BufferState D) : Type 0 where
+  pub intact : new.write_state ≡ Intact → (old.write_state ≡ Intact) × Buffers o old [] new
   pub write_failed : old.write_state ≡ Intact → new.write_state ≢ Intact → (new.write_state ≡ Lost) × WriteFails o old.device old.waiting new.device
   pub after_loss : old.write_state ≢ Intact → (new.write_state ≡ old.write_state) × (new.device ≡ old.device)

@@ -4,9 +4,9 @@ use Rattle.std.specs.{Prelude.◌≢◌, Prelude.Result, Prelude.Ok, Prelude.Err
 use Rattle.bd_io_device.proofs.DevicesLemmas.{write_fails_first as first_write_fails, write_fails_second, takes_both, takes_none}
 use Rattle.bd_io_device.specs.Devices.{AreWrites, WriteFailsWithin, TakesText, no_write, more_writes, over}
 use Rattle.bd_io_device.specs.declared.output.Output.{Ghosts as Output}
-use Rattle.bd_io_stdout.specs.Gathering.{AreTaken, WriteFails, TakesAllBytes, none_taken, more_taken, Gathers, HandsOn}
-use Rattle.bd_io_stdout.specs.{declared.gathering.WriteState.WriteState, Gathering.Gathered}
-use Rattle.bd_io_stdout.specs.declared.gathering.WriteState.TheVariants.{Intact, Lost, Reported}
+use Rattle.bd_io_stdout.specs.OutputBuffer.{AreTaken, WriteFails, TakesAllBytes, none_taken, more_taken, Buffers, HandsOn}
+use Rattle.bd_io_stdout.specs.{declared.output_buffer.WriteState.WriteState, OutputBuffer.BufferState}
+use Rattle.bd_io_stdout.specs.declared.output_buffer.WriteState.TheVariants.{Intact, Lost, Reported}
 
 pub is_intact : (write_state : WriteState) → (write_state ≢ Intact → ⊥) → write_state ≡ Intact
 is_intact Intact none = refl
@@ -90,7 +90,7 @@ in_err (Ok x) P is p = let bad : ⊥ = cc in absurd bad
 in_err (Err e) P is p = p
 
 -- parts of equal views
-module _ {D : Type 0} {s t : Gathered D} where
+module _ {D : Type 0} {s t : BufferState D} where
   pub same_waiting : s ≡ t → s.waiting ≡ t.waiting
   same_waiting is = ap (λ v. v.waiting) is
 
@@ -102,46 +102,46 @@ module _ {D : Type 0} {s t : Gathered D} where
 
 module _ {D : Type 0} (o : Output D) where
   -- the bytes wait
-  pub gathers_buffered : (old new : Gathered D) (bytes : List ℕ) → new.device ≡ old.device → new.waiting ≡ old.waiting ++ bytes → Gathers o old bytes new
-  gathers_buffered old new bytes device waiting =
+  pub buffers_waiting : (old new : BufferState D) (bytes : List ℕ) → new.device ≡ old.device → new.waiting ≡ old.waiting ++ bytes → Buffers o old bytes new
+  buffers_waiting old new bytes device waiting =
       let same : TakesAllBytes o old.device [] new.device = subst (λ d. TakesAllBytes o old.device [] d) (sym device) (TakesAllBytes-nil o old.device) in
       ([], sym waiting, same)
 
   -- nothing was written
-  pub gathers_none : (old new : Gathered D) → new.device ≡ old.device → new.waiting ≡ old.waiting → Gathers o old [] new
-  gathers_none old new device waiting = gathers_buffered old new [] device (waiting ∙ sym (append-nil old.waiting))
+  pub buffers_none : (old new : BufferState D) → new.device ≡ old.device → new.waiting ≡ old.waiting → Buffers o old [] new
+  buffers_none old new device waiting = buffers_waiting old new [] device (waiting ∙ sym (append-nil old.waiting))
 
   -- the device took them
-  pub gathers_written : (old new : Gathered D) (bytes : List ℕ) → old.waiting ≡ [] → new.waiting ≡ [] → TakesAllBytes o old.device bytes new.device
-      → Gathers o old bytes new
-  gathers_written old new bytes before after taken =
+  pub buffers_written : (old new : BufferState D) (bytes : List ℕ) → old.waiting ≡ [] → new.waiting ≡ [] → TakesAllBytes o old.device bytes new.device
+      → Buffers o old bytes new
+  buffers_written old new bytes before after taken =
       (bytes, ap (λ l. l ++ bytes) before ∙ (sym (append-nil bytes) ∙ ap (λ l. bytes ++ l) (sym after)), taken)
 
-  pub gathers_after : (old mid new : Gathered D) (bytes : List ℕ) → Gathers o old [] mid → Gathers o mid bytes new → Gathers o old bytes new
-  gathers_after old mid new bytes (first, split, a) (second, rest, b) =
+  pub buffers_after : (old mid new : BufferState D) (bytes : List ℕ) → Buffers o old [] mid → Buffers o mid bytes new → Buffers o old bytes new
+  buffers_after old mid new bytes (first, split, a) (second, rest, b) =
       let start : old.waiting ≡ first ++ mid.waiting = sym (append-nil old.waiting) ∙ split in
       let joined = ap (λ l. l ++ bytes) start ∙ (append_assoc first mid.waiting bytes ∙ (ap (λ l. first ++ l) rest ∙ sym (append_assoc first second new.waiting))) in
       (first ++ second, joined, TakesAllBytes-trans o old.device mid.device new.device first second a b)
 
   -- what was not held was handed on
-  pub gathers_handed : (old buffered handed : Gathered D) → buffered.device ≡ old.device → buffered.waiting ≡ old.waiting → Gathers o buffered [] handed → Gathers o old [] handed
-  gathers_handed old buffered handed device waiting rest = gathers_after old buffered handed [] (gathers_none old buffered device waiting) rest
+  pub buffers_handed : (old buffered handed : BufferState D) → buffered.device ≡ old.device → buffered.waiting ≡ old.waiting → Buffers o buffered [] handed → Buffers o old [] handed
+  buffers_handed old buffered handed device waiting rest = buffers_after old buffered handed [] (buffers_none old buffered device waiting) rest
 
   -- the device took all that waited
-  pub takes_all : (old new : Gathered D) → Gathers o old [] new → new.waiting ≡ [] → TakesAllBytes o old.device old.waiting new.device
+  pub takes_all : (old new : BufferState D) → Buffers o old [] new → new.waiting ≡ [] → TakesAllBytes o old.device old.waiting new.device
   takes_all old new (handed, split, taken) none =
       let is : old.waiting ≡ handed = sym (append-nil old.waiting) ∙ (split ∙ (ap (λ l. handed ++ l) none ∙ append-nil handed)) in
       subst (λ l. TakesAllBytes o old.device l new.device) (sym is) taken
 
   -- nothing waited
-  pub hands_none : (old new : Gathered D) → new.write_state ≡ old.write_state → new.device ≡ old.device → new.waiting ≡ old.waiting → HandsOn o old new
+  pub hands_none : (old new : BufferState D) → new.write_state ≡ old.write_state → new.device ≡ old.device → new.waiting ≡ old.waiting → HandsOn o old new
   hands_none old new write_state device waiting = record {
-    intact = λ e. (sym write_state ∙ e, gathers_none old new device waiting);
+    intact = λ e. (sym write_state ∙ e, buffers_none old new device waiting);
     write_failed = λ e not. absurd (not (write_state ∙ e));
     after_loss = λ _. (write_state, device);
   }
 
-  pub hands_all : (old new : Gathered D) → old.write_state ≡ Intact → new.write_state ≡ Intact → new.waiting ≡ [] → TakesAllBytes o old.device old.waiting new.device
+  pub hands_all : (old new : BufferState D) → old.write_state ≡ Intact → new.write_state ≡ Intact → new.waiting ≡ [] → TakesAllBytes o old.device old.waiting new.device
       → HandsOn o old new
   hands_all old new before after none taken = record {
     intact = λ _. (before, (old.waiting, append-nil old.waiting ∙ (sym (append-nil old.waiting) ∙ ap (λ l. old.waiting ++ l) (sym none)), taken));
@@ -149,7 +149,7 @@ module _ {D : Type 0} (o : Output D) where
     after_loss = λ not. absurd (not before);
   }
 
-  pub hands_broken : (old new : Gathered D) → old.write_state ≡ Intact → new.write_state ≡ Lost → WriteFails o old.device old.waiting new.device → HandsOn o old new
+  pub hands_broken : (old new : BufferState D) → old.write_state ≡ Intact → new.write_state ≡ Lost → WriteFails o old.device old.waiting new.device → HandsOn o old new
   hands_broken old new before after write_fails = record {
     intact = λ e. let bad : Lost ≡ Intact = sym after ∙ e in absurd cc;
     write_failed = λ _ _. (after, write_fails);
@@ -157,7 +157,7 @@ module _ {D : Type 0} (o : Output D) where
   }
 
   -- a write of what waited failed, so the bytes after it were not written either
-  pub write_fails_first : (old mid : Gathered D) (bytes : List ℕ) (end : D) → mid.device ≡ old.device → mid.waiting ≡ old.waiting
+  pub write_fails_first : (old mid : BufferState D) (bytes : List ℕ) (end : D) → mid.device ≡ old.device → mid.waiting ≡ old.waiting
       → WriteFails o mid.device mid.waiting end → WriteFails o old.device (old.waiting ++ bytes) end
   write_fails_first old mid bytes end device waiting write_fails =
       let one = subst (λ d. WriteFails o d mid.waiting end) device write_fails in
@@ -165,7 +165,7 @@ module _ {D : Type 0} (o : Output D) where
       WriteFails-more o old.device end old.waiting bytes two
 
   -- a write of the bytes themselves failed
-  pub write_fails_later : (old mid : Gathered D) (bytes : List ℕ) (end : D) → Gathers o old [] mid → mid.waiting ≡ [] → WriteFails o mid.device bytes end
+  pub write_fails_later : (old mid : BufferState D) (bytes : List ℕ) (end : D) → Buffers o old [] mid → mid.waiting ≡ [] → WriteFails o mid.device bytes end
       → WriteFails o old.device (old.waiting ++ bytes) end
-  write_fails_later old mid bytes end gathers none write_fails =
-      WriteFails-after o old.device mid.device end old.waiting bytes (takes_all old mid gathers none) write_fails
+  write_fails_later old mid bytes end buffers none write_fails =
+      WriteFails-after o old.device mid.device end old.waiting bytes (takes_all old mid buffers none) write_fails

@@ -7,8 +7,8 @@ use Rattle.bd_value.specs.{contracts.node.Kind.the_type, declared.node.Kind.Kind
 use Rattle.bd_value.specs.declared.node.Kind.TheVariants as kinds
 use Rattle.bd_query_filter.specs.declared.filter_of.LogicalOperator.TheVariants as logical
 use Rattle.bd_query_filter.specs.declared.filter_of.PlainOperator.TheVariants as plain
-use Rattle.bd_query_filter.specs.declared.filter_of.Word.{Word}
-use Rattle.bd_query_filter.specs.declared.filter_of.Word.TheVariants as words
+use Rattle.bd_query_filter.specs.declared.filter_of.NameKind.{NameKind}
+use Rattle.bd_query_filter.specs.declared.filter_of.NameKind.TheVariants as name_kinds
 use Rattle.bd_query_filter.specs.declared.operand.Relation.TheVariants as relation
 
 -- whether a name begins with `$`, so that it is no field name in a filter
@@ -17,20 +17,20 @@ begins_with_dollar [] = false
 begins_with_dollar (c ∷ cs) = c == 36
 
 -- the operators of queries that are supported, by name
-abbrev pub query_operators : List (List ℕ × Word)
+abbrev pub query_operators : List (List ℕ × NameKind)
 query_operators =
-    (codes "$and", words.Logical logical.And) ∷ (codes "$or", words.Logical logical.Or)
-    ∷ (codes "$nor", words.Logical logical.Nor)
-    ∷ (codes "$eq", words.Plain plain.Equal) ∷ (codes "$ne", words.Plain plain.NotEqual)
-    ∷ (codes "$gt", words.Plain (plain.Order relation.Above))
-    ∷ (codes "$gte", words.Plain (plain.Order relation.AtLeast))
-    ∷ (codes "$lt", words.Plain (plain.Order relation.Below))
-    ∷ (codes "$lte", words.Plain (plain.Order relation.AtMost))
-    ∷ (codes "$in", words.Plain plain.In) ∷ (codes "$nin", words.Plain plain.NotIn)
-    ∷ (codes "$all", words.Plain plain.All)
-    ∷ (codes "$size", words.Plain plain.Size) ∷ (codes "$exists", words.Plain plain.Exists)
-    ∷ (codes "$type", words.Plain plain.Type)
-    ∷ (codes "$not", words.Not) ∷ (codes "$elemMatch", words.ElemMatch) ∷ []
+    (codes "$and", name_kinds.Logical logical.And) ∷ (codes "$or", name_kinds.Logical logical.Or)
+    ∷ (codes "$nor", name_kinds.Logical logical.Nor)
+    ∷ (codes "$eq", name_kinds.Plain plain.Equal) ∷ (codes "$ne", name_kinds.Plain plain.NotEqual)
+    ∷ (codes "$gt", name_kinds.Plain (plain.Order relation.Above))
+    ∷ (codes "$gte", name_kinds.Plain (plain.Order relation.AtLeast))
+    ∷ (codes "$lt", name_kinds.Plain (plain.Order relation.Below))
+    ∷ (codes "$lte", name_kinds.Plain (plain.Order relation.AtMost))
+    ∷ (codes "$in", name_kinds.Plain plain.In) ∷ (codes "$nin", name_kinds.Plain plain.NotIn)
+    ∷ (codes "$all", name_kinds.Plain plain.All)
+    ∷ (codes "$size", name_kinds.Plain plain.Size) ∷ (codes "$exists", name_kinds.Plain plain.Exists)
+    ∷ (codes "$type", name_kinds.Plain plain.Type)
+    ∷ (codes "$not", name_kinds.Not) ∷ (codes "$elemMatch", name_kinds.ElemMatch) ∷ []
 
 -- the names that are recognised but not supported: operators of the manual, and the names of a DBRef
 abbrev pub omitted_names : List (List ℕ)
@@ -47,16 +47,16 @@ unfoldable pub is_omitted : List ℕ → Bool
 is_omitted name = list_any (λ omitted. bytes_eq omitted name) omitted_names
 
 -- the supported operator with this name, if there is one
-unfoldable pub known_operator : List ℕ → Option Word
+unfoldable pub known_operator : List ℕ → Option NameKind
 known_operator name = option_map (λ row. row.1) (find (λ row. bytes_eq row.0 name) query_operators)
 
 -- what a name in a filter is: a field, if it does not begin with `$`;
 -- else a supported operator, one that is recognised but not supported, or unknown
-unfoldable pub word_of : List ℕ → Word
-word_of name =
+unfoldable pub name_kind_of : List ℕ → NameKind
+name_kind_of name =
     if begins_with_dollar name
-    then unwrap_or (known_operator name) (if is_omitted name then words.Omitted else words.Unknown)
-    else words.Field
+    then unwrap_or (known_operator name) (if is_omitted name then name_kinds.Omitted else name_kinds.Unknown)
+    else name_kinds.Field
 
 -- the types of `$type` (MongoDB manual, "$type"): number, name, and kinds. Doubles and decimals have none.
 abbrev pub query_types : List (ℤ × List ℕ × List Kind)

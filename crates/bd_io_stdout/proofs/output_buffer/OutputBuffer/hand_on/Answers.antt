@@ -1,7 +1,7 @@
 use Rattle.std.proofs.Common.{refl, rules, ◌≡◌, sym, ◌∙◌}
-use Rattle.bd_io_stdout.specs.declared.gathering.WriteState.TheVariants.{Intact}
-use Rattle.bd_io_stdout.proofs.GatheringLemmas.{WriteFails-writes, TakesAllBytes-writes, is_intact, hands_all, hands_broken, hands_none, in_err, in_ok}
-use Rattle.bd_io_stdout.proofs.gathering.Gathering.hand_on.Goals as goal
+use Rattle.bd_io_stdout.specs.declared.output_buffer.WriteState.TheVariants.{Intact}
+use Rattle.bd_io_stdout.proofs.OutputBufferLemmas.{WriteFails-writes, TakesAllBytes-writes, is_intact, hands_all, hands_broken, hands_none, in_err, in_ok}
+use Rattle.bd_io_stdout.proofs.output_buffer.OutputBuffer.hand_on.Goals as goal
 
 pub returns-then-is_empty-clause-handed : goal.returns-then-is_empty-clause-handed
 returns-then-is_empty-clause-handed g c = hands_none g.D.Output c.args.self.now _ refl refl refl
