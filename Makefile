@@ -67,7 +67,7 @@ install: bsonfind bsonwide
 	install -m 644 docs/*.md docs/*.svg "$(DOC)/docs"
 	install -m 644 examples/* "$(DOC)/examples"
 	install -m 644 python/README.md "$(DOC)/python"
-	install -m 644 docs/bsonfind.1 docs/bsonwide.1 "$(MAN)"
+	install -m 644 man/bsonfind.1 man/bsonwide.1 "$(MAN)"
 	sed -i 's/^\.Os$$/.Os bsonfind $(VERSION)/' "$(MAN)/bsonfind.1" "$(MAN)/bsonwide.1"
 	install -m 644 completions/bsonfind.bash "$(BASH)/bsonfind"
 	install -m 644 completions/bsonwide.bash "$(BASH)/bsonwide"

@@ -180,7 +180,7 @@ def run(steps: list[Step], room: Path, counts: Counts) -> None:
 
 def main() -> int:
     counts = Counts()
-    for name in ("README.md", "docs/GUIDE.md", "docs/LARGE.md", "docs/bsonfind.1", "docs/bsonwide.1"):
+    for name in ("README.md", "docs/GUIDE.md", "docs/LARGE.md", "man/bsonfind.1", "man/bsonwide.1"):
         text = (ROOT / name).read_text(encoding="utf-8")
         with tempfile.TemporaryDirectory() as folder:
             room = Path(folder)

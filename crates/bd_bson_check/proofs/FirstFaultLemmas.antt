@@ -308,8 +308,8 @@ module _ (depth_left : ℕ) where
 
   boolean_takes : (e : ℕ) (bytes rest : List ℕ) → IsBytes bytes → skip_boolean e bytes ≡ Ok rest → TakesValue depth_left kinds.Bool bytes rest
   boolean_takes e [] rest fits is = absurd cc
-  boolean_takes e (zero ∷ bs) rest fits is = rw (← ok_is bs rest is) (leaf_takes depth_left (trees.boolean false) (split_at_byte 1 (0 ∷ bs) fits (omega arith)).takes refl)
-  boolean_takes e (suc zero ∷ bs) rest fits is = rw (← ok_is bs rest is) (leaf_takes depth_left (trees.boolean true) (split_at_byte 1 (1 ∷ bs) fits (omega arith)).takes refl)
+  boolean_takes e (zero ∷ bs) rest fits is = rw (← ok_is bs rest is) (leaf_takes depth_left (trees.boolean false) (split_at_byte 1 (0 ∷ bs) fits (omega arith)).takes (tt, refl))
+  boolean_takes e (suc zero ∷ bs) rest fits is = rw (← ok_is bs rest is) (leaf_takes depth_left (trees.boolean true) (split_at_byte 1 (1 ∷ bs) fits (omega arith)).takes (tt, refl))
   boolean_takes e (suc (suc b) ∷ bs) rest fits is = absurd (let le = ltb-false 1 (suc (suc b)) (guard_ok (ltb 1 (suc (suc b))) _ (done bs) rest is).0 in omega arith)
 
   binary_takes : (e : ℕ) (bytes rest : List ℕ) → IsBytes bytes → skip_binary e bytes ≡ Ok rest → TakesValue depth_left kinds.Binary bytes rest
@@ -331,7 +331,7 @@ module _ (depth_left : ℕ) where
         rest_fits = IsBytes-drop 5 bytes fits;
       } in
       leaf_takes depth_left (trees.binary k d.payload) (Takes-then head d.takes)
-      (fits 4, omega (arith, d.size, few), append_assoc (number (length (data_of k d.payload))) (k ∷ []) (data_of k d.payload))
+      ((fits 4, omega (arith, d.size, few)), append_assoc (number (length (data_of k d.payload))) (k ∷ []) (data_of k d.payload))
 
 -- ---- types
 
@@ -402,10 +402,10 @@ code_frame_takes e bytes f fits is =
 
 module _ (depth_left : ℕ) (nested : Nested) (below : NestedTakes depth_left nested) where
   value_takes : (kind : Kind) (q e : ℕ) (bytes rest : List ℕ) → IsBytes bytes → skip_value nested kind q e bytes ≡ Ok rest → TakesValue depth_left kind bytes rest
-  value_takes kinds.MinKey q e bytes rest fits is = none_takes depth_left trees.min_key bytes rest fits refl is
-  value_takes kinds.Undefined q e bytes rest fits is = none_takes depth_left trees.undefined bytes rest fits refl is
-  value_takes kinds.Null q e bytes rest fits is = none_takes depth_left trees.null bytes rest fits refl is
-  value_takes kinds.MaxKey q e bytes rest fits is = none_takes depth_left trees.max_key bytes rest fits refl is
+  value_takes kinds.MinKey q e bytes rest fits is = none_takes depth_left trees.min_key bytes rest fits (tt, refl) is
+  value_takes kinds.Undefined q e bytes rest fits is = none_takes depth_left trees.undefined bytes rest fits (tt, refl) is
+  value_takes kinds.Null q e bytes rest fits is = none_takes depth_left trees.null bytes rest fits (tt, refl) is
+  value_takes kinds.MaxKey q e bytes rest fits is = none_takes depth_left trees.max_key bytes rest fits (tt, refl) is
   value_takes kinds.Int32 q e bytes rest fits is =
       let f = fixed_takes 4 e bytes rest fits is in
       let n = from_le_bytes w32 f.prefix in
@@ -421,7 +421,7 @@ module _ (depth_left : ℕ) (nested : Nested) (below : NestedTakes depth_left ne
       let whole : number (from_le_bytes w32 (take 4 f.prefix)) ++ number (from_le_bytes w32 (drop 4 f.prefix)) ≡ f.prefix =
       ap₂ (λ (x y : List ℕ). x ++ y) (number_back (take 4 f.prefix) low.size low.fits) (number_back (drop 4 f.prefix) high_size high_fits) ∙ take-append-drop 4 f.prefix in
       leaf_takes depth_left (trees.timestamp (from_le_bytes w32 (drop 4 f.prefix)) (from_le_bytes w32 (take 4 f.prefix))) f.takes
-      (number_below (drop 4 f.prefix) high_fits, number_below (take 4 f.prefix) low.fits, sym whole)
+      ((number_below (drop 4 f.prefix) high_fits, number_below (take 4 f.prefix) low.fits), sym whole)
   value_takes kinds.ObjectId q e bytes rest fits is = let f = fixed_takes 12 e bytes rest fits is in leaf_takes depth_left (trees.object_id f.prefix) f.takes (f.size, refl)
   value_takes kinds.Bool q e bytes rest fits is = boolean_takes depth_left e bytes rest fits is
   value_takes kinds.Text q e bytes rest fits is = let s = string_takes e bytes rest fits is in leaf_takes depth_left (trees.text s.text_bytes) s.takes (s.fits, refl)
@@ -431,14 +431,14 @@ module _ (depth_left : ℕ) (nested : Nested) (below : NestedTakes depth_left ne
       let a = bind_ok (skip_string e bytes) _ rest is in
       let s = string_takes e bytes a.0 fits a.1 in
       let f = fixed_takes 12 e a.0 rest s.takes.rest_fits a.2 in
-      leaf_takes depth_left (trees.db_pointer s.text_bytes f.prefix) (Takes-then s.takes f.takes) (s.fits, f.size, refl)
+      leaf_takes depth_left (trees.db_pointer s.text_bytes f.prefix) (Takes-then s.takes f.takes) ((s.fits, f.size), refl)
   value_takes kinds.Binary q e bytes rest fits is = binary_takes depth_left e bytes rest fits is
   value_takes kinds.Regex q e bytes rest fits is =
       let a = bind_ok (skip_name StringUnended e bytes) _ rest is in
       let b = bind_ok (skip_name StringUnended e a.0.1) _ rest a.2 in
       let p = name_takes StringUnended e bytes a.0 fits a.1 in
       let o = name_takes StringUnended e a.0.1 b.0 p.0.rest_fits b.1 in
-      rw (← ok_is b.0.1 rest b.2) (leaf_takes depth_left (trees.regex a.0.0 b.0.0) (Takes-then p.0 o.0) (p.1, o.1, append_assoc a.0.0 (0 ∷ []) (b.0.0 ++ 0 ∷ [])))
+      rw (← ok_is b.0.1 rest b.2) (leaf_takes depth_left (trees.regex a.0.0 b.0.0) (Takes-then p.0 o.0) ((p.1, o.1), append_assoc a.0.0 (0 ∷ []) (b.0.0 ++ 0 ∷ [])))
   value_takes kinds.Doc q e bytes rest fits is =
       let d = below holders.Document q e bytes rest fits is in
       let low = d.shallow in
@@ -660,15 +660,15 @@ scalar_again nested (trees.int64 z) q e value rest h = fixed_again 8 e value res
 scalar_again nested (trees.date z) q e value rest h = fixed_again 8 e value rest (sym (scalar_size (trees.date z) value rest h))
 scalar_again nested (trees.timestamp s i) q e value rest h = fixed_again 8 e value rest (sym (scalar_size (trees.timestamp s i) value rest h))
 scalar_again nested (trees.object_id id) q e value rest h = fixed_again 12 e value rest (sym (scalar_size (trees.object_id id) value rest h))
-scalar_again nested (trees.boolean true) q e value rest h = rw h refl
-scalar_again nested (trees.boolean false) q e value rest h = rw h refl
+scalar_again nested (trees.boolean true) q e value rest h = rw h.1 refl
+scalar_again nested (trees.boolean false) q e value rest h = rw h.1 refl
 scalar_again nested (trees.text s) q e value rest h = rw h.1 (string_again e s rest h.0)
 scalar_again nested (trees.symbol s) q e value rest h = rw h.1 (string_again e s rest h.0)
 scalar_again nested (trees.code s) q e value rest h = rw h.1 (string_again e s rest h.0)
-scalar_again nested (trees.db_pointer s id) q e value rest h = rw h.2 (pointer_again e s id rest h.0 h.1)
-scalar_again nested (trees.regex p o) q e value rest h = rw h.2 (regex_again e p o rest h.0 h.1)
-scalar_again nested (trees.binary k s) q e value rest h = rw h.2 (binary_again e k s rest h.1)
-scalar_again nested _ q e value rest h = rw h refl
+scalar_again nested (trees.db_pointer s id) q e value rest h = rw h.1 (pointer_again e s id rest h.0.0 h.0.1)
+scalar_again nested (trees.regex p o) q e value rest h = rw h.1 (regex_again e p o rest h.0.0 h.0.1)
+scalar_again nested (trees.binary k s) q e value rest h = rw h.1 (binary_again e k s rest h.0.1)
+scalar_again nested _ q e value rest h = rw h.1 refl
 
 -- ---- code with scope
 

@@ -2,7 +2,7 @@
 -- in bytes that must be one document (BSON 1.1). No tree is built.
 -- Each function checks one item at the start of its bytes, and gives the bytes after it, or the fault.
 -- e is the offset that the item may not pass, and the bytes end there:
--- the item is at offset `e - length bytes`.
+-- the item is at offset `e - length bytes`, which is `offset_of e bytes`.
 use Rattle.std.specs.Prelude.{ℕ, zero, suc, ◌+◌, ◌-◌, List, [], ◌∷◌, length, take, drop, Option, Some, None, option_map}
 use Rattle.std.specs.Prelude.{Result, Ok, Err, Bool, true, false, nat_lt, ◌==◌, ◌||◌, ◌&&◌, not, if◌then◌else◌, decimal}
 use Rattle.std.specs.Prelude.{codes, slice_index_or}
@@ -16,6 +16,10 @@ use Rattle.bd_bson_check.specs.declared.fault.FaultKind.TheVariants.{Double, Dec
 use Rattle.bd_bson_check.specs.declared.fault.FaultKind.TheVariants.{BadStringLength, StringUnended, BadBoolean}
 use Rattle.bd_bson_check.specs.declared.fault.FaultKind.TheVariants.{BadBinaryLength, BadScopeLength, TooDeep, ValueShort}
 
+-- the offset of the item that these bytes begin with; they end at e
+abbrev pub offset_of : ℕ → List ℕ → ℕ
+offset_of e bytes = e - length bytes
+
 infixl 10 ◌>>=◌
 -- what follows an item without a fault; after a fault nothing more is looked at
 abbrev pub ◌>>=◌ : {A B : Type 0} → Result A Fault → (A → Result B Fault) → Result B Fault
@@ -28,7 +32,7 @@ fault kind at = Err (record { kind = kind; offset = at; path = [] })
 
 -- an `int32`, and the bytes after it; fewer than four bytes are the fault `short`
 abbrev pub skip_number : FaultKind → ℕ → List ℕ → Result (ℕ × List ℕ) Fault
-skip_number short e bytes = if nat_lt (length bytes) 4 then fault short (e - length bytes)
+skip_number short e bytes = if nat_lt (length bytes) 4 then fault short (offset_of e bytes)
     else Ok (from_le_bytes w32 (take 4 bytes), drop 4 bytes)
 
 -- the bytes after a zero byte; at another byte, or at the end, is the fault of that kind
@@ -44,13 +48,13 @@ text_at at bytes = if is_utf8 bytes then Ok bytes else fault BadUtf8 (at + utf8_
 -- a `cstring`: its text, and the bytes after its zero. If there is no zero, the fault has that kind.
 unfoldable pub skip_name : FaultKind → ℕ → List ℕ → Result (List ℕ × List ℕ) Fault
 skip_name kind e bytes = do
-  k ← ok_or (position (λ b. b == 0) bytes) (record { kind = kind; offset = e - length bytes; path = [] })
-  name ← text_at (e - length bytes) (take k bytes)
+  k ← ok_or (position (λ b. b == 0) bytes) (record { kind = kind; offset = offset_of e bytes; path = [] })
+  name ← text_at (offset_of e bytes) (take k bytes)
   Ok (name, drop (k + 1) bytes)
 
 -- the bytes after a value of n bytes; the fault is `value splits short`
 abbrev pub skip_fixed : ℕ → ℕ → List ℕ → Result (List ℕ) Fault
-skip_fixed n e bytes = if nat_lt (length bytes) n then fault ValueShort (e - length bytes) else Ok (drop n bytes)
+skip_fixed n e bytes = if nat_lt (length bytes) n then fault ValueShort (offset_of e bytes) else Ok (drop n bytes)
 
 -- the bytes after a boolean (element 0x08), which is 00 or 01
 abbrev pub skip_boolean : ℕ → List ℕ → Result (List ℕ) Fault
@@ -61,9 +65,9 @@ skip_boolean e (b ∷ rest) = if nat_lt 1 b then fault BadBoolean (e - suc (leng
 unfoldable pub skip_string : ℕ → List ℕ → Result (List ℕ) Fault
 skip_string e bytes = do
   n ← skip_number ValueShort e bytes
-  if n.0 == 0 || nat_lt (length n.1) n.0 then fault BadStringLength (e - length bytes)
+  if n.0 == 0 || nat_lt (length n.1) n.0 then fault BadStringLength (offset_of e bytes)
       else (skip_zero StringUnended e (drop (n.0 - 1) n.1)
-      >>= λ rest. text_at (e - length n.1) (take (n.0 - 1) n.1) >>= λ text. Ok rest)
+      >>= λ rest. text_at (offset_of e n.1) (take (n.0 - 1) n.1) >>= λ text. Ok rest)
 
 -- the bytes after a regular expression (element 0x0B): two `cstring`s
 abbrev pub skip_regex : ℕ → List ℕ → Result (List ℕ) Fault
@@ -81,10 +85,10 @@ skip_data at subtype count bytes = if subtype == 2 && nat_lt count 4 then fault 
 
 -- the bytes after binary (element 0x05): a count that is not negative and not past e, the subtype, the data
 unfoldable pub skip_binary : ℕ → List ℕ → Result (List ℕ) Fault
-skip_binary e bytes = if nat_lt (length bytes) 5 then fault ValueShort (e - length bytes)
+skip_binary e bytes = if nat_lt (length bytes) 5 then fault ValueShort (offset_of e bytes)
     else (if nat_lt 2147483647 (number_of bytes) || nat_lt (length bytes) (5 + number_of bytes)
-    then fault BadBinaryLength (e - length bytes)
-    else skip_data (e - length bytes) (slice_index_or bytes 4 0) (number_of bytes) (drop 5 bytes))
+    then fault BadBinaryLength (offset_of e bytes)
+    else skip_data (offset_of e bytes) (slice_index_or bytes 4 0) (number_of bytes) (drop 5 bytes))
 
 -- The frame of a document: its length, its elements, a zero; at the top it must be all of the bytes.
 -- The result: the bytes of the elements, the offset of their end, and the bytes after the document.
@@ -92,17 +96,17 @@ unfoldable pub skip_frame : Bool → ℕ → List ℕ → Result (List ℕ × �
 skip_frame top e bytes = do
   n ← skip_number (if top then ShortLength else ValueShort) e bytes
   if nat_lt n.0 5 || nat_lt longest_document n.0 || nat_lt (length bytes) n.0 || (top && not (n.0 == length bytes))
-      then fault BadLength (e - length bytes)
+      then fault BadLength (offset_of e bytes)
       else (skip_zero NoTerminator e (drop (n.0 - 5) n.1)
-      >>= λ rest. Ok (take (n.0 - 5) n.1, e - length (drop (n.0 - 5) n.1), rest))
+      >>= λ rest. Ok (take (n.0 - 5) n.1, offset_of e (drop (n.0 - 5) n.1), rest))
 
 -- the length of code with scope (element 0x0F):
 -- the bytes of its code and scope, the offset of their end, and the bytes after it
 unfoldable pub skip_code_frame : ℕ → List ℕ → Result (List ℕ × ℕ × List ℕ) Fault
 skip_code_frame e bytes = do
   n ← skip_number ValueShort e bytes
-  if nat_lt n.0 14 || nat_lt (length bytes) n.0 then fault BadScopeLength (e - length bytes)
-      else Ok (take (n.0 - 4) n.1, e - length (drop (n.0 - 4) n.1), drop (n.0 - 4) n.1)
+  if nat_lt n.0 14 || nat_lt (length bytes) n.0 then fault BadScopeLength (offset_of e bytes)
+      else Ok (take (n.0 - 4) n.1, offset_of e (drop (n.0 - 4) n.1), drop (n.0 - 4) n.1)
 
 -- how a value that holds values is checked, by its kind, by the offset q of its element's type byte,
 -- by e, and by its bytes
@@ -177,7 +181,7 @@ skip_code_scope nested q e bytes = do
   f ← skip_code_frame e bytes
   scope ← skip_string f.1 f.0
   after ← within (codes "$scope") (nested Holder.Document q f.1 scope)
-  if nat_lt 0 (length after) then fault BadScopeLength (e - length bytes) else Ok f.2
+  if nat_lt 0 (length after) then fault BadScopeLength (offset_of e bytes) else Ok f.2
 
 -- The bytes after a value that holds values, with `depth_left` levels left for it;
 -- code with scope takes one and its scope another.

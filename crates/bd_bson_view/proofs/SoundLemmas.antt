@@ -63,7 +63,7 @@ tree_there bytes at kind s t h is = meaning_is s (sound_there bytes at kind (t, 
 
 -- what takes no byte stands at the start of any bytes
 pub null_there : (bytes : List ℕ) → IsAt bytes (record { kind = 10; start = 0 }) (leaf null)
-null_there bytes = (omega arith, record { value = []; after = bytes; spells = refl; typed = refl; splits = refl; short = omega arith })
+null_there bytes = (omega arith, record { value = []; after = bytes; spells = (tt, refl); typed = refl; splits = refl; short = omega arith })
 
 pub undefined_there : (bytes : List ℕ) → IsAt bytes (record { kind = 6; start = 0 }) (leaf undefined)
-undefined_there bytes = (omega arith, record { value = []; after = bytes; spells = refl; typed = refl; splits = refl; short = omega arith })
+undefined_there bytes = (omega arith, record { value = []; after = bytes; spells = (tt, refl); typed = refl; splits = refl; short = omega arith })

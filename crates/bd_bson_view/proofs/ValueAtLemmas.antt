@@ -48,13 +48,13 @@ scalar_reads (trees.text s) v r h = subst (λ (x : List ℕ). TextAt (x ++ r)) (
 scalar_reads (trees.symbol s) v r h = subst (λ (x : List ℕ). TextAt (x ++ r)) (sym h.1) (text_reads s r h.0)
 scalar_reads (trees.code s) v r h = subst (λ (x : List ℕ). TextAt (x ++ r)) (sym h.1) (text_reads s r h.0)
 scalar_reads (trees.db_pointer s id) v r h =
-    let whole : v ++ r ≡ string s ++ (id ++ r) = ap (λ (x : List ℕ). x ++ r) h.2 ∙ append_assoc (string s) id r in
-    (subst TextAt (sym whole) (text_reads s (id ++ r) h.0), omega (arith, sized (trees.db_pointer s id) v r h))
-scalar_reads (trees.binary k s) v r h = subst (λ (x : List ℕ). BinaryAt (x ++ r)) (sym h.2) (binary_reads k s r h.1)
+    let whole : v ++ r ≡ string s ++ (id ++ r) = ap (λ (x : List ℕ). x ++ r) h.1 ∙ append_assoc (string s) id r in
+    (subst TextAt (sym whole) (text_reads s (id ++ r) h.0.0), omega (arith, sized (trees.db_pointer s id) v r h))
+scalar_reads (trees.binary k s) v r h = subst (λ (x : List ℕ). BinaryAt (x ++ r)) (sym h.1) (binary_reads k s r h.0.1)
 scalar_reads (trees.regex p o) v r h =
-    let whole : v ++ r ≡ p ++ 0 ∷ (o ++ 0 ∷ r) = ap (λ (x : List ℕ). x ++ r) h.2 ∙ regex_whole p o r in
-    let after : after_name (v ++ r) ≡ o ++ 0 ∷ r = ap after_name whole ∙ name_after p (o ++ 0 ∷ r) h.0 in
-    (subst NameAt (sym whole) (name_reads p (o ++ 0 ∷ r) h.0), subst NameAt (sym after) (name_reads o r h.1))
+    let whole : v ++ r ≡ p ++ 0 ∷ (o ++ 0 ∷ r) = ap (λ (x : List ℕ). x ++ r) h.1 ∙ regex_whole p o r in
+    let after : after_name (v ++ r) ≡ o ++ 0 ∷ r = ap after_name whole ∙ name_after p (o ++ 0 ∷ r) h.0.0 in
+    (subst NameAt (sym whole) (name_reads p (o ++ 0 ∷ r) h.0.0), subst NameAt (sym after) (name_reads o r h.0.1))
 scalar_reads a v r h = sized a v r h
 
 -- ---- sizes
@@ -115,12 +115,12 @@ scalar_short : (a : Scalar) (v : List ℕ) → IsScalar a v → length v ≤ lon
 scalar_short (trees.text s) v h short = omega (arith, ap length h.1, string_length s)
 scalar_short (trees.symbol s) v h short = omega (arith, ap length h.1, string_length s)
 scalar_short (trees.code s) v h short = omega (arith, ap length h.1, string_length s)
-scalar_short (trees.db_pointer s id) v h short = omega (arith, ap length h.2, length-append (string s) id, string_length s)
+scalar_short (trees.db_pointer s id) v h short = omega (arith, ap length h.1, length-append (string s) id, string_length s)
 scalar_short (trees.regex p o) v h short =
-    let size : length v ≡ length p + (1 + (length o + 1)) = omega (arith, ap length h.2, length-append p (0 ∷ (o ++ 0 ∷ [])), length-append o (0 ∷ [])) in
+    let size : length v ≡ length p + (1 + (length o + 1)) = omega (arith, ap length h.1, length-append p (0 ∷ (o ++ 0 ∷ [])), length-append o (0 ∷ [])) in
     (omega (arith, size), omega (arith, size))
 scalar_short (trees.binary k s) v h short =
-    omega (arith, payload_short k s (k == 2) refl, ap length h.2, length-append (number (length (data_of k s))) (k ∷ data_of k s))
+    omega (arith, payload_short k s (k == 2) refl, ap length h.1, length-append (number (length (data_of k s))) (k ∷ data_of k s))
 scalar_short _ v h short = tt
 
 value_short : (t : Tree) (v : List ℕ) → IsValue t v → length v ≤ longest_document → (o : Leaf) → leaf_of t ≡ Some o → LeafIsShort o

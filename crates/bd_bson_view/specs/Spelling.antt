@@ -93,25 +93,42 @@ element t name value = type_byte (kind_of t) ∷ (name ++ 0 ∷ value)
 abbrev pub IsText : List ℕ → Type 0
 IsText s = IsUtf8 s × (length s + 1 < 2 ^ 32)
 
--- The bytes are the scalar as BSON 1.1 spells it after type byte and name:
--- numbers within their types, least byte first. Null, undefined, MinKey and MaxKey have no bytes.
+-- the bytes of a scalar after its type byte and name (BSON 1.1), least byte first;
+-- none for null, undefined, MinKey and MaxKey
+abbrev pub scalar_bytes : Scalar → List ℕ
+scalar_bytes (trees.int32 z) = number (cast_unsigned w32 z)
+scalar_bytes (trees.int64 z) = long (cast_unsigned w64 z)
+scalar_bytes (trees.date z) = long (cast_unsigned w64 z)
+scalar_bytes (trees.timestamp seconds increment) = number increment ++ number seconds
+scalar_bytes (trees.boolean b) = (if b then 1 else 0) ∷ []
+scalar_bytes (trees.object_id id) = id
+scalar_bytes (trees.text s) = string s
+scalar_bytes (trees.symbol s) = string s
+scalar_bytes (trees.code s) = string s
+scalar_bytes (trees.db_pointer s id) = string s ++ id
+scalar_bytes (trees.regex pattern options) = pattern ++ 0 ∷ (options ++ 0 ∷ [])
+scalar_bytes (trees.binary subtype payload) = number (length (data_of subtype payload))
+    ++ subtype ∷ data_of subtype payload
+scalar_bytes _ = []
+
+-- The scalar is within its type, so that its bytes spell it: numbers have the bits of their types, texts are UTF-8.
+abbrev pub CanSpell : Scalar → Type 0
+CanSpell (trees.int32 z) = FitsSigned w32 z
+CanSpell (trees.int64 z) = FitsSigned w64 z
+CanSpell (trees.date z) = FitsSigned w64 z
+CanSpell (trees.timestamp seconds increment) = (seconds < 2 ^ 32) × (increment < 2 ^ 32)
+CanSpell (trees.object_id id) = length id ≡ 12
+CanSpell (trees.text s) = IsText s
+CanSpell (trees.symbol s) = IsText s
+CanSpell (trees.code s) = IsText s
+CanSpell (trees.db_pointer s id) = IsText s × (length id ≡ 12)
+CanSpell (trees.regex pattern options) = IsName pattern × IsName options
+CanSpell (trees.binary subtype payload) = (subtype < 256) × (length (data_of subtype payload) < 2 ^ 31)
+CanSpell _ = Unit {0}
+
+-- The scalar is within its type, and these are its bytes.
 abbrev pub IsScalar : Scalar → List ℕ → Type 0
-IsScalar (trees.int32 z) bytes = FitsSigned w32 z × (bytes ≡ number (cast_unsigned w32 z))
-IsScalar (trees.int64 z) bytes = FitsSigned w64 z × (bytes ≡ long (cast_unsigned w64 z))
-IsScalar (trees.date z) bytes = FitsSigned w64 z × (bytes ≡ long (cast_unsigned w64 z))
-IsScalar (trees.timestamp seconds increment) bytes =
-    (seconds < 2 ^ 32) × (increment < 2 ^ 32) × (bytes ≡ number increment ++ number seconds)
-IsScalar (trees.boolean b) bytes = bytes ≡ (if b then 1 else 0) ∷ []
-IsScalar (trees.object_id id) bytes = (length id ≡ 12) × (bytes ≡ id)
-IsScalar (trees.text s) bytes = IsText s × (bytes ≡ string s)
-IsScalar (trees.symbol s) bytes = IsText s × (bytes ≡ string s)
-IsScalar (trees.code s) bytes = IsText s × (bytes ≡ string s)
-IsScalar (trees.db_pointer s id) bytes = IsText s × (length id ≡ 12) × (bytes ≡ string s ++ id)
-IsScalar (trees.regex pattern options) bytes =
-    IsName pattern × IsName options × (bytes ≡ pattern ++ 0 ∷ (options ++ 0 ∷ []))
-IsScalar (trees.binary subtype payload) bytes = (subtype < 256) × (length (data_of subtype payload) < 2 ^ 31)
-    × (bytes ≡ number (length (data_of subtype payload)) ++ subtype ∷ data_of subtype payload)
-IsScalar _ bytes = bytes ≡ []
+IsScalar s bytes = CanSpell s × (bytes ≡ scalar_bytes s)
 
 -- The bytes spell the value. An array is spelled as a document whose names are any names.
 abbrev mutual

@@ -162,22 +162,22 @@ scalar_back (trees.int64 z) v r h =
 scalar_back (trees.date z) v r h =
     rw (h.1, long_prefix (cast_unsigned w64 z) r (omega (arith, ints, h.0))) (ap trees.date (to_z-of_z w64 z h.0))
 scalar_back (trees.timestamp s i) v r h =
-    rw (h.2, append_assoc (number i) (number s) r, number_prefix i (number s ++ r) h.1, number_after i (number s ++ r))
-    (ap (λ n. trees.timestamp n i) (number_prefix s r h.0))
-scalar_back (trees.boolean true) v r h = rw h refl
-scalar_back (trees.boolean false) v r h = rw h refl
+    rw (h.1, append_assoc (number i) (number s) r, number_prefix i (number s ++ r) h.0.1, number_after i (number s ++ r))
+    (ap (λ n. trees.timestamp n i) (number_prefix s r h.0.0))
+scalar_back (trees.boolean true) v r h = rw h.1 refl
+scalar_back (trees.boolean false) v r h = rw h.1 refl
 scalar_back (trees.object_id id) v r h = rw (h.1, take_at id r 12 h.0) refl
 scalar_back (trees.text s) v r h = rw h.1 (ap trees.text (string_text s r h.0.1))
 scalar_back (trees.symbol s) v r h = rw h.1 (ap trees.symbol (string_text s r h.0.1))
 scalar_back (trees.code s) v r h = rw h.1 (ap trees.code (string_text s r h.0.1))
-scalar_back (trees.db_pointer s id) v r h = rw (h.2, append_assoc (string s) id r)
-    (ap₂ trees.db_pointer (string_text s (id ++ r) h.0.1)
-    (ap (take 12) (string_rest s (id ++ r) h.0.1) ∙ take_at id r 12 h.1))
+scalar_back (trees.db_pointer s id) v r h = rw (h.1, append_assoc (string s) id r)
+    (ap₂ trees.db_pointer (string_text s (id ++ r) h.0.0.1)
+    (ap (take 12) (string_rest s (id ++ r) h.0.0.1) ∙ take_at id r 12 h.0.1))
 scalar_back (trees.binary k s) v r h =
-    rw (h.2, binary_subtype k (data_of k s) r, binary_data k (data_of k s) r h.1)
+    rw (h.1, binary_subtype k (data_of k s) r, binary_data k (data_of k s) r h.0.1)
     (ap (trees.binary k) (inner (k == 2) s))
-scalar_back (trees.regex p o) v r h = rw (h.2, regex_whole p o r)
-    (ap₂ trees.regex (name_prefix p (o ++ 0 ∷ r) h.0) (ap name_of (name_after p (o ++ 0 ∷ r) h.0) ∙ name_prefix o r h.1))
+scalar_back (trees.regex p o) v r h = rw (h.1, regex_whole p o r)
+    (ap₂ trees.regex (name_prefix p (o ++ 0 ∷ r) h.0.0) (ap name_of (name_after p (o ++ 0 ∷ r) h.0.0) ∙ name_prefix o r h.0.1))
 scalar_back _ v r h = refl
 
 -- the size that the bytes of a scalar give is the number of those bytes, whatever follows them
@@ -186,21 +186,21 @@ scalar_size (trees.int32 z) v r h = rw h.1 (sym (number_length (cast_unsigned w3
 scalar_size (trees.int64 z) v r h = rw h.1 (sym (long_length (cast_unsigned w64 z)))
 scalar_size (trees.date z) v r h = rw h.1 (sym (long_length (cast_unsigned w64 z)))
 scalar_size (trees.timestamp s i) v r h =
-    rw h.2 (omega (arith, length-append (number i) (number s), number_length i, number_length s))
+    rw h.1 (omega (arith, length-append (number i) (number s), number_length i, number_length s))
 scalar_size (trees.object_id id) v r h = rw h.1 (sym h.0)
 scalar_size (trees.text s) v r h = rw h.1 (rw (string_number s r h.0.1) (sym (string_length s)))
 scalar_size (trees.symbol s) v r h = rw h.1 (rw (string_number s r h.0.1) (sym (string_length s)))
 scalar_size (trees.code s) v r h = rw h.1 (rw (string_number s r h.0.1) (sym (string_length s)))
-scalar_size (trees.db_pointer s id) v r h = rw (h.2, append_assoc (string s) id r)
-    (omega (arith, string_number s (id ++ r) h.0.1, length-append (string s) id, string_length s, h.1))
+scalar_size (trees.db_pointer s id) v r h = rw (h.1, append_assoc (string s) id r)
+    (omega (arith, string_number s (id ++ r) h.0.0.1, length-append (string s) id, string_length s, h.0.1))
 scalar_size (trees.binary k s) v r h = let d = data_of k s in
-    rw h.2 (omega (arith, binary_count k d r h.1, length-append (number (length d)) (k ∷ d), number_length (length d)))
+    rw h.1 (omega (arith, binary_count k d r h.0.1, length-append (number (length d)) (k ∷ d), number_length (length d)))
 scalar_size (trees.regex p o) v r h = let rest = o ++ 0 ∷ r in
-    let first = zero_offset p rest h.0.1 in
-    let second = ap zero_at (name_after p rest h.0) ∙ zero_offset o r h.1.1 in
-    rw (h.2, regex_whole p o r)
+    let first = zero_offset p rest h.0.0.1 in
+    let second = ap zero_at (name_after p rest h.0.0) ∙ zero_offset o r h.0.1.1 in
+    rw (h.1, regex_whole p o r)
     (omega (arith, first, second, length-append p (0 ∷ (o ++ 0 ∷ [])), length-append o (0 ∷ [])))
-scalar_size _ v r h = rw h refl
+scalar_size _ v r h = rw h.1 refl
 
 -- if the same bytes begin with two scalars of one kind, these are one scalar, and it takes the same bytes
 scalars : (a b : Scalar) (v w r s : List ℕ) → IsScalar a v → IsScalar b w

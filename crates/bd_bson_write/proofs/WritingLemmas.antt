@@ -9,8 +9,8 @@ use Rattle.bd_value.specs.Fits.{has_zero, zero_in, zero_in_fields, zero_in_items
 use Rattle.bd_value.specs.Fits.{ScalarFits, Fits, ItemsFit, FieldsFit}
 use Rattle.bd_value.specs.{Tree.scope_of, Tree.values_of, Tree.Leaf, Tree.leaf_of, Tree.code_leaf, Limits.longest_document}
 use Rattle.bd_bson_view.specs.Unique.{number_length, string_length}
-use Rattle.bd_bson_view.specs.Spelling.{number, string, framed, scoped, IsName, data_of, element, IsText, IsScalar, IsValue, AreFields, AreItems, IsDocument}
-use Rattle.bd_bson_write.specs.TreeBytes.{OverrunsLimit, scalar_bytes, bytes_of, fields_bytes, items_bytes, SpellsPlainly}
+use Rattle.bd_bson_view.specs.Spelling.{number, scalar_bytes, string, framed, scoped, IsName, data_of, element, IsText, CanSpell, IsValue, AreFields, AreItems, IsDocument}
+use Rattle.bd_bson_write.specs.TreeBytes.{OverrunsLimit, bytes_of, fields_bytes, items_bytes, SpellsPlainly}
 use Rattle.bd_bson_write.specs.declared.writing.WriteFault.{WriteFault}
 use Rattle.bd_bson_write.specs.declared.writing.WriteFault.TheVariants as faults
 use Rattle.bd_value.specs.Tree as trees
@@ -137,25 +137,25 @@ element_size t name value = omega (arith, length-append name (0 ∷ value))
 place_name : (n : ℕ) → n < 2 ^ 64 → IsName (decimal n)
 place_name n small = is_name (decimal n) (IsUtf8-from_ascii (decimal n) (IsAscii-decimal n small)) (decimal_no_zero n small)
 
-scalar_spelled : (s : Scalar) → ScalarFits IsUtf8 s → zero_in_scalar s ≡ false → length (scalar_bytes s) ≤ longest_document → IsScalar s (scalar_bytes s)
-scalar_spelled (trees.int32 z) fits none short = (fits, refl)
-scalar_spelled (trees.int64 z) fits none short = (fits, refl)
-scalar_spelled (trees.date z) fits none short = (fits, refl)
-scalar_spelled (trees.timestamp s i) fits none short = (fits.0, fits.1, refl)
-scalar_spelled (trees.object_id id) fits none short = (fits.0, refl)
-scalar_spelled (trees.text s) fits none short = (is_text s fits short, refl)
-scalar_spelled (trees.symbol s) fits none short = (is_text s fits short, refl)
-scalar_spelled (trees.code s) fits none short = (is_text s fits short, refl)
-scalar_spelled (trees.db_pointer s id) fits none short = (is_text s fits.0 (omega (arith, short, length-append (string s) id)), fits.1.0, refl)
-scalar_spelled (trees.regex p o) fits none short = let n = are_names p o fits.0 fits.1 none in (n.0, n.1, refl)
-scalar_spelled (trees.binary k bs) fits none short =
+can_spell : (s : Scalar) → ScalarFits IsUtf8 s → zero_in_scalar s ≡ false → length (scalar_bytes s) ≤ longest_document → CanSpell s
+can_spell (trees.int32 z) fits none short = fits
+can_spell (trees.int64 z) fits none short = fits
+can_spell (trees.date z) fits none short = fits
+can_spell (trees.timestamp s i) fits none short = fits
+can_spell (trees.object_id id) fits none short = fits.0
+can_spell (trees.text s) fits none short = is_text s fits short
+can_spell (trees.symbol s) fits none short = is_text s fits short
+can_spell (trees.code s) fits none short = is_text s fits short
+can_spell (trees.db_pointer s id) fits none short = (is_text s fits.0 (omega (arith, short, length-append (string s) id)), fits.1.0)
+can_spell (trees.regex p o) fits none short = are_names p o fits.0 fits.1 none
+can_spell (trees.binary k bs) fits none short =
     let content = data_of k bs in
-    (fits.0, omega (arith, short, length-append (number (length content)) (k ∷ content), number_length (length content)), refl)
-scalar_spelled _ fits none short = refl
+    (fits.0, omega (arith, short, length-append (number (length content)) (k ∷ content), number_length (length content)))
+can_spell _ fits none short = tt
 
 mutual
   spelled : (t : Tree) → Fits t → zero_in t ≡ false → length (bytes_of t) ≤ longest_document → IsValue t (bytes_of t)
-  spelled (leaf s) fits none short = scalar_spelled s fits none short
+  spelled (leaf s) fits none short = (can_spell s fits none short, refl)
   spelled (doc fs) fits none short = (fields_bytes fs, fields_spelled fs fits none (omega (arith, short, framed_length (fields_bytes fs))), refl)
   spelled (array ts) fits none short = (items_bytes 0 ts, items_spelled 0 ts fits none (omega (arith, short, framed_length (items_bytes 0 ts))), refl)
   spelled (code_scope s fs) fits none short =

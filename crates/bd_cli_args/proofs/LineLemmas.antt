@@ -2,7 +2,7 @@
 use Rattle.std.proofs.Common.{ap₂, subst, ◌⊎◌, inl, inr, ◌≡◌, ◌∙◌, ◌||◌, Bool, cond, true, false, not, refl, sym, ap, List, [], ◌∷◌, codes, Option, Some, None}
 use Rattle.std.proofs.Common.{true≢false, ℕ, Result, Ok, Err, IfOk, IfErr, Box, find, slice_get, unwrap_or, IfSome, is_some, option_and_then, option_map, if◌then◌else◌}
 use Rattle.std.proofs.Common.{◌==◌, ◌<◌, ◌^◌, arith}
-use Rattle.std.specs.Prelude.{⊤}
+use Rattle.std.specs.{Prelude.⊤, Map.lookup, Str.bytes_eq}
 use Rattle.std.specs.Str.Parse.{ParsesUnsigned, digits_value, without_leading_plus, IsNumeral}
 use Rattle.std.specs.{Option.option_map_or, Option.option_or, Box.box_value}
 use Rattle.std.proofs.lemmas.{Slice.Eq.bytes_eq-Decides, Bool.and_parts, Bool.cond_both}
@@ -19,7 +19,7 @@ use Rattle.clap.specs.{Words.ReadsOne, ValueTests.is_unsigned_in, declared.build
 use Rattle.clap.proofs.ValueTestLemmas.{accepts-Accepts, Accepts-accepts}
 use Rattle.clap.proofs.{OnLiterals.clap_on_literals, WalkLemmas.first_value-rows, WalkLemmas.one_text-rows}
 use Rattle.bd_cli_args.specs.CommandLine.{OrderView, GivesOrder, meant, check, dump, pack, serve, fault_for, file_app, find_app, find_words_in, explain_refusal}
-use Rattle.bd_cli_args.specs.CommandLine.{is_help_line, is_serve_of_input, line_app, order_of, ordered_by, parser_refusal, serves_input, IsFileCommand, is_file_word}
+use Rattle.bd_cli_args.specs.CommandLine.{commands, is_help_line, is_serve_of_input, line_app, order_of, ordered_by, parser_refusal, serves_input, IsFileCommand, is_file_word}
 use Rattle.bd_cli_args.specs.CommandLine.{is_serve_input_line, number_read}
 use Rattle.bd_cli_args.specs.declared.order.WordsFault.TheVariants.{NoMemory, Usage}
 use Rattle.bd_cli_args.specs.{declared.order.Order.Order, declared.order.WordsFault.WordsFault}
@@ -200,13 +200,14 @@ pair_read (Some p) name rows n r =
 -- what the getters read of the matches
 pub ruleset readings = (first_value-rows, one_text-rows)
 
-same_cond : {X : Type 0} (b : Bool) (x : X) → cond b x x ≡ x
-same_cond true x = refl
-same_cond false x = refl
+-- whatever the command, without a FILE there is no order
+no_order : (o : Option (Text → OrderView)) → option_and_then (λ order. option_map order None) o ≡ None
+no_order None = refl
+no_order (Some order) = refl
 
 -- a command without FILE has no order
 pub no_file : (name : Text) (rows : List Row) → first_of (codes "file") rows ≡ None → ordered_by name rows ≡ None
-no_file name rows e = rw e (simp same_cond)
+no_file name rows e = rw e (no_order (lookup (bytes_eq name) (commands rows)))
 
 -- ---- the clauses of the parse, at the program's line
 

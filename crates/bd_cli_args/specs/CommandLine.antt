@@ -3,6 +3,7 @@
 use Rattle.std.specs.Prelude.{◌≡◌, ◌==◌, ◌⊎◌, ◌&&◌, ℕ, List, [], ◌∷◌, Bool, true, false, not, if◌then◌else◌, map}
 use Rattle.std.specs.Prelude.{slice_get, codes, String, string_bytes, Option, Some, None, option_map, option_and_then}
 use Rattle.std.specs.{Prelude.unwrap_or, Prelude.Result, Prelude.MatchResult, Option.option_map_or, Option.option_or}
+use Rattle.std.specs.Map.{lookup}
 use Rattle.std.specs.Str.{bytes_eq, Parse.digits_value, Parse.without_leading_plus}
 use Rattle.clap.specs.Simple.{App, new_app, new_rule, on_top, subcommand_of, with_rule, with_subcommand}
 use Rattle.clap.specs.Walk.{Row, Rule, Text, first_of, one_of}
@@ -103,14 +104,16 @@ find_words_in rows = record {
   after = first_of (codes "after") rows;
 }
 
+-- what each command does with its FILE, by its name
+abbrev pub commands : List Row → List (Text × (Text → OrderView))
+commands rows =
+    (codes "dump", dump) ∷ (codes "check", check) ∷ (codes "pack", pack) ∷ (codes "serve", serve)
+    ∷ (codes "find", λ file. find file (find_words_in rows)) ∷ []
+
 -- the command that a name and its parsed arguments ask for
 abbrev pub ordered_by : Text → List Row → Option OrderView
-ordered_by name rows = if bytes_eq name (codes "dump") then option_map dump (first_of (codes "file") rows)
-    else (if bytes_eq name (codes "check") then option_map check (first_of (codes "file") rows)
-    else (if bytes_eq name (codes "pack") then option_map pack (first_of (codes "file") rows)
-    else (if bytes_eq name (codes "find")
-    then option_map (λ file. find file (find_words_in rows)) (first_of (codes "file") rows)
-    else (if bytes_eq name (codes "serve") then option_map serve (first_of (codes "file") rows) else None))))
+ordered_by name rows =
+    option_and_then (λ order. option_map order (first_of (codes "file") rows)) (lookup (bytes_eq name) (commands rows))
 
 -- the command that arguments ask for; None if they are refused
 abbrev pub order_of : List Text → Option OrderView

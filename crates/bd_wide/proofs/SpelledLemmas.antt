@@ -70,8 +70,8 @@ scalar_there (trees.binary k s) v r h =
     let size = scalar_size (trees.binary k s) v r h in counted_there 0 5 v r (omega (arith, size)) (omega arith) (omega (arith, size))
 scalar_there (trees.regex p o) v r h =
     let size : length (p ++ 0 ∷ (o ++ 0 ∷ [])) ≡ length p + 1 + (length o + 1) = omega (arith, length-append p (0 ∷ (o ++ 0 ∷ [])), length-append o (0 ∷ [])) in
-    rw h.2 (two_there p o r h.0 h.1 ∙ ap Some (sym size))
-scalar_there _ v r h = rw h refl
+    rw h.1 (two_there p o r h.0.0 h.0.1 ∙ ap Some (sym size))
+scalar_there _ v r h = rw h.1 refl
 
 -- as many as stand for the value
 size_is : (t : Tree) (v r : List ℕ) → IsValue t v → length v ≤ longest_document → size_of (kind_of t) (v ++ r) ≡ length v

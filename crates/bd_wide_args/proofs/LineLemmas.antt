@@ -1,7 +1,7 @@
 -- The lines that are taken have an order.
 use Rattle.std.proofs.Common.{ap₂, subst, ◌⊎◌, inl, inr, ◌≡◌, ◌∙◌, ◌||◌, Bool, cond, true, false, not, refl, sym, ap, List, [], ◌∷◌, codes, Option, Some, None}
 use Rattle.std.proofs.Common.{Box, find, slice_get, unwrap_or, IfSome, is_some, option_and_then, option_map}
-use Rattle.std.specs.Prelude.{⊤}
+use Rattle.std.specs.{Prelude.⊤, Map.lookup, Str.bytes_eq}
 use Rattle.std.specs.{Option.option_map_or, Box.box_value}
 use Rattle.clap.specs.Simple.{App, HasMatchesOf, Shape, built, built_leaf, entered, inherited, marked_built, on_top, subcommand_rows, with_leaf_noted, is_simple}
 use Rattle.clap.specs.Simple.{label_of, names_of, rows_at, subcommand_of, subcommand_rows_of}
@@ -13,7 +13,7 @@ use Rattle.clap.specs.{Walk.Text, Walk.answers_to, Walk.finished, Walk.first_of,
 use Rattle.clap.specs.{Faults.fault_of, Faults.is_simple_and_free, Faults.level_fault, Takes.is_given, Takes.takes, declared.error.kind.ErrorKind.ErrorKind}
 use Rattle.clap.proofs.{WalkLemmas.first_value-rows, WalkLemmas.one_text-rows, WalkLemmas.raw_values-rows}
 use Rattle.bd_cli_args.specs.CommandLine.{file_app, explain_refusal}
-use Rattle.bd_wide_args.specs.CommandLine.{OrderView, mask, wrap, order, fault_for, line_app, order_app, order_of, ordered_by, texts_in}
+use Rattle.bd_wide_args.specs.CommandLine.{OrderView, wide_commands, mask, wrap, order, fault_for, line_app, order_app, order_of, ordered_by, texts_in}
 use Rattle.bd_cli_args.specs.declared.order.WordsFault.TheVariants.{NoMemory}
 use Rattle.bd_cli_args.specs.declared.order.WordsFault.{WordsFault}
 use Rattle.bd_cli_args.proofs.FaultLemmas.{SameExplained, given_first, is_plain, level-sound, same-entered, same-fault}
@@ -140,13 +140,14 @@ pair_read (Some p) name rows n r =
 -- what the getters read of the matches
 pub ruleset readings = (first_value-rows, one_text-rows, raw_values-rows)
 
-same_cond : {X : Type 0} (b : Bool) (x : X) → cond b x x ≡ x
-same_cond true x = refl
-same_cond false x = refl
+-- whatever the command, without a FILE there is no order
+no_order : (o : Option (Text → OrderView)) → option_and_then (λ order. option_map order None) o ≡ None
+no_order None = refl
+no_order (Some order) = refl
 
 -- a command without FILE has no order
 pub no_file : (name : Text) (rows : List Row) → first_of (codes "file") rows ≡ None → ordered_by name rows ≡ None
-no_file name rows e = rw e (simp same_cond)
+no_file name rows e = rw e (no_order (lookup (bytes_eq name) (wide_commands rows)))
 
 -- ---- the clauses of the parse, at the program's line
 

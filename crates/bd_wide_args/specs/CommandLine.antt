@@ -1,6 +1,7 @@
 -- The command lines that `bsonwide` accepts, by the parser's own definition,
 -- and the command that each asks for.
-use Rattle.std.specs.Prelude.{List, [], ◌∷◌, if◌then◌else◌, map, slice_get, codes, string_bytes, unwrap_or, Option, Some, None, option_map, option_and_then, true}
+use Rattle.std.specs.Prelude.{List, [], ◌∷◌, map, slice_get, codes, string_bytes, unwrap_or, Option, Some, None, option_map, option_and_then, true}
+use Rattle.std.specs.Map.{lookup}
 use Rattle.std.specs.Str.{bytes_eq}
 use Rattle.clap.specs.Lexer.{usize_max}
 use Rattle.clap.specs.Simple.{App, new_app, new_rule, on_top, subcommand_of, with_rule, with_subcommand}
@@ -48,12 +49,15 @@ meant (Order.Order file paths) = order (string_bytes file) (map string_bytes pat
 abbrev pub texts_in : Text → List Row → List Text
 texts_in name rows = unwrap_or (all_of name rows) []
 
+-- what each command does with its FILE, by its name
+abbrev pub wide_commands : List Row → List (Text × (Text → OrderView))
+wide_commands rows = (codes "mask", mask) ∷ (codes "wrap", wrap)
+    ∷ (codes "order", λ file. order file (texts_in (codes "path") rows)) ∷ []
+
 -- the command that a name and its parsed arguments ask for
 abbrev pub ordered_by : Text → List Row → Option OrderView
-ordered_by name rows = if bytes_eq name (codes "mask") then option_map mask (first_of (codes "file") rows)
-    else (if bytes_eq name (codes "wrap") then option_map wrap (first_of (codes "file") rows)
-    else (if bytes_eq name (codes "order")
-    then option_map (λ file. order file (texts_in (codes "path") rows)) (first_of (codes "file") rows) else None))
+ordered_by name rows =
+    option_and_then (λ order. option_map order (first_of (codes "file") rows)) (lookup (bytes_eq name) (wide_commands rows))
 
 -- the command that arguments ask for; None if they are refused
 abbrev pub order_of : List Text → Option OrderView
