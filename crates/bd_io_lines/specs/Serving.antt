@@ -56,7 +56,7 @@ module _ {R S : Type 0} (state : R → Reader) (gives : R → Option (List ℕ) 
       pub replied : RepliesInTurn replies s (commands_of given) text t
       pub written : TakesText out text
 
-    -- A fault of reading came in the line after some whole lines,
+    -- Reading failed in the line after some whole lines,
     -- and the replies to the commands among these were written.
     pub record StopsUnread (fault : ReadFault) : Type 0 where
       pub whole : List ℕ
@@ -70,8 +70,7 @@ module _ {R S : Type 0} (state : R → Reader) (gives : R → Option (List ℕ) 
       pub replied : RepliesInTurn replies s (commands_of whole) text t
       pub written : TakesText out text
 
-    -- Not each command had a reply, for this reason:
-    -- those before had theirs, and `stays` says what is unchanged.
+    -- Not every command had a reply, for this reason: those before had theirs, and `stays` says what is unchanged.
     abbrev pub StopsServing : (S → S → Type 0) → ServeFault → Type 0
     StopsServing stays (ServeFault.Unread fault) = StopsUnread fault
     -- the reply to a command was not made

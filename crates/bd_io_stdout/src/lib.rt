@@ -1,6 +1,6 @@
 //! Standard output in large writes, tied to what is read and to standard error.
 //!
-//! What was written, what of it a device has, and what waits: `specs/Gathering.antt`.
+//! What was written, what the device has of it, and what is buffered: `specs/Gathering.antt`.
 //!
 //! An example, which `bd_io_tests` proves and runs as `examples::gathered`:
 //!
@@ -14,7 +14,7 @@
 //! assert!(rt; hand_on(&gathering) == WriteState::Intact);
 //! ```
 //!
-//! - `gathering`: `Gathering`, what waits to be written; `GatheredOutput`, `FlushingInput` and `FlushingError` over one.
+//! - `gathering`: `Gathering`, the buffer of standard output; `GatheredOutput`, `FlushingInput` and `FlushingError` over one.
 #![tactic(auto)]
 
 mod gathering;
