@@ -156,7 +156,7 @@ skip_element nested place e (b ∷ bytes) = do
   name ← skip_name NameUnended e bytes
   within (label place name.0) (skip_typed nested type (e - suc (length bytes)) e name.1)
 
--- All elements of a document or an array. The first number bounds the turns:
+-- All elements of a document or an array. The first number bounds the steps:
 -- the count of the bytes is always enough.
 unfoldable pub skip_elements : Nested → Option ℕ → ℕ → ℕ → List ℕ → Result (Unit {0}) Fault
 skip_elements nested place zero e bytes = Ok tt

@@ -171,7 +171,7 @@ fn sees_every_kind(alloc: Global, document: RawDoc<'_>) -> bool {
     rest.next().is_none() && document.elements().find("none").is_none()
 }
 
-/// Whether a document in memory has every kind, by each of its own calls.
+/// Whether a document in memory has every kind, by each of its methods.
 fn has_every_kind_of_scalar(alloc: Global, document: &Document) -> bool {
     for (i, element) in elements().iter().enumerate() {
         if document.len() != 19 || i >= document.len() {

@@ -139,7 +139,7 @@ pub value_fits : (bytes : List ℕ) (start : ℕ) (kind : Kind) (s : Sound kind 
 value_fits bytes start kind s lt =
     omega (arith, ap (λ (x : List ℕ). length x) s.begins.splits, length-append s.begins.value s.begins.after, length-drop start bytes, extent_is s s)
 
--- ---- going through them
+-- ---- scanning the elements
 
 few_fields : (fs : Fields) (b : List ℕ) → AreFields fs b → length (pairs_of fs) ≤ length b
 few_fields no_fields b h = omega arith

@@ -57,7 +57,7 @@ size_of kinds.Array bytes = number_of bytes
 size_of kinds.CodeScope bytes = number_of bytes
 size_of _ bytes = 0
 
--- the scalar of that kind at the start of bytes, by BSON 1.1; null for a kind that is no scalar
+-- the scalar of that kind at the start of bytes, by BSON 1.1; null for a kind that is not a scalar's
 abbrev pub scalar_at : Kind → List ℕ → trees.Scalar
 scalar_at kinds.MinKey bytes = trees.min_key
 scalar_at kinds.Undefined bytes = trees.undefined

@@ -249,7 +249,7 @@ pub object_is_wrapper : {X : Type 0} (view : X → Tree) (result : Result X Trou
 object_is_wrapper view result rest w depth_left depth n ts None e f = absurd cc
 object_is_wrapper view result rest w depth_left depth n ts (Some name) e f = f name e
 
--- an object whose first name is no wrapper's is read as a document
+-- an object whose first name is not a wrapper's is read as a document
 pub object_is_plain : (depth_left depth n : ℕ) (ts : List Token) (key : Option (List ℕ)) → 0 < depth_left → option_and_then wrapper_of key ≡ None
     → through (wrap_object depth_left) (after_key depth n key ts) ≡ parse_map doc (through (wrap_fields (depth_left - 1)) (after_key depth n key ts))
 object_is_plain depth_left depth n ts None h e = ap (option_map (λ (a : Tree). (a, ts))) (nested_is depth_left (Some (doc no_fields)) h)

@@ -14,7 +14,7 @@
 //!   the buffer of a line for one node after the other.
 //! - `scalar`: a row of the conversion table each, and numbers, base64 and hexadecimal digits.
 //! - `json_string`: strings, and the names of a path.
-//! - `buffer`: text that is written into a buffer whose space was made once.
+//! - `buffer`: text that is written into a buffer which already has the space.
 #![tactic(auto)]
 
 mod buffer;

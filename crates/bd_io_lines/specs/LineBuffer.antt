@@ -46,7 +46,7 @@ module _ {R : Type 0} (gives : R → Option (List ℕ) → R → Type 0) where
 
   -- Why the line that begins with these bytes was not read;
   -- the reader gave `given`, and may give `limit` bytes.
-  -- `TooLong`: the line is too long; or the last read, with a part of the line buffered, passed the limit.
+  -- `TooLong`: the line is too long; or the last read, with a part of the line buffered, exceeded the limit.
   abbrev pub IsCause : ℕ → List ℕ → List ℕ → R → R → ReadFault → Type 0
   IsCause limit bytes given old new ReadFault.TooLong =
       (((line : List ℕ) × (rest : List ℕ) × (bytes ≡ line ++ rest) × IsLine line × (longest_command < length line))

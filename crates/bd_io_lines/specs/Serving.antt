@@ -27,7 +27,7 @@ IsReadInTime gives whole given old new = ((given ≡ []) × (new ≡ old))
     × GivesBeforeLast gives prefix old given new)
 
 -- For a reader whose reads may give these bytes, and for the replies that a command may have.
--- The reader goes from `old` to `new`.
+-- The reader changes from `old` to `new`.
 module _ {R S : Type 0} (state : R → Reader) (gives : R → Option (List ℕ) → R → Type 0)
     (replies : S → List ℕ → List ℕ → S → Type 0) (limits : Limits) (old new : R) where
   -- A command was read, and the text is the replies to those before it, which led from state s to t.

@@ -47,7 +47,7 @@ pair_at d i p lt is =
     let inside : i < length d.pairs.items = omega arith in
     slice_get-map pair_of d.pairs.items i ∙ rw (slice_get-get_or d.pairs.items i p inside, ← is) refl
 
--- ---- going down a document and an array
+-- ---- descending into a document and an array
 
 -- from the index of a member on, a list is that member and those after it
 pub next_at : {A : Type 0} (xs : List A) (i : ℕ) (x : A) → slice_get xs i ≡ Some x → drop i xs ≡ x ∷ drop (i + 1) xs

@@ -1,5 +1,5 @@
 -- The tree that a BSON value means (BSON 1.1, `document`, `e_list` and `element`),
--- wherever it is in memory.
+-- in memory or in bytes.
 -- A text and a name are their UTF-8 bytes, a number is a whole number.
 use Rattle.std.specs.Prelude.{◌≡◌, ℕ, suc, ◌+◌, ℤ, Bool, List, [], ◌∷◌, refl, Option, Some, None, length, map}
 use Rattle.std.specs.Prelude.{if◌then◌else◌, max}
@@ -54,22 +54,22 @@ Pair = List ℕ × Tree
 abbrev pub Doc : Type 0
 Doc = List Pair
 
--- the fields of a document in the form that a tree holds, in the same order
+-- the fields of a document in the form that a tree contains, in the same order
 abbrev pub fields_of : Doc → Fields
 fields_of [] = no_fields
 fields_of (p ∷ ps) = field p.0 p.1 (fields_of ps)
 
--- a list of values in the form that a tree holds for an array, in the same order
+-- a list of values in the form that a tree contains for an array, in the same order
 abbrev pub items_of : List Tree → Items
 items_of [] = no_items
 items_of (t ∷ ts) = item t (items_of ts)
 
--- the fields that a tree holds, as a list, in the same order
+-- the fields that a tree contains, as a list, in the same order
 abbrev pub pairs_of : Fields → Doc
 pairs_of no_fields = []
 pairs_of (field n t fs) = (n, t) ∷ pairs_of fs
 
--- the elements that a tree holds for an array, as a list, in the same order
+-- the elements that a tree contains for an array, as a list, in the same order
 abbrev pub list_of : Items → List Tree
 list_of no_items = []
 list_of (item t ts) = t ∷ list_of ts
