@@ -180,7 +180,7 @@ unfolding escape_byte
 escaped-before true = refl
 escaped-before false = refl
 
--- the same of names inside one string
+-- the same for names inside one string
 name_step : (later : Bool) (x : List ℕ) (pieces xs : List (List ℕ)) (out total : List ℕ) → pieces ≡ x ∷ xs → out ++ escaped (to_come later 46 pieces) ≡ total
     → ((out ++ before later 46) ++ escaped x) ++ escaped (to_come true 46 xs) ≡ total
 name_step later x pieces xs out total is so_far =

@@ -1,8 +1,8 @@
 //! Standard output in large writes, tied to what is read and to standard error, as `cin` and `cout` of C++ are tied.
 //!
-//! Output is buffered in memory. The buffer is flushed if the next write does not fit after it, before the system is asked
-//! for more input, before anything is written to standard error, and at the end. So a reader of the output gets each line
-//! before the program waits for input, and before standard error reports on it.
+//! Output is buffered in memory. The buffer is flushed if the next write does not fit after it, before more input is read
+//! from the system, before anything is written to standard error, and at the end. So a reader of the output gets each
+//! line before the program waits for input, and before standard error reports on it.
 //!
 //! So the device can refuse bytes of a write that already returned success. Then no more input is read, and nothing is
 //! written to standard error, until a write has returned that loss as its error. If no write follows, the end of the program
