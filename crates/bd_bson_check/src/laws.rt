@@ -33,7 +33,7 @@ pub fn scans_on()
         × (end : Option FaultView) × IsDumpScan (ds ++ more) end (prefix ++ rest) }
 {}
 
-/// There is no fault exactly if the bytes spell some document.
+/// Bytes have no fault exactly if they spell some document.
 pub fn no_fault_where_spelled()
     ensures none { (base : ℕ) (bytes : List ℕ) (d : Doc) →
         IsDocument d bytes → first_fault base bytes ≡ None }

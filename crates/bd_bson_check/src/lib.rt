@@ -17,7 +17,7 @@
 //! - `check`: `check_document`, which descends into nested values, and the documents of a dump in turn.
 //! - `parts`: values that contain no other value, and the frames of documents; and a fast check of elements without a fault.
 //! - `fault`: why bytes are not a document, and where.
-//! - `laws`: there is no fault exactly if a document is spelled; bytes are a dump or have one first fault.
+//! - `laws`: bytes have no fault exactly if they spell a document; bytes are a dump or have one first fault.
 #![tactic(auto)]
 
 mod check;

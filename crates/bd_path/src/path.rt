@@ -24,7 +24,7 @@ pub struct Path {
 impl Path {
     ghost use Rattle.bd_path.specs.PathNames.{names_of, path_text};
 
-    /// Parses a path. It fails if there are more than 100 components, else if one is empty, or if memory runs out.
+    /// Parses a path from a text. It fails if there are more than 100 components, else if one is empty, or if memory runs out.
     pub fn parse(alloc: Global, text: &str) -> Result<Path, PathFault>
         ensures path { IfOk result (λ p. path_of text.now ≡ Ok (names_of p)) }
         ensures text { IfOk result (λ p. path_text p ≡ text.now) }
