@@ -1,10 +1,11 @@
 #!/usr/bin/env python3
-"""Looks whether the identifiers of the crates use one word for one meaning: it counts the words that are gone.
+"""Looks whether the identifiers and the comments of the crates use one word for one meaning: it counts the words that are gone.
 
-usage: tests/docs/words.py     Each line names a file and an identifier that has a word which is gone. The last line is 'N passed, M failed'.
+usage: tests/docs/words.py     Each line names a file, and an identifier or a line of a comment with a word that is gone. The last line is
+                               'N passed, M failed'.
 
-A part of an identifier is what stands between `_` and capitals: `front_of` has the word `front`, and so has `TextFront`. A name that a file
-imports from the kit is the kit's, and so is a label of a clause of the kit.
+A part of an identifier is what is between `_` and capitals: `front_of` has the word `front`, and so has `TextFront`. A name that a file
+imports from the kit is the kit's, and so is a label of a clause of the kit. A comment may have any word in backquotes, and in an example.
 """
 import re
 import sys
@@ -54,13 +55,48 @@ LABELS = {
     "vain": "visited", "quiet": "no_read", "works": "not_failed", "well": "no_failure", "put": "appended", "there": "in_range",
     "further": "stops_reading", "few": "fits_u32", "kept": "unchanged, same_source, err",
 }
+# What is gone from comments, as whole words in any case, and what to write. A quotation mark, `left to right` and `cut short` stay.
+COMMENTS = {
+    r"told|tells?|telling|untold": "reports, returns, message",
+    r"handed|hand(?:s|ing)? (?:on|out|in|over)": "passes, writes, returns",
+    r"show(?:s|n|ed|ing)?": "prints, output",
+    r"stands?|stood|standing": "is, is at, means",
+    r"so many|so deep": "n, as many as the number",
+    r"exactly where": "exactly if",
+    r"none where": "None if",
+    r"where (?:memory|there (?:is|are)|it is no(?:ne)?)": "if",
+    r"fronts?": "prefix, start",
+    r"behind": "after",
+    r"rooms?": "buffer, space, capacity, levels",
+    r"held": "buffered, contained",
+    r"(?<!quotation )marks?": "position, pivot",
+    r"starve[sd]?": "out of memory",
+    r"judge[sd]?|verdicts?": "check, result",
+    r"seen|unseen": "viewed, visited",
+    r"gather(?:s|ed|ing)?": "collects, buffers, standard output",
+    r"past": "after, beyond, skips",
+    r"(?:goes|go|going|went|gone) on": "continues, resumes",
+    r"pass(?:es|ed) over": "skips",
+    r"left(?! to right)": "remaining, rest",
+    r"cuts?(?! short)": "split, limit, truncated",
+    r"(?:lets?|letting) (?:\w+ )?go": "drops, frees",
+    r"wants?|wanted": "needs, expected",
+    r"suits?|suited": "matches",
+    r"in words|the words of": "message",
+    r"in vain|in hand|wherever": "visited, in memory, in memory or in bytes",
+    r"anew|once more": "again",
+    r"no memory (?:was given|is taken)|allocator (?:gives|gave|refuse[sd])": "memory runs out, it takes no memory",
+}
 
 IDENT = re.compile(r"[A-Za-z_][A-Za-z0-9_]*")
 PART = re.compile(r"[A-Z]+(?![a-z])|[A-Z]?[a-z0-9]+|[A-Z]")
 PLAIN = {
-    ".rt": re.compile(r'//[^\n]*|b?r(#*)".*?"\1|b?"(?:\\.|[^"\\])*"', re.S),
+    ".rt": re.compile(r'''//[^\n]*|b?'(?:\\.|[^'\\])'|b?r(#*)".*?"\1|b?"(?:\\.|[^"\\])*"''', re.S),
     ".antt": re.compile(r'(?:(?<=\s)|^)--[^\n]*|"(?:\\.|[^"\\])*"', re.M),
 }
+FENCE = re.compile(r"//[/!] *```")
+QUOTED = re.compile(r"`[^`]*`")
+GONE = {re.compile(rf"\b(?:{gone})\b", re.I): write for gone, write in COMMENTS.items()}
 USE = re.compile(r"\buse\s+(?:Rattle\.)?([A-Za-z]\w*)((?:::|\.)[^;\n]*?\{[^}]*\}|(?:::|\.)[^;\n]*)", re.S)
 KIT_LABEL = re.compile(r"\b(?:split_at[\w-]*\.ensures|splits)\.\w+")
 LABEL = re.compile(r"^\s*(?:ensures|requires|invariant|ghost) (\w+)(?: \{|:)", re.M)
@@ -81,6 +117,17 @@ def code_of(path: Path, roots: set[str]) -> tuple[str, set[str]]:
     return KIT_LABEL.sub(" ", USE.sub(without, text)), kits
 
 
+def comments_of(path: Path) -> Iterator[tuple[int, str]]:
+    """The comments of a file, with the number of the line, without examples and what is in backquotes."""
+    text = path.read_text(encoding="utf-8")
+    in_example = False
+    for found in PLAIN[path.suffix].finditer(text):
+        fence = FENCE.match(found[0])
+        in_example ^= bool(fence)
+        if found[0].startswith(("//", "--")) and not fence and not in_example:
+            yield text.count("\n", 0, found.start()) + 1, QUOTED.sub("", found[0])
+
+
 def words_of(name: str) -> set[str]:
     """The words of an identifier."""
     return {it.lower() for it in PART.findall(name)}
@@ -97,6 +144,10 @@ def faults_of(path: Path, roots: set[str]) -> Iterator[str]:
     for label in LABEL.findall(code) if path.suffix == ".rt" else []:
         if label in LABELS:
             yield f"{label}: a clause has this label, write {LABELS[label]}"
+    for line, comment in comments_of(path):
+        for gone, write in GONE.items():
+            if found := gone.search(comment):
+                yield f"line {line}: {found[0]} is gone from comments, write {write}"
 
 
 def main() -> int:

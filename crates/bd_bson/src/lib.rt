@@ -1,11 +1,11 @@
-//! The family of BSON: documents and dumps in their bytes. This crate is its face: it has the names that users of the family
-//! need, each from the crate that owns it, and no code.
+//! The family of BSON: documents and dumps in their bytes. This crate re-exports the names that users of the family need,
+//! each from the crate that owns it, and has no code.
 //!
-//! - `bd_bson_view`: `RawDoc` and `RawValue`, a document and a value as they stand in its bytes.
+//! - `bd_bson_view`: `RawDoc` and `RawValue`, a document and a value in their bytes.
 //! - `bd_bson_check`: `check_document`, the first fault of a document; `next_document` and `next_frame`, a dump in turn.
 //! - `bd_bson_write`: `write_document`, the bytes of a document.
 //! - `bd_bson_stream`: `DocReader`, the documents of a dump from a device.
-//! - `bd_bson_dump`: `Dump`, the documents of a collection in memory, and `read_dump`, which makes one.
+//! - `bd_bson_dump`: `Dump`, the documents of a collection in memory, and `read_dump`, which reads one.
 #![tactic(auto)]
 
 pub use bd_bson_check::{

@@ -1,4 +1,4 @@
--- Going past what holds values, and elements one after the other.
+-- Skipping values that contain values, and elements one after the other.
 use Rattle.std.proofs.Common.{◌≡◌, ℕ, List, Result, Ok, Err, refl, ap, ◌∙◌, [], arith, zero, suc, ◌+◌, ◌-◌, ◌<◌, ◌≤◌, ◌∷◌, length, get_or, drop, Option, Some, None, sym}
 use Rattle.std.proofs.Common.{Bool, true, false, Bor, take, inl, inr, codes, option_map, IfSome, ◌||◌, ◌==◌, nat_lt, IsAscii}
 use Rattle.bd_bson_check.specs.declared.fault.FaultKind.TheVariants.{TooDeep, NameUnended}
@@ -36,7 +36,7 @@ pub fails_then : {A B : Type 0} (r : Stop) (x : Result A Fault) (f : A → Resul
 fails_then stops.NoMemory x f h = tt
 fails_then (stops.Found g) x f h = rw h refl
 
--- ---- what holds values
+-- ---- values that contain values
 
 pub too_deep : (holder : Holder) (depth_left q e : ℕ) (bytes : List ℕ) → depth_left ≡ 0 → skip_nested depth_left holder q e bytes ≡ fault TooDeep q
 unfolding skip_nested
@@ -79,7 +79,7 @@ same_others : {A B : Type 0} (r : Result A Fault) (f g : A → Result B Fault) �
 same_others (Ok x) f g h = h x refl
 same_others (Err d) f g h = refl
 
--- any number of turns from the count of the bytes on is as good
+-- any bound from the count of the bytes on gives the same result
 enough : (depth_left : ℕ) (nested : Nested) (below : NestedTakes depth_left nested) (index : Option ℕ) (n m e : ℕ) (bytes : List ℕ) → IsBytes bytes → length bytes ≤ n
     → length bytes ≤ m → skip_elements nested index n e bytes ≡ skip_elements nested index m e bytes
 unfolding skip_elements
@@ -92,7 +92,7 @@ enough depth_left nested below index (suc n) (suc m) e (b ∷ bytes) fits p q =
     let less = element_shrinks depth_left (b ∷ bytes) x r in
     enough depth_left nested below (option_map suc index) n m e x r.takes.rest_fits (omega (arith, less)) (omega (arith, less)))
 
--- the first element, what it leaves, and the others
+-- the first element, the bytes after it, and the other elements
 pub goes_on : (index : Option ℕ) (depth_left e : ℕ) (bytes after : List ℕ) → IsBytes bytes → skip_element (skip_nested depth_left) index e bytes ≡ Ok after → (length after < length bytes) × IsBytes after
     × (skip_elements (skip_nested depth_left) index (length bytes) e bytes ≡ skip_elements (skip_nested depth_left) (option_map suc index) (length after) e after)
 unfolding skip_element skip_elements
@@ -109,7 +109,7 @@ unfolding skip_elements
 no_first r index depth_left e [] lt h = absurd (omega arith)
 no_first r index depth_left e (b ∷ bytes) lt h = fails_then r (skip_element (skip_nested depth_left) index e (b ∷ bytes)) _ h
 
--- a place in an array stays below the count of the bytes
+-- an index in an array stays below the count of the bytes
 pub counted_on : (index : Option ℕ) (more less all : ℕ) → IfSome index (λ i. i + more ≤ all) → less < more → IfSome (option_map suc index) (λ i. i + less ≤ all)
 counted_on None more less all h lt = tt
 counted_on (Some i) more less all h lt = omega arith
@@ -120,7 +120,7 @@ ends_ascii b = b == 0 || nat_lt 127 b
 abbrev is_zero : ℕ → Bool
 is_zero b = b == 0
 
--- where the first byte that is zero or not ASCII is zero, it is the first zero, and what stands before it is text
+-- if the first byte that is zero or not ASCII is zero, it is the first zero, and the bytes before it are text
 pub named : (bytes : List ℕ) (k : ℕ) → position ends_ascii bytes ≡ Some k → get_or bytes k 0 ≡ 0 → (position is_zero bytes ≡ Some k) × (is_utf8 (take k bytes) ≡ true) × (k < length bytes)
 named bytes k is zero_here =
     let at = position-Some ends_ascii bytes k 0 is in

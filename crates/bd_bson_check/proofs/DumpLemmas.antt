@@ -11,14 +11,14 @@ use Rattle.bd_bson_view.specs.{Spelling.IsDocument, Spelling.framed, Unique.numb
 use Rattle.bd_bson_view.proofs.{ValueAtLemmas.framed_length, SoundLemmas.document_unique}
 use Rattle.bd_bson_check.proofs.FirstFaultLemmas.{guard_ok, IsBytes, IsBytes-take, IsBytes-drop, document_found, document_again}
 
--- ---- a document at the front tells its length
+-- ---- the length at the start of a document
 
 stated : (body rest : List ℕ) → length (framed body) ≤ longest_document → stated_length (framed body ++ rest) ≡ length (framed body)
 stated body rest short =
     let size = framed_length body in
     ap number_of (framed_after body rest) ∙ number_prefix (length body + 5) (body ++ 0 ∷ rest) (omega arith) ∙ sym size
 
--- a length from 5 to 16,793,600 that is not past the end is the length of a document
+-- a length from 5 to 16,793,600 and within the bytes is the length of a document
 pub frame_good : (bytes : List ℕ) (n : ℕ) → stated_length bytes ≡ n → 5 ≤ n → n ≤ longest_document → n ≤ length bytes → frame_length bytes ≡ Ok (Some n)
 frame_good [] n is low high le = absurd (omega arith)
 frame_good (b ∷ bytes) n is low high le =
@@ -34,7 +34,7 @@ document_frame d prefix rest h =
     let t : stated_length (prefix ++ rest) ≡ length prefix = ap (λ (x : List ℕ). stated_length (x ++ rest)) s.2 ∙ stated s.0 rest short ∙ sym (ap length s.2) in
     frame_good (prefix ++ rest) (length prefix) t (omega (arith, ap length s.2, framed_length s.0)) h.short (omega (arith, length-append prefix rest))
 
--- ---- the walk over a dump ends in one way
+-- ---- the scan of a dump has one result
 
 -- the bytes of a document have no fault
 pub document_faultless : (base : ℕ) (bytes : List ℕ) (d : Doc) → IsDocument d bytes → first_fault base bytes ≡ None
@@ -50,7 +50,7 @@ prefixes c d a b x y p q h =
     let same : a ≡ b = sym (take_at a x (length a) refl) ∙ ap (take (length a)) h ∙ take_at b y (length a) (sym m) in
     (document_unique b c d (rw same at p) q, same, cancel a b x y same h)
 
--- no document stands at the front
+-- no document is at the start
 unfoldable pub Stuck : List ℕ → Type 0
 Stuck x = (d : Doc) (prefix rest : List ℕ) → IsDocument d prefix → x ≡ prefix ++ rest → ⊥
 
@@ -78,13 +78,13 @@ joined_once (d ∷ ds) (e ∷ es) a b x y p q s t h =
     let others = joined_once ds es p.1 q.1 x y p.3 q.3 s t first.2 in
     (ap₂ (λ (u : Doc) (us : List Doc). u ∷ us) first.0 others.0, p.4 ∙ ap₂ (λ (u v : List ℕ). u ++ v) first.1 others.1 ∙ sym q.4, others.2)
 
--- what a walk ends in: no document stands there, and its fault, or none
+-- the end of a scan: no document is there, and its fault or None
 scan_ends : (ds : List Doc) (o : Option Fault) (bytes : List ℕ) → IsDumpScan ds o bytes
     → (prefix : List ℕ) × (rest : List ℕ) × AreJoined ds prefix × (bytes ≡ prefix ++ rest) × Stuck rest × (frame_fault (length prefix) rest ≡ o)
 scan_ends ds None bytes v = (bytes, [], v, sym (append-nil bytes), nothing_stuck, refl)
 scan_ends ds (Some f) bytes v = (v.0, v.1, v.2, v.3, fault_stuck (length v.0) v.1 f v.4, v.4)
 
--- bytes have one walk: one list of documents, and one fault after them or none
+-- bytes have one scan: one list of documents, and one fault after them or None
 pub scan_once : (ds es : List Doc) (o p : Option Fault) (bytes : List ℕ) → IsDumpScan ds o bytes → IsDumpScan es p bytes → (ds ≡ es) × (o ≡ p)
 scan_once ds es o p bytes v w =
     let a = scan_ends ds o bytes v in
@@ -103,7 +103,7 @@ joined_append (d ∷ ds) es a b p q = (p.0, p.1 ++ b, p.2, joined_append ds es p
 pub joined_one : (d : Doc) (bytes : List ℕ) → IsDocument d bytes → AreJoined (d ∷ []) bytes
 joined_one d bytes h = (bytes, [], h, refl, sym (append-nil bytes))
 
--- what a walk finds after some documents
+-- what a scan finds after some documents
 pub record Scanned (done : List Doc) (prefix rest : List ℕ) : Type 0 where
   pub more : List Doc
   pub end : Option Fault
@@ -120,7 +120,7 @@ goes_on done d prefix first rest bytes splits w =
     let scan : IsDumpScan (done ++ d ∷ w.more) w.end (prefix ++ bytes) = rw (← splits, ← append_assoc prefix first rest, ← append_assoc done (d ∷ []) w.more) w.scan in
     record { more = d ∷ w.more; end = w.end; scan = scan }
 
--- a frame takes bytes, and not more than there are
+-- a frame takes at least five bytes, and no more than there are
 pub frame_inside : (bytes : List ℕ) (n : ℕ) → frame_length bytes ≡ Ok (Some n) → (5 ≤ n) × (n ≤ length bytes) × (n ≤ longest_document)
 frame_inside [] n is = absurd cc
 frame_inside (b ∷ bytes) n is =
@@ -171,6 +171,6 @@ scan : (turns : ℕ) → Scanner turns
 scan zero done prefix rest le fits j = ends_at done prefix rest j (nil_from_length rest (omega arith))
 scan (suc turns) done prefix rest le fits j = scan_frame turns (scan turns) done prefix rest le fits j (frame_length rest) refl
 
--- the walk goes on after any documents
+-- a scan continues after any documents
 pub scan_on : (done : List Doc) (prefix rest : List ℕ) → IsBytes rest → AreJoined done prefix → Scanned done prefix rest
 scan_on done prefix rest fits j = scan (length rest) done prefix rest (omega arith) fits j

@@ -1,4 +1,4 @@
--- What is gone past without a fault is spelled by a tree.
+-- Bytes that are skipped without a fault spell a tree.
 use Rattle.std.proofs.Common.{◌≡◌, ◌≢◌, ℕ, zero, suc, ◌+◌, ◌-◌, ◌^◌, ◌<◌, ◌≤◌, max, ℤ, Bool, true, false, cond, ltb, eqb, List, [], ◌∷◌, ◌++◌, length, get_or, take, drop}
 use Rattle.std.proofs.Common.{Option, Some, None, Result, Ok, Err, refl, sym, ap, ap₂, subst, ◌∙◌, append_assoc, arith, inl, inr, add-one, IsUtf8, FitsSigned, ◌||◌, ◌&&◌}
 use Rattle.std.proofs.Common.{not, nat_eq, ◌==◌, codes, option_map}
@@ -30,7 +30,7 @@ use Rattle.bd_bson_view.specs.declared.raw_parts.ElementType.TheVariants as type
 use Rattle.bd_bson_view.specs.declared.raw_parts.Holder.TheVariants as holders
 use Rattle.bd_bson_view.specs.Spelling as table
 
--- Each number of the list is a byte; past the end it counts as 0.
+-- Each number of the list is a byte; after the end it counts as 0.
 abbrev pub IsBytes : List ℕ → Type 0
 IsBytes bytes = (i : ℕ) → get_or bytes i 0 < 256
 
@@ -62,7 +62,7 @@ done x = Ok x
 ok_is : {A : Type 0} (x y : A) → done x ≡ done y → x ≡ y
 ok_is x y e = cc
 
--- what a reader took from the front
+-- what a reader took from the start of the bytes
 pub record Takes (bytes text rest : List ℕ) : Type 0 where
   pub parts : bytes ≡ text ++ rest
   pub rest_fits : IsBytes rest
@@ -70,7 +70,7 @@ pub record Takes (bytes text rest : List ℕ) : Type 0 where
 Takes-then : {a x b y c : List ℕ} → Takes a x b → Takes b y c → Takes a (x ++ y) c
 Takes-then {a} {x} {b} {y} {c} p q = record { parts = p.parts ∙ ap (λ (t : List ℕ). x ++ t) q.parts ∙ sym (append_assoc x y c); rest_fits = q.rest_fits }
 
--- so many bytes that were gone past
+-- n bytes that were skipped
 record TakesFixed (n : ℕ) (bytes rest : List ℕ) : Type 0 where
   pub prefix : List ℕ
   pub takes : Takes bytes prefix rest
@@ -107,7 +107,7 @@ skip_zero_takes kind e [] rest is = absurd cc
 skip_zero_takes kind e (zero ∷ bs) rest is = ap (λ (x : List ℕ). 0 ∷ x) (ok_is bs rest is)
 skip_zero_takes kind e (suc b ∷ bs) rest is = absurd cc
 
--- bytes of which a front and a zero were cut off
+-- bytes are a prefix, a zero after it, and the rest
 skip_zero_splits : (more : List ℕ) (k : ℕ) (rest : List ℕ) → IsBytes more → k ≤ length more → drop k more ≡ 0 ∷ rest → Takes more (take k more ++ 0 ∷ []) rest × (length (take k more) ≡ k)
 skip_zero_splits more k rest fits le is =
     let whole : more ≡ (take k more ++ 0 ∷ []) ++ rest = sym (take-append-drop k more) ∙ ap (λ (x : List ℕ). take k more ++ x) is ∙ sym (append_assoc (take k more) (0 ∷ []) rest) in
@@ -142,7 +142,7 @@ name_takes kind e bytes x fits is = up_to (position (λ b. b == 0) bytes) refl i
         let c = skip_zero_splits bytes k (drop (k + 1) bytes) fits (omega (arith, p.0)) (rw (add-one, drop-cons bytes k 0 p.0, z) refl) in
         rw (← ok_is (a.0, drop (k + 1) bytes) x a.2, ← t.0) (c.0, (t.1, none_zero bytes k (omega (arith, p.0)) p.2))
 
--- a string that was gone past
+-- a string that was skipped
 record TakesString (bytes rest : List ℕ) : Type 0 where
   pub text_bytes : List ℕ
   pub takes : Takes bytes (string text_bytes) rest
@@ -167,7 +167,7 @@ string_takes e bytes rest fits is =
     let takes = subst (λ (k : ℕ). Takes bytes (number k ++ (take (n - 1) more ++ 0 ∷ [])) a.0) n_is (Takes-then t.0 c.0) in
     rw (← ok_is a.0 rest b.2) (record { text_bytes = take (n - 1) more; takes = takes; fits = (u.1, omega (arith, n_is, small)) })
 
--- ---- documents, but for their elements
+-- ---- documents without their elements
 
 -- a frame that was read: the bytes inside, and what follows
 record Frames (top : Bool) (bytes body rest : List ℕ) : Type 0 where
@@ -210,7 +210,7 @@ frame_takes top e bytes f fits is =
 
 -- ---- binary
 
--- the data of binary that were gone past
+-- the data of binary that were skipped
 record TakesData (subtype count : ℕ) (bytes rest : List ℕ) : Type 0 where
   pub payload : List ℕ
   pub takes : Takes bytes (data_of subtype payload) rest
@@ -240,7 +240,7 @@ data_takes at subtype count bytes rest fits le is = of (subtype == 2) refl is
 
 -- ---- values
 
--- a document or an array that was gone past, with so many levels: elements whose names an array does not keep
+-- a document or an array that was skipped, with n levels remaining: elements whose names an array drops
 pub record TakesBody (depth_left : ℕ) (bytes rest : List ℕ) : Type 0 where
   pub fields : Fields
   pub body : List ℕ
@@ -248,7 +248,7 @@ pub record TakesBody (depth_left : ℕ) (bytes rest : List ℕ) : Type 0 where
   pub takes : Takes bytes (framed body) rest
   pub shallow : fields_depth fields < depth_left
 
--- code with scope that was gone past
+-- code with scope that was skipped
 pub record TakesCode (depth_left : ℕ) (bytes rest : List ℕ) : Type 0 where
   pub text_bytes : List ℕ
   pub fields : Fields
@@ -266,7 +266,7 @@ TakesHolder holders.CodeScope = TakesCode
 abbrev pub NestedTakes : ℕ → Nested → Type 0
 NestedTakes depth_left nested = (holder : Holder) (q e : ℕ) (bytes rest : List ℕ) → IsBytes bytes → nested holder q e bytes ≡ Ok rest → TakesHolder holder depth_left bytes rest
 
--- an array's items are a document's values
+-- the items of an array are the values of a document
 abbrev items_in : Fields → Items
 items_in no_fields = no_items
 items_in (field n t fs) = item t (items_in fs)
@@ -398,7 +398,7 @@ code_frame_takes e bytes f fits is =
     rw (← ok_is (take (n - 4) more, e - length (drop (n - 4) more), drop (n - 4) more) f g.1)
     (subst (λ (k : ℕ). Takes bytes (number k ++ take (n - 4) more) (drop (n - 4) more)) n_is (Takes-then t.0 c.takes), c.fits)
 
--- ---- what holds values, where those below are known
+-- ---- values that contain values, if those one level down are known
 
 module _ (depth_left : ℕ) (nested : Nested) (below : NestedTakes depth_left nested) where
   value_takes : (kind : Kind) (q e : ℕ) (bytes rest : List ℕ) → IsBytes bytes → skip_value nested kind q e bytes ≡ Ok rest → TakesValue depth_left kind bytes rest
@@ -528,7 +528,7 @@ nested_takes (suc depth_left) holders.Array q e bytes rest fits is = body_takes 
 nested_takes (suc zero) holders.CodeScope q e bytes rest fits is = absurd cc
 nested_takes (suc (suc depth_left)) holders.CodeScope q e bytes rest fits is = code_takes (suc depth_left) (skip_nested (suc depth_left)) (nested_takes (suc depth_left)) q e bytes rest fits is
 
--- the document that the bytes spell
+-- a document without a fault is spelled by the bytes
 pub document_found : (e : ℕ) (bytes : List ℕ) → IsBytes bytes → skip_document e bytes ≡ Ok tt → (d : Doc) × IsDocument d bytes
 unfolding skip_document
 document_found e bytes fits is =
@@ -592,7 +592,7 @@ element_again nested index e t name value rest named h =
     let q = e - suc (length (name ++ 0 ∷ (value ++ rest))) in
     ap (λ (x : List ℕ). skip_element nested index e (type_byte (kind_of t) ∷ x)) whole ∙ rw (type_is (kind_of t), name_again NameUnended e name (value ++ rest) named, h q) refl
 
--- one element more
+-- one more element
 next_again : (nested : Nested) (index : Option ℕ) (n e : ℕ) (t : Tree) (name value rest bytes : List ℕ) → IsName name → bytes ≡ element t name value ++ rest → length bytes ≤ n
     → ((q : ℕ) → skip_value nested (kind_of t) q e (value ++ rest) ≡ Ok rest) → ((m : ℕ) → length rest ≤ m → skip_elements nested (option_map suc index) m e rest ≡ Ok tt)
     → skip_elements nested index n e bytes ≡ Ok tt
@@ -735,7 +735,7 @@ mutual
       next_again (skip_nested depth_left) index n e t h.0 h.1 h.2 bytes h.3 h.6 turns (λ q. value_again t depth_left q e h.1 h.2 h.4 (omega arith) (omega (arith, size)))
       (λ m le. items_again ts (option_map suc index) depth_left m e h.2 h.5 (omega arith) (omega (arith, size)) le)
 
--- a document's bytes have no fault
+-- the bytes of a document have no fault
 pub document_again : (e : ℕ) (bytes : List ℕ) (d : Doc) → IsDocument d bytes → skip_document e bytes ≡ Ok tt
 unfolding skip_document
 document_again e bytes d h =

@@ -6,12 +6,12 @@ use Rattle.bd_value.specs.{Limits.longest_document, Limits.longest_input, Tree.D
 use Rattle.bd_bson_view.specs.{Spelling.IsDocument, Sound.meaning, declared.raw.RawDoc.RawDoc}
 use Rattle.bd_bson_check.specs.{Fault.Fault, FirstFault.first_fault, declared.fault.FaultKind.FaultKind}
 
--- the length that a document says it has: its first four bytes as a number, least first; below 2^32
+-- the length that a document states: its first four bytes as a number, least byte first; below 2^32
 abbrev pub stated_length : List ℕ → ℕ
 stated_length bytes = from_le_bytes w32 (take 4 bytes)
 
 -- the length of the document at the start, None at the end of the bytes; or the fault:
--- fewer than four bytes, or a length that is below 5, above 16,793,600 or past the end
+-- fewer than four bytes, or a length that is below 5, above 16,793,600 or beyond the end
 abbrev pub frame_length : List ℕ → Result (Option ℕ) FaultKind
 frame_length [] = Ok None
 frame_length (b ∷ bytes) = if nat_lt (length (b ∷ bytes)) 4 then Err FaultKind.ShortLength

@@ -14,7 +14,7 @@ pub record Fault : Type 0 where
 abbrev pub longer : List ℕ → Fault → Fault
 longer name f = record { kind = f.kind; offset = f.offset; path = name ∷ f.path }
 
--- the fault that a reader found, which keeps the path from the item up
+-- the fault that a reader found, whose path is from the item up
 abbrev pub found_fault : Finding → Fault
 found_fault f = record { kind = f.kind; offset = f.offset; path = reverse (map string_bytes f.path.items) }
 
@@ -28,7 +28,7 @@ abbrev pub FailsAtItem : {Y : Type 0} → Stop → Result Y Fault → Type 0
 FailsAtItem Stop.NoMemory given = Unit {0}
 FailsAtItem (Stop.Found f) given = given ≡ Err (found_fault f)
 
--- a reader's answer, seen by the view, is what the definition gives for the item,
+-- the view of a reader's answer is what the definition gives for the item,
 -- its value or its fault; or memory ran out
 abbrev pub GivesItem : {X Y : Type 0} → (X → Y) → Result X Stop → Result Y Fault → Type 0
 GivesItem view answer given = MatchResult answer (λ x. given ≡ Ok (view x)) (λ e. FailsAtItem e given)

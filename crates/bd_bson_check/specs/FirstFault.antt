@@ -1,8 +1,8 @@
 -- The first check that fails, from left to right,
 -- in bytes that must be one document (BSON 1.1). No tree is built.
 -- Each function checks one item at the start of its bytes, and gives the bytes after it, or the fault.
--- e is the offset that the item may not pass, and the bytes end there:
--- the item is at offset `e - length bytes`, which is `offset_of e bytes`.
+-- e is the offset that the item may not exceed, and the bytes end there:
+-- the item is at offset `e - length bytes`.
 use Rattle.std.specs.Prelude.{ℕ, zero, suc, ◌+◌, ◌-◌, List, [], ◌∷◌, length, take, drop, Option, Some, None, option_map}
 use Rattle.std.specs.Prelude.{Result, Ok, Err, Bool, true, false, nat_lt, ◌==◌, ◌||◌, ◌&&◌, not, if◌then◌else◌, decimal}
 use Rattle.std.specs.Prelude.{codes, slice_index_or}
@@ -21,7 +21,7 @@ abbrev pub offset_of : ℕ → List ℕ → ℕ
 offset_of e bytes = e - length bytes
 
 infixl 10 ◌>>=◌
--- what follows an item without a fault; after a fault nothing more is looked at
+-- what follows an item without a fault; after a fault nothing more is checked
 abbrev pub ◌>>=◌ : {A B : Type 0} → Result A Fault → (A → Result B Fault) → Result B Fault
 (Ok x) >>= f = f x
 (Err e) >>= f = Err e
@@ -35,7 +35,7 @@ abbrev pub skip_number : FaultKind → ℕ → List ℕ → Result (ℕ × List 
 skip_number short e bytes = if nat_lt (length bytes) 4 then fault short (offset_of e bytes)
     else Ok (from_le_bytes w32 (take 4 bytes), drop 4 bytes)
 
--- the bytes after a zero byte; at another byte, or at the end, is the fault of that kind
+-- the bytes after a zero byte; if another byte is there, or none, the fault has that kind
 abbrev pub skip_zero : FaultKind → ℕ → List ℕ → Result (List ℕ) Fault
 skip_zero kind e [] = fault kind (e - 0)
 skip_zero kind e (zero ∷ rest) = Ok rest
@@ -52,7 +52,7 @@ skip_name kind e bytes = do
   name ← text_at (offset_of e bytes) (take k bytes)
   Ok (name, drop (k + 1) bytes)
 
--- the bytes after a value of n bytes; the fault is `value splits short`
+-- the bytes after a value of n bytes; the fault is `value cut short`
 abbrev pub skip_fixed : ℕ → ℕ → List ℕ → Result (List ℕ) Fault
 skip_fixed n e bytes = if nat_lt (length bytes) n then fault ValueShort (offset_of e bytes) else Ok (drop n bytes)
 
@@ -83,7 +83,7 @@ skip_data at subtype count bytes = if subtype == 2 && nat_lt count 4 then fault 
     else (if subtype == 2 && not (number_of bytes == count - 4) then fault BadBinaryLength (at + 5)
     else Ok (drop count bytes))
 
--- the bytes after binary (element 0x05): a count that is not negative and not past e, the subtype, the data
+-- the bytes after binary (element 0x05): a count that is not negative and not beyond e, the subtype, the data
 unfoldable pub skip_binary : ℕ → List ℕ → Result (List ℕ) Fault
 skip_binary e bytes = if nat_lt (length bytes) 5 then fault ValueShort (offset_of e bytes)
     else (if nat_lt 2147483647 (number_of bytes) || nat_lt (length bytes) (5 + number_of bytes)
@@ -108,8 +108,8 @@ skip_code_frame e bytes = do
   if nat_lt n.0 14 || nat_lt (length bytes) n.0 then fault BadScopeLength (offset_of e bytes)
       else Ok (take (n.0 - 4) n.1, offset_of e (drop (n.0 - 4) n.1), drop (n.0 - 4) n.1)
 
--- how a value that holds values is checked, by its kind, by the offset q of its element's type byte,
--- by e, and by its bytes
+-- how a value that contains values is checked, by its kind, by the offset q of its element's type byte, by e, and by
+-- its bytes
 abbrev pub Nested : Type 0
 Nested = Holder → ℕ → ℕ → List ℕ → Result (List ℕ) Fault
 
@@ -137,7 +137,7 @@ skip_value nested Kind.Array q e bytes = nested Holder.Array q e bytes
 skip_value nested Kind.CodeScope q e bytes = nested Holder.CodeScope q e bytes
 
 -- the bytes after a value of that type; a double (0x01) and a decimal128 (0x13) are faults,
--- and their bytes are not looked at
+-- and their bytes are not read
 abbrev pub skip_typed : Nested → ElementType → ℕ → ℕ → List ℕ → Result (List ℕ) Fault
 skip_typed nested ElementType.Double q e bytes = fault Double q
 skip_typed nested ElementType.Decimal128 q e bytes = fault Decimal128 q
@@ -160,7 +160,7 @@ skip_element nested index e (b ∷ bytes) = do
   name ← skip_name NameUnended e bytes
   within (label index name.0) (skip_typed nested type (e - suc (length bytes)) e name.1)
 
--- All elements of a document or an array. The first number bounds the turns:
+-- All elements of a document or an array. The first number bounds the steps:
 -- the count of the bytes is always enough.
 unfoldable pub skip_elements : Nested → Option ℕ → ℕ → ℕ → List ℕ → Result (Unit {0}) Fault
 skip_elements nested index zero e bytes = Ok tt
@@ -183,7 +183,7 @@ skip_code_scope nested q e bytes = do
   after ← within (codes "$scope") (nested Holder.Document q f.1 scope)
   if nat_lt 0 (length after) then fault BadScopeLength (offset_of e bytes) else Ok f.2
 
--- The bytes after a value that holds values, with `depth_left` levels left for it;
+-- The bytes after a value that contains values, with `depth_left` levels remaining for it;
 -- code with scope takes one and its scope another.
 unfoldable pub skip_nested : ℕ → Nested
 skip_nested zero holder q e bytes = fault TooDeep q

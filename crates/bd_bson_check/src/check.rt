@@ -18,11 +18,11 @@ use bd_bson_view::{ElementType, Holder, RawDoc, element_type, raw_parts};
 use bd_value::{Document, Kind, LONGEST_DOCUMENT, MOST_LEVELS};
 use std::alloc::Global;
 
-/// Checks that all of the bytes are one document, which begins at the offset `base` of a dump and has that number in
-/// it, and gives a view of it.
+/// Checks that all of the bytes are one document, which begins at the offset `base` of a dump and has that number in it, and
+/// returns a view of it.
 ///
-/// The fault is the first from left to right: BSON 1.1, `document`, with at most 16,793,600 bytes and 200 levels.
-/// Memory is taken for the path of a fault alone.
+/// The fault is the first from left to right: BSON 1.1, `document`, with at most 16,793,600 bytes and 200 levels. Only the
+/// path of a fault takes memory.
 #[inline(always)]
 pub fn check_document<'a>(
     alloc: Global,
@@ -44,13 +44,13 @@ pub fn check_document<'a>(
 
 /// The document that all of the bytes are. It begins at the offset `base` of a dump and has that number in it.
 ///
-/// The fault is the first from left to right, or `FaultKind::NoMemory`, which has no place: BSON 1.1, `document`, with
-/// at most 16,793,600 bytes and 200 levels.
+/// The fault is the first from left to right, or `FaultKind::NoMemory`, which has no offset: BSON 1.1, `document`, with at
+/// most 16,793,600 bytes and 200 levels.
 pub fn read_document(alloc: Global, bytes: &[u8], base: u64, number: u32) -> Result<Document, Fault>
     requires { base + length bytes.now ≤ longest_input }
-    // What is read is what the bytes spell.
+    // The document read is the one that the bytes spell.
     ensures found { IfOk result (λ d. IsDocument (pairs d) bytes.now) }
-    // What the bytes spell is read, unless memory runs out.
+    // If the bytes spell a document, it is read, unless memory runs out.
     ensures only { (d : Doc) →
         IsDocument d bytes.now → MatchResult result (λ r. pairs r ≡ d) IsWantOfMemory }
     ensures fault { IfErr result (ReportsFault number (first_fault base bytes.now)) }
@@ -62,7 +62,7 @@ pub fn read_document(alloc: Global, bytes: &[u8], base: u64, number: u32) -> Res
     }
 }
 
-/// Where a document stands in a dump.
+/// The start and the length of a document in a dump.
 #[derive(Clone, Copy, Debug, PartialEq, Eq)]
 pub struct Frame {
     /// The offset of its first byte.
@@ -71,10 +71,10 @@ pub struct Frame {
     pub length: usize,
 }
 
-/// Where the document at the offset `at` of a dump stands, by the length that it begins with; none at the end.
+/// The frame of the document at the offset `at` of a dump, by its length at its start; None at the end.
 ///
-/// Fewer than four bytes are `FaultKind::ShortLength`; a length below 5, above 16,793,600 or past the end is
-/// `FaultKind::BadLength`. Both stand at the place, and have the number and an empty path. No memory is taken.
+/// Fewer than four bytes are `FaultKind::ShortLength`; a length below 5, above 16,793,600 or beyond the end is
+/// `FaultKind::BadLength`. Both have the offset `at`, that number and an empty path. It takes no memory.
 pub fn next_frame(
     alloc: Global,
     bytes: &[u8],
@@ -104,10 +104,10 @@ pub fn next_frame(
     Ok(Some(Frame { start: at, length }))
 }
 
-/// The document at the offset `at` of a dump, of which it has that number, and the offset after it; none at the end.
+/// The document at the offset `at` of a dump, in which it has that number, and the offset after it; None at the end.
 ///
-/// The fault is the first of the document, from left to right, or `FaultKind::NoMemory`, which has no place. Memory is
-/// taken for the path of a fault alone.
+/// The fault is the first of the document, from left to right, or `FaultKind::NoMemory`, which has no offset. Only the path
+/// of a fault takes memory.
 pub fn next_document<'a>(
     alloc: Global,
     bytes: &'a [u8],
@@ -129,7 +129,7 @@ pub fn next_document<'a>(
     Ok(Some((document, after)))
 }
 
-/// Goes past the document that all of the bytes are to be.
+/// Skips the document, which must be all of the bytes.
 #[tactic(auto, unfolding(crate::specs::FirstFault::skip_document))]
 fn document(alloc: Global, e: u64, bytes: &[u8]) -> Result<(), Stop>
     requires { length bytes.now ≤ e }
@@ -139,7 +139,7 @@ fn document(alloc: Global, e: u64, bytes: &[u8]) -> Result<(), Stop>
     elements(alloc, MOST_LEVELS as u32 - 1, false, end, body)
 }
 
-/// Goes past all elements.
+/// Skips all elements.
 #[cycle(checking)]
 fn elements(
     alloc: Global,
@@ -164,7 +164,7 @@ fn elements(
     Ok(())
 }
 
-/// The place of the next element: an element of a document has none.
+/// The index of the next element; None in a document.
 fn next(index: Option<usize>) -> Option<usize>
     requires { IfSome index (λ i. i < usize.MAX) }
     ensures { result ≡ option_map suc index }
@@ -175,7 +175,7 @@ fn next(index: Option<usize>) -> Option<usize>
     }
 }
 
-/// Goes past one element.
+/// Skips one element.
 #[cycle(checking)]
 #[tactic(auto, unfolding(crate::specs::FirstFault::skip_element))]
 fn element(
@@ -203,7 +203,7 @@ fn element(
     }
 }
 
-/// Goes past the value of an element whose type byte stands at `q`. Doubles and decimal128 are refused unseen.
+/// Skips the value of an element whose type byte is at `q`. Doubles and decimal128 are refused unread.
 #[cycle(checking)]
 fn value(
     alloc: Global,
@@ -242,7 +242,7 @@ fn value(
     }
 }
 
-/// Goes past what holds values, with so many levels left for it.
+/// Skips a value that contains values, with `depth_left` levels remaining for it.
 #[cycle(checking)]
 fn nested(
     alloc: Global,
@@ -271,7 +271,7 @@ fn nested(
     }
 }
 
-/// Goes past a document or an array, with so many levels left below it.
+/// Skips a document or an array, with `depth_left` levels remaining below it.
 #[cycle(checking)]
 fn body(alloc: Global, depth_left: u32, in_array: bool, e: u64, bytes: &[u8]) -> Skipped<'_>
     requires { length bytes.now ≤ e }
@@ -284,7 +284,7 @@ fn body(alloc: Global, depth_left: u32, in_array: bool, e: u64, bytes: &[u8]) ->
     Ok(rest)
 }
 
-/// Goes past code with scope, with so many levels left for its scope.
+/// Skips code with scope, with `depth_left` levels remaining for its scope.
 #[cycle(checking)]
 fn code_scope(alloc: Global, depth_left: u32, q: u64, e: u64, bytes: &[u8]) -> Skipped<'_>
     requires { length bytes.now ≤ e }

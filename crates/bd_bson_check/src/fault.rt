@@ -1,4 +1,4 @@
-//! Why bytes are no document, and where.
+//! Why bytes are not a document, and where.
 
 ghost use Rattle.std.specs.Prelude.{◌≡◌, [], IfOk, string_bytes};
 ghost use Rattle.bd_bson_check.specs.Fault.{Fault as Where, longer, fault_words, ReportsStop, IsOf, IsWantOfMemory};
@@ -11,9 +11,9 @@ use thiserror::Error;
 #[derive(Clone, Copy, Debug, Drop, PartialEq, Eq, Error)]
 #[error("{}", self.words())]
 pub enum FaultKind {
-    /// Fewer than the four bytes of a document's length are left.
+    /// Fewer than the four bytes of a document's length remain.
     ShortLength = 1,
-    /// A document's length is below 5, above 16,793,600 or past the end of what holds it.
+    /// A document's length is below 5, above 16,793,600 or beyond the end of what contains it.
     BadLength = 2,
     /// A document's last byte is not zero.
     NoTerminator = 3,
@@ -27,7 +27,7 @@ pub enum FaultKind {
     NameUnended = 7,
     /// A name or a text that is not UTF-8.
     BadUtf8 = 8,
-    /// A string's length is below 1 or past the end of what holds it.
+    /// A string's length is below 1 or beyond the end of what contains it.
     BadStringLength = 9,
     /// A string's last byte is not zero.
     StringUnended = 10,
@@ -39,15 +39,15 @@ pub enum FaultKind {
     BadScopeLength = 13,
     /// A document or an array at level 201.
     TooDeep = 14,
-    /// Fewer bytes than the value takes are left.
+    /// Fewer bytes than the value takes remain.
     ValueShort = 15,
     /// A dump above 4,294,967,295 bytes.
     DumpTooLong = 16,
-    /// No memory was given.
+    /// Memory ran out.
     NoMemory = 17,
 }
 
-/// What went wrong, in words: by number, from 1 on.
+/// The messages, by number, from 1 on.
 const WORDS: [&str; 17] = [
     "length cut short",
     "bad length",
@@ -69,7 +69,7 @@ const WORDS: [&str; 17] = [
 ];
 
 impl FaultKind {
-    /// What went wrong, in words.
+    /// The message.
     #[tactic(auto, unfolding(crate::specs::Fault::fault_words))]
     pub fn words(self) -> &'static str
         ensures { result.now ≡ fault_words self }
@@ -78,9 +78,9 @@ impl FaultKind {
     }
 }
 
-/// The first check that fails in a dump, and its place.
+/// The first check that fails in a dump, and where.
 ///
-/// As a text it tells all but the path.
+/// Its text has all but the path.
 #[derive(Debug, Drop, Error)]
 #[error("document {document}, byte {offset}: {kind}")]
 pub struct Fault {
@@ -90,11 +90,11 @@ pub struct Fault {
     pub document: u32,
     /// The byte, counted from the start of the dump.
     pub offset: u64,
-    /// The names from the document down to the item. An element of an array stands by its index, from 0.
+    /// The names from the document down to the item. An element of an array is named by its index, from 0.
     pub path: Vec<String>,
 }
 
-/// The first check that fails, as it is seen from the item outwards.
+/// The first check that fails, with its path from the item outwards.
 #[derive(Debug, Drop)]
 pub struct Finding {
     pub kind: FaultKind,
@@ -113,7 +113,7 @@ pub enum Stop {
 /// The bytes after an item, or why reading it stopped.
 pub type Skipped<'a> = Result<&'a [u8], Stop>;
 
-/// A fault at a place, with no path yet.
+/// A fault at an offset, with no path yet.
 pub fn fault_at(alloc: Global, kind: FaultKind, offset: u64) -> Stop
     ensures { ReportsStop result (record { kind = kind; offset = offset; path = [] }) }
 {
@@ -121,7 +121,7 @@ pub fn fault_at(alloc: Global, kind: FaultKind, offset: u64) -> Stop
     Stop::Found(Finding { kind, offset, path })
 }
 
-/// An element on a path: in an array its index, in a document its name.
+/// The name of an element on a path: in an array its index, in a document its name.
 fn label_of(alloc: Global, index: Option<usize>, name: &str) -> Result<String, AllocError>
     ensures { IfOk result (λ s. string_bytes s ≡ label index name.now) }
 {
@@ -131,7 +131,7 @@ fn label_of(alloc: Global, index: Option<usize>, name: &str) -> Result<String, A
     }
 }
 
-/// The stop as it is seen from one level up.
+/// The stop, one level up.
 pub fn within(alloc: Global, index: Option<usize>, name: &str, stop: Stop) -> Stop
     ensures { (f : Where) →
         ReportsStop stop f → ReportsStop result (longer (label index name.now) f) }
@@ -167,7 +167,7 @@ pub fn fault_of(alloc: Global, stop: Stop, document: u32) -> Fault
     }
 }
 
-/// The fault that stands for out of memory, which has no place.
+/// The fault of running out of memory, which has no offset.
 pub fn want_of_memory(alloc: Global) -> Fault
     ensures { IsWantOfMemory result }
 {

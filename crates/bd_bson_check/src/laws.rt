@@ -8,7 +8,7 @@ ghost use Rattle.bd_bson_check.specs.Fault.{Fault as FaultView};
 ghost use Rattle.bd_bson_check.specs.FirstFault.{first_fault};
 ghost use Rattle.bd_bson_check.specs.Dump.{IsDump, AreJoined, IsDumpScan, FailsAfter};
 
-/// Bytes that are not too many are a dump of documents or have one first fault, never both; and each in one way alone, by
+/// Bytes within the limit of a dump are a dump of documents or have one first fault, never both; and each in only one way, by
 /// `scans_in_one_way`.
 pub fn dump_or_fault()
     ensures either { (bytes : List ℕ) → ((i : ℕ) → slice_index bytes i < 256) →
@@ -18,7 +18,7 @@ pub fn dump_or_fault()
         IsDump ds bytes → FailsAfter es f bytes → ⊥ }
 {}
 
-/// Any bytes are documents in turn and then end, or fail after these, and in one way alone.
+/// Any bytes are documents in turn and then end, or fail after these, and in only one way.
 pub fn scans_in_one_way()
     ensures some { (bytes : List ℕ) → ((i : ℕ) → slice_index bytes i < 256) →
         (ds : List Doc) × (end : Option FaultView) × IsDumpScan ds end bytes }
@@ -26,14 +26,14 @@ pub fn scans_in_one_way()
         IsDumpScan ds end bytes → IsDumpScan es other bytes → (ds ≡ es) × (end ≡ other) }
 {}
 
-/// Documents that stand in front are the first of all.
+/// Documents at the start of bytes are the first of their scan.
 pub fn scans_on()
     ensures { (ds : List Doc) (prefix rest : List ℕ) →
         ((i : ℕ) → slice_index rest i < 256) → AreJoined ds prefix → (more : List Doc)
         × (end : Option FaultView) × IsDumpScan (ds ++ more) end (prefix ++ rest) }
 {}
 
-/// There is no fault exactly where the bytes spell some document.
+/// Bytes have no fault exactly if they spell some document.
 pub fn no_fault_where_spelled()
     ensures none { (base : ℕ) (bytes : List ℕ) (d : Doc) →
         IsDocument d bytes → first_fault base bytes ≡ None }

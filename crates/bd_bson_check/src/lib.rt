@@ -1,4 +1,4 @@
-//! The first fault of bytes that are to be BSON documents, from left to right; where there is none, a view of the document.
+//! The first fault of bytes that must be BSON documents, from left to right; if there is none, a view of the document.
 //!
 //! Which fault is the first: `specs/FirstFault.antt`. What a dump is, and where it fails: `specs/Dump.antt`.
 //!
@@ -14,10 +14,10 @@
 //! }
 //! ```
 //!
-//! - `check`: `check_document`, down the values in values, and the documents of a dump in turn.
-//! - `parts`: what holds no other value, and the frames of documents; and elements that one look shows to have no fault.
-//! - `fault`: why bytes are no document, and where.
-//! - `laws`: there is no fault exactly where a document is spelled; bytes are a dump or have one first fault.
+//! - `check`: `check_document`, which descends into nested values, and the documents of a dump in turn.
+//! - `parts`: values that contain no other value, and the frames of documents; and a fast check of elements without a fault.
+//! - `fault`: why bytes are not a document, and where.
+//! - `laws`: bytes have no fault exactly if they spell a document; bytes are a dump or have one first fault.
 #![tactic(auto)]
 
 mod check;

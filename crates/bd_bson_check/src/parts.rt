@@ -1,7 +1,7 @@
-//! What stands in a document's bytes, but for values in values.
+//! The parts of a document's bytes, except nested values.
 //!
-//! `e` is the offset that an item may not pass, and `bytes` are those up to it: the item stands at `e` less their
-//! number. Most elements have no fault, and `skip_scalar` sees it at one look; what it leaves is gone past part by part.
+//! `e` is the offset that an item may not exceed, and `bytes` are those up to it: the offset of the item is `e` less their
+//! number. Most elements have no fault, and `skip_scalar` skips these quickly; the others are checked part by part.
 
 ghost use Rattle.std.specs.Prelude.{◌≡◌, ◌≤◌, ◌<◌, ◌+◌, ◌^◌, ◌==◌, ◌||◌, ℕ, length, drop, take, map, position, nat_lt, IfOk, IfSome, IsAscii, IsTrue, Option, Some, Ok, true};
 ghost use Rattle.std.specs.List.{list_any};
@@ -16,8 +16,8 @@ use bd_value::{Kind, LONGEST_DOCUMENT};
 use std::alloc::Global;
 use std::simd::prelude::*;
 
-/// The bytes of a document's elements, the offset where these end, and the bytes after the document. `top` tells
-/// that the document is to be all of the bytes.
+/// The bytes of a document's elements, the offset of their end, and the bytes after the document. If `top`, the document must
+/// be all of the bytes.
 #[tactic(auto, unfolding(crate::specs::FirstFault::skip_frame))]
 pub fn frame(alloc: Global, top: bool, e: u64, bytes: &[u8]) -> Result<(&[u8], u64, &[u8]), Stop>
     requires { length bytes.now ≤ e }
@@ -41,7 +41,7 @@ pub fn frame(alloc: Global, top: bool, e: u64, bytes: &[u8]) -> Result<(&[u8], u
     Ok((body, end, rest))
 }
 
-/// The bytes of the code and the scope of code with scope, the offset where these end, and the bytes after it.
+/// The bytes of the code and the scope of code with scope, the offset of their end, and the bytes after it.
 #[tactic(auto, unfolding(crate::specs::FirstFault::skip_code_frame))]
 pub fn code_frame(alloc: Global, e: u64, bytes: &[u8]) -> Result<(&[u8], u64, &[u8]), Stop>
     requires { length bytes.now ≤ e }
@@ -76,7 +76,7 @@ pub fn string(alloc: Global, e: u64, bytes: &[u8]) -> Skipped<'_>
     Ok(after)
 }
 
-/// The bytes after binary. Subtype 02 counts all of its data but the first four once more.
+/// The bytes after binary. Subtype 02 has a second count, of all of its data but the first four bytes.
 #[tactic(auto, unfolding(crate::specs::FirstFault::skip_binary))]
 pub fn binary(alloc: Global, e: u64, bytes: &[u8]) -> Skipped<'_>
     requires { length bytes.now ≤ e }
@@ -113,7 +113,7 @@ pub fn regex(alloc: Global, e: u64, bytes: &[u8]) -> Skipped<'_>
     Ok(rest)
 }
 
-/// The text up to the first zero, and the bytes after that zero. `unended` is the fault where there is no zero.
+/// The text up to the first zero, and the bytes after that zero. `unended` is the fault if there is no zero.
 #[inline(always)]
 #[tactic(auto, unfolding(crate::specs::FirstFault::skip_name))]
 pub fn name(alloc: Global, unended: FaultKind, e: u64, bytes: &[u8]) -> Result<(&str, &[u8]), Stop>
@@ -181,7 +181,7 @@ fn zero(alloc: Global, kind: FaultKind, e: u64, bytes: &[u8]) -> Skipped<'_>
     }
 }
 
-/// The bytes at a place as text.
+/// The bytes as text; `at` is their offset.
 #[inline(always)]
 fn text(alloc: Global, at: u64, bytes: &[u8]) -> Result<&str, Stop>
     requires { at + length bytes.now < 2 ^ 64 }
@@ -197,7 +197,7 @@ fn text(alloc: Global, at: u64, bytes: &[u8]) -> Result<&str, Stop>
     }
 }
 
-/// The bytes after such an element; none where it is another, or may have a fault.
+/// The bytes after an element that is a scalar without a fault; None if it is another, or may have a fault.
 #[inline(always)]
 pub fn skip_scalar(bytes: &[u8]) -> Option<&[u8]>
     requires { 0 < length bytes.now }
@@ -283,10 +283,10 @@ fn after_name(bytes: &[u8]) -> Option<&[u8]>
     Some(after)
 }
 
-/// How many bytes are looked at together. Most names are shorter.
+/// How many bytes are examined together. Most names are shorter.
 const LANES: usize = 16;
 
-/// The place of the first byte that is zero or not ASCII.
+/// The offset of the first byte that is zero or not ASCII.
 #[inline(always)]
 fn ascii_end(bytes: &[u8]) -> Option<usize>
     ensures { result ≡ position (λ b. b == 0 || nat_lt 127 b) bytes.now }
@@ -305,7 +305,7 @@ fn ascii_end(bytes: &[u8]) -> Option<usize>
 fn ascii_ends(bytes: u8x16) -> u64
     ensures { result ≡ mask_l (map (λ b. b == 0 || nat_lt 127 b) bytes) }
 {
-    // By half the range further, they are the lowest.
+    // After adding 128, they are at most 128.
     (bytes + u8x16::splat(128))
         .simd_le(u8x16::splat(128))
         .to_bitmask()
@@ -325,7 +325,7 @@ fn is_text(bytes: &[u8]) -> bool
     }
 }
 
-/// Whether bytes are few and ASCII, as most names and texts are. The check of UTF-8 is made for others.
+/// Whether bytes are few and ASCII, as most names and texts are. Others are checked for UTF-8.
 #[inline(always)]
 fn is_short_ascii(bytes: &[u8]) -> bool
     ensures { IsTrue result → IsAscii bytes.now }
@@ -340,8 +340,8 @@ fn is_short_ascii(bytes: &[u8]) -> bool
     }
 }
 
-/// Whether at least `size` bytes, and at most twice as many, are ASCII. The first and the last `size` are looked at, so that each
-/// look is of a known length.
+/// Whether all bytes, at least `size` and at most twice as many, are ASCII. The first and the last `size` are examined, so
+/// that each loop is of a known length.
 #[inline(always)]
 fn are_ascii(size: usize, bytes: &[u8]) -> bool
     requires { (size ≤ length bytes.now) × (length bytes.now ≤ size + size) }
@@ -353,7 +353,7 @@ fn are_ascii(size: usize, bytes: &[u8]) -> bool
     !any
 }
 
-/// Whether a byte of these is not ASCII. No byte ends the look, so that all are looked at together.
+/// Whether a byte of these is not ASCII. No byte ends the loop, so that all are examined together.
 #[inline(always)]
 fn any_beyond_ascii(bytes: &[u8]) -> bool
     ensures { result ≡ list_any (λ b. nat_lt 127 b) bytes.now }

@@ -1,4 +1,4 @@
--- Verdicts on the documents of a dump.
+-- The check results of the documents of a dump.
 use Rattle.std.proofs.Common.{◌≡◌, ◌≤◌, ℕ, zero, suc, ◌+◌, List, [], ◌∷◌, ◌++◌, length, take, drop, map, Option, Some, None, Result, Ok, Err, refl, sym, ap, ◌∙◌, subst}
 use Rattle.std.proofs.Common.{arith, append-nil, append_assoc, length-drop, length-append}
 use Rattle.std.proofs.lemmas.List.{nil_from_length, take_at, drop_at}
@@ -13,7 +13,7 @@ use Rattle.bd_bson_check.proofs.{FirstFaultLemmas.IsBytes, DumpLemmas.document_f
 abbrev CheckResults : Type 0
 CheckResults = List (Option Fault)
 
--- ---- as many turns as there are bytes are enough
+-- ---- a bound of as many steps as there are bytes is enough
 
 nothing_from : (turns base : ℕ) → check_results_from turns base [] ≡ []
 unfolding check_results_from
@@ -36,7 +36,7 @@ turns_enough (suc m) (suc n) base bytes a b =
 
 -- ---- the documents in turn
 
--- the end of a dump has no verdicts
+-- the end of a dump has no results
 pub none_at : (base : ℕ) → check_results_at base [] ≡ []
 unfolding check_results_at
 none_at base = nothing_from 0 base
@@ -50,7 +50,7 @@ after_enough : (turns base : ℕ) (bytes : List ℕ) → length bytes ≤ turns 
 unfolding check_results_at
 after_enough turns base bytes le = turns_enough turns (length bytes) base bytes le (omega arith)
 
--- the verdicts begin with that on the first document, and go on after the bytes that its length counts
+-- the results begin with that of the first document, and continue after the bytes that its length counts
 pub turn_at : (base n : ℕ) (bytes : List ℕ) → frame_length bytes ≡ Ok (Some n) → check_results_at base bytes ≡ first_fault base (take n bytes) ∷ check_results_at (base + n) (drop n bytes)
 turn_at base n [] is = absurd cc
 turn_at base n (b ∷ bytes) is =
@@ -58,12 +58,12 @@ turn_at base n (b ∷ bytes) is =
     by_frame base b bytes (Ok (Some n)) is
     ∙ ap (λ (vs : CheckResults). first_fault base (take n (b ∷ bytes)) ∷ vs) (after_enough (length bytes) (base + n) (drop n (b ∷ bytes)) (omega (arith, i.0, i.1, length-drop n (b ∷ bytes))))
 
--- a bad length has the last verdict
+-- a bad length has the last result
 pub last_at : (base : ℕ) (bytes : List ℕ) (kind : FaultKind) → frame_length bytes ≡ Err kind → check_results_at base bytes ≡ Some (record { kind = kind; offset = base; path = [] }) ∷ []
 last_at base [] kind is = absurd cc
 last_at base (b ∷ bytes) kind is = by_frame base b bytes (Err kind) is
 
--- ---- as the walk
+-- ---- the same as the scan
 
 document_at : (base : ℕ) (d : Doc) (prefix rest : List ℕ) → IsDocument d prefix → check_results_at base (prefix ++ rest) ≡ None ∷ check_results_at (base + length prefix) rest
 document_at base d prefix rest is =
@@ -87,7 +87,7 @@ fault_at base bytes f (Ok (Some n)) is has =
     (others, turn_at base n bytes is ∙ ap (λ (v : Option Fault). v ∷ others) has)
 fault_at base bytes f (Err kind) is has = ([], last_at base bytes kind is ∙ ap (λ (v : Option Fault). v ∷ []) has)
 
--- the verdicts begin as the walk does: none has a fault before the first fault
+-- the results begin as the scan does: none has a fault before the first fault
 pub as_scan : (ds : List Doc) (end : Option Fault) (bytes : List ℕ) → IsDumpScan ds end bytes → BeginAs ds end (check_results bytes)
 as_scan ds None bytes w =
     ap check_results (sym (append-nil bytes)) ∙ joined_at 0 ds bytes [] w

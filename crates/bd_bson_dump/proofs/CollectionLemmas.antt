@@ -43,7 +43,7 @@ pub documents_length : (dump : Dump) → length (documents dump) ≡ length dump
 unfolding documents
 documents_length dump = documents_count dump.bytes.items dump.starts.items dump.are_at
 
--- the document of a number
+-- the document with a number
 pub means_there : (bytes starts : List ℕ) (all : AreAt bytes starts) (i start : ℕ) → slice_get starts i ≡ Some start → Sound kinds.Doc (drop start bytes)
 means_there bytes [] all i start is = absurd cc
 means_there bytes (s ∷ ss) all zero start is = let e : s ≡ start = cc in subst (λ (n : ℕ). Sound kinds.Doc (drop n bytes)) e all.0
@@ -75,7 +75,7 @@ start_inside bytes start s =
     let r = reads_at kinds.Doc (drop start bytes) s in
     omega arith
 
--- what the loop keeps: the documents at the starts are those of the bytes up to the place
+-- the loop invariant: the documents at the starts are those of the bytes up to the offset
 abbrev Collected : (bytes starts : List ℕ) → ℕ → Type 0
 Collected bytes starts at = (all : AreAt bytes starts) × AreJoined (documents_starting_at bytes starts all) (take at bytes)
 
@@ -152,7 +152,7 @@ module _ (bytes : List ℕ) where
         }),
       )
 
--- the documents do not depend on how it is known that they stand there
+-- the documents are the same for any proof that they are there
 pub same_documents : (bytes starts : List ℕ) (all other : AreAt bytes starts) → documents_starting_at bytes starts all ≡ documents_starting_at bytes starts other
 same_documents bytes starts all other = ap (documents_starting_at bytes starts) (AreAt-prop bytes starts all other)
 

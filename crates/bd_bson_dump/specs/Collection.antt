@@ -31,6 +31,6 @@ IsUnread bytes e = ((longest_input < length bytes) × HasNoOffset FaultKind.Dump
 abbrev pub document_at : List Doc → ℕ → Tree
 document_at ds place = doc (fields_of (slice_index_or ds place []))
 
--- the documents with these numbers, in this order; numbers that no document has are left out
+-- the documents with these numbers, in this order; numbers that no document has are skipped
 abbrev pub documents_at : List Doc → List ℕ → List Doc
 documents_at ds = filter_map (slice_get ds)

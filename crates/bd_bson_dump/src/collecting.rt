@@ -12,14 +12,13 @@ use bd_value::LONGEST_INPUT;
 use std::alloc::Global;
 use std::cell::Cell;
 
-/// The documents that the bytes are a dump of, all of them.
+/// Reads all documents of a dump.
 ///
 /// # Errors
 ///
-/// - `FaultKind::DumpTooLong`, before anything is read, exactly where there are more than 4,294,967,295 bytes. It has no
-///   place.
-/// - The first fault of the first document that has one, by its number, its byte from the start of the bytes, and its path.
-/// - `FaultKind::NoMemory` where memory ran out. It has no place.
+/// - `FaultKind::DumpTooLong`, before anything is read, exactly if there are more than 4,294,967,295 bytes. It has no offset.
+/// - The first fault of the first document that has one, with its number, its offset from the start of the bytes, and its path.
+/// - `FaultKind::NoMemory` if memory runs out. It has no offset.
 pub fn read_dump(alloc: Global, bytes: Vec<u8>) -> Result<Dump, Fault>
     ensures dump { IfOk result (λ dump. IsDump (documents dump) bytes.items) }
     ensures bytes { IfOk result (λ dump. bytes_of dump ≡ bytes.items) }
@@ -37,7 +36,7 @@ pub fn read_dump(alloc: Global, bytes: Vec<u8>) -> Result<Dump, Fault>
     })
 }
 
-/// Where the documents start that bytes which are not too many are a dump of.
+/// The offsets of the documents in a dump within the limit.
 fn starts_in(alloc: Global, bytes: &[u8]) -> Result<Vec<u32>, Fault>
     requires { length bytes.now ≤ longest_input }
     ensures dump { IfOk result (λ starts. (all : AreAt bytes.now starts.items)

@@ -9,15 +9,15 @@ ghost use Rattle.bd_bson_dump.specs.Starts.{AreAt, AreAt-prop};
 use bd_bson_view::{At, RawDoc, RawValue};
 use std::cell::Cell;
 
-/// The documents of a dump, in their order. A document is named by its number, from 0. It keeps the bytes and where each
-/// document starts, and no trees.
+/// The documents of a dump, in file order. A document has a number, from 0. The dump has the bytes and the offset of each
+/// document, and no trees.
 #[derive(Drop)]
 pub struct Dump {
     pub(crate) bytes: Vec<u8>,
     pub(crate) starts: Vec<u32>,
-    /// How often a document was asked for.
+    /// How often a document was requested.
     pub(crate) reads: Cell<u64>,
-    /// How often a value was asked for by where it stands.
+    /// How often a value was requested by its `At`.
     pub(crate) value_reads: Cell<u64>,
     ghost within_limit: { length starts.items ≤ longest_input },
     ghost short: { length bytes.items ≤ longest_input },
@@ -34,7 +34,7 @@ impl Dump {
         self.starts.len() as u32
     }
 
-    /// The document of that number. It takes no memory.
+    /// The document with that number. It takes no memory.
     pub fn document(&self, n: u32) -> RawDoc<'_>
         requires { n < length (documents self.now) }
         ensures document { slice_get (documents self.now) n
@@ -45,8 +45,8 @@ impl Dump {
         RawDoc::at(&self.bytes, self.starts[n as usize] as usize)
     }
 
-    /// The value that stands there: of the `at` of a view into this dump, what the view stands for. It takes no memory, and is
-    /// no read of a document.
+    /// The value at that offset: for the `at` of a view into this dump, the value of the view. It takes no memory, and is not
+    /// a read of a document.
     pub fn value_at(&self, at: At) -> RawValue<'_>
         requires { IsPlace (bytes_of self.now) at }
         ensures value { (tree : Tree) →
@@ -58,14 +58,14 @@ impl Dump {
         at.value_in(&self.bytes)
     }
 
-    /// How often `document` was called on this dump, at most 18,446,744,073,709,551,615, where it stays. No contract speaks of
-    /// it: it is for tests and for figures.
+    /// How often `document` was called on this dump; it saturates at 18,446,744,073,709,551,615. No contract mentions it: it
+    /// is for tests and measurements.
     pub fn reads(&self) -> u64 {
         self.reads.get()
     }
 
-    /// How often `value_at` was called on this dump, at most 18,446,744,073,709,551,615, where it stays. No contract speaks of it:
-    /// it is for tests and for figures.
+    /// How often `value_at` was called on this dump; it saturates at 18,446,744,073,709,551,615. No contract mentions it: it
+    /// is for tests and measurements.
     pub fn value_reads(&self) -> u64 {
         self.value_reads.get()
     }

@@ -1,4 +1,4 @@
-//! Laws of the verdicts on the documents of a dump. The body of each is empty: its contract is the law.
+//! Laws of the check results of the documents of a dump. The body of each is empty: its contract is the law.
 
 ghost use Rattle.std.specs.Prelude.{◌≡◌, ◌<◌, ◌+◌, ◌∷◌, [], ℕ, List, length, take, drop, slice_index, Option, None, Some, Ok, Err};
 ghost use Rattle.std.specs.List.{AllByRecursion};
@@ -9,8 +9,8 @@ ghost use Rattle.bd_bson_check.specs.Dump.{AreJoined, IsDumpScan, frame_length};
 ghost use Rattle.bd_bson_check.specs.declared.fault.FaultKind.{FaultKind as Kind};
 ghost use Rattle.bd_bson_dump.specs.CheckResults.{BeginAs, check_results, check_results_at};
 
-/// Documents are judged in turn, each by the bytes that its length counts, whatever was found before it. The end of the
-/// bytes is the end, and so is a fault of a length itself.
+/// Documents are checked in turn, each by the bytes that its length counts, whatever was found before it. The check ends at
+/// the end of the bytes, and at a fault of a length itself.
 pub fn checks_in_turn()
     ensures end { (base : ℕ) → check_results_at base [] ≡ [] }
     ensures turn { (base n : ℕ) (bytes : List ℕ) →
@@ -20,8 +20,8 @@ pub fn checks_in_turn()
         check_results_at base bytes ≡ Some (record { kind = kind; offset = base; path = [] }) ∷ [] }
 {}
 
-/// The first document that is found to have a fault is the one at which a walk ends, and its fault is the walk's. So bytes
-/// are documents joined exactly where no document is found to have a fault.
+/// The first document with a fault is the one at which a scan ends, and its fault is the scan's. So bytes are documents
+/// joined exactly if no document has a fault.
 pub fn checks_as_the_scan()
     ensures begin { (ds : List Doc) (end : Option FaultView) (bytes : List ℕ) →
         IsDumpScan ds end bytes → BeginAs ds end (check_results bytes) }

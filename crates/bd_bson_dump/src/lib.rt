@@ -11,8 +11,8 @@
 //! ```
 //!
 //! - `collection`: `Dump`, the documents of a collection in their bytes.
-//! - `collecting`: `read_dump`, which makes one.
-//! - `laws`: what is found of each document of a dump.
+//! - `collecting`: `read_dump`, which reads one.
+//! - `laws`: what is found in each document of a dump.
 #![tactic(auto)]
 
 mod collecting;

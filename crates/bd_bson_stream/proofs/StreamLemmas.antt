@@ -17,7 +17,7 @@ use Rattle.bd_io_device.proofs.DevicesLemmas.{reads_append}
 use Rattle.bd_io_device.specs.declared.reading.ReadFault.TheVariants as reads
 use Rattle.bd_bson_stream.specs.declared.doc_buffer.DocFault.TheVariants as faults
 
--- ---- what a length tells
+-- ---- the length at the start of a document
 
 pub stated_unchanged : (head rest : List ℕ) → 4 ≤ length head → stated_length (head ++ rest) ≡ stated_length head
 stated_unchanged head rest long = let e : take 4 (head ++ rest) ≡ take 4 head = take-append-le 4 head rest long in rw e refl
@@ -26,7 +26,7 @@ pub frame_short : (bytes : List ℕ) → 0 < length bytes → length bytes < 4 �
 frame_short [] some few = absurd (omega arith)
 frame_short (b ∷ bytes) some few = rw (lt-ltb _ _ few) refl
 
--- a length that can't be that of a document at the front of so many bytes
+-- a length that is not that of a document at the start of n bytes
 abbrev IsBad : ℕ → ℕ → Type 0
 IsBad stated size = (stated < 5) ⊎ (longest_document < stated) ⊎ (size < stated)
 
@@ -43,7 +43,7 @@ frame_bad (b ∷ bytes) long is =
 
 -- ---- bytes that begin with no length of a document
 
--- what follows the bytes that were given, where it is known
+-- the bytes that follow the given ones, if known
 no_frame : (old new : Option (List ℕ)) (given : List ℕ) (kind : FaultKind) → Consumes old new given
     → ((rest : List ℕ) → IfSome new (λ xs. rest ≡ xs) → frame_length (given ++ rest) ≡ Err kind) → frame_length (given ++ []) ≡ Err kind → HasNoFrame [] old kind
 no_frame None new given kind gave is alone = (given ++ [], _, alone)
@@ -100,7 +100,7 @@ has_length_cut_short head (Some xs) (Some ys) given is gave end less =
     let all : xs ≡ given = gave ∙ ap (λ z. given ++ z) end ∙ append-nil given in
     (head ++ xs, refl, subst (λ z. frame_length (head ++ z) ≡ Err BadLength) (sym all) (frame_cut_short head given is less))
 
--- a room after which nothing is left
+-- a buffer that its bytes fill
 pub whole_capacity : (n len : ℕ) (block rest all : List ℕ) → take n block ≡ all → length block ≡ len → take n (take len (block ++ rest)) ≡ all
 whole_capacity n len block rest all prefix size = ap (take n) (take_at block rest len size) ∙ prefix
 
@@ -122,7 +122,7 @@ within_head head given is fits =
 
 -- ---- the head and what is after it
 
--- bytes of which the head was given are the head and the rest, where they are known
+-- if the bytes are known and the head was given, they are the head and the rest
 pub joined_gave : (old mid new : Option (List ℕ)) (head all : List ℕ) → Consumes old mid head → Consumes (prepend_known head mid) new all → Consumes old new all
 joined_gave None mid new head all gave rest = _
 joined_gave (Some xs) None new head all gave rest = absurd gave
@@ -153,19 +153,19 @@ frame_on frame rest is =
     let stated : stated_length (frame ++ rest) ≡ length frame = stated_unchanged frame rest (omega (arith, inside.0)) ∙ frame_stated frame (length frame) is in
     frame_good (frame ++ rest) (length frame) stated inside.0 inside.2 (omega (arith, length-append frame rest))
 
--- a document, and a part of one, go not past its end
+-- a document, or a part of one, does not go beyond its end
 pub frame_within : (bytes : List ℕ) → IsFrame bytes → IsWithinOne bytes
 frame_within bytes is =
     let inside = frame_inside bytes (length bytes) is in
     let stated = frame_stated bytes (length bytes) is in
     inr (omega (arith, stated, inside.0), omega (arith, stated, inside.2), omega (arith, stated))
 
--- bytes that are fewer than a document are no more than one
+-- bytes that are fewer than a document are within one
 pub cut_short_within : (bytes : List ℕ) → IsCutShort bytes → IsWithinOne bytes
 cut_short_within bytes (inl few) = inl (omega (arith, few))
 cut_short_within bytes (inr splits) = inr (splits.0, splits.1, let c = splits.2 in omega (arith, c))
 
--- no document stands in front of a part of one
+-- no document is at the start of a part of one
 pub cut_short_stuck : (part : List ℕ) → IsCutShort part → Stuck part
 unfolding Stuck
 cut_short_stuck part (inl few) d prefix rest is e =
@@ -214,23 +214,23 @@ frames_once (f ∷ fs) (g ∷ gs) a b x y p q splits short h =
     let others = frames_once fs gs p.0 q.0 x y p.2 q.2 splits short same.1 in
     p.3 ∙ ap₂ (λ (u v : List ℕ). u ++ v) same.0 others ∙ sym q.3
 
--- known bytes begin with those that were given
+-- known bytes begin with the given ones
 pub begins : (old new : Option (List ℕ)) (bytes : List ℕ) → Consumes old new bytes → IfSome old (λ xs. StartsWith xs bytes)
 begins None new bytes gave = tt
 begins (Some xs) None bytes gave = absurd gave
 begins (Some xs) (Some ys) bytes gave = ap (take (length bytes)) gave ∙ take_at bytes ys (length bytes) refl
 
--- a room that is written over is as long as it was
+-- a buffer that is overwritten has the same length
 pub unchanged_capacity : (len : ℕ) (block rest : List ℕ) → length block ≡ len → length (take len (block ++ rest)) ≡ length block
 unchanged_capacity len block rest size = ap length (take_at block rest len size)
 
--- the room that the document of a head needs
+-- the length that the buffer needs for the document of a head
 pub grown_for : (before after size : ℕ) (head given : List ℕ) → IsHead head → size ≡ stated_length head → BuffersAsMuch before after size
     → GrowsFor before after (head ++ given)
 grown_for before after size head given is stated grown =
     inr (let z = is.0 in omega (arith, length-append head given), rw (stated_unchanged head given (let z = is.0 in omega arith), sym stated) grown)
 
--- reads of a head and of what follows it, counted by those that are left
+-- reads of a head and of what follows it, counted by the reads that remain
 pub reads_joined : {R : Type 0} {gives : R → Option (List ℕ) → R → Type 0} (first second third : ℕ) (s t u : R) (head given all : List ℕ)
     → second ≤ first → third ≤ second → AreReads gives (first - second) s head t → AreReads gives (second - third) t given u → all ≡ head ++ given
     → AreReads gives (first - third) s all u
@@ -239,7 +239,7 @@ reads_joined {R} {gives} first second third s t u head given all less fewer one 
     subst (λ l. AreReads gives (first - third) s l u) (sym is)
     (subst (λ n. AreReads gives n s (head ++ given) u) together (reads_append (first - second) (second - third) s t u head given one two))
 
--- the reads of a room that was not filled, or was
+-- the reads into a buffer that was not filled, or was filled
 pub found_end : {R : Type 0} {gives : R → Option (List ℕ) → R → Type 0} {size turns : ℕ} {old new : R} {bytes : List ℕ} → length bytes < size
     → FillsBuffer gives size turns old bytes new → ReadsUntil gives turns old bytes (Some []) new
 found_end {R} {gives} {size} {turns} {old} {new} {bytes} less (inl (full, reads)) = absurd (omega (arith, less, full))
@@ -251,7 +251,7 @@ filled_capacity {R} {gives} {size} {turns} {old} {new} {bytes} full (inl (is, re
 filled_capacity {R} {gives} {size} {turns} {old} {new} {bytes} full (inr (few, until)) = absurd (omega (arith, few, full))
 
 module _ {R : Type 0} (state : R → Reader) (gives : R → Option (List ℕ) → R → Type 0) where
-  -- what the reader gave of a part of a document, of which so many bytes are missing after the head, and why it gave no more
+  -- what the reader gave of a part of a document that lacks `size` bytes after its head, and why it gave no more
   module _ (head : List ℕ) (size : ℕ) (before : DocBuffer) (limits : Limits) (old new : R)
       (capacity : limits.bytes + length head ≡ before.remaining.bytes) (turns : limits.turns ≡ before.remaining.turns)
       (splits : (given : List ℕ) → length given < size → IsCutShort (head ++ given))

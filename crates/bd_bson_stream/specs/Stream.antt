@@ -9,7 +9,7 @@ use Rattle.bd_bson_check.specs.{Dump.frame_length, Dump.stated_length, declared.
 use Rattle.bd_bson_stream.specs.declared.{doc_buffer.DocBuffer.DocBuffer, doc_buffer.DocFault.DocFault}
 use Rattle.bd_bson_stream.specs.declared.{doc_reader.DocReader.DocReader, doc_reader.RawBytes.RawBytes}
 
--- The bytes begin with a length, and are exactly that many.
+-- The bytes begin with the length of a document, and are exactly that many.
 abbrev pub IsFrame : List ℕ → Type 0
 IsFrame bytes = frame_length bytes ≡ Ok (Some (length bytes))
 
@@ -18,18 +18,18 @@ abbrev pub AreFrames : List (List ℕ) → List ℕ → Type 0
 AreFrames [] bytes = bytes ≡ []
 AreFrames (frame ∷ frames) bytes = (rest : List ℕ) × IsFrame frame × AreFrames frames rest × (bytes ≡ frame ++ rest)
 
--- The bytes are fewer than a document: fewer than four, or fewer than a length that could be one says.
+-- The bytes are fewer than a document: fewer than four, or fewer than they state, if that length could be a document's.
 abbrev pub IsCutShort : List ℕ → Type 0
 IsCutShort bytes = (length bytes < 4)
     ⊎ ((5 ≤ stated_length bytes) × (stated_length bytes ≤ longest_document) × (length bytes < stated_length bytes))
 
--- The bytes do not go past one document: at most four, or no more than a length that could be one says.
+-- The bytes are within one document: at most four, or no more than they state, if that length could be a document's.
 abbrev pub IsWithinOne : List ℕ → Type 0
 IsWithinOne bytes = (length bytes ≤ 4)
     ⊎ ((5 ≤ stated_length bytes) × (stated_length bytes ≤ longest_document) × (length bytes ≤ stated_length bytes))
 
 -- The bytes are documents by their lengths and a part of one more,
--- and with the last ones they do not go past that one.
+-- and with the last bytes the part is still within that one.
 abbrev pub EndsWithinOne : List ℕ → List ℕ → Type 0
 EndsWithinOne bytes last = (frames : List (List ℕ)) × (prefix : List ℕ) × (part : List ℕ) × AreFrames frames prefix
     × (bytes ≡ prefix ++ part) × IsWithinOne (part ++ last)
@@ -40,7 +40,7 @@ abbrev pub HasNoFrame : List ℕ → Option (List ℕ) → FaultKind → Type 0
 HasNoFrame head remaining kind = (bytes : List ℕ) × IfSome remaining (λ rest. bytes ≡ head ++ rest)
     × (frame_length bytes ≡ Err kind)
 
--- what the device may still be asked for
+-- how much may still be read from the device
 abbrev pub limits_remaining : DocBuffer → Limits
 limits_remaining documents = documents.remaining
 
@@ -52,19 +52,19 @@ next_offset documents = documents.offset
 abbrev pub next_number : DocBuffer → ℕ
 next_number documents = documents.number
 
--- a call met a fault
+-- an earlier call had an error
 abbrev pub has_failed : DocBuffer → Bool
 has_failed documents = documents.failed
 
--- all bytes of the buffer: those of the document that it holds come first
+-- all bytes of the buffer; the current document is at its start
 abbrev pub buffer_bytes : DocBuffer → List ℕ
 buffer_bytes documents = documents.buffer.items
 
--- how many of them are those of the document
+-- how many of them are those of the current document
 abbrev pub held_size : DocBuffer → ℕ
 held_size documents = documents.size
 
--- the bytes of the document that the buffer holds
+-- the bytes of the current document
 abbrev pub buffered_bytes : DocBuffer → List ℕ
 buffered_bytes documents = take documents.size documents.buffer.items
 
@@ -81,15 +81,15 @@ module _ {R : Type 0} where
   abbrev pub buffer_of : DocReader R → DocBuffer
   buffer_of reader = reader.documents
 
--- the buffer is as long as it was, or as a document needs
+-- the buffer is unchanged in length, or as long as a document needs
 abbrev pub BuffersAsMuch : ℕ → ℕ → ℕ → Type 0
 BuffersAsMuch before after size = (after ≡ before) ⊎ ((before < size) × (after ≡ size))
 
--- The buffer is as long as before, or it has grown to the length that these first bytes of a document say.
+-- The buffer is unchanged in length, or it has grown to the length that these first bytes of a document state.
 abbrev pub GrowsFor : ℕ → ℕ → List ℕ → Type 0
 GrowsFor before after bytes = (after ≡ before) ⊎ ((4 ≤ length bytes) × BuffersAsMuch before after (stated_length bytes))
 
--- Each read takes one from the reads that may still be made.
+-- Each read takes one from the reads that remain.
 abbrev pub CountsReads : DocBuffer → DocBuffer → Over Reader → Type 0
 CountsReads before after file = (after.remaining.turns ≤ before.remaining.turns)
     × (file.after.calls ≡ after_more file.before.calls (before.remaining.turns - after.remaining.turns))
@@ -108,7 +108,7 @@ ReadsToFault gives head old given new = (turns : ℕ)
     × ((IsCutShort (head ++ given) × ReadsUntil gives turns old given (Some []) new)
     ⊎ ((length (head ++ given) ≡ 4) × AreReads gives turns old given new))
 
--- For a reader in this state, whose read gives these bytes, or fails (None), and leaves the reader so.
+-- For a reader with this state, whose reads may give these bytes, or fail (None), and lead from one reader to the next.
 module _ {R : Type 0} (state : R → Reader) where
   module _ (gives : R → Option (List ℕ) → R → Type 0) where
     -- There is no next document: one read found the end of the device.
@@ -134,8 +134,8 @@ module _ {R : Type 0} (state : R → Reader) where
       pub grown : BuffersAsMuch (length before.buffer.items) (length after.buffer.items) after.size
 
     -- why a document was not read, of which the reader gave these bytes after its head; memory is needed once the four
-    -- bytes of its length were read, and none is read after them;
-    -- of a bad length no byte is read past what it counts
+    -- bytes of its length were read, and no byte is read after them;
+    -- if a length is bad, no byte is read beyond what it counts
     abbrev pub IsReason : DocBuffer → R → R → List ℕ → List ℕ → DocFault → Type 0
     IsReason before old new head given (DocFault.Frame f) =
         (f.offset ≡ before.offset) × (f.document ≡ before.number) × HasNoFrame head (state old).remaining f.kind
@@ -171,7 +171,7 @@ module _ {R : Type 0} (state : R → Reader) where
       pub grown : GrowsFor (length before.buffer.items) (length after.buffer.items) (head ++ given)
       pub reason : IsReason before old new head given fault
 
-    -- What a call for the next document did to buffer and device:
+    -- What a call for the next document did to the buffer and the device:
     -- a document was read, there is none, or reading failed.
     abbrev pub Leaves : DocBuffer → R → Result (Option RawBytes) DocFault → DocBuffer → R → Type 0
     Leaves before old (Ok (Some document)) after new =

@@ -1,4 +1,4 @@
-//! The next document of a device, in a buffer that the documents share.
+//! The next document of a device, in a buffer that all documents share.
 
 ghost use Rattle.std.specs.Prelude.{◌≡◌, ◌≤◌, ◌<◌, ◌+◌, ◌-◌, ◌*◌, ◌++◌, ◌⊎◌, ◌↔◌, [], ℕ, List, length, take, true, false, None, Ok, Err, IfOk, IfErr, IfSome, IsTrue, OnErr, OnOk};
 ghost use Rattle.std.specs.Io.KnownBytes.{Consumes, prepend_known};
@@ -14,7 +14,7 @@ use bd_value::LONGEST_DOCUMENT;
 use std::alloc::Global;
 use thiserror::Error;
 
-/// A length that is no document's, and where it stands.
+/// A length that is not a document's, and its offset.
 #[derive(Clone, Copy, Debug, Drop, PartialEq, Eq, Error)]
 #[error("document {document}, byte {offset}: {kind}")]
 pub struct FrameFault {
@@ -46,7 +46,7 @@ pub enum DocFault {
     /// The device was not read to the end of the document.
     #[error("{0}")]
     Read(ReadFault),
-    /// A call before this one met a fault.
+    /// An earlier call returned an error.
     #[error("an earlier call met a fault")]
     Failed,
 }
@@ -62,10 +62,10 @@ impl From<ReadFault> for DocFault {
 /// One document of a device, and how much the device gave up to its end.
 #[derive(Drop)]
 pub struct DocBuffer {
-    /// What the device may still be asked for.
+    /// How much may still be read from the device.
     remaining: Limits,
     buffer: Vec<u8>,
-    /// The length of the document that is held.
+    /// The length of the current document.
     size: usize,
     /// The offset of the next document among all bytes that the device gave.
     offset: u64,
@@ -83,7 +83,7 @@ impl DocBuffer {
     ghost use Rattle.bd_bson_stream.specs.Stream.{CountsReads, FailsToRead, FindsEnd, BuffersAsMuch, BuffersNone, IsFrame, KeepsBuffer, ReadsDocument};
     ghost use Rattle.bd_bson_stream.specs.Stream.{buffer_bytes, has_failed, buffered_bytes, held_size, limits_remaining, next_number, next_offset};
 
-    /// No document yet. No memory is taken. `limits.bytes` is at most 4,294,967,295.
+    /// No document yet. It takes no memory. `limits.bytes` is at most 4,294,967,295.
     pub fn new(alloc: Global, limits: Limits) -> DocBuffer
         requires { limits.bytes ≤ longest_input }
         ensures starts { (limits_remaining result ≡ limits)
@@ -100,16 +100,16 @@ impl DocBuffer {
         }
     }
 
-    /// Takes the next document of a device into the buffer; false at the end.
+    /// Reads the next document of a device into the buffer; false at the end.
     ///
-    /// The device gives the bytes of the document, and no byte after them; at the end it gives none. All calls are to
-    /// be handed one device.
+    /// The device gives the bytes of the document, and no byte after them; at the end it gives none. Pass the same device to
+    /// all calls.
     ///
     /// # Errors
-    /// - `DocFault::Frame`: the length is cut short or bad, as `next_frame` tells of the bytes that follow;
-    /// - `DocFault::Read`: a read failed (`Device`), gave more than the limit of bytes (`TooLong`), or one more was
-    ///   wanted than may be made (`TooManyTurns`), before the document was whole; or there was no memory (`NoMemory`);
-    /// - `DocFault::Failed`: an earlier call met one of these. The device is not read then.
+    /// - `DocFault::Frame`: the length is cut short or bad, as `next_frame` reports for the bytes that follow;
+    /// - `DocFault::Read`: before the document was whole a read failed (`Device`), gave more than the limit of bytes
+    ///   (`TooLong`), or the limit of reads was reached (`TooManyTurns`); or memory ran out (`NoMemory`);
+    /// - `DocFault::Failed`: an earlier call had an error. The device is not read then.
     #[inline(always)]
     pub fn read_next<R: Input>(&mut self, reader: &mut R) -> Result<bool, DocFault>
         ensures reads { result ≡ Ok true →
@@ -118,7 +118,7 @@ impl DocBuffer {
             FindsEnd R.state R.read_gives self.old self.new reader.old reader.new }
         ensures fails { has_failed self.old ≡ false → IfErr result
             (FailsToRead R.state R.read_gives [] self.old self.new reader.old reader.new) }
-        // After a fault, and only then, the call is refused, and reads nothing.
+        // After an error, and only then, the call is refused, and reads nothing.
         ensures refused { (result ≡ Err DocFault.Failed) ↔ IsTrue (has_failed self.old) }
         ensures failed { OnErr result (IsTrue (has_failed self.new)) }
         ensures not_failed { OnOk result (has_failed self.new ≡ false) }
@@ -133,7 +133,7 @@ impl DocBuffer {
         result
     }
 
-    /// The bytes of the document that was read last; none before the first, at the end and after a fault.
+    /// The bytes of the current document; empty before the first, at the end and after a fault.
     pub fn bytes(&self) -> &[u8]
         ensures { result.now ≡ buffered_bytes self.now }
     {
@@ -154,14 +154,14 @@ impl DocBuffer {
         self.number
     }
 
-    /// How many bytes are held, at most 16,793,600.
+    /// How many bytes are buffered, at most 16,793,600.
     pub fn held(&self) -> usize
         ensures { (result ≡ length (buffer_bytes self.now)) × (result ≤ longest_document) }
     {
         self.buffer.len()
     }
 
-    /// Takes the next document into the buffer; false at the end.
+    /// Reads the next document into the buffer; false at the end.
     fn advance<R: Input>(&mut self, reader: &mut R) -> Result<bool, DocFault>
         requires not_failed { self.old.failed ≡ false }
         ensures reads { result ≡ Ok true →
@@ -180,7 +180,7 @@ impl DocBuffer {
         Ok(true)
     }
 
-    /// Reads the four bytes that the next document begins with, which tell how many bytes it has; none at the end.
+    /// Reads the first four bytes of the next document, which state its length; None at the end.
     fn read_length<R: Input>(&mut self, reader: &mut R) -> Result<Option<[u8; 4]>, DocFault>
         requires empty { self.old.size ≡ 0 }
         ensures unchanged { BuffersNone self.old self.new
@@ -267,7 +267,7 @@ impl DocBuffer {
         })
     }
 
-    /// Goes past the document of that size, which is in the buffer.
+    /// Skips the document of that size, which is in the buffer.
     fn pass(&mut self, size: usize)
         requires not_failed { self.old.failed ≡ false }
         requires size { (5 ≤ size)
@@ -287,7 +287,7 @@ impl DocBuffer {
     }
 }
 
-/// Makes the buffer at least so long.
+/// Makes the buffer at least `size` bytes long.
 fn grow_buffer(buffer: &mut Vec<u8>, size: usize) -> Result<(), ReadFault>
     ensures capacity { OnOk result ((size ≤ length buffer.new.items)
         × ((length buffer.new.items ≡ length buffer.old.items)

@@ -16,15 +16,15 @@ use std::alloc::Global;
 /// The bytes of a document that a device gave.
 #[derive(Clone, Copy, Debug)]
 pub struct RawBytes<'a> {
-    /// All bytes of the document, as many as its length counts.
+    /// All bytes of the document, as many as its length says.
     pub bytes: &'a [u8],
-    /// The offset of the first among all bytes that the device gave.
+    /// The offset of the first byte among all bytes that the device gave.
     pub start: u64,
     /// The number of the document, counted from 0.
     pub number: u32,
 }
 
-/// The documents of a device, one at a time. One document is held.
+/// The documents of a device, one at a time. One document is buffered.
 #[derive(Drop)]
 pub struct DocReader<R: Input + Drop> {
     reader: R,
@@ -34,7 +34,7 @@ pub struct DocReader<R: Input + Drop> {
 impl<R: Input + Drop> DocReader<R> {
     ghost use Rattle.bd_bson_stream.specs.contracts.doc_reader.DocReader.{the_row};
 
-    /// The documents of this device from its next byte on. No memory is taken. `limits.bytes` is at most 4,294,967,295.
+    /// The documents of this device from its next byte on. It takes no memory. `limits.bytes` is at most 4,294,967,295.
     pub fn new(alloc: Global, reader: R, limits: Limits) -> DocReader<R>
         requires { limits.bytes ≤ longest_input }
         ensures reader { (device_of result ≡ reader)
@@ -51,7 +51,7 @@ impl<R: Input + Drop> DocReader<R> {
         }
     }
 
-    /// How many bytes are held, at most 16,793,600.
+    /// How many bytes are buffered, at most 16,793,600.
     pub fn held(&self) -> usize
         ensures { (result ≡ length (buffer_bytes (buffer_of self.now)))
             × (result ≤ longest_document) }
@@ -59,7 +59,7 @@ impl<R: Input + Drop> DocReader<R> {
         self.documents.held()
     }
 
-    /// The next document; none at the end. The device gives no byte after it.
+    /// The next document; None at the end. The device gives no byte after it.
     ///
     /// The errors are those of `DocBuffer::read_next`.
     pub fn next(&mut self) -> Result<Option<RawBytes<'_>>, DocFault>
@@ -88,9 +88,9 @@ impl<R: Input + Drop> DocReader<R> {
         }))
     }
 
-    /// Reads the next document; false at the end. `bytes` gives it then.
+    /// Reads the next document; false at the end. Then call `bytes`.
     ///
-    /// It is `next` in two steps: of a reader that still lends a document nothing can be said.
+    /// It is `next` in two steps: while `next` lends a document, nothing can be said of the reader.
     pub fn advance(&mut self) -> Result<bool, DocFault>
         ensures reads { result ≡ Ok true →
             ReadsDocument R.state R.read_gives (buffer_of self.old) (buffer_of self.new)
@@ -113,7 +113,7 @@ impl<R: Input + Drop> DocReader<R> {
         self.documents.read_next(&mut self.reader)
     }
 
-    /// The bytes of the document that was read last; none before the first, at the end and after a fault.
+    /// The bytes of the current document; empty before the first, at the end and after a fault.
     pub fn bytes(&self) -> &[u8]
         ensures { result.now ≡ buffered_bytes (buffer_of self.now) }
     {

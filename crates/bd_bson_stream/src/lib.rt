@@ -1,6 +1,6 @@
 //! The documents of a device, one after the other, in one buffer.
 //!
-//! What a device gave for a document, and what it gave before a fault: `specs/Stream.antt`.
+//! What a device gave for a document, and before a fault: `specs/Stream.antt`.
 //!
 //! An example, which `bd_bson_tests` proves and runs as `examples::stream`:
 //!
@@ -17,7 +17,7 @@
 //! ```
 //!
 //! - `doc_buffer`: `DocBuffer`, the next document of a device that is lent for the call.
-//! - `doc_reader`: `DocReader`, the same with a device of its own.
+//! - `doc_reader`: `DocReader`, the same with its device in it.
 #![tactic(auto)]
 
 mod doc_buffer;

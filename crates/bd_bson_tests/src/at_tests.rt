@@ -1,4 +1,4 @@
-//! Values found again by where they stand in a dump, at offsets that were counted by hand, and reads that were counted.
+//! Values found again by their `At` in a dump, at offsets that were counted by hand, and reads that were counted.
 
 ghost use Rattle.std.specs.Prelude.{◌≡◌, IfSome};
 ghost use Rattle.bd_bson_view.specs.Sound.{meaning};
@@ -46,7 +46,7 @@ fn sample(alloc: Global) -> Result<Dump, Fail> {
     Ok(read_dump(alloc, bytes)?)
 }
 
-/// The document of that number.
+/// The document with that number.
 fn document<'a>(rt: &impl Abort, dump: &'a Dump, number: u32) -> RawDoc<'a>
     ensures { result.bytes.now ≡ bytes_of dump.now }
 {
@@ -55,7 +55,7 @@ fn document<'a>(rt: &impl Abort, dump: &'a Dump, number: u32) -> RawDoc<'a>
     dump.document(number)
 }
 
-/// What stands where the value stands.
+/// The value found at the `At` of a value.
 fn again<'a>(dump: &'a Dump, value: RawValue<'_>) -> RawValue<'a>
     requires { value.bytes.now ≡ bytes_of dump.now }
     ensures value { meaning result.sound ≡ meaning value.entry.sound }
@@ -77,7 +77,7 @@ fn value_in<'a>(whole: RawValue<'a>, name: &str, is_inside: bool) -> Option<RawV
     Some(first)
 }
 
-/// Whether that value stands in its place, and what is found there is the same.
+/// Whether that value is at its offset, and the value found there is the same.
 fn is_found(alloc: Global, dump: &Dump, whole: RawValue<'_>, row: &Found<'_>) -> bool
     requires { whole.bytes.now ≡ bytes_of dump.now }
 {
@@ -90,7 +90,7 @@ fn is_found(alloc: Global, dump: &Dump, whole: RawValue<'_>, row: &Found<'_>) ->
     is_there && class_of_node(found) == class && is_printed(alloc, found, printed)
 }
 
-/// The whole document, its fields, and what is inside them stand in the same bytes.
+/// The whole document, its fields, and the values inside them are in the same bytes.
 #[test]
 fn finds_values_again(rt: HostRuntime) -> Result<(), Fail> {
     let alloc = rt.alloc();
@@ -115,7 +115,7 @@ fn finds_values_again(rt: HostRuntime) -> Result<(), Fail> {
     Ok(())
 }
 
-/// A null and an undefined that no document holds are marked by places too, also in a dump of no bytes.
+/// A null and an undefined that no document contains have an `At` too, even in a dump of no bytes.
 #[test]
 fn finds_what_takes_no_byte(rt: HostRuntime) -> Result<(), Fail> {
     let alloc = rt.alloc();
@@ -133,7 +133,7 @@ fn counts_reads_of_documents(rt: HostRuntime) -> Result<(), Fail> {
     assert!(rt; dump.reads() == 0);
     let whole = document(&rt, &dump, 0).value();
     assert!(rt; dump.reads() == 1);
-    // What is found by its place is no read, and neither are the bytes.
+    // A value found by its `At` is not a read, and neither are the bytes.
     let found = again(&dump, whole);
     assert!(rt; is_printed(alloc, found, "{}"));
     assert!(rt; dump.bytes().len() == 57);

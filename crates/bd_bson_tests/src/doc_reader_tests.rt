@@ -1,4 +1,4 @@
-//! The documents of a device, one at a time: rows that were worked by hand.
+//! The documents of a device, one at a time: rows that were worked out by hand.
 use bd_bson_check::FaultKind;
 use bd_bson_stream::{DocBuffer, DocFault, DocReader, RawBytes};
 use bd_io_device::{Input, Limits, MemoryInput, ReadFault, SystemInput, read_all};
@@ -21,7 +21,7 @@ const ONE: &[u8] = b"\x0c\0\0\0\x10a\0\x01\0\0\0\0";
 /// `EMPTY`, `ONE` and `EMPTY`.
 const THREE: &[u8] = b"\x05\0\0\0\0\x0c\0\0\0\x10a\0\x01\0\0\0\0\x05\0\0\0\0";
 
-/// What a call answered.
+/// What a call returned.
 #[derive(Clone, Copy, PartialEq, Eq)]
 enum Answer {
     /// A document: its start, its number and how many bytes it has.
@@ -41,7 +41,7 @@ fn of_fault(fault: &DocFault) -> Answer {
     }
 }
 
-/// What `DocBuffer::read_next` answered where no document was wanted.
+/// What `DocBuffer::read_next` returned, if no document was expected.
 fn of_read(read: Result<bool, DocFault>) -> Answer {
     match read {
         Ok(_) => Answer::End,
@@ -49,7 +49,7 @@ fn of_read(read: Result<bool, DocFault>) -> Answer {
     }
 }
 
-/// What `DocReader::next` answered.
+/// What `DocReader::next` returned.
 fn of_next(next: Result<Option<RawBytes<'_>>, DocFault>) -> Answer {
     match next {
         Ok(Some(document)) => {
@@ -60,7 +60,7 @@ fn of_next(next: Result<Option<RawBytes<'_>>, DocFault>) -> Answer {
     }
 }
 
-/// A buffer that holds the last of so many documents of the input.
+/// A buffer with the last of `count` documents of the input.
 fn read_documents(
     rt: &impl Abort,
     alloc: Global,
@@ -141,7 +141,7 @@ fn gives_three<R: Input + Drop>(rt: &impl Abort, alloc: Global, device: R) {
     }
 }
 
-/// Of devices in memory that give so many bytes a call, and of the system.
+/// Devices in memory that give at most n bytes in a call, and one of the system.
 #[test]
 fn each_document_with_its_start_and_number(rt: HostRuntime) {
     for most in [1, 2, 3, 7, 100] {
@@ -151,7 +151,7 @@ fn each_document_with_its_start_and_number(rt: HostRuntime) {
     gives_three(&rt, rt.alloc(), SystemInput::new(THREE));
 }
 
-/// The number, the place and the bytes of a buffer of `THREE` after each of its documents, and at the end.
+/// The number, the offset and the bytes of a buffer of `THREE` after each of its documents, and at the end.
 const POSITIONS: [(u32, u64, &[u8]); 4] = [
     (1, 5, EMPTY),
     (2, 17, ONE),
@@ -159,12 +159,12 @@ const POSITIONS: [(u32, u64, &[u8]); 4] = [
     (3, 22, b""),
 ];
 
-/// Whether a buffer holds these bytes, of the document before that number, which ends there.
+/// Whether a buffer has these bytes, of the document before that number, which ends at that offset.
 fn is_at(documents: &DocBuffer, number: u32, offset: u64, bytes: &[u8]) -> bool {
     documents.number() == number && documents.offset() == offset && documents.bytes() == bytes
 }
 
-/// Whether a buffer takes the three documents and the end, after so many reads.
+/// Whether a buffer reads the three documents and the end, with these counts of reads.
 fn takes_three(alloc: Global, input: &mut MemoryInput<'_>, counts: [u64; 4]) -> bool {
     let mut documents = DocBuffer::new(alloc, AMPLE);
     if !is_at(&documents, 0, 0, b"") {
@@ -200,7 +200,7 @@ fn no_read_more_than_a_document_takes(rt: HostRuntime) {
     }
 }
 
-/// Whether these bytes are left of `THREE` after so many documents.
+/// Whether these bytes of `THREE` remain after `count` documents.
 fn leaves(rt: &impl Abort, alloc: Global, most: usize, count: u32, remaining: &[u8]) -> bool {
     assert!(rt; most > 0);
     let mut input = MemoryInput::new(THREE, most, None);
@@ -218,7 +218,7 @@ fn no_byte_after_a_document_is_taken(rt: HostRuntime) {
     }
 }
 
-/// Reads the fault of bytes that are no document and follow so many documents. Then no read is made, and these bytes are left.
+/// Reads the fault of bytes that are not a document and follow `count` documents. Then no read is made, and these bytes remain.
 fn fault_after(
     rt: &impl Abort,
     alloc: Global,
@@ -289,7 +289,7 @@ fn what_a_fault_leaves(rt: HostRuntime) {
     fault_after(&rt, rt.alloc(), &mut input, 1, fault, 7, &THREE[6..]);
 }
 
-/// Nothing is held of an empty device.
+/// Nothing is buffered of an empty device.
 #[test]
 fn nothing_is_buffered_of_no_document(rt: HostRuntime) {
     let mut input = MemoryInput::new(b"", 8, None);
@@ -307,13 +307,13 @@ fn fifty_and_one(alloc: Global) -> Result<Vec<u8>, NoMemory> {
     Ok(bytes)
 }
 
-/// How much is held behind the next document, where that is this one; none where it is not.
+/// How much is buffered after the next document, if that is this one; None if it is not.
 fn buffered_after(reader: &mut DocReader<MemoryInput<'_>>, wanted: &[u8]) -> Option<usize> {
     let is_there = matches!(reader.advance(), Ok(true)) && reader.bytes() == wanted;
     is_there.then_some(reader.held())
 }
 
-/// As much is held as one document takes, of any more.
+/// The buffer stays as long as one document needs, however many follow.
 #[test]
 fn documents_share_what_is_buffered(rt: HostRuntime) -> Result<(), Fail> {
     let bytes = fifty_and_one(rt.alloc())?;

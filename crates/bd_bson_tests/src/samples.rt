@@ -86,7 +86,7 @@ pub(crate) fn joined(alloc: Global, first: &[u8], others: &[u8]) -> Result<Vec<u
     Ok(bytes)
 }
 
-/// The document of an element of each kind.
+/// The document with an element of each kind.
 pub(crate) fn every_kind(alloc: Global) -> Result<Vec<u8>, NoMemory> {
     let mut bytes = Vec::new(alloc);
     for (_, element, _) in elements() {
@@ -95,7 +95,7 @@ pub(crate) fn every_kind(alloc: Global) -> Result<Vec<u8>, NoMemory> {
     joined(alloc, &bytes, b"")
 }
 
-/// The bytes, seen as a document that has no fault.
+/// A view of the bytes, which are a document without a fault.
 pub(crate) fn view<'a>(rt: &impl Abort, alloc: Global, bytes: &'a [u8]) -> RawDoc<'a> {
     assert!(rt; bytes.len() < 100_000);
     match check_document(alloc, bytes, 0, 0) {

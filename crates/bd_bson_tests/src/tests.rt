@@ -1,5 +1,5 @@
-//! Places of faults, fronts of documents, and frames. The documents and the faults of other bytes are those of the program:
-//! `tests/rows/check-*.jsonl` and `splits-kinds.jsonl`.
+//! Offsets of faults, prefixes of documents, and frames. Documents and faults of other bytes are tested through the program:
+//! `tests/rows/check-*.jsonl` and `cut-kinds.jsonl`.
 use crate::samples::{every_kind, is_printed, joined};
 use bd_bson_check::{Fault, FaultKind, check_document, next_frame, read_document};
 use bd_value::{NoMemory, Tree};
@@ -7,7 +7,7 @@ use std::alloc::Global;
 use std::process::Abort;
 use std::test::Fail;
 
-/// Whether a call gave a fault, and in these words.
+/// Whether a call returned a fault with this message.
 fn is_fault<T: Drop>(alloc: Global, given: Result<T, Fault>, want: &str) -> bool {
     match given {
         Ok(_) => false,
@@ -15,7 +15,7 @@ fn is_fault<T: Drop>(alloc: Global, given: Result<T, Fault>, want: &str) -> bool
     }
 }
 
-/// Asserts the fault of the bytes as document 3 at the offset 100, where they are read and where they are only checked.
+/// Asserts the fault of the bytes as document 3 at the offset 100, both when they are read and when they are only checked.
 fn refused(rt: &impl Abort, alloc: Global, bytes: &[u8], want: &str) {
     assert!(rt; bytes.len() < 100_000);
     let is_checked = is_fault(alloc, check_document(alloc, bytes, 100, 3), want);
@@ -49,12 +49,12 @@ fn adds_an_offset_and_a_number(rt: HostRuntime) {
     let last = check_document(alloc, b"\x09\0\0\0\x08b\0\x02\0", base, 4_294_967_295);
     let want = "document 4294967295, byte 4294967293: bad boolean";
     assert!(rt; is_fault(alloc, last, want));
-    // No row shows these two.
+    // No row prints these two.
     let words = (FaultKind::DumpTooLong.words(), FaultKind::NoMemory.words());
     assert!(rt; words.0 == "dump too long" && words.1 == "no memory");
 }
 
-/// Asserts that the bytes are a document or not, and no front of them is one.
+/// Asserts whether the bytes are a document, and that no shorter prefix of them is one.
 fn no_prefix(rt: &impl Abort, alloc: Global, bytes: &[u8], is_one: bool) {
     assert!(rt; bytes.len() < 100_000);
     assert!(rt; read_document(alloc, bytes, 0, 0).is_ok() == is_one);
@@ -67,7 +67,7 @@ fn no_prefix(rt: &impl Abort, alloc: Global, bytes: &[u8], is_one: bool) {
     }
 }
 
-/// A document of so many levels.
+/// A document of n levels.
 fn nested(alloc: Global, levels: u32) -> Result<Vec<u8>, NoMemory> {
     let mut bytes = joined(alloc, b"", b"")?;
     for _ in 1..levels {
@@ -76,8 +76,8 @@ fn nested(alloc: Global, levels: u32) -> Result<Vec<u8>, NoMemory> {
     Ok(bytes)
 }
 
-/// Fronts of the document of each kind, of binary data of subtype 02, of a timestamp, and of a text with a zero; of as many
-/// levels as may be, and of one more, which are no document as a whole.
+/// Prefixes of the document of each kind, of binary data of subtype 02, of a timestamp, and of a text with a zero; of the
+/// most levels, and of one more, which are no document even as a whole.
 #[test]
 fn no_prefix_of_a_document_is_one(rt: HostRuntime) -> Result<(), Fail> {
     let rows: &[&[u8]] = &[
@@ -95,7 +95,7 @@ fn no_prefix_of_a_document_is_one(rt: HostRuntime) -> Result<(), Fail> {
     Ok(())
 }
 
-/// A frame does not depend on what its document holds: a double, and then the document {"a":1}.
+/// A frame does not depend on the contents of its document: a double, and then the document {"a":1}.
 #[test]
 fn frames_documents(rt: HostRuntime) {
     let alloc = rt.alloc();

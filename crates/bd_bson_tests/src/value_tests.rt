@@ -17,7 +17,7 @@ fn dates(alloc: Global) -> Result<Document, NoMemory> {
     Ok(document)
 }
 
-/// Whether the pair there is this name with this date.
+/// Whether the pair at an index is this name with this date.
 fn has_date(document: &Document, offset: usize, name: &str, date: i64) -> bool {
     if offset >= document.len() {
         return false;
@@ -26,7 +26,7 @@ fn has_date(document: &Document, offset: usize, name: &str, date: i64) -> bool {
     found == name && matches!(value, Value::Date(it) if *it == date)
 }
 
-/// A repeated name keeps its place, and so does an empty one.
+/// A repeated name stays at its index, and so does an empty one.
 #[test]
 fn keeps_pairs_in_their_order(rt: HostRuntime) -> Result<(), Fail> {
     assert!(rt; has_zero("t\0u") && !has_zero("t0u"));
@@ -59,7 +59,7 @@ const LEVELS: &str = r#"1 0 {}
 1 0 {"a":{"$code":""}}
 3 2 {"a":{"$code":"","$scope":{}}}"#;
 
-/// Whether a document has so many levels, and the value in `a`, where there is one, so many.
+/// Whether a document has the stated number of levels, and so has the value in `a`, if any.
 fn has_levels(rt: &impl Abort, alloc: Global, line: &str) -> bool {
     let (levels, rest) = line.split_once(' ').expect(rt, line);
     let (alone, text) = rest.split_once(' ').expect(rt, line);

@@ -23,7 +23,7 @@ fn is_element<'a, N: Node<'a>>(alloc: Global, name: &str, node: N, element: &Ele
         && is_printed(alloc, node, printed)
 }
 
-/// Whether the copy of a node is shown as this.
+/// Whether the copy of a node is printed like this.
 fn is_copied<N: Reading>(alloc: Global, node: N, printed: &str) -> bool {
     to_value(alloc, node).is_ok_and(|copy| is_printed(alloc, Tree::Value(&copy), printed))
 }
@@ -44,7 +44,7 @@ fn has_element<'a, N: Node<'a>>(alloc: Global, node: N, i: usize, element: &Elem
         && is_copied(alloc, first, element.2)
 }
 
-/// What follows in a node's parts, where this element is the next of them.
+/// The parts of a node after this element, if it is the next of them.
 fn part_after<'a, N: Node<'a>>(
     alloc: Global,
     rest: N::Rest,
@@ -54,7 +54,7 @@ fn part_after<'a, N: Node<'a>>(
     is_element(alloc, name, value, element).then_some(after)
 }
 
-/// Whether the node is the document of every kind, by each call that gives a field.
+/// Whether the node is the document of every kind, by each call that returns a field.
 fn has_every_kind<'a, N: Node<'a>>(alloc: Global, node: N) -> bool {
     if node.kind() != Kind::Doc || node.len() != 19 || node.first("none").is_some() {
         return false;
@@ -72,7 +72,7 @@ fn has_every_kind<'a, N: Node<'a>>(alloc: Global, node: N) -> bool {
     N::next(&rest).is_none()
 }
 
-/// The elements of the array in the document of every kind. What is named in it is no field.
+/// The elements of the array in the document of every kind. A name in it is not a field.
 static ITEMS: [(&str, &str); 3] = [
     ("z", r#"{"$numberInt":"7"}"#),
     ("", "null"),
@@ -83,7 +83,7 @@ fn items() -> &'static [(&'static str, &'static str)] {
     &ITEMS
 }
 
-/// Whether the node has the array and the code with scope of every kind, and is no scalar and has no scope itself.
+/// Whether the node has the array and the code with scope of every kind, is not a scalar, and has no scope itself.
 fn has_parts<'a, N: Node<'a>>(alloc: Global, node: N) -> bool {
     let (Some(array), Some(code)) = (node.first("a"), node.first("w")) else {
         return false;
@@ -111,7 +111,7 @@ fn has_items<'a, N: Node<'a>>(alloc: Global, array: N) -> bool {
     true
 }
 
-/// Whether each call of a view and of its elements that finds one by its index gives this one.
+/// Whether each call of a view and of its elements that finds one by its index returns this one.
 fn sees_at(alloc: Global, document: RawDoc<'_>, i: usize, element: &Element<'_>) -> bool {
     let all = document.elements();
     if i >= document.len() || i >= all.count() {
@@ -122,7 +122,7 @@ fn sees_at(alloc: Global, document: RawDoc<'_>, i: usize, element: &Element<'_>)
     is_element(alloc, pair_name, pair, element) && is_element(alloc, nth_name, nth, element)
 }
 
-/// Whether each call of a view and of its elements that finds one by its name gives this one.
+/// Whether each call of a view and of its elements that finds one by its name returns this one.
 fn sees_by_name(alloc: Global, document: RawDoc<'_>, element: &Element<'_>) -> bool {
     let Some(first) = document.first(element.0) else {
         return false;
@@ -135,14 +135,14 @@ fn sees_by_name(alloc: Global, document: RawDoc<'_>, element: &Element<'_>) -> b
         && is_viewed(alloc, found, element.2)
 }
 
-/// Whether a view's value has elements exactly where it is no scalar, and its copy is shown as it.
+/// Whether a view's value has elements exactly if it is not a scalar, and its copy is printed like it.
 fn is_viewed(alloc: Global, value: RawValue<'_>, printed: &str) -> bool {
     let copy = value.to_value(alloc);
     value.elements().is_some() == value.scalar().is_none()
         && copy.is_ok_and(|copy| is_printed(alloc, Tree::Value(&copy), printed))
 }
 
-/// What follows in a view's elements, where this element is the next of so many.
+/// The elements of a view after this one, if it is the next of `count`.
 fn element_after<'a>(
     alloc: Global,
     rest: Elements<'a>,
@@ -171,7 +171,7 @@ fn sees_every_kind(alloc: Global, document: RawDoc<'_>) -> bool {
     rest.next().is_none() && document.elements().find("none").is_none()
 }
 
-/// Whether a document in memory has every kind, by each of its own calls.
+/// Whether a document in memory has every kind, by each of its methods.
 fn has_every_kind_of_scalar(alloc: Global, document: &Document) -> bool {
     for (i, element) in elements().iter().enumerate() {
         if document.len() != 19 || i >= document.len() {
@@ -198,7 +198,7 @@ fn is_whole(alloc: Global, document: &Document) -> bool {
         && has_parts(alloc, node)
 }
 
-/// Whether the view has that array, with the names that stand in its bytes.
+/// Whether the view has that array, with the names in its bytes.
 fn sees_items(alloc: Global, document: RawDoc<'_>) -> bool {
     let Some(array) = document.first("a") else {
         return false;
@@ -234,7 +234,7 @@ fn reads_views_and_copies_alike(rt: HostRuntime) -> Result<(), Fail> {
     Ok(())
 }
 
-/// Whether the copies of a view of no element have none.
+/// Whether the copies of a view without elements have none.
 fn has_empty_copies(alloc: Global, empty: RawDoc<'_>) -> Result<bool, NoMemory> {
     let copy = empty.to_document(alloc)?;
     let again = to_value(alloc, Tree::Doc(&copy))?;

@@ -1,4 +1,5 @@
-//! Documents that are written, and those that are not. The bytes are those of the program too: `tests/rows/pack-bytes.jsonl`.
+//! Documents that are written, and those that are not. The bytes are also tested through the program:
+//! `tests/rows/pack-bytes.jsonl`.
 use crate::samples::{elements, every_kind, joined};
 use bd_bson_check::read_document;
 use bd_bson_write::{WriteFault, write_document};
@@ -7,7 +8,7 @@ use std::alloc::Global;
 use std::process::Abort;
 use std::test::Fail;
 
-/// Whether the document of the bytes is written as those that are wanted.
+/// Whether the document of the bytes is written as the expected bytes.
 fn is_written(rt: &impl Abort, alloc: Global, bytes: &[u8], want: &[u8]) -> bool {
     assert!(rt; bytes.len() < 100_000);
     match read_document(alloc, bytes, 0, 0) {
@@ -18,10 +19,10 @@ fn is_written(rt: &impl Abort, alloc: Global, bytes: &[u8], want: &[u8]) -> bool
     }
 }
 
-/// The array of the samples, whose names are its elements' places. No other sample has names that are not.
+/// The array of the samples, with its elements' indexes as names. No other sample has an array with other names.
 const ARRAY: &[u8] = b"\x04a\0\x12\0\0\0\x100\0\x07\0\0\0\x0a1\0\xff2\0\0";
 
-/// Whether a document of these bytes of elements is written as that of the others.
+/// Whether a document of these bytes of elements is written as a document of the others.
 fn are_written(
     rt: &impl Abort,
     alloc: Global,
@@ -32,12 +33,12 @@ fn are_written(
     Ok(is_written(rt, alloc, &bytes, &joined(alloc, want, b"")?))
 }
 
-/// What is written of an element.
+/// The bytes that are written for an element.
 fn plain<'a>(name: &str, element: &'a [u8]) -> &'a [u8] {
     if name == "a" { ARRAY } else { element }
 }
 
-/// The document of what is written of all.
+/// The document of the bytes that are written for all.
 fn every_plain_kind(alloc: Global) -> Result<Vec<u8>, NoMemory> {
     let mut all = Vec::new(alloc);
     for (name, element, _) in elements() {
@@ -87,7 +88,7 @@ fn pattern(alloc: Global, pattern: &str, options: &str) -> Result<Value, NoMemor
     })
 }
 
-/// An array with a code whose scope holds a document with a zero in a name.
+/// An array with a code whose scope has a document with a zero in a name.
 fn zero_inside(alloc: Global) -> Result<Value, NoMemory> {
     let zero = document_of(alloc, "a\0", Value::Null)?;
     let scope = document_of(alloc, "b", Value::Doc(zero))?;
@@ -108,8 +109,8 @@ fn sample(alloc: Global, name: &str) -> Result<Document, NoMemory> {
     document_of(alloc, "d", value)
 }
 
-/// How many bytes are written of so many documents, each the field `a` of the one outside it, the innermost this one, or why
-/// none are.
+/// How many bytes are written for `levels` documents, each the field `a` of the one outside it, the innermost this one, or
+/// why none are.
 fn written(
     alloc: Global,
     levels: u32,
@@ -123,7 +124,7 @@ fn written(
     Ok(bytes.len())
 }
 
-/// A scope and its code are two levels. Too many levels are told before a zero.
+/// A scope and its code are two levels. Too many levels are reported before a zero.
 #[test]
 fn refuses_zeros_and_201_levels(rt: HostRuntime) {
     let nul = Some(WriteFault::NulInName);
@@ -150,7 +151,7 @@ fn refuses_zeros_and_201_levels(rt: HostRuntime) {
     }
 }
 
-/// The document of one text of so many bytes.
+/// The document of one text of `length` bytes.
 fn document_of_text(alloc: Global, length: usize) -> Result<Document, NoMemory> {
     let mut long = "x".repeat(alloc, 65_536)?.repeat(alloc, length / 65_536)?;
     long.push_str("x".repeat(alloc, length % 65_536)?.as_str())?;

@@ -1,4 +1,4 @@
--- What a value that stays in its bytes holds.
+-- The contents of a value that is viewed in its bytes.
 use Rattle.std.proofs.Common.{◌≡◌, ℕ, ◌+◌, ◌≤◌, false, List, ◌∷◌, ◌++◌, length, drop, refl, sym, ap, ap₂, ◌∙◌, subst, append_assoc, arith}
 use Rattle.std.proofs.lemmas.List.{drop_at, length-append, length-drop, drop-drop}
 use Rattle.bd_value.specs.Limits.{longest_document}
@@ -13,11 +13,11 @@ use Rattle.bd_bson_view.specs.Sizes.{number_of, text_of, scalar_at, TextAt}
 use Rattle.bd_bson_view.specs.Sound.{Sound, Remaining, meaning, elements_remaining, meaning_is, remaining_is}
 use Rattle.bd_bson_view.proofs.ValueAtLemmas.{kind_is, reads_at, text_reads, framed_length, scoped_length}
 
--- the bytes after four, cut off twice
+-- dropping a start and then four bytes drops both at once
 pub after_four : (bytes : List ℕ) (start : ℕ) (here tail : List ℕ) → here ≡ drop start bytes → tail ≡ drop 4 here → tail ≡ drop (start + 4) bytes
 after_four bytes start here tail a b = b ∙ ap (drop 4) a ∙ drop-drop 4 start bytes
 
--- ---- what the kind tells of the tree
+-- ---- what the kind says of the tree
 
 record IsFramed (t : Tree) (v : List ℕ) (made : Doc → Tree) : Type 0 where
   pub fields : Fields
@@ -84,7 +84,7 @@ leaf_is kind bytes s none =
 -- ---- the elements of a document and of an array
 
 module _ (bytes : List ℕ) (start : ℕ) (kind : Kind) (s : Sound kind (drop start bytes)) where
-  -- the elements, and that they make the value
+  -- there are elements four bytes after the start, and they make the value
   abbrev pub HasElements : (Doc → Tree) → Type 0
   HasElements made = Remaining (drop (start + 4) bytes) × ((g : Remaining (drop (start + 4) bytes)) → meaning s ≡ made (elements_remaining g))
 
@@ -98,7 +98,7 @@ module _ (bytes : List ℕ) (start : ℕ) (kind : Kind) (s : Sound kind (drop st
       let remaining : Remaining (drop (start + 4) bytes) = record { fields = f.fields; body = f.body; after = s.begins.after; spell = f.spell; splits = splits; short = short } in
       (remaining, λ g. meaning_is s s ∙ f.is ∙ ap made (sym (remaining_is g remaining)))
 
-  -- what begins with a document has its elements four bytes further on, and they make the document
+  -- bytes that begin with a document have its elements four bytes after the start, and these make the document
   pub document_has_elements : kind ≡ kinds.Doc → HasElements as_document
   document_has_elements k = framed_has_elements as_document (is_document s.tree s.begins.value s.begins.spells (kind_is kind _ s ∙ k))
 

@@ -1,4 +1,4 @@
--- One element after another.
+-- The elements of a document, one after another.
 use Rattle.std.proofs.Common.{◌≡◌, ◌≢◌, ℕ, zero, suc, ◌+◌, ◌<◌, ◌≤◌, List, [], ◌∷◌, ◌++◌, length, drop, get_or, Some, refl, sym, ap, ap₂, subst, ◌∙◌, append_assoc, arith}
 use Rattle.std.specs.Prelude.{slice_index_or, slice_get}
 use Rattle.std.proofs.lemmas.List.{drop_at, length-append, length-drop, get_or-drop, drop-drop}
@@ -23,7 +23,7 @@ pub prefix_of_remaining : (bytes : List ℕ) (at : ℕ) (l : Remaining (drop at 
 prefix_of_remaining bytes at l =
     omega (arith, ap (λ (y : List ℕ). length y) l.splits, length-append l.body (0 ∷ l.after), length-drop at bytes)
 
--- what the next element is
+-- the parts of the next element, if any
 pub record Next (bytes : List ℕ) (at : ℕ) (remaining : Fields) : Type 0 where
   pub name : List ℕ
   pub tree : Tree
@@ -139,7 +139,7 @@ pub value_fits : (bytes : List ℕ) (start : ℕ) (kind : Kind) (s : Sound kind 
 value_fits bytes start kind s lt =
     omega (arith, ap (λ (x : List ℕ). length x) s.begins.splits, length-append s.begins.value s.begins.after, length-drop start bytes, extent_is s s)
 
--- ---- going through them
+-- ---- scanning the elements
 
 few_fields : (fs : Fields) (b : List ℕ) → AreFields fs b → length (pairs_of fs) ≤ length b
 few_fields no_fields b h = omega arith

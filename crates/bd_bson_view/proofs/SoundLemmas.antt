@@ -1,4 +1,4 @@
--- A document that is all of some bytes, and values at places.
+-- A document that is all of some bytes, and values at offsets.
 use Rattle.std.proofs.Common.{◌≡◌, ◌≤◌, ℕ, ◌+◌, List, [], length, drop, Some, refl, sym, ap, ◌∙◌, subst, arith}
 use Rattle.std.proofs.lemmas.List.{append-nil}
 use Rattle.bd_value.specs.Tree.{Tree, leaf, doc, null, undefined, Doc, fields_of, pairs_in, pairs_of-fields_of, fields_of-pairs_of}
@@ -39,19 +39,19 @@ document_unique bytes c d p q =
     let e = (values (doc (fields_of c)) (doc (fields_of d)) bytes bytes [] [] p.spells q.spells refl refl).0 in
     sym (pairs_of-fields_of c) ∙ ap pairs_in e ∙ pairs_of-fields_of d
 
--- one tree stands at a place
+-- at most one tree is at one offset
 pub same_tree : {kind : Kind} {bytes : List ℕ} (s t : Sound kind bytes) → meaning s ≡ meaning t
 same_tree s t = meaning_is s t ∙ sym (meaning_is t t)
 
--- ---- places
+-- ---- offsets
 
--- where a view stands
+-- the value of a view is at its offset
 pub located : (bytes : List ℕ) (start byte : ℕ) (kind : Kind) (s : Sound kind (drop start bytes)) → start ≤ length bytes → byte ≡ type_byte kind
     → IsAt bytes (record { kind = byte; start = start }) (meaning s)
 unfolding meaning
 located bytes start byte kind s inside is = (inside, subst (λ (n : ℕ). Begins n (drop start bytes) s.tree) (sym is) s.begins)
 
--- a view of what stands there
+-- a view of the value at an offset
 pub sound_there : (bytes : List ℕ) (at : At) (kind : Kind) → IsPlace bytes at → type_at at.kind ≡ Some (Kept kind) → Sound kind (drop at.start bytes)
 sound_there bytes at kind p is =
     let k : kind_of p.0 ≡ kind = cc (sym (type_is (kind_of p.0)) ∙ ap type_at p.1.1.typed ∙ is) in
@@ -61,7 +61,7 @@ pub tree_there : (bytes : List ℕ) (at : At) (kind : Kind) (s : Sound kind (dro
 unfolding sound_there
 tree_there bytes at kind s t h is = meaning_is s (sound_there bytes at kind (t, h) is)
 
--- what takes no byte stands at the start of any bytes
+-- a value of no bytes is at the start of any bytes
 pub null_there : (bytes : List ℕ) → IsAt bytes (record { kind = 10; start = 0 }) (leaf null)
 null_there bytes = (omega arith, record { value = []; after = bytes; spells = (tt, refl); typed = refl; splits = refl; short = omega arith })
 

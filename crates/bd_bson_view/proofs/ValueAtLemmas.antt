@@ -1,4 +1,4 @@
--- A value that is spelled at the front of bytes can be read there without a check, and no text in it is longer than its bytes.
+-- A value that is spelled at the start of bytes can be read there without a check, and no text in it is longer than its bytes.
 use Rattle.std.proofs.Common.{◌≡◌, ℕ, ◌+◌, ◌≤◌, ◌<◌, ◌^◌, true, List, [], ◌∷◌, ◌++◌, length, sym, ap, ◌∙◌, subst, append_assoc, arith, Bool, false, Some, refl}
 use Rattle.std.specs.Prelude.{IsUtf8, ◌==◌}
 use Rattle.std.proofs.lemmas.List.{length-append}
@@ -39,7 +39,7 @@ binary_reads k s r lt =
       inner = λ is. let two : (k == 2) ≡ true = let e = sym (binary_subtype k (data_of k s) r) ∙ is in grind (arith, nat_tests) in omega (arith, count, data_length k s two);
     }
 
--- as many bytes as its size tells
+-- there are as many bytes as its size says
 sized : (a : Scalar) (v r : List ℕ) → IsScalar a v → size_of (scalar_kind a) (v ++ r) ≤ length (v ++ r)
 sized a v r h = omega (arith, scalar_size a v r h, length-append v r)
 
@@ -91,11 +91,11 @@ value_reads (code_scope s fs) v r h = omega (arith, length-append v r, ap (λ (x
 value_reads (doc fs) v r h = omega (arith, length-append v r, ap (λ (x : List ℕ). length x) h.2, framed_length h.0)
 value_reads (array ts) v r h = omega (arith, length-append v r, ap (λ (x : List ℕ). length x) h.2, framed_length h.0)
 
--- the value that stands at bytes is of the kind that is said
+-- the value at the start of bytes is of the stated kind
 pub kind_is : (kind : Kind) (bytes : List ℕ) (s : Sound kind bytes) → kind_of s.tree ≡ kind
 kind_is kind bytes s = same_kind (kind_of s.tree) kind s.begins.typed
 
--- where a value stands, the bytes that reading it needs are there
+-- if a value is there, all bytes that a read of it needs are there
 pub reads_at : (kind : Kind) (bytes : List ℕ) (s : Sound kind bytes) → HasBytesOf kind bytes
 reads_at kind bytes s = subst (HasBytesOf kind) (sym s.begins.splits)
     (subst (λ (k : Kind). HasBytesOf k (s.begins.value ++ s.begins.after)) (kind_is kind bytes s) (value_reads s.tree s.begins.value s.begins.after s.begins.spells))

@@ -1,4 +1,4 @@
--- The first byte that passes a test, found in a vector by the mask of those that do.
+-- The first byte that passes a test, found in a vector by the bit mask of those that pass.
 use Rattle.std.proofs.Common.{◌≡◌, ℕ, ◌+◌, ◌*◌, ◌<◌, ◌≤◌, Bool, true, false, not, cond, List, [], ◌∷◌, map, length, get_or, Some, refl, ap, ◌∙◌, arith}
 use Rattle.std.specs.List.{position, prefix_len}
 use Rattle.std.proofs.lemmas.Bool.Decides.{nat_tests}
@@ -19,7 +19,7 @@ module _ (p : ℕ → Bool) where
   empty [] e = refl
   empty (x ∷ xs) e = none_fails (p x) _ (length xs) _ (prefix_len-le-length (λ y. not (p y)) xs) (omega arith) (empty xs)
 
-  -- the lowest bit that is set in the mask of sixteen bytes is the index of the first byte that passes
+  -- the lowest set bit in the mask of sixteen bytes is the index of the first byte that passes
   pub first_in_vector : (xs : List ℕ) (r : ℕ) → 16 ≤ length xs → 0 < mask_l (map p (chunk 0 16 xs)) → r ≡ count_trailing_zeros 64 (mask_l (map p (chunk 0 16 xs))) → position p xs ≡ Some r
   first_in_vector xs r long_enough some counted =
       let c = chunk 0 16 xs in

@@ -1,4 +1,4 @@
--- What a view of a value holds: a scalar, elements, or code and scope.
+-- The contents of a view of a value: a scalar, elements, or code and scope.
 use Rattle.std.specs.Prelude.{◌≡◌, ℕ, List}
 use Rattle.bd_value.specs.Tree as trees
 use Rattle.bd_value.specs.Tree.{Tree, leaf, doc, array, code_scope, fields_of, items_of, pairs_in, scalar_leaf, values_of}
@@ -6,8 +6,8 @@ use Rattle.bd_value.specs.View.{view_of}
 use Rattle.bd_bson_view.specs.{Sound.meaning, Sound.elements_remaining, declared.views.Contents.Contents}
 use Rattle.bd_bson_view.specs.declared.views.Contents.TheVariants.{Scalar, Document, Array, CodeScope}
 
--- What is read of a view is what the value holds: its scalar, its elements, or its code and scope;
--- the views in it are into the same bytes.
+-- The contents of a view are those of the value: its scalar, its elements, or its code and scope;
+-- the views in them are into the same bytes.
 abbrev pub HasContents : List ℕ → Tree → Contents → Type 0
 HasContents bytes t (Scalar s) = (a : trees.Scalar) × (t ≡ leaf a) × (view_of s ≡ scalar_leaf a)
 HasContents bytes t (Document elements) =

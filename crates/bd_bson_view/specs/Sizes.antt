@@ -1,5 +1,5 @@
 -- What the bytes of a value say from their start on, by its kind:
--- how many they are, and which scalar they are; and what must be there to read a value without a check.
+-- how many they are, and which scalar they are; and which bytes a read without a check needs.
 use Rattle.std.specs.Prelude.{◌≡◌, ◌<◌, ◌≤◌, ℕ, ◌+◌, ◌-◌, ◌==◌, List, length, take, drop, slice_index_or, if◌then◌else◌}
 use Rattle.std.specs.Prelude.{IsUtf8}
 use Rattle.std.specs.List.{position_or_len}
@@ -57,7 +57,7 @@ size_of kinds.Array bytes = number_of bytes
 size_of kinds.CodeScope bytes = number_of bytes
 size_of _ bytes = 0
 
--- the scalar of that kind at the start of bytes, by BSON 1.1; null for a kind that is no scalar
+-- the scalar of that kind at the start of bytes, by BSON 1.1; null for a kind that is not a scalar's
 abbrev pub scalar_at : Kind → List ℕ → trees.Scalar
 scalar_at kinds.MinKey bytes = trees.min_key
 scalar_at kinds.Undefined bytes = trees.undefined
@@ -77,7 +77,7 @@ scalar_at kinds.Regex bytes = trees.regex (name_of bytes) (name_of (after_name b
 scalar_at _ bytes = trees.null
 
 -- The bytes begin with a `string` that can be read:
--- its length is at least 1 and not past the end, its text is UTF-8.
+-- its length is at least 1 and within the bytes, its text is UTF-8.
 pub record TextAt (bytes : List ℕ) : Type 0 where
   pub some : 1 ≤ number_of bytes
   pub inside : 4 + number_of bytes ≤ length bytes
@@ -94,7 +94,7 @@ pub record BinaryAt (bytes : List ℕ) : Type 0 where
   pub inside : 5 + number_of bytes ≤ length bytes
   pub inner : slice_index_or bytes 4 0 ≡ 2 → 4 ≤ number_of bytes
 
--- The bytes begin with what must be there to read a value of this kind without a check: all of a scalar,
+-- The bytes begin with all that a read of a value of this kind without a check needs: all of a scalar,
 -- with texts in UTF-8; of a document, an array or code with scope only the four bytes of its length.
 abbrev pub HasBytesOf : Kind → List ℕ → Type 0
 HasBytesOf kinds.Text bytes = TextAt bytes

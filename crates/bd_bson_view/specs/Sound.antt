@@ -37,7 +37,7 @@ Begins-prop type bytes t p q = let e = one p q in
       short = over_path (λ (v : List ℕ). length v ≤ longest_document) (λ v. le_prop) e.1 p.short q.short i;
     }
 
--- The bytes begin with a well-formed value of this kind, whatever follows it: what a checked view carries.
+-- The bytes begin with a well-formed value of this kind, whatever follows it: what a checked view guarantees.
 pub record Sound (kind : Kind) (bytes : List ℕ) : Type 0 where
   pub tree : Tree
   pub begins : Begins (type_byte kind) bytes tree

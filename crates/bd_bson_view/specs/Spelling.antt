@@ -34,7 +34,7 @@ type_byte kinds.Int64 = 18
 type_byte kinds.MaxKey = 127
 type_byte kinds.MinKey = 255
 
--- BSON 1.1, `element`: each type byte with what it says; double (0x01) and decimal128 (0x13) too
+-- BSON 1.1, `element`: each type byte with its type; double (0x01) and decimal128 (0x13) too
 abbrev pub types : List (ℕ × ElementType)
 types =
     (1, Double) ∷ (2, Kept kinds.Text) ∷ (3, Kept kinds.Doc) ∷ (4, Kept kinds.Array) ∷ (5, Kept kinds.Binary)
@@ -46,11 +46,11 @@ types =
     ∷ (17, Kept kinds.Timestamp) ∷ (18, Kept kinds.Int64) ∷ (19, Decimal128) ∷ (127, Kept kinds.MaxKey)
     ∷ (255, Kept kinds.MinKey) ∷ []
 
--- what a type byte says; None if BSON 1.1 has no such type
+-- the type of a type byte; None if BSON 1.1 has no such type
 abbrev pub type_at : ℕ → Option ElementType
 type_at b = lookup (nat_eq b) types
 
--- whether a value of this kind holds other values: documents, arrays and code with scope do
+-- whether a value of this kind contains other values: documents, arrays and code with scope do
 abbrev pub is_holder : Kind → Bool
 is_holder kinds.Doc = true
 is_holder kinds.Array = true
@@ -65,7 +65,7 @@ number n = to_le_bytes w32 n
 unfoldable pub long : ℕ → List ℕ
 long n = to_le_bytes w64 n
 
--- `cstring` without its last byte: The text is UTF-8 with no zero in it.
+-- `cstring` without its last byte: the text is UTF-8 with no zero in it.
 abbrev pub IsName : List ℕ → Type 0
 IsName n = IsUtf8 n × AllByRecursion (λ b. b ≢ 0) n
 
@@ -89,7 +89,7 @@ scoped code scope = number (length (string code ++ scope) + 4) ++ (string code +
 abbrev pub element : Tree → List ℕ → List ℕ → List ℕ
 element t name value = type_byte (kind_of t) ∷ (name ++ 0 ∷ value)
 
--- The text is one that a `string` can hold: UTF-8, and with its zero of a length that fits 32 bits.
+-- The text is one that a `string` can contain: UTF-8, and with its zero of a length that fits 32 bits.
 abbrev pub IsText : List ℕ → Type 0
 IsText s = IsUtf8 s × (length s + 1 < 2 ^ 32)
 
@@ -140,14 +140,14 @@ abbrev mutual
   IsValue (array ts) bytes = (body : List ℕ) × AreItems ts body × (bytes ≡ framed body)
   IsValue (code_scope s fs) bytes = (body : List ℕ) × AreFields fs body × (bytes ≡ scoped s (framed body)) × IsText s
 
-  -- `e_list`: The bytes are the elements of a document, one after the other.
+  -- `e_list`: the bytes are the elements of a document, one after the other.
   pub AreFields : Fields → List ℕ → Type 0
   AreFields no_fields bytes = bytes ≡ []
   AreFields (field name t fs) bytes =
       (value : List ℕ) × (rest : List ℕ) × IsName name × IsValue t value × AreFields fs rest
       × (bytes ≡ element t name value ++ rest)
 
-  -- `e_list`: The bytes are the elements of an array, one after the other, whatever their names.
+  -- `e_list`: the bytes are the elements of an array, one after the other, whatever their names.
   pub AreItems : Items → List ℕ → Type 0
   AreItems no_items bytes = bytes ≡ []
   AreItems (item t ts) bytes = (name : List ℕ) × (value : List ℕ) × (rest : List ℕ) × IsName name × IsValue t value

@@ -18,7 +18,7 @@ use Rattle.bd_bson_view.specs.Spelling.{type_byte, type_at, is_holder, number, l
 use Rattle.bd_bson_view.specs.Spelling.{IsName, IsText, IsScalar, IsValue, AreFields, AreItems}
 use Rattle.bd_bson_view.specs.Sizes.{number_of, long_of, zero_at, name_of, after_name, text_of}
 
--- ---- the kind that a type byte says
+-- ---- the kind of a type byte
 
 -- the type byte of a kind reads back as that kind
 pub type_is : (k : Kind) → type_at (type_byte k) ≡ Some (Kept k)
@@ -151,7 +151,7 @@ inner : (b : Bool) (s : List ℕ) → let d : List ℕ = if b then number (lengt
 inner true s = number_after (length s) s
 inner false s = refl
 
--- ---- scalars: what their bytes tell is the scalar, and how many bytes it takes
+-- ---- scalars: their bytes determine the scalar, and how many bytes it takes
 
 -- the bytes of a scalar read back as that scalar, whatever follows them
 pub scalar_back : (a : Scalar) (v r : List ℕ) → IsScalar a v → scalar_at (scalar_kind a) (v ++ r) ≡ a
@@ -209,12 +209,12 @@ scalars a b v w r s p q k h = let same : a ≡ b = sym (scalar_back a v r p) ∙
     let len : length v ≡ length w = sym (scalar_size a v r p) ∙ ap₂ size_of k h ∙ scalar_size b w s q in
     (same, sym (take_at v r (length v) refl) ∙ ap (take (length v)) h ∙ take_at w s (length v) (sym len))
 
--- the kind of a scalar holds no other values
+-- a value of a scalar's kind contains no other values
 scalar_is_no_holder : (a : Scalar) → is_holder (scalar_kind a) ≡ false
 scalar_is_no_holder trees.min_key = refl
 scalar_is_no_holder _ = refl
 
--- a scalar is no document, array or code with scope
+-- a scalar is not a document, an array or code with scope
 pub no_holder : (a : Scalar) (k : Kind) → scalar_kind a ≡ k → is_holder k ≡ true → ⊥
 no_holder a k e h = let f : false ≡ true = sym (scalar_is_no_holder a) ∙ ap is_holder e ∙ h in cc
 
@@ -229,7 +229,7 @@ cancel v w r s e h = sym (drop_at v r (length v) refl) ∙ ap (drop (length v)) 
 after_numbers : (a b : ℕ) (r s : List ℕ) → number a ++ r ≡ number b ++ s → r ≡ s
 after_numbers a b r s h = sym (number_after a r) ∙ ap (drop 4) h ∙ number_after b s
 
--- two names before a zero
+-- two names before a zero in the same bytes are equal, and so is what follows
 names : (n m r s : List ℕ) → AllByRecursion (λ b. b ≢ 0) n → AllByRecursion (λ b. b ≢ 0) m
     → n ++ 0 ∷ r ≡ m ++ 0 ∷ s → (n ≡ m) × (r ≡ s)
 names [] [] r s p q h = (refl, cc)
@@ -251,7 +251,7 @@ bodies b c v w r s e f h = after_numbers (length b + 5) (length c + 5) (b ++ 0 �
 codes_after : (s d r : List ℕ) → scoped s d ++ r ≡ number (length (string s ++ d) + 4) ++ (string s ++ (d ++ r))
 codes_after s d r = simp append_assoc
 
--- code and what is after it
+-- two codes with scope in the same bytes have the same code, and the same bytes after it
 same_code : (s z d e x y v w : List ℕ) → IsText s → IsText z → v ≡ scoped s d → w ≡ scoped z e
     → v ++ x ≡ w ++ y → (s ≡ z) × (d ++ x ≡ e ++ y)
 same_code s z d e x y v w p q a b h = let inside : string s ++ (d ++ x) ≡ string z ++ (e ++ y) =
@@ -269,13 +269,13 @@ pub element_after : (t : Tree) (n v r x b : List ℕ) → b ≡ element t n v ++
     → b ++ x ≡ type_byte (kind_of t) ∷ (n ++ 0 ∷ (v ++ (r ++ x)))
 element_after t n v r x b e = rw e (simp append_assoc)
 
--- where one list of elements ends, the other does
+-- if one list of elements ends, the other ends there too
 no_element : (t : Tree) (n v x r s b c : List ℕ) → b ≡ [] → c ≡ element t n v ++ x → b ++ 0 ∷ r ≡ c ++ 0 ∷ s → ⊥
 no_element t n v x r s b c none e h = let k : 0 ∷ r ≡ type_byte (kind_of t) ∷ _ =
     ap (λ (y : List ℕ). y ++ 0 ∷ r) (sym none) ∙ h ∙ element_after t n v x (0 ∷ s) c e in
     absurd (byte_is_not_zero (kind_of t) cc)
 
--- two first elements, where their values are determined, and what is after them
+-- two first elements in the same bytes, if their bytes determine their values, and what is after them
 same_element : (t u : Tree) (n m v w x y r s b c : List ℕ) → IsName n → IsName m
     → ((i j : List ℕ) → kind_of t ≡ kind_of u → v ++ i ≡ w ++ j → (t ≡ u) × (v ≡ w))
     → b ≡ element t n v ++ x → c ≡ element u m w ++ y → b ++ 0 ∷ r ≡ c ++ 0 ∷ s
@@ -335,13 +335,13 @@ mutual
       let more = items ts us p.2 q.2 r s p.5 q.5 one.3 in
       (cc (one.0, more.0), cc (p.6, q.6, one.0, one.1, one.2, more.1))
 
--- ---- and in one way at most
+-- ---- and with one proof at most
 
 -- that two lists of bytes are equal has one proof at most
 pub same_bytes : (v w : List ℕ) → IsProp (v ≡ w)
 same_bytes v w = Coded-set (coded_list coded_ℕ) v w
 
--- a fact of which there is one at most, along a path
+-- a fact that has at most one proof, along a path
 pub over_path : {A : Type 0} (B : A → Type 0) → ((x : A) → IsProp (B x)) → {x y : A} (e : x ≡ y) (p : B x) (q : B y)
     → PathP (λ i. B (e i)) p q
 over_path B one e p q = is_prop→PathP (λ i. B (e i)) (λ i. one (e i)) p q

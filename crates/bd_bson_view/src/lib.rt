@@ -1,4 +1,4 @@
-//! Values and documents that stay in their BSON bytes, seen by views which know that the bytes spell them.
+//! Values and documents in their BSON bytes, by views which guarantee that the bytes spell them.
 //!
 //! What the bytes of a document are: `specs/Spelling.antt`, after BSON 1.1. That bytes spell at most one: `specs/Unique.antt`.
 //!
@@ -11,10 +11,10 @@
 //! assert!(rt; matches!(field.scalar(), Some(Scalar::Int32(1))));
 //! ```
 //!
-//! - `raw`: the views, and where the next element stands.
-//! - `views`: what is asked of a document and of a value, what a value holds, its elements, and `At`, where it stands.
-//! - `laws`: bytes spell one document at most.
-//! - `raw_parts`: types of elements, and numbers, names, texts and scalars at the front of bytes, read without a check.
+//! - `raw`: the views, and the offset of the next element.
+//! - `views`: the methods of a document and of a value, the contents of a value, its elements, and `At`, its offset.
+//! - `laws`: bytes spell at most one document.
+//! - `raw_parts`: types of elements, and numbers, names, texts and scalars at the start of bytes, read without a check.
 #![tactic(auto)]
 
 mod laws;

@@ -1,4 +1,4 @@
-//! Values that stay in their bytes.
+//! Values viewed in their bytes.
 
 ghost use Rattle.std.specs.Prelude.{◌≡◌, ◌≤◌, ◌+◌, length, drop, IfSome, IfNone, [], ◌∷◌};
 ghost use Rattle.bd_value.specs.Limits.{longest_input};
@@ -33,7 +33,7 @@ pub struct RawDoc<'a> {
         (drop start bytes.now) } by { Sound-prop kinds.Doc (drop start bytes.now) },
 }
 
-/// The elements of a document or an array, from one on.
+/// The elements of a document or an array, from an offset on.
 #[derive(Clone, Copy)]
 pub struct Elements<'a> {
     pub(crate) bytes: &'a [u8],
@@ -52,7 +52,7 @@ impl<'a> RawDoc<'a> {
         RawDoc { bytes, start: 0 }
     }
 
-    /// The document that stands at that place of the bytes, which are known to spell one there.
+    /// The document at that offset of the bytes, which are known to spell one there.
     pub fn at(bytes: &'a [u8], start: usize) -> RawDoc<'a>
         requires short { length bytes.now ≤ longest_input }
         requires inside { start ≤ length bytes.now }
@@ -92,7 +92,7 @@ impl<'a> RawDoc<'a> {
 }
 
 impl<'a> RawValue<'a> {
-    /// The place after it.
+    /// The offset after it.
     #[inline(always)]
     fn end(self) -> usize
         ensures { result ≡ self.entry.start + extent self.entry.sound }
@@ -103,7 +103,7 @@ impl<'a> RawValue<'a> {
 }
 
 impl<'a> Elements<'a> {
-    /// The name and the value of the next element, and the elements after it.
+    /// The name and the value of the next element, and the elements after it; None at the end.
     #[inline(always)]
     pub fn next(self) -> Option<(&'a str, RawValue<'a>, Elements<'a>)>
         ensures some { IfSome result (λ x. elements_remaining self.entry.remaining

@@ -12,18 +12,18 @@ ghost use Rattle.bd_bson_view.specs.declared.raw_parts.ElementType.TheVariants.{
 use bd_value::{Kind, Scalar};
 use std::simd::prelude::*;
 
-/// What the type byte of an element tells.
+/// What the type byte of an element says.
 #[derive(Clone, Copy, Debug, PartialEq, Eq)]
 pub enum ElementType {
     /// A value of this kind.
     Kept(Kind),
-    /// A number that is not whole, which is not read.
+    /// A floating-point number, which is not supported.
     Double,
-    /// A decimal number, which is not read.
+    /// A decimal number, which is not supported.
     Decimal128,
 }
 
-/// What holds values, by how its bytes are laid out.
+/// A kind of value that contains other values, by the layout of its bytes.
 #[derive(Clone, Copy, Debug, PartialEq, Eq)]
 pub enum Holder {
     Document,
@@ -58,7 +58,7 @@ pub fn type_byte(kind: Kind) -> u8
     }
 }
 
-/// What a type byte tells; none where BSON 1.1 has no such type.
+/// What a type byte says; None if BSON 1.1 has no such type.
 #[inline(always)]
 pub fn element_type(byte: u8) -> Option<ElementType>
     ensures { result ≡ type_at byte }
@@ -90,7 +90,7 @@ pub fn element_type(byte: u8) -> Option<ElementType>
     Some(ElementType::Kept(kind))
 }
 
-/// The kind that the type byte of an element tells.
+/// The kind of the type byte of an element.
 #[inline(always)]
 pub fn same_source(byte: u8) -> Kind
     requires { (kind : kinds.Kind) × (type_at byte ≡ Some (Kept kind)) }
@@ -102,7 +102,7 @@ pub fn same_source(byte: u8) -> Kind
     }
 }
 
-/// How many bytes are looked at together. Most names are shorter.
+/// How many bytes are examined together. Most names are shorter.
 const LANES: usize = 16;
 
 /// Which of the bytes are zero, a bit each.
@@ -113,7 +113,7 @@ fn zeros(bytes: u8x16) -> u64
     bytes.simd_eq(u8x16::splat(0)).to_bitmask()
 }
 
-/// The place of the first zero.
+/// The offset of the first zero.
 #[inline(always)]
 pub fn first_zero(bytes: &[u8]) -> Option<usize>
     ensures offset { result ≡ position (λ b. b == 0) bytes.now }
@@ -128,7 +128,7 @@ pub fn first_zero(bytes: &[u8]) -> Option<usize>
     bytes.iter().position(|b| *b == 0)
 }
 
-/// The number that the first four bytes are.
+/// The first four bytes as a number.
 #[inline(always)]
 pub fn number(bytes: &[u8]) -> u32
     requires { 4 ≤ length bytes.now }
@@ -138,7 +138,7 @@ pub fn number(bytes: &[u8]) -> u32
     u32::from_le_bytes([prefix[0], prefix[1], prefix[2], prefix[3]])
 }
 
-/// The number that the first eight bytes are.
+/// The first eight bytes as a number.
 #[inline(always)]
 fn long(bytes: &[u8]) -> u64
     requires { 8 ≤ length bytes.now }
@@ -198,7 +198,7 @@ fn payload(bytes: &[u8]) -> &[u8]
     if bytes[4] == 2 { &data[4..] } else { data }
 }
 
-/// The scalar that stands at the front.
+/// The scalar at the start.
 #[inline(always)]
 pub fn scalar(kind: Kind, bytes: &[u8]) -> Scalar<'_>
     requires scalar { is_holder kind ≡ false }
@@ -239,7 +239,7 @@ pub fn scalar(kind: Kind, bytes: &[u8]) -> Scalar<'_>
     }
 }
 
-/// How many bytes the value at the front takes.
+/// How many bytes the value at the start takes.
 #[inline(always)]
 pub fn size(kind: Kind, bytes: &[u8]) -> usize
     requires { HasBytesOf kind bytes.now }

@@ -1,4 +1,4 @@
-//! What is asked of a document, a value and elements that stay in their bytes. Only the copies take memory.
+//! The methods of documents, values and elements in their bytes. Only the copies take memory.
 
 ghost use Rattle.std.specs.Prelude.{◌≡◌, ◌<◌, ◌≤◌, ◌↔◌, ℕ, List, [], length, slice_get, Some, option_map, IfOk, IfSome, IfNone, IsTrue};
 ghost use Rattle.bd_value.specs.Limits.{longest_input};
@@ -14,7 +14,7 @@ use bd_value::{Document, Kind, NoMemory, Node, Reading, Scalar, Value, to_docume
 use std::alloc::Global;
 
 impl<'a> RawDoc<'a> {
-    /// The number of pairs. It goes through all of them.
+    /// The number of pairs. It scans all of them.
     pub fn len(self) -> usize
         ensures { result ≡ length (pairs_in (meaning self.entry.sound)) }
     {
@@ -28,7 +28,7 @@ impl<'a> RawDoc<'a> {
         self.elements().next().is_none()
     }
 
-    /// The name and the value of the pair at an index, counted from 0. It goes through those before it.
+    /// The name and the value of the pair at an index, counted from 0. It scans those before it.
     pub fn pair(self, i: usize) -> (&'a str, RawValue<'a>)
         requires { i < length (pairs_in (meaning self.sound)) }
         ensures pair { slice_get (pairs_in (meaning self.entry.sound)) i
@@ -39,7 +39,7 @@ impl<'a> RawDoc<'a> {
         self.elements().nth(i)
     }
 
-    /// The value of the first pair of that name; none where no pair has it.
+    /// The value of the first pair of that name; None if no pair has it.
     pub fn first(self, name: &str) -> Option<RawValue<'a>>
         ensures first { option_map (λ v. meaning v.sound) result
             ≡ first_of name.now (pairs_in (meaning self.entry.sound)) }
@@ -57,7 +57,7 @@ impl<'a> RawDoc<'a> {
 }
 
 impl<'a> RawValue<'a> {
-    /// The elements of a document or an array; every other value has none.
+    /// The elements of a document or an array; None for any other value.
     pub fn elements(self) -> Option<Elements<'a>>
         ensures some { IfSome result (λ x.
             AreParts (meaning self.entry.sound) (elements_remaining x.remaining)) }
@@ -78,7 +78,7 @@ impl<'a> RawValue<'a> {
         to_value(alloc, self)
     }
 
-    /// Where it stands in its bytes.
+    /// Its type and offset in its bytes.
     pub fn at(self) -> At
         ensures meaning { IsAt self.entry.bytes.now result (meaning self.entry.sound) }
         ensures start { result.start ≡ self.entry.start }
@@ -89,7 +89,7 @@ impl<'a> RawValue<'a> {
         }
     }
 
-    /// What it holds.
+    /// Its contents.
     #[inline(always)]
     pub(crate) fn contents(self) -> Contents<'a>
         ensures { HasContents self.entry.bytes.now (meaning self.entry.sound) result }
@@ -180,7 +180,8 @@ impl<'a> Reading for RawValue<'a> {
 }
 
 impl<'a> Node<'a> for RawValue<'a> {
-    /// What it holds besides other values. A text of it is no longer than a document may be.
+    /// The scalar, or the code of code with scope; None for a document and an array. A text of it is no longer than a
+    /// document may be.
     #[inline(always)]
     fn scalar(self) -> Option<Scalar<'a>>
         ensures scalar { option_map view_of result ≡ leaf_of (meaning self.entry.sound) }
@@ -201,10 +202,10 @@ impl<'a> Node<'a> for RawValue<'a> {
     }
 }
 
-/// What a value holds.
+/// The contents of a value.
 #[derive(Clone, Copy)]
 pub enum Contents<'a> {
-    /// It holds no value. The scalar is never `Scalar::CodeScope`.
+    /// It contains no value. The scalar is never `Scalar::CodeScope`.
     Scalar(Scalar<'a>),
     Document(Elements<'a>),
     Array(Elements<'a>),
@@ -212,7 +213,7 @@ pub enum Contents<'a> {
 }
 
 impl<'a> Elements<'a> {
-    /// How many elements there are from here on. It goes through all of them.
+    /// How many elements there are from here on. It scans all of them.
     pub fn count(self) -> usize
         ensures { result ≡ length (elements_remaining self.entry.remaining) }
     {
@@ -225,7 +226,7 @@ impl<'a> Elements<'a> {
         n
     }
 
-    /// The name and the value of the element at an index, counted from 0. It goes through those before it.
+    /// The name and the value of the element at an index, counted from 0. It scans those before it.
     pub fn nth(self, i: usize) -> (&'a str, RawValue<'a>)
         requires { i < length (elements_remaining self.remaining) }
         ensures pair { slice_get (elements_remaining self.entry.remaining) i
@@ -248,7 +249,7 @@ impl<'a> Elements<'a> {
         }
     }
 
-    /// The value of the first element of that name; none where no element has it.
+    /// The value of the first element of that name; None if no element has it.
     pub fn find(self, name: &str) -> Option<RawValue<'a>>
         ensures first { option_map (λ v. meaning v.sound) result
             ≡ first_of name.now (elements_remaining self.entry.remaining) }
@@ -265,8 +266,8 @@ impl<'a> Elements<'a> {
     }
 }
 
-/// Where a value stands: the byte of its type, as in BSON 1.1, `element`, and the offset of its first byte. The type byte stands
-/// elsewhere, before the name of the element, and that of a whole document nowhere.
+/// Where a value is: its type byte, as in BSON 1.1, `element`, and the offset of its first byte. The type byte itself is
+/// elsewhere, before the name of the element, and a whole document has none.
 #[derive(Clone, Copy, Debug, PartialEq, Eq)]
 pub struct At {
     pub kind: u8,
@@ -274,7 +275,7 @@ pub struct At {
 }
 
 impl At {
-    /// Where a null stands. It takes no byte, so that one stands at the start of any bytes.
+    /// The `At` of a null. It takes no byte, so there is one at the start of any bytes.
     pub fn null() -> At
         ensures { (bytes : List ℕ) → IsAt bytes result (leaf null) }
     {
@@ -284,7 +285,7 @@ impl At {
         }
     }
 
-    /// Where an undefined stands. It takes no byte, so that one stands at the start of any bytes.
+    /// The `At` of an undefined. It takes no byte, so there is one at the start of any bytes.
     pub fn undefined() -> At
         ensures { (bytes : List ℕ) → IsAt bytes result (leaf undefined) }
     {
@@ -294,7 +295,7 @@ impl At {
         }
     }
 
-    /// The value of that type which stands there in the bytes.
+    /// The value of that type at that offset of the bytes.
     pub fn value_in(self, bytes: &[u8]) -> RawValue<'_>
         requires short { length bytes.now ≤ longest_input }
         requires offset { IsPlace bytes.now self }

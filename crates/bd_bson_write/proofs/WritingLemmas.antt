@@ -59,7 +59,7 @@ sealed_size old rest out is = omega (arith, ap (λ xs. length xs) is, length-app
 pub framed_is : (body : List ℕ) → number (length (body ++ 0 ∷ []) + 4) ++ (body ++ 0 ∷ []) ≡ framed body
 framed_is body = ap (λ n. number n ++ (body ++ 0 ∷ [])) (omega (arith, length-append body (0 ∷ [])))
 
--- what a loop wrote, with nothing left to come, and the zero after it
+-- what a loop wrote, with nothing remaining, and the zero after it
 pub ended : (old body last none out : List ℕ) → last ++ none ≡ (old ++ number 0) ++ body → none ≡ [] → out ≡ last ++ 0 ∷ [] → out ≡ (old ++ number 0) ++ (body ++ 0 ∷ [])
 ended old body last none out whole is more =
     let all : last ≡ (old ++ number 0) ++ body = sym (append-nil last) ∙ ap (λ x. last ++ x) (sym is) ∙ whole in
@@ -71,7 +71,7 @@ frame_ok old body out at is here = sealed old (body ++ 0 ∷ []) out at is here 
 pub frame_total : (old body out : List ℕ) → out ≡ (old ++ number 0) ++ (body ++ 0 ∷ []) → length out ≡ length old + length (framed body)
 frame_total old body out is = omega (arith, sealed_size old (body ++ 0 ∷ []) out is, length-append body (0 ∷ []), framed_length body)
 
--- an element that is to come is within the frame
+-- an element that is still to be written is within the frame
 pub element_within : (old body out piece rest : List ℕ) → out ++ (piece ++ rest) ≡ (old ++ number 0) ++ body → length out + length piece ≤ length old + length (framed body)
 element_within old body out piece rest whole =
     omega (
@@ -101,11 +101,11 @@ scoped_size code scope = omega (arith, scoped_length code scope, length-append (
 pub code_out : (old one two out code scope : List ℕ) → one ≡ old ++ number 0 → two ≡ one ++ string code → out ≡ two ++ scope → out ≡ (old ++ number 0) ++ (string code ++ scope)
 code_out old one two out code scope p q r = rw (r, q, p) (simp append_assoc)
 
--- how many bytes stand before the scope
+-- how many bytes are before the scope
 pub opened : (old one two code : List ℕ) → one ≡ old ++ number 0 → two ≡ one ++ code → length two ≡ length old + 4 + length code
 opened old one two code p q = omega (arith, ap (λ xs. length xs) q, ap (λ xs. length xs) p, length-append one code, length-append old (number 0), number_length 0)
 
--- ---- the digits of a place
+-- ---- the digits of an index
 
 digit : (c : ℕ) → digit_value c < 10 → (c == 0) ≡ false
 digit zero lt = absurd (omega arith)

@@ -12,7 +12,7 @@
 //! ```
 //!
 //! - `write`: `write_document`, and a document written in pieces.
-//! - `laws`: what is written of a document spells it.
+//! - `laws`: the bytes written for a document spell it.
 //! - `writing`: values, scalars and their parts, and why a document is not written.
 #![tactic(auto)]
 

@@ -1,5 +1,5 @@
-//! A document written as bytes: from a tree, or in pieces by a caller that holds none. Each piece is appended whole, or what was
-//! there stays as it was.
+//! A document written as bytes: from a tree, or in pieces by a caller without one. Each piece is appended whole, or the
+//! output is unchanged.
 
 ghost use Rattle.std.specs.Prelude.{◌≡◌, ◌≤◌, ◌<◌, ◌↔◌, ◌+◌, ◌++◌, ◌∷◌, [], length, take, drop, vec_len, true, false, IfOk, IfErr, IsErrOf, OnErr, OnOk, Err};
 ghost use Rattle.bd_value.specs.Limits.{longest_document, most_levels};
@@ -15,14 +15,14 @@ use bd_value::{
 };
 use std::alloc::Global;
 
-/// The bytes of a document: BSON 1.1, `document`. The names of an array's elements are their places from 0.
+/// The bytes of a document: BSON 1.1, `document`. The names of an array's elements are their indexes from 0.
 ///
 /// # Errors
 /// Tried in this order:
 /// - `WriteFault::TooDeep`: it nests deeper than 200 levels;
-/// - `WriteFault::NulInName`: a name, or a text of a regular expression, has a zero, which would end it;
+/// - `WriteFault::NulInName`: a name, or a text of a regular expression, contains a zero, which would end it;
 /// - `WriteFault::TooLong`: it has more than 16,793,600 bytes;
-/// - `WriteFault::NoMemory`: the allocator gave no memory.
+/// - `WriteFault::NoMemory`: memory ran out.
 pub fn write_document(alloc: Global, document: &Document) -> Result<Vec<u8>, WriteFault>
     ensures written { IfOk result (λ v. SpellsPlainly (pairs document.now) v.items) }
     ensures spelled { IfOk result (λ v. IsDocument (pairs document.now) v.items) }
@@ -50,10 +50,10 @@ pub fn write_document(alloc: Global, document: &Document) -> Result<Vec<u8>, Wri
     Ok(bytes)
 }
 
-/// Begins a document or an array: its elements come after, and then `end_body` with the place that is answered.
+/// Begins a document or an array and returns its offset: append its elements, then call `end_body` with that offset.
 ///
 /// # Errors
-/// `NoMemory` leaves `out` as it was.
+/// `NoMemory`: memory ran out, and `out` is unchanged.
 pub fn begin_body(out: &mut Vec<u8>) -> Result<usize, NoMemory>
     ensures place { IfOk result (λ at. at ≡ length out.old.items) }
     ensures begun { OnOk result (out.new.items ≡ out.old.items ++ number 0) }
@@ -64,11 +64,11 @@ pub fn begin_body(out: &mut Vec<u8>) -> Result<usize, NoMemory>
     Ok(at)
 }
 
-/// Appends what stands before an element's value, its type and its name: BSON 1.1, `element`.
+/// Appends what precedes an element's value, its type and its name: BSON 1.1, `element`.
 ///
 /// # Errors
-/// `WriteFault::TooLong` where there are more than 16,793,600 bytes before it; `WriteFault::NoMemory`. Both leave `out` as it
-/// was.
+/// `WriteFault::TooLong` if there are more than 16,793,600 bytes before it; `WriteFault::NoMemory`. In both cases `out` is
+/// unchanged.
 #[inline(always)]
 pub fn append_label(kind: Kind, name: &str, out: &mut Vec<u8>) -> Result<(), WriteFault>
     ensures ok { OnOk result ((out.new.items ≡ out.old.items
@@ -84,11 +84,11 @@ pub fn append_label(kind: Kind, name: &str, out: &mut Vec<u8>) -> Result<(), Wri
     label
 }
 
-/// Appends the bytes of a value. The names of an array's elements are their places from 0.
+/// Appends the bytes of a value. The names of an array's elements are their indexes from 0.
 ///
 /// # Errors
-/// `WriteFault::TooLong` only where there are more than 16,793,600 bytes, with what stands before it: a scalar without a text or
-/// data is appended past that, and `end_body` refuses then. `WriteFault::NoMemory`. Both leave `out` as it was.
+/// `WriteFault::TooLong` only if there are more than 16,793,600 bytes, with those before it: a scalar without a text or data
+/// is appended beyond that, and `end_body` refuses then. `WriteFault::NoMemory`. In both cases `out` is unchanged.
 pub fn append_value<N: Reading>(node: N, out: &mut Vec<u8>) -> Result<(), WriteFault>
     requires { zero_in (N.tree node) ≡ false }
     ensures ok { OnOk result (out.new.items ≡ out.old.items ++ bytes_of (N.tree node)) }
@@ -105,12 +105,12 @@ pub fn append_value<N: Reading>(node: N, out: &mut Vec<u8>) -> Result<(), WriteF
     value
 }
 
-/// Ends the document or the array that began at that place, as `begin_body` answered it, and puts its length there: BSON 1.1,
-/// `document`.
+/// Ends the document or the array that began at that offset, as `begin_body` returned it, and puts its length there: BSON
+/// 1.1, `document`.
 ///
 /// # Errors
-/// `WriteFault::TooLong` where there are more than 16,793,600 bytes, with what stands before it; `WriteFault::NoMemory`. Both
-/// leave `out` as it was, also in the place of the length.
+/// `WriteFault::TooLong` if there are more than 16,793,600 bytes, with those before it; `WriteFault::NoMemory`. In both cases
+/// `out` is unchanged, the four bytes of the length too.
 pub fn end_body(at: usize, out: &mut Vec<u8>) -> Result<(), WriteFault>
     requires { at + 4 ≤ vec_len out.old }
     ensures ok { OnOk result (out.new.items
@@ -128,7 +128,7 @@ pub fn end_body(at: usize, out: &mut Vec<u8>) -> Result<(), WriteFault>
     sealed
 }
 
-/// Whether a name, or a text of a regular expression, has a zero.
+/// Whether a name, or a text of a regular expression, contains a zero.
 #[cycle(zeros)]
 fn contains_zero<N: Reading>(node: N) -> bool
     ensures { result ≡ zero_in (N.tree node) }
@@ -140,7 +140,7 @@ fn contains_zero<N: Reading>(node: N) -> bool
     }
 }
 
-/// The same of what is neither a document nor an array.
+/// The same for a value that is neither a document nor an array.
 #[cycle(zeros)]
 fn zero_in_leaf<N: Reading>(node: N) -> bool
     requires { HasNoParts (N.tree node) }
@@ -158,7 +158,7 @@ fn zero_in_leaf<N: Reading>(node: N) -> bool
     }
 }
 
-/// The same of pairs, or of elements, whose names are passed over.
+/// The same for pairs, or for elements, whose names do not count.
 #[cycle(zeros)]
 fn zero_in_some<N: Reading>(parts: N::Rest, named: bool) -> bool
     ensures { result ≡ zero_in_parts named (N.remaining parts) }

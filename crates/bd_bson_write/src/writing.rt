@@ -1,4 +1,4 @@
-//! Values written as bytes: what nests, scalars, and the parts of these; and why a document is not written.
+//! Values written as bytes: nested values, scalars, and the parts of these; and why a document is not written.
 
 ghost use Rattle.std.specs.Prelude.{◌≡◌, ◌≤◌, ◌+◌, ◌-◌, ◌++◌, ◌∷◌, [], length, take, drop, vec_len, decimal, false, IfErr, OnErr, OnOk};
 ghost use Rattle.std.specs.Io.{StartsWith};
@@ -20,13 +20,13 @@ pub enum WriteFault {
     /// It nests deeper than 200 levels.
     #[error("too deep")]
     TooDeep = 1,
-    /// A name, or a text of a regular expression, has a zero in it.
+    /// A name, or a text of a regular expression, contains a zero.
     #[error("zero in a name")]
     NulInName = 2,
     /// It has more than 16,793,600 bytes.
     #[error("document too long")]
     TooLong = 3,
-    /// The allocator gave no memory.
+    /// Memory ran out.
     #[error("no memory")]
     NoMemory = 4,
 }
@@ -41,7 +41,7 @@ impl From<AllocError> for WriteFault {
     }
 }
 
-/// Appends the bytes of a value. The names of an array's elements are their places from 0.
+/// Appends the bytes of a value. The names of an array's elements are their indexes from 0.
 #[cycle(writing)]
 #[tactic(auto, using(bd_value::proofs::PrefixLemmas::prefixes))]
 pub(crate) fn put_value<N: Reading>(node: N, out: &mut Vec<u8>) -> Result<(), WriteFault>
@@ -83,7 +83,7 @@ fn append_fields<N: Reading>(fields: N::Rest, out: &mut Vec<u8>) -> Result<(), W
     seal(at, out)
 }
 
-/// Appends the array of these elements, whose names are their places from 0.
+/// Appends the array of these elements, whose names are their indexes from 0.
 #[cycle(writing)]
 #[tactic(auto, using(bd_value::proofs::PrefixLemmas::prefixes))]
 fn append_items<N: Reading>(items: N::Rest, out: &mut Vec<u8>) -> Result<(), WriteFault>
@@ -129,7 +129,7 @@ fn append_element<N: Reading>(name: &str, node: N, out: &mut Vec<u8>) -> Result<
     put_value(node, out)
 }
 
-/// Appends what is neither a document nor an array. Code with scope begins with the count of its bytes.
+/// Appends a value that is neither a document nor an array. Code with scope begins with the count of its bytes.
 #[cycle(writing)]
 #[tactic(auto, using(bd_value::proofs::PrefixLemmas::prefixes))]
 fn append_leaf<N: Reading>(node: N, out: &mut Vec<u8>) -> Result<(), WriteFault>
@@ -154,7 +154,7 @@ fn append_leaf<N: Reading>(node: N, out: &mut Vec<u8>) -> Result<(), WriteFault>
     seal(at, out)
 }
 
-/// Appends what stands before an element's value, its type and its name: BSON 1.1, `element`.
+/// Appends what precedes an element's value, its type and its name: BSON 1.1, `element`.
 #[tactic(auto, using(bd_value::proofs::PrefixLemmas::prefixes))]
 #[inline(always)]
 pub(crate) fn put_label(kind: Kind, name: &str, out: &mut Vec<u8>) -> Result<(), WriteFault>
@@ -171,7 +171,7 @@ pub(crate) fn put_label(kind: Kind, name: &str, out: &mut Vec<u8>) -> Result<(),
     Ok(())
 }
 
-/// Puts the count of the bytes from a place on into the four bytes at that place.
+/// Puts the count of the bytes from an offset on into the four bytes at that offset.
 #[tactic(auto, unfolding(bd_bson_view::specs::Spelling::number))]
 pub(crate) fn seal(at: usize, out: &mut Vec<u8>) -> Result<(), WriteFault>
     requires { at + 4 ≤ vec_len out.old }
@@ -190,7 +190,7 @@ pub(crate) fn seal(at: usize, out: &mut Vec<u8>) -> Result<(), WriteFault>
     Ok(())
 }
 
-/// What a value holds besides other values: of code with scope the code.
+/// Appends a scalar, or the code of code with scope.
 #[tactic(auto, using(bd_value::proofs::PrefixLemmas::prefixes))]
 fn write_scalar(scalar: Scalar<'_>, out: &mut Vec<u8>) -> Result<(), WriteFault>
     requires { zero_in_leaf (view_of scalar) ≡ false }

@@ -1,4 +1,4 @@
--- What is read of a text fits its types, and its texts and names are UTF-8.
+-- A document read from a text fits its types, and its texts and names are UTF-8.
 use Rattle.std.proofs.Common.{◌≡◌, ◌<◌, ℕ, zero, suc, ◌+◌, ◌*◌, ◌/◌, true, List, [], ◌∷◌, ◌++◌, length, take, drop, slice_index, Option, Some, None, Result, Ok, Err, inl}
 use Rattle.std.proofs.Common.{inr, ◌⊎◌, refl, subst, arith, ltb-true, ◌-◌, ◌^◌, ℤ, pos, negsuc, Bool, sym, ap, ◌∙◌, leb-true}
 use Rattle.std.specs.Prelude.{IsUtf8, nat_lt, FitsSigned, codes, nat_le, option_map, option_and_then, ◌&&◌, false, cond, unwrap_or}
@@ -36,7 +36,7 @@ use Rattle.bd_extjson.specs.Read.{bare_number, nested, add_item, add_field, with
 use Rattle.bd_extjson.specs.Read.{wrap_items, wrap_object, wrapped, wrap_fields, ReadsAs, document}
 use Rattle.bd_extjson.specs.Read as reads
 
--- the state of the scan of the last symbols, whose name base64 keeps to itself
+-- the type of the scan state of the last symbols, whose name base64 does not export
 abbrev TypeOf : {A : Type 0} → A → Type 0
 TypeOf {A = A} x = A
 
@@ -125,7 +125,7 @@ module _ (dec : List ℕ) (small : (x : ℕ) → (slice_index dec x ≡ 255) ⊎
       below_append (groups_bytes dec s q) (suffix_bytes dec pad (4 * q) s) (groups s q none)
       (last_bytes pad (4 * q) (drop (4 * q) s) no_leftover 0 (omega arith, omega arith, omega arith, none_yet) (λ k. rw get_or-drop (bytes (4 * q + k))))
 
--- ---- what the engine for the data of binary decodes
+-- ---- the bytes that the engine for the data of binary decodes
 
 value_small : (x : ℕ) → (slice_index standard.decode_table x ≡ 255) ⊎ (slice_index standard.decode_table x < 64)
 value_small x = elim (cases_lt x 256) [

@@ -1,5 +1,5 @@
--- What is printed determines a plain document: from its JSON value back to the tree. Unlike `wrap` the way back keeps U+0000
--- in names and in regular expressions.
+-- The canonical text determines a plain document: from its JSON value back to the tree. Unlike `wrap` the way back
+-- accepts U+0000 in names and in regular expressions.
 use Rattle.std.proofs.Common.{◌≡◌, ℕ, ◌+◌, List, [], Option, Some, None, option_map, option_and_then, arith, refl, sym, ap, ap₂, ◌∙◌}
 use Rattle.std.specs.Prelude.{codes}
 use Rattle.json.specs.Json as kit
@@ -35,7 +35,7 @@ abbrev code_in : Option Scalar → List ℕ
 code_in (Some (code s)) = s
 code_in o = []
 
--- what an object of a wrapper's name stands for: with a second field, which is the scope, it is code with scope
+-- the value of an object with a wrapper's name: with a second field, which is the scope, it is code with scope
 abbrev with_scope : Option Scalar → Fields → Tree
 with_scope o (field n t (field m u fs)) = code_scope (code_in o) (fields_in u)
 with_scope o fs = or_null (option_map leaf o)
@@ -70,7 +70,7 @@ unfolding wrapper_of pair
 back-scalar (regex p o) fits = refl
 back-scalar s fits = ap or_null (scalar_back s 0 fits refl)
 
--- a document whose first name is no wrapper's comes back as one, where its fields do
+-- a document whose first name is not a wrapper's comes back as a document, if its fields do
 back-object : (fs : Fields) → IsPlainFirst fs → back_members (members_json fs) ≡ fs → back (kit.object (members_json fs)) ≡ doc fs
 back-object no_fields plain same = refl
 back-object (field n t fs) plain same = rw plain (ap doc same)
@@ -94,7 +94,7 @@ mutual
   back-members no_fields fits plain = refl
   back-members (field n t fs) fits plain = ap₂ (field n) (back-json t fits.1.0 plain.0) (back-members fs fits.1.1 plain.1)
 
--- one text is of one JSON value, since it is read as that value
+-- a text has one JSON value, since it is read as that value
 json-determined : (t u : Tree) → FitsTypes t → FitsTypes u → text t ≡ text u → json t ≡ json u
 json-determined t u ft fu e =
     let n : ℕ = kit_tree.depth (json t) + kit_tree.depth (json u) in

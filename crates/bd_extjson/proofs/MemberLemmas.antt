@@ -13,7 +13,7 @@ use Rattle.bd_extjson_wrapper.specs.declared.wrapper.Wrapper.{Wrapper}
 use Rattle.bd_extjson_wrapper.specs.declared.wrapper.Wrapper.TheVariants as kinds
 use Rattle.bd_extjson.proofs.ReadLemmas.{nested_is, next_name, never, refused_member, through_made, through_same}
 
--- ---- members, whatever is made of them
+-- ---- members, for any function of them
 
 pub unreadable : {A : Type 0} (f : json.Members → Option A) (k : List ℕ) (depth n : ℕ) (ts : List Token) → value depth ts ≡ None → through f (after_key depth n (Some k) ts) ≡ None
 unreadable f k depth n ts e = ap (λ v. through f (option_and_then (λ p. parse_map (json.member k p.0) (members (value depth) n p.1)) v)) e
@@ -27,7 +27,7 @@ member_is f k depth n ts s j e =
 pub no_name : {A : Type 0} (f : json.Members → Option A) (depth n : ℕ) (ts : List Token) → read_key ts ≡ None → through f (members (value depth) n ts) ≡ None
 no_name f depth n ts e = ap (through f) (members_no_key (value depth) n ts e)
 
--- at the end of an object there are no further members
+-- at the end of an object no members remain
 pub ended : {A : Type 0} (f : json.Members → Option A) (depth n : ℕ) (ts r : List Token) → length ts ≤ n → read_key ts ≡ Some (None, r)
     → through f (members (value depth) n ts) ≡ option_map (λ (a : A). (a, r)) (f json.no_members)
 ended f depth n ts r le e = ap (through f) (members_end (value depth) n ts r le e)
@@ -47,7 +47,7 @@ not_ended f depth n ts le not h = key (read_key ts) refl
     key (Some (None, r)) is = absurd (not r is)
     key (Some (Some k, r)) is = named f k depth n ts r le is ∙ refused_member f k depth (n - 1) r (h k)
 
--- ---- what a value was read from
+-- ---- the value that was read, and its tokens
 
 abbrev with_rest : {A : Type 0} → List Token → Option A → Option (A × List Token)
 with_rest r o = option_map (λ a. (a, r)) o
@@ -69,7 +69,7 @@ not_read : {A : Type 0} (r : List Token) (o : Option A) → with_rest r o ≡ No
 not_read r None e = refl
 not_read r (Some a) e = absurd cc
 
--- where g gives nothing of the value that follows a name, and f nothing without it, f gives nothing
+-- if g gives None for the value that follows a name, and f needs it, f gives None
 unread : {A B : Type 0} (f : json.Members → Option A) (g : Json → Option B) (k : List ℕ) (depth n : ℕ) (ts : List Token) → through g (value depth ts) ≡ None
     → ((i : Json) (ms : json.Members) → g i ≡ None → f (json.member k i ms) ≡ None) → through f (after_key depth n (Some k) ts) ≡ None
 unread f g k depth n ts e h = turn (value depth ts) e
@@ -93,7 +93,7 @@ nested_none : {A : Type 0} (depth_left : ℕ) (o : Option A) → o ≡ None → 
 nested_none zero o e = refl
 nested_none (suc depth_left) o e = e
 
--- two names only where these are `$code` and `$scope`
+-- two names are a wrapper only if they are `$code` and `$scope`
 no_two : (w : Wrapper) (v : Option Wrapper) (j i : Json) (t u : Option Tree) (ms : json.Members) → is_code_name (Some w) ≡ false → is_scope_name (Some w) ≡ false → two w j t v i u ms ≡ None
 no_two kinds.Code v j i t u ms e f = absurd cc
 no_two kinds.Scope v j i t u ms e f = absurd cc
@@ -137,7 +137,7 @@ pub scope_unread : (k : List ℕ) (depth_left depth n : ℕ) (ts : List Token) (
 scope_unread k depth_left depth n ts j t e f =
     unread (wrapped depth_left kinds.Code j t) (wrap (depth_left - 1)) k depth n ts f (λ i ms none. code_after k depth_left j i t None ms e none ∙ scope_fails depth_left j i t ms)
 
--- what follows a scope
+-- the members after a scope
 pub scope_read : (k : List ℕ) (depth_left depth n : ℕ) (ts r : List Token) (j : Json) (t : Option Tree) (u : Tree) → is_scope_name (wrapper_of k) ≡ true
     → through (wrap (depth_left - 1)) (value depth ts) ≡ Some (u, r)
     → (i : Json) × (through (wrapped depth_left kinds.Code j t) (after_key depth n (Some k) ts)
@@ -212,7 +212,7 @@ is_code_is : (v : Option Wrapper) → is_code_name v ≡ true → v ≡ Some kin
 is_code_is (Some kinds.Code) e = refl
 is_code_is _ e = absurd cc
 
--- a third member
+-- a third member is refused
 no_third : (v : Option Wrapper) (j i : Json) (t u : Option Tree) (l : List ℕ) (h : Json) (ms : json.Members) → two kinds.Scope j t v i u (json.member l h ms) ≡ None
 no_third (Some kinds.Code) j i t u l h ms = refl
 no_third _ j i t u l h ms = refl

@@ -1,4 +1,4 @@
--- Reading and wrapping, a step at a time, and a whole text.
+-- Reading and wrapping, one step at a time, and a whole text.
 use Rattle.std.proofs.Common.{◌≡◌, ℕ, zero, suc, ◌-◌, ◌<◌, ◌≤◌, Bool, true, false, List, [], ◌∷◌, ◌++◌, length, Option, Some, None, option_map, option_and_then}
 use Rattle.std.proofs.Common.{refl, sym, ap, ◌∙◌, arith, rules, inl, inr}
 use Rattle.std.specs.Prelude.{Result, Ok, Err, String, string_bytes}
@@ -30,7 +30,7 @@ pub nested_is : {A : Type 0} (depth_left : ℕ) (r : Option A) → 0 < depth_lef
 nested_is zero r h = absurd (omega arith)
 nested_is (suc depth_left) r h = refl
 
--- ---- what is made of what was read
+-- ---- functions of what was read
 
 pub never : {J A : Type 0} (f : J → Option A) → ((j : J) → f j ≡ None) → (r : Option (J × List Token)) → through f r ≡ None
 never f h None = refl
@@ -52,7 +52,7 @@ through_map {A = A} {B = B} f make (Some q) = go (f q.0)
     go None = refl
     go (Some x) = refl
 
--- the same of a first member and those after it
+-- the same for a first member and those after it
 member_same : {A : Type 0} (f g : kit.Members → Option A) (k : List ℕ) (depth n : ℕ) (ts : List Token)
     → ((j : Json) (ms : kit.Members) → f (kit.member k j ms) ≡ g (kit.member k j ms)) → through f (after_key depth n (Some k) ts) ≡ through g (after_key depth n (Some k) ts)
 member_same f g k depth n ts h = turn (value depth ts)
@@ -105,7 +105,7 @@ abbrev pub then : {A B : Type 0} → Option (A × List Token) → (A → List To
 then None k = None
 then (Some p) k = k p.0 p.1
 
--- one more in front, of the items or the fields that `add` makes
+-- one more at the start, of the items or the fields that `add` makes
 abbrev with_one : {X : Type 0} → (Option Tree → Option X → Option X) → Tree → Option (X × List Token) → Option (X × List Token)
 with_one add t None = None
 with_one add t (Some q) = option_map (λ x. (x, q.1)) (add (Some t) (Some q.0))
@@ -145,7 +145,7 @@ with_item_is : (t : Tree) (r : Option (Items × List Token)) → with_one add_it
 with_item_is t None = refl
 with_item_is t (Some q) = refl
 
--- elements of an array that were read, before those still to be read
+-- elements of an array that were read, before those that remain
 abbrev pub items_before : List Tree → Items → Items
 items_before [] rest = rest
 items_before (t ∷ ts) rest = item t (items_before ts rest)
@@ -158,14 +158,14 @@ items_push : (ts : List Tree) (t : Tree) (rest : Items) → items_before ts (ite
 items_push [] t rest = refl
 items_push (s ∷ ts) t rest = ap (item s) (items_push ts t rest)
 
--- an element put after those before it, and then the rest, is one list
+-- one more element after those before it, and then the rest, is one list
 pub one_more_item : (ts : List Tree) (t : Tree) (r : Option (Items × List Token)) → parse_map (items_before ts) (parse_map (item t) r) ≡ parse_map (items_before (ts ++ t ∷ [])) r
 one_more_item ts t None = refl
 one_more_item ts t (Some p) = ap (λ x. Some (x, p.1)) (items_push ts t p.0)
 
 -- ---- objects
 
--- what stands after a name
+-- what follows a name
 field_step : (k : List ℕ) (depth_left depth n : ℕ) (ts : List Token)
     → through (wrap_fields depth_left) (after_key depth n (Some k) ts)
     ≡ then (through (wrap depth_left) (value depth ts)) (λ t r. with_one (add_field k) t (through (wrap_fields depth_left) (members (value depth) n r)))
@@ -184,7 +184,7 @@ with_field_is : (k : List ℕ) (t : Tree) (r : Option (Fields × List Token)) �
 with_field_is k t None e = refl
 with_field_is k t (Some q) e = rw e refl
 
--- fields of a document that were read, before those still to be read
+-- fields of a document that were read, before those that remain
 abbrev pub fields_before : Doc → Fields → Fields
 fields_before [] rest = rest
 fields_before (p ∷ ps) rest = field p.0 p.1 (fields_before ps rest)
@@ -197,7 +197,7 @@ fields_push : (ps : Doc) (k : List ℕ) (t : Tree) (rest : Fields) → fields_be
 fields_push [] k t rest = refl
 fields_push (p ∷ ps) k t rest = ap (field p.0 p.1) (fields_push ps k t rest)
 
--- a field put after those before it, and then the rest, is one list
+-- one more field after those before it, and then the rest, is one list
 pub one_more_field : (ps : Doc) (k : List ℕ) (t : Tree) (r : Option (Fields × List Token)) → parse_map (fields_before ps) (parse_map (field k t) r) ≡ parse_map (fields_before (ps ++ (k, t) ∷ [])) r
 one_more_field ps k t None = refl
 one_more_field ps k t (Some p) = ap (λ x. Some (x, p.1)) (fields_push ps k t p.0)
@@ -208,7 +208,7 @@ pub fails_by : {A B : Type 0} (e : Trouble) (x : Option A) (y : Option B) → (x
 fails_by troubles.Memory x y f h = tt
 fails_by troubles.Refused x y f h = f h
 
--- a failure that is no refusal of the text says nothing of it
+-- a failure that does not refuse the text says nothing of it
 pub fails_where : {A : Type 0} (e : Trouble) (x : Option A) → (e ≡ troubles.Refused → x ≡ None) → Fails e x
 fails_where troubles.Memory x f = tt
 fails_where troubles.Refused x f = f refl
@@ -249,7 +249,7 @@ pub object_is_wrapper : {X : Type 0} (view : X → Tree) (result : Result X Trou
 object_is_wrapper view result rest w depth_left depth n ts None e f = absurd cc
 object_is_wrapper view result rest w depth_left depth n ts (Some name) e f = f name e
 
--- an object whose first name is no wrapper's is read as a document
+-- an object whose first name is not a wrapper's is read as a document
 pub object_is_plain : (depth_left depth n : ℕ) (ts : List Token) (key : Option (List ℕ)) → 0 < depth_left → option_and_then wrapper_of key ≡ None
     → through (wrap_object depth_left) (after_key depth n key ts) ≡ parse_map doc (through (wrap_fields (depth_left - 1)) (after_key depth n key ts))
 object_is_plain depth_left depth n ts None h e = ap (option_map (λ (a : Tree). (a, ts))) (nested_is depth_left (Some (doc no_fields)) h)
@@ -308,7 +308,7 @@ last (Some (j, ts)) t e = let p = whole (wrap most_levels j) t ts e in rw p.1 p.
 pub json_is : (text : List ℕ) → is_utf8 text ≡ true → json text ≡ option_and_then (λ p. if_last p.0 p.1) (value most_brackets (tokens text))
 json_is text e = rw e refl
 
--- a text whose tokens give a JSON value, with none left over, is the value that this stands for
+-- a text whose tokens give a JSON value, with none remaining, is the value that this means
 pub whole_text : (text : List ℕ) (ts rest : List Token) (t : Tree) → IsUtf8 text → ts ≡ tokens text
     → through (wrap most_levels) (value most_brackets ts) ≡ Some (t, rest) → rest ≡ [] → option_and_then (wrap most_levels) (json text) ≡ Some t
 whole_text text ts rest t u e r n =

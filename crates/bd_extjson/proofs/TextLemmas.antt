@@ -1,5 +1,5 @@
--- The text of a tree is UTF-8, since its texts and names are, and it is one line: no byte of it is a newline. Both are shown as
--- what appending keeps, and what holds for the parts.
+-- The text of a tree is UTF-8, since its texts and names are, and it is one line: no byte of it is a newline. Both
+-- properties are unchanged by appending, and hold for the parts.
 use Rattle.std.proofs.Common.{◌≡◌, ◌==◌, ℕ, zero, suc, ◌<◌, ◌^◌, ℤ, Bool, true, false, List, [], ◌∷◌, ◌++◌, refl, ◌∙◌, subst, arith, decimal, inl, inr}
 use Rattle.std.specs.Prelude.{codes, IsUtf8, nat_lt, ◌||◌}
 use Rattle.std.specs.Fmt.{signed_decimal}
@@ -41,7 +41,7 @@ utf8-base64_text : (bs : List ℕ) → IsUtf8 (base64_text bs)
 unfolding base64_text
 utf8-base64_text bs = IsUtf8-from_ascii (encode_of standard bs) (IsAscii-encode_of standard bs)
 
--- ---- what holds for the parts of a text holds for it; where U is false, its texts and names need not be UTF-8
+-- ---- a property that holds for the parts of a text holds for it; if U is false, its texts and names need not be UTF-8
 
 abbrev IsLine : List ℕ → Type 0
 IsLine xs = list_any (λ b. b == 10) xs ≡ false
@@ -142,7 +142,7 @@ utf8-text t fits =
 line-append : (xs ys : List ℕ) → IsLine xs → IsLine ys → IsLine (xs ++ ys)
 line-append xs ys p q = list_any-append (λ b. b == 10) xs ys ∙ rw (p, q) refl
 
--- the bytes that have escapes are looked through one by one
+-- the bytes that have escapes are checked one by one
 abbrev break_below : ℕ → Bool
 break_below zero = false
 break_below (suc n) = list_any (λ c. c == 10) (escape_byte n) || break_below n

@@ -71,7 +71,7 @@ abbrev mutual
   members_json no_fields = kit.no_members
   members_json (field n t fs) = kit.member n (json t) (members_json fs)
 
--- ---- its text in the words of the specification
+-- ---- its text by the definitions of the specification
 
 abbrev mutual
   json_text : Json → List ℕ
@@ -182,7 +182,7 @@ print-json : (x : Json) → kit_print.print (json_tokens x) ≡ json_text x
 unfolding print_from
 print-json x = ap kit_print.print (sym (append-nil (json_tokens x))) ∙ printed x false [] ∙ append-nil (json_text x)
 
--- ---- its numbers are numbers, and three brackets at most stand inside the innermost value
+-- ---- its numbers are numbers, and at most three brackets are inside the innermost value
 
 shallow-scalar : (s : Scalar) → kit_tree.depth (scalar_json s) ≤ 3
 shallow-scalar min_key = omega arith
@@ -221,7 +221,7 @@ mutual
 
 -- ---- so the grammar reads the text as that value
 
--- the tokens of a value's canonical text are its JSON value, with none left over
+-- the tokens of a value's canonical text are its JSON value, with none remaining
 pub value-text : (t : Tree) (n : ℕ) → FitsTypes t → kit_tree.depth (json t) ≤ n → value n (tokens (text t)) ≡ Some (json t, [])
 value-text t n fits deep =
     let j = json t in

@@ -1,4 +1,4 @@
--- What stands between quotation marks in a text that is UTF-8 is UTF-8 too, escapes included.
+-- The contents of a string in a text that is UTF-8 are UTF-8 too, escapes included.
 use Rattle.std.proofs.Common.{◌≡◌, ◌≤◌, ◌<◌, ℕ, zero, suc, ◌+◌, ◌*◌, Bool, true, false, cond, ◌&&◌, List, [], ◌∷◌, ◌++◌, length, get_or, Option, Some, None, inl, inr}
 use Rattle.std.proofs.Common.{refl, sym, ap, ◌∙◌, subst, arith, length-append, append-nil, append_assoc, ltb-true, leb-true, drop, rules}
 use Rattle.std.specs.Prelude.{IsUtf8, nat_lt, nat_le, ◌==◌, option_and_then}
@@ -24,17 +24,17 @@ use Rattle.json.specs.Json as kit
 use Rattle.json.specs.Json.{Json, Parse, parse_map, after_end_array, read_key, items_step, members_step, items, members, value_with, value, if_last}
 use Rattle.bd_extjson.specs.Read.{json}
 
--- where there is a value, P holds of it
+-- if there is a value, P holds of it
 abbrev pub Holds : {A : Type 0} → (A → Type 0) → Option A → Type 0
 Holds P None = Unit {0}
 Holds P (Some x) = P x
 
--- and so of what f makes of it
+-- and so of the result of f for it
 pub then : {A B : Type 0} {P : A → Type 0} (Q : B → Type 0) (f : A → Option B) (o : Option A) → ((x : A) → P x → Holds Q (f x)) → Holds P o → Holds Q (option_and_then f o)
 then Q f None h p = tt
 then Q f (Some x) h p = h x p
 
--- P holds of a choice where it holds of the one that the test chooses
+-- P holds of a choice if it holds of the alternative that the test chooses
 pub when : {A : Type 0} (P : A → Type 0) (b : Bool) (x y : A) → (b ≡ true → P x) → (b ≡ false → P y) → P (cond b x y)
 when P true x y p q = p refl
 when P false x y p q = q refl
@@ -62,7 +62,7 @@ one_ascii x small = subst IsUtf8 (encode_ascii x small) (IsUtf8-encode x (low_sc
 after_ascii : (x : ℕ) (xs : List ℕ) → x < 128 → IsUtf8 (x ∷ xs) → IsUtf8 xs
 after_ascii x xs small utf8 = IsUtf8-past_char (x ∷ xs) xs x utf8 (sym (ap (λ l. l ++ xs) (encode_ascii x small)))
 
--- ---- other characters have bytes from 128 on alone
+-- ---- other characters have only bytes from 128 on
 
 abbrev AreHigh : List ℕ → Type 0
 AreHigh bs = (k : ℕ) → k < length bs → 128 ≤ get_or bs k 0
@@ -141,7 +141,7 @@ after_digits : (a b c d : ℕ) (xs : List ℕ) → a < 128 → b < 128 → c < 1
 after_digits a b c d xs p q r s utf8 =
     after_ascii d xs s (after_ascii c (d ∷ xs) r (after_ascii b (c ∷ d ∷ xs) q (after_ascii a (b ∷ c ∷ d ∷ xs) p utf8)))
 
--- what four hexadecimal digits stand for, and the rest of the text after them
+-- the character of four hexadecimal digits, and the rest of the text after them
 unit_text : (a b c d : ℕ) (xs : List ℕ) (f : ℕ → Option (List ℕ)) → IsUtf8 (a ∷ b ∷ c ∷ d ∷ xs) → ((u : ℕ) → u < 65536 → IsUtf8 xs → IsTextIfAny (f u))
     → IsTextIfAny (option_and_then f (code_unit a b c d))
 unit_text a b c d xs f utf8 h = unit (code_unit a b c d) refl
@@ -229,7 +229,7 @@ IsTextLexeme _ = Unit {0}
 abbrev AreTextLexemes : List Lexeme → Type 0
 AreTextLexemes = AllByRecursion IsTextLexeme
 
--- ---- words and operators
+-- ---- literals and operators
 
 number_text : (t : List ℕ) (o : Option (List ℕ)) → IsTextToken (number_before t o)
 number_text t None = tt

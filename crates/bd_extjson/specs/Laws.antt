@@ -5,7 +5,7 @@ use Rattle.std.specs.Prelude.{◌≡◌, None}
 use Rattle.bd_value.specs.Tree.{Tree, leaf, doc, array, code_scope, Items, no_items, item, Fields, no_fields, field}
 use Rattle.bd_extjson_wrapper.specs.Wrapper.{wrapper_of}
 
--- The first name of a document is no wrapper name such as `$oid`; an empty document is plain.
+-- The first name of a document is not a wrapper name such as `$oid`; an empty document is plain.
 abbrev pub IsPlainFirst : Fields → Type 0
 IsPlainFirst no_fields = Unit {0}
 IsPlainFirst (field n t fs) = wrapper_of n ≡ None
@@ -25,7 +25,7 @@ abbrev mutual
   ArePlainItems no_items = Unit {0}
   ArePlainItems (item t ts) = IsPlain t × ArePlainItems ts
 
-  -- Each value of a document is plain; of the names only the first one is asked, by `IsPlainFirst`.
+  -- Each value of a document is plain; only its first name matters, by `IsPlainFirst`.
   pub ArePlainFields : Fields → Type 0
   ArePlainFields no_fields = Unit {0}
   ArePlainFields (field n t fs) = IsPlain t × ArePlainFields fs

@@ -17,7 +17,7 @@ abbrev pub bare_number : Option ℤ → Option Tree
 bare_number None = None
 bare_number (Some z) = Some (leaf (if fits_bits 31 z then trees.int32 z else trees.int64 z))
 
--- the result, if one more level of documents and arrays may be opened here; else None
+-- the result, if one more level of documents and arrays is allowed here; else None
 abbrev pub nested : {A : Type 0} → ℕ → Option A → Option A
 nested zero r = None
 nested (suc depth_left) r = r
@@ -28,7 +28,7 @@ add_item (Some t) (Some ts) = Some (item t ts)
 add_item _ _ = None
 
 -- a field put before the others of a document;
--- None if one of them could not be read, or the name holds a zero byte
+-- None if one of them could not be read, or the name contains a zero byte
 abbrev pub add_field : List ℕ → Option Tree → Option Fields → Option Fields
 add_field name (Some t) (Some fs) = if has_zero name then None else Some (field name t fs)
 add_field _ _ _ = None
@@ -39,14 +39,14 @@ with_scope (Some s) (Some (doc fs)) = Some (code_scope s fs)
 with_scope _ _ = None
 
 -- code with scope, if an object has exactly the names `$code` and `$scope`, in either order;
--- each is given as its wrapper, its JSON value and what that stands for
+-- each is given as its wrapper, its JSON value and the value that this means
 abbrev pub two : Wrapper → Json → Option Tree → Option Wrapper → Json → Option Tree → kit.Members → Option Tree
 two kinds.Code j t (Some kinds.Scope) i u kit.no_members = with_scope (as_str j) u
 two kinds.Scope j t (Some kinds.Code) i u kit.no_members = with_scope (as_str i) t
 two _ j t _ i u _ = None
 
 abbrev mutual
-  -- The value that a JSON value stands for, with at most `depth_left` levels of documents and arrays;
+  -- The value that a JSON value means, with at most `depth_left` levels of documents and arrays;
   -- None if it has no reading, such as a number with a fraction.
   pub wrap : ℕ → Json → Option Tree
   wrap depth_left kit.null = Some (leaf trees.null)
@@ -72,13 +72,12 @@ abbrev mutual
   wrapped depth_left w j t kit.no_members = option_map leaf (single w j)
   wrapped depth_left w j t (kit.member name i ms) = nested depth_left (two w j t (wrapper_of name) i (wrap (depth_left - 1) i) ms)
 
-  -- the members of a JSON object as fields, in order, names that repeat kept; None if one has no reading
+  -- the members of a JSON object as fields, in order, with names that repeat; None if one has no reading
   pub wrap_fields : ℕ → kit.Members → Option Fields
   wrap_fields depth_left kit.no_members = Some no_fields
   wrap_fields depth_left (kit.member name j ms) = add_field name (wrap depth_left j) (wrap_fields depth_left ms)
 
--- the JSON value of a whole text (RFC 8259, UTF-8),
--- with at most 203 brackets inside one another; None if it is none
+-- the JSON value of a whole text (RFC 8259, UTF-8), with at most 203 levels of brackets; None if it has none
 abbrev pub json : List ℕ → Option Json
 json text = if is_utf8 text then option_and_then (λ p. if_last p.0 p.1) (value most_brackets (tokens text)) else None
 
@@ -87,11 +86,10 @@ abbrev pub document : Tree → Option Fields
 document (doc fs) = Some fs
 document _ = None
 
--- the document in a text: JSON (RFC 8259) read as Extended JSON v2,
--- with at most 200 levels; None if it is none
+-- the document in a text: JSON (RFC 8259) read as Extended JSON v2, with at most 200 levels; None if it is no document
 abbrev pub reading : List ℕ → Option Doc
 reading text = option_map pairs_of (option_and_then document (option_and_then (wrap most_levels) (json text)))
 
--- The text is Extended JSON of this document; a text is one document at most.
+-- The text is Extended JSON of this document; a text is at most one document.
 abbrev pub ReadsAs : List ℕ → Doc → Type 0
 ReadsAs text d = reading text ≡ Some d

@@ -1,4 +1,4 @@
-//! What the texts determine, and that they are read back.
+//! The texts determine plain documents, and are read back.
 ghost use Rattle.std.specs.Prelude.{◌≡◌, ◌==◌, ◌≤◌, ℕ, List, All, false};
 ghost use Rattle.bd_value.specs.Limits.{most_levels};
 ghost use Rattle.bd_value.specs.Tree.{depth, Doc, Tree, doc, fields_of};
@@ -10,8 +10,8 @@ ghost use Rattle.bd_extjson_text.specs.Text.{text};
 
 use bd_value::{Document, document_fits};
 
-/// What is printed determines the document, for plain documents: those in which no document has the name of a wrapper
-/// first. Without that, `{"a":{"$numberInt":"1"}}` is the text of a nested document and of an Int32.
+/// The printed text determines the document, for plain documents: those in which no document has the name of a wrapper first.
+/// Without that, `{"a":{"$numberInt":"1"}}` is the text of a nested document and of an Int32.
 #[tactic(auto, using(crate::proofs::InjectiveLemmas::document_determined))]
 pub fn text_determines_document()
     ensures { (c d : Doc) → FitsTypes (doc (fields_of c)) → FitsTypes (doc (fields_of d))
@@ -19,9 +19,9 @@ pub fn text_determines_document()
         → text (doc (fields_of c)) ≡ text (doc (fields_of d)) → c ≡ d }
 {}
 
-/// What is printed of a plain document is read back as that document, whatever kinds of values it holds: where its numbers
-/// have the bits of their types, its texts and names are UTF-8, no name and no part of a regular expression holds U+0000,
-/// and it is at most 200 deep.
+/// The printed text of a plain document is read back as that document, whatever kinds of values it contains, if its numbers
+/// fit their types, its texts and names are UTF-8, no name and no part of a regular expression contains U+0000, and it is at
+/// most 200 levels deep.
 #[tactic(auto, using(crate::proofs::ReadBackLemmas::document_back))]
 pub fn reads_back()
     ensures { (d : Doc) → Fits (doc (fields_of d)) →
@@ -29,7 +29,7 @@ pub fn reads_back()
         depth (doc (fields_of d)) ≤ most_levels → ReadsAs (text (doc (fields_of d))) d }
 {}
 
-/// The same of a document in memory, whose numbers, texts and names are as that law wants them, since it exists.
+/// The same for a document in memory, whose numbers, texts and names are as that law needs them, since it exists.
 ///
 /// ```
 /// document_reads_back(&document);
@@ -46,7 +46,7 @@ pub fn document_reads_back(document: &Document)
     document_fits(document);
 }
 
-/// A document that is read from a text fits too: its numbers have the bits of their types, and its texts and names are UTF-8.
+/// A document read from a text fits too: its numbers fit their types, and its texts and names are UTF-8.
 #[tactic(auto, using(crate::proofs::FitLemmas::reads_sound))]
 pub fn reads_what_fits()
     ensures { (text : List ℕ) (d : Doc) → ReadsAs text d → Fits (doc (fields_of d)) }

@@ -12,9 +12,9 @@
 //! ```
 //!
 //! - `read`: `read_doc`, one pass over the tokens of a text.
-//! - `laws`: what joins the two.
+//! - `laws`: what joins reading and writing.
 //!
-//! The text of a value is written by `bd_extjson_text`, whose calls stand here too.
+//! The text of a value is written by `bd_extjson_text`, whose functions are re-exported here.
 #![tactic(auto)]
 
 mod laws;

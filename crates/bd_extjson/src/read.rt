@@ -22,31 +22,31 @@ use bd_value::{Document, MOST_BRACKETS, MOST_LEVELS, Value, has_zero};
 use json::{Reader, Scratch, Token};
 use std::alloc::Global;
 
-/// What is read, or why it was not.
+/// The value that was read, or why it was not.
 type Read<T> = Result<T, Trouble>;
 
-/// The document that the text is: Extended JSON v2, canonical form, and bare whole numbers, with any white space and escapes
+/// Reads a document from a text: Extended JSON v2, canonical form, and bare whole numbers, with any white space and escapes
 /// of JSON.
 ///
 /// # Errors
-/// One for each rule of `JsonFaultKind`, with its byte. JSON is looked at first, over the whole text, and then the tree from
-/// left to right. `NoMemory` where the allocator gives no memory.
+/// One for each rule of `JsonFaultKind`, with its byte. JSON is checked first, over the whole text, and then the tree from
+/// left to right. `NoMemory` if memory runs out.
 pub fn read_doc(alloc: Global, text: &[u8]) -> Result<Document, JsonFault>
-    // What is read is what the text is.
+    // The document read is the one that the text is.
     ensures found { IfOk result (λ d. ReadsAs text.now (pairs d)) }
     // A text that is a document is read, unless memory runs out.
     ensures none { IfErr result (λ f. f.kind ≢ faults.NoMemory →
         (d : Doc) → ReadsAs text.now d → ⊥) }
     ensures place { IfErr result (IsPlaced (length text.now)) }
     ensures utf8 { IfErr result (ReportsBadUtf8 text.now) }
-    // Which fault is told, and at which byte, is a function of the text.
+    // Which fault is reported, and at which byte, is a function of the text.
     ensures fault { IfErr result (λ f. f.kind ≢ faults.NoMemory → f ≡ text_fault text.now) }
 {
     let mut scratch = Scratch::new(alloc);
     read_doc_with(alloc, text, &mut scratch)
 }
 
-/// `read_doc`, with room for the texts that have escapes, which a caller keeps from text to text.
+/// `read_doc`, with a buffer for the texts that have escapes, which a caller reuses from text to text.
 pub fn read_doc_with(
     alloc: Global,
     text: &[u8],
@@ -103,7 +103,7 @@ fn document_of(value: Value) -> Option<Document>
     }
 }
 
-/// One value. At most `depth_left` documents and arrays stand in one another, and `depth` brackets.
+/// One value, with at most `depth_left` levels of documents and arrays, and `depth` levels of brackets.
 #[cycle(reading)]
 #[tactic(auto, using(crate::proofs::ReadLemmas::value_steps))]
 fn read_value(
@@ -184,7 +184,7 @@ fn read_object(
     Ok(Value::Doc(read_fields(alloc, reader, first, depth_left - 1, depth)?))
 }
 
-/// What follows the first name of an object that is no wrapper.
+/// What follows the first name of an object that is not a wrapper.
 #[cycle(reading)]
 #[tactic(auto, using(crate::proofs::ReadLemmas::fields_steps))]
 fn read_fields<'a>(
@@ -212,18 +212,18 @@ fn read_fields<'a>(
     Ok(read)
 }
 
-/// The wrapper that the first name of an object says; none where the object is a document. An empty object has no first name.
+/// The wrapper of the first name of an object; None if the object is a document. An empty object has no first name.
 pub fn wrapper_named(first: Option<&str>) -> Option<Wrapper>
     ensures { result ≡ option_and_then wrapper_of (option_map (λ s. s.now) first.entry) }
 {
     Wrapper::from_name(first?)
 }
 
-/// Reads what follows the first name of an object, which is that wrapper's: the value that the object stands for. At most
-/// `depth_left` documents and arrays stand in one another in it, and `depth` brackets.
+/// Reads what follows the first name of an object, which is that wrapper's: the value that the object means, with at most
+/// `depth_left` levels of documents and arrays, and `depth` levels of brackets.
 ///
 /// # Errors
-/// `Trouble::Refused` where it stands for none; `Trouble::Memory`.
+/// `Trouble::Refused` if it means no value; `Trouble::Memory`.
 #[cycle(reading)]
 pub fn read_wrapper(
     alloc: Global,
@@ -293,7 +293,7 @@ fn read_scope_first(
         return Err(Trouble::Refused);
     }
     let scope = read_value(alloc, reader, depth_left - 1, depth)?;
-    // Nothing that can fail is asked by `?` here, since each would let the scope go.
+    // No `?` here: each would add code that drops the scope.
     match read_code(alloc, reader, depth) {
         Ok(code) => code_with_scope(alloc, &code, scope),
         Err(trouble) => Err(trouble),
@@ -322,7 +322,7 @@ fn read_code<'a>(alloc: Global, reader: &mut Reader<'a>, depth: usize) -> Read<j
     Ok(code)
 }
 
-/// Code with scope, of the JSON that stands after `$code` and the value that stands after `$scope`.
+/// Code with scope, from the JSON value after `$code` and the value after `$scope`.
 #[tactic(auto, using(crate::proofs::MemberLemmas::scope_steps))]
 fn code_with_scope(alloc: Global, code: &json::Value<'_>, scope: Value) -> Read<Value>
     ensures { Gives tree_of result
@@ -333,7 +333,7 @@ fn code_with_scope(alloc: Global, code: &json::Value<'_>, scope: Value) -> Read<
     Ok(Value::CodeScope(String::from_str(alloc, text)?, scope))
 }
 
-/// One JSON value, as it stands in a wrapper.
+/// One JSON value inside a wrapper.
 fn read_part<'a>(alloc: Global, reader: &mut Reader<'a>, depth: usize) -> Read<json::Value<'a>>
     ensures gives { Gives (λ v. (value_view v, reader.new)) result (value depth reader.old) }
     ensures shorter { OnOk result (length reader.new < length reader.old) }
@@ -358,7 +358,7 @@ fn end_object(reader: &mut Reader<'_>) -> Read<()>
     }
 }
 
-/// A bare whole number: an Int32 where it fits, else an Int64. None where it is no whole number of 64 bits.
+/// A bare whole number: an Int32 if it fits, else an Int64. None if it is not a whole number of 64 bits.
 pub fn bare_number(text: &str) -> Option<Value>
     ensures { option_map tree_of result ≡ bare_number (whole_64 text.now) }
 {

@@ -1,4 +1,4 @@
--- What the definition tells of small texts.
+-- The results of the definition for small texts.
 use Rattle.std.proofs.Common.{◌≡◌, refl, ℕ, [], Ok, Err, codes}
 use Rattle.bd_extjson_fault.specs.declared.skip.StopKind.{StopKind}
 use Rattle.bd_extjson_fault.specs.declared.skip.StopKind.TheVariants.{Syntax, TooDeep, TrailingText}
@@ -17,7 +17,7 @@ zero_one : beyond_text (codes "01") ≡ stops TrailingText 1
 unfolding beyond_text beyond_value beyond_scalar beyond_items beyond_character beyond_escape beyond_units beyond_unit beyond_low beyond_hex beyond_string beyond_name beyond_next beyond_parts beyond_group beyond_number beyond_natural beyond_digits beyond_fraction beyond_exponent beyond_all beyond_word
 zero_one = refl
 
--- {"a":01}: no JSON at the 1
+-- {"a":01}: not JSON at the 1
 inside : beyond_text (codes "{\"a\":01}") ≡ stops Syntax 2
 unfolding beyond_text beyond_value beyond_scalar beyond_items beyond_character beyond_escape beyond_units beyond_unit beyond_low beyond_hex beyond_string beyond_name beyond_next beyond_parts beyond_group beyond_number beyond_natural beyond_digits beyond_fraction beyond_exponent beyond_all beyond_word
 inside = refl
@@ -37,12 +37,12 @@ ends : beyond_text (codes "\"\\ud800\\ud") ≡ stops Syntax 0
 unfolding beyond_text beyond_value beyond_scalar beyond_items beyond_character beyond_escape beyond_units beyond_unit beyond_low beyond_hex beyond_string beyond_name beyond_next beyond_parts beyond_group beyond_number beyond_natural beyond_digits beyond_fraction beyond_exponent beyond_all beyond_word
 ends = refl
 
--- the bracket after the last that may open
+-- the first bracket beyond the limit
 deep : beyond_value 2 (codes "[[[]]]") ≡ stops TooDeep 4
 unfolding beyond_text beyond_value beyond_scalar beyond_items beyond_character beyond_escape beyond_units beyond_unit beyond_low beyond_hex beyond_string beyond_name beyond_next beyond_parts beyond_group beyond_number beyond_natural beyond_digits beyond_fraction beyond_exponent beyond_all beyond_word
 deep = refl
 
--- the comma before a bracket that closes
+-- the comma before a closing bracket
 comma : beyond_text (codes "[1,]") ≡ stops Syntax 1
 unfolding beyond_text beyond_value beyond_scalar beyond_items beyond_character beyond_escape beyond_units beyond_unit beyond_low beyond_hex beyond_string beyond_name beyond_next beyond_parts beyond_group beyond_number beyond_natural beyond_digits beyond_fraction beyond_exponent beyond_all beyond_word
 comma = refl

@@ -1,4 +1,4 @@
--- The first fault of the tree: what is found in parts, one after the other, is what is found in all.
+-- The first fault of the tree: what is found in parts, one after the other, is what is found in the whole.
 use Rattle.std.proofs.Common.{◌≡◌, ◌≤◌, ◌<◌, ◌-◌, ◌∙◌, sym, refl, subst, not, ◌&&◌, ◌==◌, if◌then◌else◌, ℕ, zero, suc, Bool, true, false, List, [], ◌∷◌, map, length, drop, ap, Ok, Err, Some, None, Option, arith}
 use Rattle.std.specs.Option.{option_or}
 use Rattle.std.specs.Prelude.{Result, OnOk}
@@ -36,7 +36,7 @@ pub found_same : (before : Option TreeFault) (depth_left : Option ℕ) (f g : �
 found_same before None f g e = refl
 found_same before (Some r) f g e = ap (option_or before) (e r)
 
--- what was found now, and what is in the parts from here on, is what all of them have; or there are no more
+-- what was found so far, and in the parts from here on, is what is found in all of them; or no parts remain
 abbrev pub FindsOn : (ℕ → Bool) → (List ℕ → Beyond) → (ℕ → Finds) → Option ℕ → Bool → Option TreeFault → List ℕ → Option TreeFault → Type 0
 FindsOn closes part f depth_left true now text whole =
     (n : ℕ) × (length text < n) × (found now depth_left (λ r. first_in (f r) (parts_from closes part n text)) ≡ whole)
@@ -76,7 +76,7 @@ pub finds_ended : (closes : ℕ → Bool) (part : List ℕ → Beyond) (f : ℕ 
 finds_ended closes part f depth_left false now whole text is on = on
 finds_ended closes part f depth_left true now whole text is on = absurd cc
 
--- documents and arrays, by how deep they stand
+-- documents and arrays, by their depth
 pub array_found : (value : List ℕ → Beyond) (fault : ℕ → Finds) (depth_left : Option ℕ) (before : Option TreeFault) (here inside : List ℕ)
     → found (option_or before (depth_fault depth_left here)) (deeper depth_left) (λ r. first_in (fault r) (parts_in (λ b. b == 93) value inside))
     ≡ found before depth_left (λ r. array_fault value fault r here inside)
@@ -95,7 +95,7 @@ document_found value fault (Some zero) before here inside = refl
 document_found value fault (Some (suc r)) before here inside =
     ap (λ b. option_or b (first_in (member_fault (fault r)) (members_in value inside))) (or_none before)
 
--- a value, by how it begins
+-- a value, by its first byte
 pub fault_scalar : (level depth_left : ℕ) (text : List ℕ) → opens_object (beyond_white text) ≡ false → opens_array (beyond_white text) ≡ false
     → value_fault level depth_left text ≡ scalar_fault (beyond_white text)
 unfolding value_fault
@@ -136,7 +136,7 @@ finds_array (Ok x) new before depth_left level text here inside e lt o a i repor
     (λ r. rw (i, e) (sym (fault_array level (level - 1) r text (omega (arith, lt)) (ap opens_object (sym e) ∙ o) (ap opens_array (sym e) ∙ a))))
 finds_array (Err x) new before depth_left level text here inside e lt o a i reported = tt
 
--- what two members and those behind them are
+-- two members and those after them
 pub members_none : (value : List ℕ → Beyond) (inside : List ℕ) → begins (λ b. b == 125) (beyond_white inside) ≡ true → members_in value inside ≡ []
 unfolding parts_in
 members_none value inside b = rw b refl
@@ -168,7 +168,7 @@ pub members_two : (value : List ℕ → Beyond) (inside mid second after rest : 
     → beyond_member value second ≡ Ok after → beyond_next (λ b. b == 125) after ≡ Ok (false, rest) → members_in value inside ≡ inside ∷ second ∷ []
 members_two value inside mid second after rest b e n lt e2 n2 = let p = members_more value inside mid second after rest false b e n lt e2 n2 in p.2
 
--- three members or more are no code with its scope
+-- three members or more are not code with scope
 code_of_three : (m : ℕ) (part : List ℕ → Beyond) (fault : ℕ → Finds) (depth_left : ℕ) (here inside second rest : List ℕ) → length inside ≡ suc m
     → length second < length inside → length rest < length second
     → code_fault fault depth_left here (map part_of (inside ∷ second ∷ parts_from (λ b. b == 125) part m rest)) ≡ fault_at here BadWrapper
@@ -185,7 +185,7 @@ code_of_more value fault depth_left here inside mid second after rest b e n lt e
     let p = members_more value inside mid second after rest true b e n lt e2 n2 in
     ap (λ ms. code_fault fault depth_left here (map part_of ms)) p.2 ∙ code_of_three p.0 (beyond_member value) fault depth_left here inside second rest p.1 lt lt2
 
--- a code with its scope, by the names of two members
+-- code with scope, by the names of its two members
 code_is_no_scope : (w : Option Wrapper) → is_code_name w ≡ true → is_scope_name w ≡ false
 code_is_no_scope (Some wrappers.Code) is = refl
 code_is_no_scope (Some w) is = absurd cc
@@ -219,7 +219,7 @@ pub other_and_any : (fault : ℕ → Finds) (depth_left : ℕ) (here t u : List 
     → code_fault fault depth_left here ((w, t) ∷ (v, u) ∷ []) ≡ fault_at here BadWrapper
 other_and_any fault depth_left here t u w v one other = rw (one, other) refl
 
--- how a document or an array begins
+-- the beginning of a document or an array
 pub array_begun : (value : List ℕ → Beyond) (fault : ℕ → Finds) (depth_left : Option ℕ) (before : Option TreeFault) (here inside : List ℕ) (b : Option TreeFault) (less : Option ℕ)
     (text rest : List ℕ) (now : Bool) → b ≡ option_or before (depth_fault depth_left here) → less ≡ deeper depth_left → text ≡ inside
     → now ≡ begins (λ b. b == 93) (beyond_white text) → rest ≡ (if now then drop 1 (beyond_white text) else text)
@@ -247,7 +247,7 @@ more_finds (Err e) new closes part f depth_left more now whole text is finds on 
 more_finds (Ok x) new closes part f depth_left false now whole text is finds on = absurd cc
 more_finds (Ok x) new closes part f depth_left true now whole text is finds (n, lt, e) = finds n lt ∙ e
 
--- a document that is empty
+-- an empty document
 pub document_closed : (value : List ℕ → Beyond) (fault : ℕ → Finds) (depth_left : Option ℕ) (before : Option TreeFault) (here inside : List ℕ) (b : Option TreeFault) (less : Option ℕ)
     (text rest : List ℕ) (now : Bool) → b ≡ option_or before (depth_fault depth_left here) → less ≡ deeper depth_left → text ≡ inside
     → now ≡ begins (λ b. b == 125) (beyond_white text) → rest ≡ (if now then drop 1 (beyond_white text) else text) → now ≡ true
@@ -270,7 +270,7 @@ pub scalar_found : (new before : Option TreeFault) (depth_left : Option ℕ) (le
 scalar_found new before depth_left level text here e o a reported = reported ∙ found_same before depth_left _ _
     (λ r. rw e (sym (fault_scalar level r text (ap opens_object (sym e) ∙ o) (ap opens_array (sym e) ∙ a))))
 
--- ---- the members of an object whose first name is `$code` or `$scope`, of which one or two are looked at
+-- ---- the members of an object whose first name is `$code` or `$scope`, of which one or two matter
 
 module _ (value : List ℕ → Beyond) (inside start : List ℕ) (now : Bool) (reports : now ≡ begins (λ b. b == 125) (beyond_white inside))
     (moved : start ≡ (if now then drop 1 (beyond_white inside) else inside)) (opened : now ≡ false) where

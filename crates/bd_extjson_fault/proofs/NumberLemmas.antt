@@ -1,4 +1,4 @@
--- A number that is passed here is one that the kit's grammar passes, and leaves the same.
+-- A number is skipped here exactly if the kit's grammar skips it, and the rest is the same.
 use Rattle.std.proofs.Common.{◌≡◌, ◌+◌, ◌==◌, ◌||◌, ◌∙◌, refl, ap, ℕ, suc, Bool, true, false, List, [], ◌∷◌, drop, Ok, Err, Option, Some, cond, arith}
 use Rattle.std.specs.Prelude.{option_and_then}
 use Rattle.std.proofs.lemmas.{Bool.Decides.nat_tests}

@@ -1,4 +1,4 @@
--- Going past items: as many turns as there are bytes are enough.
+-- Skipping items: a bound of as many steps as there are bytes is enough.
 use Rattle.std.proofs.Common.{◌≡◌, ◌≤◌, ◌<◌, ◌-◌, ◌∙◌, sym, refl, not, ◌||◌, if◌then◌else◌, ℕ, zero, suc, Bool, true, false, List, [], ◌∷◌, length, drop, ap, Ok, Err, arith}
 use Rattle.std.specs.Prelude.{Result}
 use Rattle.bd_extjson_fault.specs.declared.skip.Stop.{Stop}
@@ -32,7 +32,7 @@ unfolding beyond_items
 goes_on closes item whole text rest b gives shorter (zero, le, e) = absurd (omega (arith, le, shorter))
 goes_on closes item whole text rest b gives shorter (suc n, le, e) = (n, omega (arith, le, shorter), rw (b, gives) at e)
 
--- the parts from here on give what all of them give; or there are no more
+-- the parts from here on give what all of them give; or no parts remain
 abbrev pub PartsGoOn : (ℕ → Bool) → (List ℕ → Beyond) → Bool → List ℕ → Beyond → Type 0
 PartsGoOn closes part true text whole = (n : ℕ) × (length text < n) × (beyond_parts closes part n text ≡ whole)
 PartsGoOn closes part false text whole = whole ≡ Ok text
@@ -78,7 +78,7 @@ pub ended : (closes : ℕ → Bool) (part : List ℕ → Beyond) (whole : Beyond
 ended closes part whole text false is on = on
 ended closes part whole text true is on = absurd cc
 
--- a value, with a bracket left or with none
+-- a value, with a bracket remaining or without
 pub value_scalar : (level : ℕ) (text : List ℕ) → opens_object (beyond_white text) ≡ false → opens_array (beyond_white text) ≡ false
     → beyond_value level text ≡ beyond_scalar (beyond_white text)
 unfolding beyond_value
@@ -101,7 +101,7 @@ pub value_array : (level less : ℕ) (text : List ℕ) → level ≡ suc less �
 unfolding beyond_value
 value_array level less text z o a = rw (z, o, a) refl
 
--- what the walk gives of a value, by how it begins
+-- the result of the pass for a value, by its first byte
 pub scalar_value : (reported : Beyond) (level : ℕ) (text here : List ℕ) → here ≡ beyond_white text → opens_object here ≡ false → opens_array here ≡ false
     → beyond_scalar here ≡ reported → beyond_value level text ≡ reported
 scalar_value reported level text here e o a g =
@@ -125,7 +125,7 @@ pub reports_deep : (level : ℕ) (text here : List ℕ) (stop : Stop) → here �
     → opens_object here || opens_array here ≡ true → stop ≡ record { kind = TooDeep; remaining = length here } → beyond_value level text ≡ Err stop
 reports_deep level text here stop e z o is = rw (is, e) (value_deep level text z (ap (λ t. opens_object t || opens_array t) (sym e) ∙ o))
 
--- where the walk ends in a part, or behind it
+-- the pass ends in a part, or after it
 pub part_halted : (closes : ℕ → Bool) (part : List ℕ → Beyond) (whole : Beyond) (text : List ℕ) (more : Bool) (halt : Halt) → more ≡ true
     → Halts halt (part text) → PartsGoOn closes part more text whole → Halts halt whole
 part_halted closes part whole text more (NoJson stop) is fails on = part_stopped closes part whole text more stop is fails on
@@ -140,7 +140,7 @@ pub member_passed : (value : List ℕ → Beyond) (text rest after : List ℕ) �
     → beyond_member value text ≡ Ok after
 member_passed value text rest after e h = rw e h
 
--- a walk over one part more walks over the group
+-- if a pass skips one more part, it skips the group
 pub more_passes : {X : Type 0} (answer : Result X Halt) (rest : List ℕ) (closes : ℕ → Bool) (part : List ℕ → Beyond) (text : List ℕ) (whole : Beyond) (more : Bool)
     → more ≡ true → ((n : ℕ) → length text < n → Passes answer rest (beyond_parts closes part n text)) → PartsGoOn closes part more text whole
     → Passes answer rest whole

@@ -1,4 +1,4 @@
--- The fault of a text, by what the text is, and where it is.
+-- The fault of a text: its kind by what the text is, and its offset.
 use Rattle.std.proofs.Common.{◌≡◌, ◌≢◌, refl, ℕ, Bool, true, false, List, length, if◌then◌else◌, Ok, Err, Some, None, Option, IsUtf8, ap, arith}
 use Rattle.std.specs.Prelude.{unwrap_or}
 use Rattle.std.specs.{Str.is_utf8, Str.Lossy.utf8_valid_len}
@@ -43,7 +43,7 @@ pub of_tree : (text rest : List ℕ) (found : Option JsonFault) → IsUtf8 text 
 unfolding first_fault
 of_tree text rest found utf8 e f = rw (is_utf8-from_IsUtf8 text utf8, e, f) refl
 
--- ---- it is never a want of memory
+-- ---- it is never out of memory
 
 stop_kind : (kind : StopKind) → kind_of_stop kind ≢ kinds.NoMemory
 stop_kind stops.Syntax = λ e. cc
@@ -80,7 +80,7 @@ reported_kind text = go (is_utf8 text)
     go true = after_known text (beyond_text text)
     go false = λ e. cc
 
--- ---- it has a place
+-- ---- it has an offset
 
 stop_whole : (kind : StopKind) → kind_of_stop kind ≢ kinds.NotADocument
 stop_whole stops.Syntax = λ e. cc

@@ -33,12 +33,12 @@ number_below c cs true e h zero = grind (arith, nat_tests)
 number_below c cs true e h (suc i) = digits_below cs (and_parts (begins_digits cs) (all_ascii_digits cs) h).1 i
 number_below c cs false e h i = digits_below (c ∷ cs) (and_parts (begins_digits (c ∷ cs)) (all_ascii_digits (c ∷ cs)) h).1 i
 
--- a whole number is text
+-- a whole number is UTF-8
 pub whole_is_text : (number : List ℕ) → are_digits (unsigned number) ≡ true → IsUtf8 number
 whole_is_text [] h = absurd cc
 whole_is_text (c ∷ cs) h = IsUtf8-from_ascii (c ∷ cs) (number_below c cs (c == 45) refl h)
 
--- a string and a word are no numbers
+-- a string and a literal are not numbers
 abbrev pub IsLetter : ℕ → Type 0
 IsLetter first = (first ≡ 34) ⊎ (first ≡ 116) ⊎ (first ≡ 102) ⊎ (first ≡ 110)
 
@@ -89,7 +89,7 @@ one_member w (m ∷ []) first len e out =
     rw (ap (λ x. is_outside_profile w (value_view x.1)) (sym e) ∙ out) (ap (λ x. single_fault w (value_view x.1)) (sym e))
 one_member w (m ∷ n ∷ ms) first len e out = absurd (omega (arith, len))
 
--- a value that a wrapper stands for
+-- a value that a wrapper means
 pub meaning : {X : Type 0} (view : X → Tree) (r : Result X Trouble) (there : Option Scalar) → Gives view r (option_map leaf there) → result_err r ≡ None
     → is_some there ≡ true
 meaning view (Ok x) None g e = absurd cc
@@ -103,7 +103,7 @@ refused view (Err troubles.Memory) there g e = absurd cc
 refused view (Err troubles.Refused) None g e = refl
 refused view (Err troubles.Refused) (Some s) g e = absurd cc
 
--- ---- a wrapper stands for a value, or has a fault
+-- ---- a wrapper means a value, or has a fault
 
 outside_is_no_value : (w : Wrapper) (part : Json) → is_outside_profile w part ≡ true → is_some (single w part) ≡ false
 unfolding only pair

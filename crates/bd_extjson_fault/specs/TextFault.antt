@@ -1,4 +1,4 @@
--- The fault of a text that is no document: which rule it breaks, and at which byte.
+-- The fault of a text that is not a document: which rule it breaks, and at which byte.
 use Rattle.std.specs.Prelude.{ℕ, ◌-◌, List, length, if◌then◌else◌, Option, Some, None, Ok, Err, unwrap_or}
 use Rattle.std.specs.{Str.is_utf8, Str.Lossy.utf8_valid_len}
 use Rattle.bd_value.specs.Limits.{most_brackets, most_levels}
@@ -28,7 +28,7 @@ kind_in_tree trees.NotInProfile = kinds.NotInProfile
 kind_in_tree trees.NumberRange = kinds.NumberRange
 kind_in_tree trees.NulInName = kinds.NulInName
 
--- the same places, counted from the start of a text of that length
+-- a fault of the syntax with its byte, counted from the start of a text of this length
 abbrev pub stop_in : ℕ → Stop → JsonFault
 stop_in size stop = record { kind = kind_of_stop stop.kind; at = size - stop.remaining }
 
@@ -36,21 +36,21 @@ stop_in size stop = record { kind = kind_of_stop stop.kind; at = size - stop.rem
 abbrev pub fault_in : ℕ → TreeFault → JsonFault
 fault_in size fault = record { kind = kind_in_tree fault.kind; at = size - fault.remaining }
 
--- of a text that is JSON: the first fault of its tree, and last that it is no document, which has no place
+-- for a text that is JSON: the first fault of its tree, and last that it is not a document, which has no offset
 abbrev pub tree_or_none : List ℕ → Option TreeFault → Option JsonFault
 tree_or_none text (Some fault) = Some (fault_in (length text) fault)
 tree_or_none text None = if is_document text then None else Some (record { kind = kinds.NotADocument; at = 0 })
 
--- the fault of a text by what its syntax gave: that of the syntax, else the first of its tree
+-- the fault of a text by the result of its syntax: that of the syntax, else the first of its tree
 abbrev pub fault_after : List ℕ → Beyond → Option JsonFault
 fault_after text (Err stop) = Some (stop_in (length text) stop)
 fault_after text (Ok rest) = tree_or_none text (value_fault most_brackets most_levels text)
 
--- The first fault of a text: a byte at which it is not UTF-8; then where it is no JSON; then the faults of its tree.
+-- The first fault of a text: a byte at which it is not UTF-8; then one at which it is not JSON; then the faults of its tree.
 unfoldable pub first_fault : List ℕ → Option JsonFault
 first_fault text = if is_utf8 text then fault_after text (beyond_text text)
     else Some (record { kind = kinds.Syntax; at = utf8_valid_len text })
 
--- the same; of a text without a fault, that it ends
+-- the same; for a text without a fault, that it ends
 abbrev pub text_fault : List ℕ → JsonFault
 text_fault text = unwrap_or (first_fault text) (record { kind = kinds.Syntax; at = length text })

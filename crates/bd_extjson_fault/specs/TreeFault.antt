@@ -18,26 +18,26 @@ use Rattle.bd_extjson_fault.specs.declared.tree_fault.TreeFault.{TreeFault}
 use Rattle.bd_extjson_fault.specs.declared.tree_fault.TreeFaultKind.{TreeFaultKind}
 use Rattle.bd_extjson_fault.specs.declared.tree_fault.TreeFaultKind.TheVariants as kinds
 
--- a fault at the first byte of what is left of the text
+-- a fault at the first byte of the rest of the text
 abbrev pub fault_at : List ℕ → TreeFaultKind → Option TreeFault
 fault_at text kind = Some (record { kind = kind; remaining = length text })
 
--- the bytes of a text up to the rest that is left of it
+-- the bytes of a text before this rest of it
 abbrev pub bytes_before : List ℕ → List ℕ → List ℕ
 bytes_before rest text = take (length text - length rest) text
 
--- the JSON value that bytes begin with, by the grammar of the kit, which undoes escapes
+-- the JSON value that bytes begin with, by the grammar of the kit, which decodes escapes
 unfoldable pub json_in : List ℕ → Option Json
 json_in bytes = if is_utf8 bytes then option_map (λ p. p.0) (value most_brackets (tokens bytes)) else None
 
 -- ---- numbers outside wrappers
 
--- One with a fraction or an exponent is not in the profile; a whole one is to fit 64 bits.
+-- A number with a fraction or an exponent is not in the profile; a whole one must fit 64 bits.
 unfoldable pub number_fault : List ℕ → Option TreeFaultKind
 number_fault digits = if are_digits (unsigned digits)
     then (if is_some (whole_64 digits) then None else Some kinds.NumberRange) else Some kinds.NotInProfile
 
--- of the number that the text begins with, if it begins with one
+-- the fault of the number that the text begins with, if any
 abbrev pub number_between : List ℕ → Beyond → Option TreeFault
 number_between text (Ok rest) = option_and_then (fault_at text) (number_fault (bytes_before rest text))
 number_between text (Err stop) = None
@@ -48,31 +48,31 @@ scalar_fault text = number_between text (beyond_number text)
 
 -- ---- names
 
--- the name in quotation marks, without its escapes; empty if these bytes are no string
+-- the name in quotation marks, without its escapes; empty if these bytes are not a string
 abbrev pub name_in : List ℕ → List ℕ
 name_in quoted = unwrap_or (option_and_then as_str (json_in quoted)) []
 
--- the bytes that were passed, or none if there was a fault
+-- the bytes that were skipped, or none if there was a fault
 abbrev pub quoted_between : List ℕ → Beyond → List ℕ
 quoted_between text (Ok rest) = bytes_before rest text
 quoted_between text (Err stop) = []
 
--- the name at the front of the text, in its quotation marks
+-- the name at the start of the text, in its quotation marks
 unfoldable pub quoted_name : List ℕ → List ℕ
 quoted_name text = quoted_between (beyond_white text) (beyond_word (codes "\"") (beyond_white text) >>= beyond_string)
 
--- the wrapper that the first name says, after the brace of an object
+-- the wrapper of the first name, after the brace of an object
 abbrev pub if_named : Beyond → List ℕ → Option Wrapper
 if_named (Ok rest) name = wrapper_of name
 if_named (Err stop) name = None
 
--- the wrapper that the first name of an object is, if it is one; the text begins after the brace
+-- the wrapper of the first name of an object, if it is one; the text begins after the brace
 unfoldable pub first_wrapper : List ℕ → Option Wrapper
 first_wrapper inside = if_named (beyond_name inside) (name_in (quoted_name inside))
 
 -- ---- objects of one wrapper
 
--- these are known and not read
+-- these are recognised but not supported
 abbrev pub is_outside_profile : Wrapper → Json → Bool
 is_outside_profile wrappers.NumberDouble part = true
 is_outside_profile wrappers.NumberDecimal part = true
@@ -81,12 +81,12 @@ is_outside_profile wrappers.Date part = is_some (as_str part)
 is_outside_profile wrappers.Binary part = is_some (as_str part)
 is_outside_profile w part = false
 
--- a text of digits, with or without a minus sign, is there
+-- whether there is a text of digits, with or without a minus sign
 abbrev pub is_whole : Option (List ℕ) → Bool
 is_whole None = false
 is_whole (Some s) = are_digits (unsigned s)
 
--- a part has the form that its wrapper asks for, however great its numbers are and whatever its texts hold
+-- a part has the form that its wrapper needs, whatever the size of its numbers and the contents of its texts
 abbrev pub is_formed : Wrapper → Json → Bool
 is_formed wrappers.NumberInt part = is_whole (as_str part)
 is_formed wrappers.NumberLong part = is_whole (as_str part)
@@ -97,16 +97,16 @@ is_formed wrappers.RegularExpression part =
     option_map_or (λ p. is_some (as_str p.0) && is_some (as_str p.1)) (pair (codes "pattern") (codes "options") part) false
 is_formed w part = false
 
--- why a part stands for no value of its wrapper
+-- why a part means no value of its wrapper
 abbrev pub refusal_of_form : Wrapper → TreeFaultKind
 refusal_of_form wrappers.RegularExpression = kinds.NulInName
 refusal_of_form w = kinds.NumberRange
 
--- the fault of a part that is no value of its wrapper
+-- the fault of a part that is not a value of its wrapper
 abbrev pub refusal : Wrapper → Json → TreeFaultKind
 refusal w part = if is_formed w part then refusal_of_form w else kinds.BadWrapper
 
--- the fault of the only part of a wrapper, if the part is no value of it
+-- the fault of the only part of a wrapper, if the part is not a value of it
 abbrev pub single_fault : Wrapper → Json → Option TreeFaultKind
 single_fault w part = if is_some (single w part) then None else Some (refusal w part)
 
@@ -115,7 +115,7 @@ abbrev pub has_members : kit.Members → Bool
 has_members kit.no_members = false
 has_members (kit.member name part more) = true
 
--- the members of a wrapper's object: one, with the value that the wrapper asks for
+-- the members of a wrapper's object: one, with the value that the wrapper needs
 abbrev pub members_fault : Wrapper → kit.Members → Option TreeFaultKind
 members_fault w kit.no_members = Some kinds.BadWrapper
 members_fault w (kit.member name part more) = if is_outside_profile w part then Some kinds.NotInProfile
@@ -125,9 +125,9 @@ members_fault w (kit.member name part more) = if is_outside_profile w part then 
 abbrev pub wrapper_fault : Wrapper → Option Json → Option TreeFaultKind
 wrapper_fault w j = option_map_or (members_fault w) (option_and_then as_object j) (Some kinds.BadWrapper)
 
--- ---- values, with so many brackets and so many levels left
+-- ---- values, with n levels of brackets and m of documents and arrays remaining
 
--- the first fault that stands in a text
+-- the first fault of a text
 abbrev pub Finds : Type 0
 Finds = List ℕ → Option TreeFault
 
@@ -141,21 +141,21 @@ abbrev pub parts_after : (List ℕ → List (List ℕ)) → Result (Bool × List
 parts_after more (Ok next) = if next.0 then more next.1 else []
 parts_after more (Err stop) = []
 
--- The texts that begin with a part, of those up to the closing byte. The number bounds the turns.
+-- The texts that begin with a part, up to the closing byte. The number bounds the steps.
 unfoldable pub parts_from : (ℕ → Bool) → (List ℕ → Beyond) → ℕ → List ℕ → List (List ℕ)
 parts_from closes part zero text = []
 parts_from closes part (suc n) text = text ∷ parts_after (parts_from closes part n) (part text >>= beyond_next closes)
 
--- the same of what stands in brackets
+-- the same for the contents of brackets
 unfoldable pub parts_in : (ℕ → Bool) → (List ℕ → Beyond) → List ℕ → List (List ℕ)
 parts_in closes part text = if begins closes (beyond_white text) then [] else parts_from closes part (suc (length text)) text
 
--- an array, after its bracket; the first text begins with that
+-- an array after its bracket; the first text begins with the bracket
 unfoldable pub array_fault : (List ℕ → Beyond) → (ℕ → Finds) → ℕ → List ℕ → List ℕ → Option TreeFault
 array_fault value fault zero here inside = fault_at here kinds.TooDeep
 array_fault value fault (suc depth_left) here inside = first_in (fault depth_left) (parts_in (λ b. b == 93) value inside)
 
--- what stands behind a name and its colon
+-- the text after a name and its colon
 abbrev pub rest_of : Beyond → List ℕ
 rest_of (Ok rest) = rest
 rest_of (Err stop) = []
@@ -185,18 +185,18 @@ document_fault value fault (suc depth_left) here inside = first_in (member_fault
 abbrev pub is_string : List ℕ → Bool
 is_string text = begins (λ b. b == 34) (beyond_white text)
 
--- an object that is no wrapper
+-- an object that is not a wrapper
 abbrev pub is_document : List ℕ → Bool
 is_document text = opens_object (beyond_white text) && is_none (first_wrapper (drop 1 (beyond_white text)))
 
--- Code with its scope, of the two values: first how deep the scope is, for two levels, then what stands in it, and last
+-- Code with scope, of the two values: first the depth of the scope, which takes two levels, then its fault, and last
 -- whether it is a document.
 abbrev pub scope_fault : (ℕ → Finds) → ℕ → List ℕ → List ℕ → List ℕ → Option TreeFault
 scope_fault fault depth_left here code scope = if not (is_string code) then fault_at here kinds.BadWrapper
     else (if nat_lt depth_left 2 then fault_at here kinds.TooDeep
     else option_or (fault (depth_left - 1) scope) (if is_document scope then None else fault_at here kinds.BadWrapper))
 
--- a member of an object: the wrapper that its name says, and the text behind the colon
+-- a member of an object: the wrapper of its name, and the text after the colon
 abbrev pub Part : Type 0
 Part = Option Wrapper × List ℕ
 
@@ -227,12 +227,12 @@ object_fault_by (Some w) value fault depth_left here inside = if is_code_name (S
 abbrev pub object_fault : (List ℕ → Beyond) → (ℕ → Finds) → ℕ → List ℕ → List ℕ → Option TreeFault
 object_fault value fault depth_left here inside = object_fault_by (first_wrapper inside) value fault depth_left here inside
 
--- what stands behind white space
+-- the text after white space
 abbrev pub nested_fault : (List ℕ → Beyond) → (ℕ → Finds) → ℕ → List ℕ → Option TreeFault
 nested_fault value fault depth_left here = if opens_object here then object_fault value fault depth_left here (drop 1 here)
     else (if opens_array here then array_fault value fault depth_left here (drop 1 here) else scalar_fault here)
 
--- The first fault of a value, with so many brackets and so many levels left (Extended JSON v2, and 200 levels)
+-- The first fault of a value, with n levels of brackets and m of documents and arrays remaining (Extended JSON v2).
 unfoldable pub value_fault : ℕ → ℕ → List ℕ → Option TreeFault
 value_fault zero depth_left text = scalar_fault (beyond_white text)
 value_fault (suc level) depth_left text = nested_fault (beyond_value level) (value_fault level) depth_left (beyond_white text)

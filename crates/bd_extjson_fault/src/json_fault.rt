@@ -1,4 +1,4 @@
-//! Why a text is no document, and where.
+//! Why a text is not a document, and where.
 ghost use Rattle.std.specs.Prelude.{◌≡◌};
 ghost use Rattle.bd_extjson_fault.specs.JsonFault.{json_fault_number, json_fault_words};
 
@@ -8,15 +8,15 @@ use thiserror::Error;
 #[derive(Clone, Copy, Debug, Drop, PartialEq, Eq, Error)]
 #[error("{}", self.words())]
 pub enum JsonFaultKind {
-    /// It is no JSON, or it is not UTF-8.
+    /// It is not JSON, or it is not UTF-8.
     Syntax = 1,
-    /// It is a value that is no document.
+    /// It is a value that is not a document.
     NotADocument = 2,
-    /// Brackets stand deeper than 203 in one another, or documents and arrays deeper than 200.
+    /// Brackets nest deeper than 203 levels, or documents and arrays deeper than 200.
     TooDeep = 3,
     /// An object begins with a wrapper's name and is not exactly that wrapper.
     BadWrapper = 4,
-    /// A double, a decimal128, a UUID, a text as date, or another form that is not read.
+    /// A double, a decimal128, a UUID, a text as date, or another form that is not supported.
     NotInProfile = 5,
     /// A whole number that does not fit its type.
     NumberRange = 6,
@@ -24,11 +24,11 @@ pub enum JsonFaultKind {
     NulInName = 7,
     /// Text after the document.
     TrailingText = 8,
-    /// No memory was given.
+    /// Memory ran out.
     NoMemory = 9,
 }
 
-/// What went wrong, in words: by number, from 1 on.
+/// The messages, by number, from 1 on.
 const WORDS: [&str; 9] = [
     "not JSON",
     "not a document",
@@ -42,7 +42,7 @@ const WORDS: [&str; 9] = [
 ];
 
 impl JsonFaultKind {
-    /// What went wrong, in words.
+    /// The message.
     #[tactic(auto, unfolding(crate::specs::JsonFault::json_fault_words))]
     pub fn words(self) -> &'static str
         ensures { result.now ≡ json_fault_words self }
@@ -50,7 +50,7 @@ impl JsonFaultKind {
         WORDS[self as usize - 1]
     }
 
-    /// The number by which a reply tells it, 1 to 8; 9 for out of memory.
+    /// The number of the fault in a reply, 1 to 8; 9 for out of memory.
     pub fn number(self) -> u32
         ensures { result ≡ json_fault_number self }
     {
@@ -58,12 +58,12 @@ impl JsonFaultKind {
     }
 }
 
-/// Why a text is no document, and where.
+/// Why a text is not a document, and where.
 #[derive(Clone, Copy, Debug, Drop, PartialEq, Eq, Error)]
 #[error("byte {at}: {kind}")]
 pub struct JsonFault {
     /// Which rule it breaks.
     pub kind: JsonFaultKind,
-    /// The byte of the text, from 0. It is 0 for `NotADocument` and for `NoMemory`, which have no place.
+    /// The byte of the text, from 0. It is 0 for `NotADocument` and for `NoMemory`, which have no offset.
     pub at: u64,
 }

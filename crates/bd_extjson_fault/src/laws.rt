@@ -11,8 +11,8 @@ ghost use Rattle.bd_extjson_fault.specs.TextFault.{text_fault};
 ghost use Rattle.bd_extjson_fault.specs.TreeFault.{members_fault};
 ghost use Rattle.bd_extjson_fault.specs.declared.json_fault.JsonFaultKind.TheVariants as kinds;
 
-/// The fault of a text is at a byte in it, or at its end, and never that memory ran out. Bytes that are not UTF-8 are no JSON, at
-/// the first that is not.
+/// The fault of a text is at a byte in it, or at its end, and never that memory ran out. Bytes that are not UTF-8 are not
+/// JSON, at the first that is not.
 #[tactic(auto, using(crate::proofs::TextFaultLemmas::reported_placed, crate::proofs::TextFaultLemmas::reported_utf8, crate::proofs::TextFaultLemmas::reported_kind))]
 pub fn fault_is_placed()
     ensures placed { (text : List ℕ) → IsPlaced (length text) (text_fault text) }
@@ -20,13 +20,13 @@ pub fn fault_is_placed()
     ensures kind { (text : List ℕ) → (text_fault text).kind ≢ kinds.NoMemory }
 {}
 
-/// A number is passed here exactly where the grammar of JSON passes one, and leaves the same.
+/// A number is skipped here exactly if the grammar of JSON skips one, and the rest is the same.
 #[tactic(auto, using(crate::proofs::NumberLemmas::number_agrees))]
 pub fn passes_numbers_of_json()
     ensures { (text : List ℕ) → result_ok (beyond_number text) ≡ after_number text }
 {}
 
-/// An object of one name has no fault exactly where its wrapper stands for a value.
+/// An object of one name has no fault exactly if its wrapper means a value.
 pub fn wrapper_is_value_or_fault()
     ensures { (wrapper : Wrapper) → (name : List ℕ) → (part : Json)
         → (members_fault wrapper (member name part no_members) ≡ None)

@@ -1,6 +1,6 @@
-//! Why a text is no document of Extended JSON, and where: the second pass, over a text that was refused.
+//! Why a text is not a document of Extended JSON, and where: the second pass, over a text that was refused.
 //!
-//! Which fault it tells, and at which byte, is a function of the text: `text_fault` of `specs/TextFault.antt`.
+//! Which fault it reports, and at which byte, is a function of the text: `text_fault` of `specs/TextFault.antt`.
 //!
 //! An example, which `bd_extjson_tests` proves and runs as `examples::diagnosed`:
 //!
@@ -10,9 +10,9 @@
 //! ```
 //!
 //! - `json_fault`: the kinds of faults, and a fault.
-//! - `laws`: what holds of the fault of each text.
-//! - `second_pass`: `diagnose`, a walk over the whole text: its first fault as JSON, and of the tree that it is.
-//! - `skip`: the tokens of JSON, passed one by one.
+//! - `laws`: laws of the fault of each text.
+//! - `second_pass`: `diagnose`, a pass over the whole text: its first fault as JSON, and that of its tree.
+//! - `skip`: the tokens of JSON, skipped one by one.
 //! - `tree_fault`: what is wrong with a part of a text that is JSON: a number, a name, a wrapper.
 #![tactic(auto)]
 

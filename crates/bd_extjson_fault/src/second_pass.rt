@@ -1,6 +1,7 @@
-//! Why a text is no document, and where: a pass over the whole text, for texts that are refused.
+//! Why a text is not a document, and where: a pass over the whole text, for texts that are refused.
 //!
-//! What is no JSON ends the walk where it stands. The first fault of the tree is kept until the text has shown itself as JSON.
+//! If the text is not JSON, the pass ends there. The first fault of the tree is remembered until all of the text is known to
+//! be JSON.
 ghost use Rattle.std.specs.Prelude.{◌≡◌, ◌≢◌, ◌-◌, ◌<◌, ◌≤◌, ◌==◌, ℕ, IfErr, IfOk, OnOk, MatchResult, Some, None, Ok, Err, if◌then◌else◌, [], ◌∷◌, map, drop, length, IfSome, option_and_then};
 ghost use Rattle.std.specs.Option.{option_or};
 ghost use Rattle.std.specs.Str.{IsUtf8};
@@ -29,13 +30,13 @@ use bd_value::{MOST_BRACKETS, MOST_LEVELS};
 use json::Scratch;
 use std::alloc::{AllocError, Global};
 
-/// The first fault of a text: of its UTF-8, of its JSON, of its tree from left to right, and last that it is no document.
+/// The first fault of a text: of its UTF-8, of its JSON, of its tree from left to right, and last that it is not a document.
 ///
-/// It is asked of texts that are refused. Where it finds no fault it says `Syntax` at the text's end.
+/// Call it for texts that are refused. If it finds no fault, it returns `Syntax` at the text's end.
 pub fn diagnose(alloc: Global, text: &[u8]) -> JsonFault
     ensures place { IsPlaced (length text.now) result }
     ensures utf8 { ReportsBadUtf8 text.now result }
-    // What is told is the fault of the text, unless memory runs out.
+    // The fault is that of the text, unless memory runs out.
     ensures is { result.kind ≢ kinds.NoMemory → result ≡ text_fault text.now }
 {
     if let Err(error) = str::from_utf8(text) {
@@ -99,7 +100,7 @@ fn fault_in(fault: TreeFault, len: usize) -> JsonFault
     JsonFault { kind, at }
 }
 
-/// Why a walk ends before the text does.
+/// Why a pass ends before the text does.
 #[derive(Clone, Copy, Drop)]
 enum Halt {
     NoJson(Stop),
@@ -125,9 +126,9 @@ impl From<AllocError> for Halt {
 /// A member of an object.
 #[derive(Clone, Copy, Drop)]
 struct Part<'a> {
-    /// What its name says.
+    /// The wrapper of its name.
     wrapper: Option<Wrapper>,
-    /// What stands behind its colon.
+    /// The text after its colon.
     text: &'a [u8],
 }
 
@@ -175,19 +176,19 @@ fn is_string(text: &[u8]) -> bool
     begins(skip_white(text), b'"')
 }
 
-/// A walk over a text, which is JSON so far.
+/// A pass over a text, which is JSON so far.
 #[derive(Drop)]
 struct Pass<'a> {
     alloc: Global,
     scratch: Scratch,
-    /// What is not passed yet.
+    /// The text that is not skipped yet.
     rest: &'a [u8],
     /// The first fault of the tree.
     fault: Option<TreeFault>,
 }
 
 impl<'a> Pass<'a> {
-    /// The first fault of the tree, which the whole text is, or that it is no document.
+    /// The first fault of the tree of the whole text, or that it is not a document.
     fn document(&mut self) -> Result<Option<JsonFault>, Halt>
         ensures beyond { Passes result [] (beyond_text self.old.rest.now) }
         ensures within { IfErr result (IsWithin (length self.old.rest.now)) }
@@ -210,7 +211,7 @@ impl<'a> Pass<'a> {
         }))
     }
 
-    /// Passes the whole text, which is to be one value.
+    /// Skips the whole text, which must be one value.
     #[tactic(auto, unfolding(crate::specs::JsonSyntax::beyond_text))]
     fn whole(&mut self) -> Result<(), Halt>
         ensures beyond { Passes result [] (beyond_text self.old.rest.now) }
@@ -226,7 +227,7 @@ impl<'a> Pass<'a> {
         Ok(())
     }
 
-    /// Whether an object that is no wrapper is next.
+    /// Whether an object that is not a wrapper is next.
     fn is_document(&mut self, text: &'a [u8]) -> Result<bool, AllocError>
         ensures same { self.new.rest.now ≡ self.old.rest.now }
         ensures same_fault { self.new.fault ≡ self.old.fault }
@@ -239,8 +240,8 @@ impl<'a> Pass<'a> {
         Ok(self.first_wrapper(skip_byte(here))?.is_none())
     }
 
-    /// Passes the next value, with at most `level` brackets in one another. Faults of the tree are looked for where there is a
-    /// `depth_left`: so deep may documents and arrays stand in one another.
+    /// Skips the next value, with at most `level` levels of brackets. Faults of the tree are searched if there is a
+    /// `depth_left`: the number of levels that documents and arrays may nest.
     #[cycle(passing)]
     fn value(&mut self, level: usize, depth_left: Option<usize>) -> Result<(), Halt>
         ensures beyond { Passes result self.new.rest.now (beyond_value level self.old.rest.now) }
@@ -266,7 +267,7 @@ impl<'a> Pass<'a> {
         }
     }
 
-    /// Passes the value without brackets that the text begins with.
+    /// Skips the value without brackets that the text begins with.
     #[tactic(auto, unfolding(crate::specs::JsonSyntax::beyond_scalar))]
     fn scalar(&mut self, text: &'a [u8], depth_left: Option<usize>) -> Result<(), Stop>
         ensures beyond { Gives (λ u. self.new.rest.now) result (beyond_scalar text.now) }
@@ -289,7 +290,7 @@ impl<'a> Pass<'a> {
         Ok(())
     }
 
-    /// Passes the number that the text begins with.
+    /// Skips the number that the text begins with.
     fn number(&mut self, text: &'a [u8], depth_left: Option<usize>) -> Result<(), Stop>
         ensures beyond { Gives (λ u. self.new.rest.now) result (beyond_number text.now) }
         ensures shorter { MatchResult result
@@ -306,7 +307,7 @@ impl<'a> Pass<'a> {
         Ok(())
     }
 
-    /// Passes the array that the text begins with, whose bracket was passed.
+    /// Skips the array that the text begins with, whose bracket was skipped.
     #[cycle(passing)]
     fn array(&mut self, text: &'a [u8], level: usize, depth_left: Option<usize>) -> Result<(), Halt>
         ensures beyond { Passes result self.new.rest.now
@@ -327,7 +328,7 @@ impl<'a> Pass<'a> {
         Ok(())
     }
 
-    /// Passes the object that the text begins with, whose brace was passed: its first name makes it a wrapper or a document.
+    /// Skips the object that the text begins with, whose brace was skipped: its first name makes it a wrapper or a document.
     #[cycle(passing)]
     fn object(
         &mut self,
@@ -361,7 +362,7 @@ impl<'a> Pass<'a> {
         }
     }
 
-    /// The wrapper that the first name of an object says, in the text behind the brace.
+    /// The wrapper of the first name of an object, in the text after the brace.
     #[tactic(auto, unfolding(crate::specs::TreeFault::first_wrapper))]
     fn first_wrapper(&mut self, inside: &'a [u8]) -> Result<Option<Wrapper>, AllocError>
         ensures same { self.new.rest.now ≡ self.old.rest.now }
@@ -374,7 +375,7 @@ impl<'a> Pass<'a> {
         }
     }
 
-    /// Passes an object as a document, or as JSON alone.
+    /// Skips an object as a document, or as JSON alone.
     #[cycle(passing)]
     fn members(
         &mut self,
@@ -398,7 +399,7 @@ impl<'a> Pass<'a> {
         self.more_members(level, depth_left)
     }
 
-    /// Passes the members from here on, of which there is one.
+    /// Skips the members from here on, of which there is at least one.
     #[cycle(passing)]
     fn more_members(&mut self, level: usize, depth_left: Option<usize>) -> Result<(), Halt>
         ensures beyond { (n : ℕ) →
@@ -423,7 +424,7 @@ impl<'a> Pass<'a> {
         Ok(())
     }
 
-    /// Passes an object whose first name is `$code` or `$scope`.
+    /// Skips an object whose first name is `$code` or `$scope`.
     #[cycle(passing)]
     fn code(&mut self, text: &'a [u8], level: usize, levels: usize) -> Result<(), Halt>
         ensures beyond { Passes result self.new.rest.now
@@ -442,7 +443,7 @@ impl<'a> Pass<'a> {
         Ok(())
     }
 
-    /// Passes its members, and gives its fault.
+    /// Skips its members, and returns its fault.
     #[cycle(passing)]
     fn code_parts(
         &mut self,
@@ -474,7 +475,7 @@ impl<'a> Pass<'a> {
         Ok(self.pair_fault(text, levels, first, second)?)
     }
 
-    /// Passes a member. Faults are looked for in a scope, for which there is one level less.
+    /// Skips a member. Faults are searched in a scope, for which there is one level less.
     #[cycle(passing)]
     fn code_part(&mut self, level: usize, levels: usize) -> Result<Part<'a>, Halt>
         ensures beyond { Passes result self.new.rest.now
@@ -500,7 +501,7 @@ impl<'a> Pass<'a> {
         Ok(part)
     }
 
-    /// The fault of an object of two members, in which faults of a scope were found.
+    /// The fault of an object of two members, of which a scope was searched for faults.
     fn pair_fault(
         &mut self,
         text: &'a [u8],
@@ -533,8 +534,8 @@ impl<'a> Pass<'a> {
         }
     }
 
-    /// The fault of a code and its scope, in which the first fault was found: first how deep the scope stands, for two levels,
-    /// then what stands in it, and last whether it is a document.
+    /// The fault of code with scope, whose scope was searched for its first fault: first the depth of the scope, which takes
+    /// two levels, then its fault, and last whether it is a document.
     fn scope_fault(
         &mut self,
         text: &'a [u8],
@@ -560,7 +561,7 @@ impl<'a> Pass<'a> {
         Ok(self.fault.or(end))
     }
 
-    /// How deep documents and arrays may stand in the one that the text begins with.
+    /// How many levels remain inside the document or array that the text begins with.
     fn deeper(&mut self, text: &[u8], depth_left: Option<usize>) -> Option<usize>
         ensures same { self.new.rest.now ≡ self.old.rest.now }
         ensures fault { self.new.fault
@@ -573,7 +574,7 @@ impl<'a> Pass<'a> {
         depth_left?.checked_sub(1)
     }
 
-    /// Takes the fault of a name, where a document may stand.
+    /// Notes the fault of a name, if faults are searched.
     fn check_name(&mut self, key: &Key<'_>, depth_left: Option<usize>) -> Result<(), AllocError>
         ensures same { self.new.rest.now ≡ self.old.rest.now }
         ensures fault { OnOk result (self.new.fault ≡ found self.old.fault depth_left
@@ -585,7 +586,7 @@ impl<'a> Pass<'a> {
         Ok(())
     }
 
-    /// Takes a fault at the first byte of a text, unless there is an earlier one.
+    /// Notes a fault at the first byte of a text, unless there is an earlier one.
     fn note(&mut self, text: &[u8], kind: Option<TreeFaultKind>)
         ensures same { self.new.rest.now ≡ self.old.rest.now }
         ensures fault { self.new.fault
@@ -596,7 +597,7 @@ impl<'a> Pass<'a> {
         }
     }
 
-    /// Passes the bracket that closes, and tells whether it is next.
+    /// Skips the closing bracket if it is next, and returns whether it was.
     fn closes(&mut self, bracket: u8) -> bool
         ensures reports { result ≡ begins (λ b. b == bracket) (beyond_white self.old.rest.now) }
         ensures beyond { self.new.rest.now
@@ -612,7 +613,7 @@ impl<'a> Pass<'a> {
         true
     }
 
-    /// Passes the comma after a part, or the bracket that closes, and tells whether another part comes.
+    /// Skips the comma after a part, or the closing bracket, and returns whether another part comes.
     #[tactic(auto, unfolding(crate::specs::JsonSyntax::beyond_next))]
     fn goes_on(&mut self, bracket: u8) -> Result<bool, Stop>
         ensures beyond { Gives (λ more. (more, self.new.rest.now)) result

@@ -1,4 +1,4 @@
-//! The tokens of JSON (RFC 8259), passed one by one, with the first byte that cannot continue.
+//! The tokens of JSON (RFC 8259), skipped one by one, with the first byte that cannot continue.
 ghost use Rattle.std.specs.Prelude.{◌≡◌, ◌<◌, ◌≤◌, ◌-◌, ◌==◌, length, drop, IfOk, MatchResult};
 ghost use Rattle.bd_extjson_fault.specs.JsonSyntax.{Gives, begins, is_decimal, beyond_all, beyond_white, beyond_word, beyond_digits};
 ghost use Rattle.bd_extjson_fault.specs.JsonSyntax.{beyond_natural, beyond_fraction, beyond_number, beyond_exponent, beyond_hex};
@@ -6,18 +6,18 @@ ghost use Rattle.bd_extjson_fault.specs.JsonSyntax.{beyond_unit, beyond_low, bey
 ghost use Rattle.bd_extjson_fault.specs.TreeFault.{quoted_name};
 ghost use Rattle.bd_extjson_fault.specs.declared.skip.StopKind.TheVariants as kinds;
 
-/// How a text is no JSON.
+/// Why a text is not JSON.
 #[derive(Clone, Copy, Debug, Drop, PartialEq, Eq)]
 pub(crate) enum StopKind {
-    /// It cannot go on with this byte, or it ends too soon.
+    /// It cannot continue with this byte, or it ends too soon.
     Syntax,
-    /// This bracket stands in too many others.
+    /// This bracket is nested too deep.
     TooDeep,
     /// A value ended before it.
     TrailingText,
 }
 
-/// Where a text shows itself as no JSON: the number of bytes from there to its end.
+/// Where a text is not JSON: the number of bytes from there to its end.
 #[derive(Clone, Copy, Debug, Drop, PartialEq, Eq)]
 pub(crate) struct Stop {
     pub kind: StopKind,
@@ -25,7 +25,7 @@ pub(crate) struct Stop {
 }
 
 impl Stop {
-    /// At the first byte of what is left of the text.
+    /// At the first byte of the rest of the text.
     pub fn at(rest: &[u8], kind: StopKind) -> Stop
         ensures { result ≡ record { kind = kind; remaining = length rest.now } }
     {
@@ -47,7 +47,7 @@ pub(crate) fn begins(text: &[u8], byte: u8) -> bool
     matches!(text, [first, ..] if *first == byte)
 }
 
-/// What stands after the first byte.
+/// The text after the first byte.
 pub(crate) fn skip_byte(text: &[u8]) -> &[u8]
     ensures beyond { result.now ≡ drop 1 text.now }
     ensures shorter { length result.now ≡ length text.now - 1 }
@@ -58,7 +58,7 @@ pub(crate) fn skip_byte(text: &[u8]) -> &[u8]
     }
 }
 
-/// What stands after white space.
+/// The text after white space.
 #[tactic(auto, unfolding(crate::specs::JsonSyntax::beyond_all))]
 pub(crate) fn skip_white(text: &[u8]) -> &[u8]
     ensures beyond { result.now ≡ beyond_white text.now }
@@ -71,7 +71,7 @@ pub(crate) fn skip_white(text: &[u8]) -> &[u8]
     rest
 }
 
-/// What stands after a word.
+/// The text after a literal.
 #[tactic(auto, unfolding(crate::specs::JsonSyntax::beyond_word))]
 pub(crate) fn skip_word<'a>(text: &'a [u8], word: &[u8]) -> Result<&'a [u8], Stop>
     ensures beyond { Gives (λ x. x.now) result (beyond_word word.now text.now) }
@@ -89,7 +89,7 @@ pub(crate) fn skip_word<'a>(text: &'a [u8], word: &[u8]) -> Result<&'a [u8], Sto
     Ok(rest)
 }
 
-/// What stands after digits.
+/// The text after digits.
 #[tactic(auto, unfolding(crate::specs::JsonSyntax::beyond_all))]
 fn skip_all_digits(text: &[u8]) -> &[u8]
     ensures beyond { result.now ≡ beyond_all is_decimal text.now }
@@ -102,7 +102,7 @@ fn skip_all_digits(text: &[u8]) -> &[u8]
     rest
 }
 
-/// What stands after one digit or more.
+/// The text after at least one digit.
 #[tactic(auto, unfolding(crate::specs::JsonSyntax::beyond_digits, crate::specs::JsonSyntax::beyond_all))]
 fn skip_digits(text: &[u8]) -> Result<&[u8], Stop>
     ensures beyond { Gives (λ x. x.now) result (beyond_digits text.now) }
@@ -115,7 +115,7 @@ fn skip_digits(text: &[u8]) -> Result<&[u8], Stop>
     }
 }
 
-/// What stands after a number without sign, fraction and exponent: no digit follows a zero in front.
+/// The text after a number without sign, fraction and exponent: no digit follows a leading zero.
 #[tactic(auto, unfolding(crate::specs::JsonSyntax::beyond_natural))]
 fn skip_natural(text: &[u8]) -> Result<&[u8], Stop>
     ensures beyond { Gives (λ x. x.now) result (beyond_natural text.now) }
@@ -153,7 +153,7 @@ fn skip_exponent(text: &[u8]) -> Result<&[u8], Stop>
     }
 }
 
-/// What stands after a number (section 6).
+/// The text after a number (section 6).
 #[tactic(auto, unfolding(crate::specs::JsonSyntax::beyond_number))]
 pub(crate) fn skip_number(text: &[u8]) -> Result<&[u8], Stop>
     ensures beyond { Gives (λ x. x.now) result (beyond_number text.now) }
@@ -168,7 +168,7 @@ pub(crate) fn skip_number(text: &[u8]) -> Result<&[u8], Stop>
     skip_exponent(exponent)
 }
 
-/// The value of a hexadecimal digit, and what stands after it.
+/// The value of a hexadecimal digit, and the text after it.
 #[tactic(auto, unfolding(crate::specs::JsonSyntax::beyond_hex))]
 fn skip_hex(text: &[u8]) -> Result<(u32, &[u8]), Stop>
     ensures beyond { Gives (λ x. (x.0, x.1.now)) result (beyond_hex text.now) }
@@ -185,7 +185,7 @@ fn skip_hex(text: &[u8]) -> Result<(u32, &[u8]), Stop>
     }
 }
 
-/// The number of an escape of four digits, and what stands after it.
+/// The number of an escape of four digits, and the text after it.
 #[tactic(auto, unfolding(crate::specs::JsonSyntax::beyond_unit))]
 fn skip_unit(text: &[u8]) -> Result<(u32, &[u8]), Stop>
     ensures beyond { Gives (λ x. (x.0, x.1.now)) result (beyond_unit text.now) }
@@ -200,7 +200,7 @@ fn skip_unit(text: &[u8]) -> Result<(u32, &[u8]), Stop>
     Ok((a * 4096 + b * 256 + c * 16 + d, rest))
 }
 
-/// What stands after a low surrogate, which is to follow a high one. Without it the high one is alone, unless the text ends first.
+/// The text after a low surrogate, which must follow a high one. Without it the high one is a fault, unless the text ends first.
 #[tactic(auto, unfolding(crate::specs::JsonSyntax::beyond_low))]
 fn skip_low<'a>(high: &[u8], text: &'a [u8]) -> Result<&'a [u8], Stop>
     ensures beyond { Gives (λ x. x.now) result (beyond_low high.now (beyond_unit text.now)) }
@@ -214,7 +214,7 @@ fn skip_low<'a>(high: &[u8], text: &'a [u8]) -> Result<&'a [u8], Stop>
     }
 }
 
-/// What stands after an escape of four digits, or after two that stand for a pair of surrogates.
+/// The text after an escape of four digits, or after two that are a pair of surrogates.
 #[tactic(auto, unfolding(crate::specs::JsonSyntax::beyond_units))]
 fn skip_units(text: &[u8]) -> Result<&[u8], Stop>
     ensures beyond { Gives (λ x. x.now) result (beyond_units text.now) }
@@ -229,7 +229,7 @@ fn skip_units(text: &[u8]) -> Result<&[u8], Stop>
     }
 }
 
-/// What stands after a character of a string.
+/// The text after a character of a string.
 #[tactic(auto, unfolding(crate::specs::JsonSyntax::beyond_character, crate::specs::JsonSyntax::beyond_escape))]
 fn skip_character(text: &[u8]) -> Result<&[u8], Stop>
     ensures beyond { Gives (λ x. x.now) result (beyond_character text.now) }
@@ -249,7 +249,7 @@ fn skip_character(text: &[u8]) -> Result<&[u8], Stop>
     }
 }
 
-/// What stands after a string (section 7), in a text that begins after its first quotation mark.
+/// The text after a string (section 7), in a text that begins after its first quotation mark.
 #[tactic(auto, unfolding(crate::specs::JsonSyntax::beyond_string))]
 pub(crate) fn skip_string(text: &[u8]) -> Result<&[u8], Stop>
     ensures beyond { Gives (λ x. x.now) result (beyond_string text.now) }
@@ -270,7 +270,7 @@ pub(crate) struct Key<'a> {
     pub quoted: &'a [u8],
     /// From its opening quotation mark to the text's end.
     pub from: &'a [u8],
-    /// What stands after the colon.
+    /// The text after the colon.
     pub rest: &'a [u8],
 }
 

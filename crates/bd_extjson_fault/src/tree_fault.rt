@@ -26,7 +26,7 @@ pub(crate) enum TreeFaultKind {
     NulInName,
 }
 
-/// A fault of the tree, and the number of bytes from its place to the end of the text.
+/// A fault of the tree, and the number of bytes from its offset to the end of the text.
 #[derive(Clone, Copy, Debug, Drop, PartialEq, Eq)]
 pub(crate) struct TreeFault {
     pub kind: TreeFaultKind,
@@ -34,7 +34,7 @@ pub(crate) struct TreeFault {
 }
 
 impl TreeFault {
-    /// A fault at the first byte of what is left of the text.
+    /// A fault at the first byte of the rest of the text.
     pub fn at(rest: &[u8], kind: TreeFaultKind) -> TreeFault
         ensures { result ≡ record { kind = kind; remaining = length rest.now } }
     {
@@ -77,14 +77,14 @@ fn read_json<'a>(
     }
 }
 
-/// What the name of a member says.
+/// The wrapper of the name of a member, and whether it contains a zero.
 #[derive(Clone, Copy, Drop)]
 pub(crate) struct Name {
     pub wrapper: Option<Wrapper>,
     pub has_zero: bool,
 }
 
-/// What a name says, which stands in quotation marks, with escapes or without.
+/// Reads a name in quotation marks, with escapes or without.
 pub(crate) fn read_name(
     alloc: Global,
     quoted: &[u8],
@@ -103,7 +103,7 @@ pub(crate) fn read_name(
     })
 }
 
-/// Why an object is not the wrapper that its first name says. Code and its scope are judged elsewhere.
+/// Why an object is not the wrapper of its first name. Code with scope is checked elsewhere.
 pub(crate) fn wrapper_fault(
     alloc: Global,
     wrapper: Wrapper,
@@ -131,7 +131,7 @@ fn members_of<'v, 'a>(value: &'v Value<'a>) -> Option<&'v [(&'a str, Value<'a>)]
     }
 }
 
-/// First come the forms that are known and not read.
+/// First come the forms that are recognised but not supported.
 #[tactic(auto, using(crate::proofs::TreeFaultLemmas::one_member))]
 fn members_fault(
     alloc: Global,
@@ -178,7 +178,7 @@ fn is_outside_profile(wrapper: Wrapper, part: &Value<'_>) -> bool
     }
 }
 
-/// Why a part is no value of its wrapper: where its form is right, its number is out of range or its text has a zero.
+/// Why a part is not a value of its wrapper: if its form is right, its number is out of range or its text contains a zero.
 fn refusal(wrapper: Wrapper, part: &Value<'_>) -> TreeFaultKind
     ensures { result ≡ refusal wrapper (value_view part.now) }
 {
@@ -189,7 +189,7 @@ fn refusal(wrapper: Wrapper, part: &Value<'_>) -> TreeFaultKind
     }
 }
 
-/// Whether a part has the form that its wrapper asks for, however great its numbers are and whatever its texts hold.
+/// Whether a part has the form that its wrapper needs, whatever the size of its numbers and the contents of its texts.
 fn is_formed(wrapper: Wrapper, part: &Value<'_>) -> bool
     ensures { result ≡ is_formed wrapper (value_view part.now) }
 {

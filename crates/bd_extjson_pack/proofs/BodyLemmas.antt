@@ -43,19 +43,19 @@ one_more_item ts t =
     let here : 0 + length ts ≡ length ts = omega arith in
     more_items 0 ts t ∙ ap (λ n. items_bytes 0 (items_of ts) ++ element t (decimal n) (bytes_of t)) here
 
--- what a clause says of a result of which ok() was taken
+-- what a clause says of a result whose ok() was taken
 pub if_ok : {A E : Type 0} (r : Result A E) (x : A) (P : A → Type 0) (Q : E → Type 0) → Some x ≡ result_ok r → MatchResult r P Q → P x
 if_ok (Ok y) x P Q e p = let is : x ≡ y = cc in rw is p
 if_ok (Err f) x P Q e p = absurd cc
 
--- a body after the four bytes that its length has, which stand at the place that was told
+-- a body after the four bytes of its length, which are at the reported offset
 pub body_size : {E : Type 0} (r : Result ℕ E) (at : ℕ) (Q : E → Type 0) (old body out : List ℕ) → Some at ≡ result_ok r → MatchResult r (λ x. x ≡ length old) Q
     → out ≡ (old ++ number 0) ++ body → at + 4 ≤ length out
 body_size r at Q old body out reported place is =
     let here = if_ok r at (λ x. x ≡ length old) Q reported place in
     omega (arith, here, ap (λ xs. length xs) is, length-append (old ++ number 0) body, length-append old (number 0), number_length 0)
 
--- a body that is ended where it began is framed
+-- a body that is ended at the offset where it began is framed
 pub ended : {E : Type 0} (r : Result ℕ E) (at : ℕ) (Q : E → Type 0) (old body out : List ℕ) → Some at ≡ result_ok r → MatchResult r (λ x. x ≡ length old) Q
     → out ≡ (old ++ number 0) ++ body → take at out ++ framed (drop (at + 4) out) ≡ old ++ framed body
 ended r at Q old body out reported place is =

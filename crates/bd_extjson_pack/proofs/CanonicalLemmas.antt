@@ -1,4 +1,4 @@
--- Canonical text, read from its front.
+-- Canonical text, read from its start.
 use Rattle.std.proofs.Common.{◌-◌, ◌≡◌, ◌<◌, ◌≤◌, ℕ, suc, ℤ, List, [], ◌∷◌, ◌++◌, eqb, get_or, Bor, length, take, drop, Bool, true, false, cond, Option, Some, None, refl}
 use Rattle.std.proofs.Common.{sym, ap, ap₂, ◌∙◌, arith, append_assoc, append-nil, length-append, take-append-drop, Result, Ok, Err, is_ok, zero, ◌^◌, pos, neg_ℤ, decimal}
 use Rattle.std.proofs.Common.{inl, inr, ◌+◌, ◌*◌, ltb, not, bit_or, map, replicate}
@@ -40,7 +40,7 @@ no_zero (b ∷ s) e =
     let other : (b == 0) ≡ false = grind (arith, nat_tests, both.0) in
     rw other (no_zero s both.1)
 
--- a string is read: the first mark, what stands for itself, the last mark
+-- a string is read: the first quotation mark, bytes without escapes, the last quotation mark
 pub string_read : (whole after inside last rest : List ℕ) (n : ℕ) → whole ≡ 34 ∷ after → inside ≡ take n after → last ≡ drop n after → last ≡ 34 ∷ rest → list_any needs_escape (take n after) ≡ false
     → (whole ≡ quoted inside ++ rest) × (has_zero inside ≡ false)
 unfolding quoted
@@ -69,7 +69,7 @@ joined_end (y ∷ z ∷ xs) x = ap (λ l. y ++ (44 ∷ l)) (joined_end (z ∷ xs
 pub more_depth_left : (few depth_left : ℕ) (t : Tree) → few ≤ depth_left → IsCanonical few t → IsCanonical depth_left t
 more_depth_left few depth_left t le c = record { fits = c.fits; determined = c.determined; no_zero = c.no_zero; shallow = omega (arith, le, c.shallow) }
 
--- the four facts, of lists of elements and of pairs
+-- the four facts, for lists of elements and of pairs
 abbrev AreItems : ℕ → Items → Type 0
 AreItems depth_left ts = ItemsFit IsUtf8 ts × ArePlainItems ts × (zero_in_items ts ≡ false) × (items_depth ts ≤ depth_left)
 
@@ -134,7 +134,7 @@ pub members_end : (ps : Doc) (name : List ℕ) (t : Tree) → fields_text (field
 members_end [] name t = refl
 members_end (p ∷ ps) name t = ap (λ l. member p.0 (text p.1) ∷ l) (members_end ps name t)
 
--- What was read of a text, to where the next piece begins, or to where the last one ends.
+-- The text that was read, up to where the next piece begins, or to where the last one ends.
 abbrev pub IsReadTo : ℕ → List ℕ → List (List ℕ) → List ℕ → Option (Bor (List ℕ)) → Type 0
 IsReadTo bracket whole pieces rest None = whole ≡ bracket ∷ (join_with_byte 44 pieces ++ rest)
 IsReadTo bracket whole pieces rest (Some at) = whole ≡ bracket ∷ (led pieces ++ at.now)
@@ -172,7 +172,7 @@ pub wrapped : (prefix value back whole text inside after rest : List ℕ) → te
     → whole ≡ prefix ++ (value ++ back) → text ≡ whole ++ rest
 wrapped prefix value back whole text inside after rest a b c spelled = rw (a, b, c, spelled) (simp append_assoc)
 
--- a wrapper of a number that was read is the canonical text of that number, whatever follows
+-- a wrapper of a number is the canonical text of that number, whatever follows
 pub number_read : (make : ℤ → Scalar) (prefix back text inside after rest : List ℕ) (z y : ℤ) → text ≡ prefix ++ inside → inside ≡ quoted (signed_decimal z) ++ after → after ≡ back ++ rest → z ≡ y
     → scalar_text (make z) ≡ prefix ++ (quoted (signed_decimal z) ++ back) → text ≡ scalar_text (make y) ++ rest
 number_read make prefix back text inside after rest z y a b c same spelled = rw (← same) (wrapped prefix (quoted (signed_decimal z)) back (scalar_text (make z)) text inside after rest a b c spelled)
@@ -208,7 +208,7 @@ some_tree_text (code_scope s fs) = omega arith
 pub shorter : (t : Tree) (whole rest : List ℕ) → whole ≡ text t ++ rest → length rest < length whole
 shorter t whole rest is = omega (arith, some_tree_text t, ap (λ x. length x) is, length-append (text t) rest)
 
--- ---- what is read of a value
+-- ---- a value that was read
 
 -- the scalar that was read, and the one that was written
 pub scalar_element : (whole rest name old new : List ℕ) (s given : Scalar) → given ≡ s → whole ≡ text (leaf s) ++ rest → ScalarFits IsUtf8 s → zero_in_scalar s ≡ false
@@ -238,7 +238,7 @@ run_read text n None prefix back none = tt
 run_read text n (Some p) prefix back none =
     sym (take-append-drop n text) ∙ ap₂ (λ (x y : List ℕ). x ++ y) (sym (escaped-plain (take n text) none) ∙ ap escaped (sym prefix)) (sym back)
 
--- an escape and the run after it
+-- an escape and the run after it are the text of one more byte and the run
 pub run_goes_on : (text decoded old after run rest : List ℕ) (byte : ℕ) → text ≡ 34 ∷ (escaped decoded ++ old) → old ≡ escape_byte byte ++ after
     → after ≡ escaped run ++ rest → text ≡ 34 ∷ (escaped (decoded ++ (byte ∷ run)) ++ rest)
 run_goes_on text decoded old after run rest byte a b c = rw (a, b, c, flat_map-append escape_byte decoded (byte ∷ run)) (simp append_assoc)
@@ -373,7 +373,7 @@ stops_mask v long =
     let all = zip2_of_maps bit_or _ _ v both controls in
     ap (λ ms. mask_l ms % 2 ^ 64) (ap (map (top 7)) all ∙ map-map (top 7) _ v ∙ each_tested v) ∙ mask_l-mod (map needs_escape v) 64 (omega (arith, length-map v needs_escape, long))
 
--- ---- bytes before the first that stops
+-- ---- bytes before the first that needs an escape
 
 none_any : (p : ℕ → Bool) (xs : List ℕ) → ((k : ℕ) → k < length xs → p (get_or xs k 0) ≡ false) → list_any p xs ≡ false
 none_any p [] quiet = refl
@@ -383,7 +383,7 @@ none_any p (x ∷ xs) quiet = rw (quiet 0 (omega arith)) (none_any p xs (λ k lt
 abbrev pub IsQuiet : List ℕ → ℕ → Type 0
 IsQuiet text n = (k : ℕ) → k < n → needs_escape (get_or text k 0) ≡ false
 
--- bytes that each need no escape hold none that does
+-- among bytes that each need no escape, none needs one
 pub quiet_prefix : (text bytes : List ℕ) (n : ℕ) → bytes ≡ text → n ≤ length bytes → IsQuiet bytes n → list_any needs_escape (take n text) ≡ false
 quiet_prefix text bytes n same le quiet =
     let long = length-take-le n bytes le in
@@ -396,7 +396,7 @@ module _ (text : List ℕ) (i : ℕ) (depth_left : i + 32 ≤ length text) (befo
     | inr more ↦ none_from_empty_mask needs_escape text i 32 0 depth_left none k (omega (arith, more)) lt
   ]
 
-  -- the first byte that stops is one of the chunk, and those before it are quiet
+  -- the first byte that needs an escape is one of the chunk, and those before it need none
   pub stops_within : (r : ℕ) → 0 < mask_l (map needs_escape (chunk i 32 text)) → r ≡ count_trailing_zeros 64 (mask_l (map needs_escape (chunk i 32 text))) → (r ≤ 32) × IsQuiet text (i + r)
   stops_within r some counted =
       let long = length-chunk i 32 text depth_left in

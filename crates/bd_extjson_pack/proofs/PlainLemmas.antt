@@ -1,5 +1,5 @@
--- What is read of a text can be written: it nests 200 levels at most, and no name and no text of a regular expression has
--- a zero.
+-- A document read from a text can be written: it nests at most 200 levels, and no name and no text of a regular
+-- expression contains a zero.
 use Rattle.std.proofs.Common.{◌≡◌, ◌≤◌, ℕ, zero, suc, ◌-◌, ℤ, List, Bool, true, false, ◌||◌, Option, Some, None, refl, sym, ap, ◌∙◌, arith}
 use Rattle.std.specs.Prelude.{codes, option_map, option_and_then, unwrap_or, if◌then◌else◌}
 use Rattle.std.specs.Option.{option_map_or, option_zip}
@@ -16,7 +16,7 @@ use Rattle.bd_extjson.specs.Read.{wrap, wrap_items, wrap_object, wrapped, wrap_f
 use Rattle.bd_extjson.specs.Read as reads
 use Rattle.bd_extjson_wrapper.specs.declared.wrapper.Wrapper.TheVariants as kinds
 
--- what stands there nests so deep at most, and has no zero where there may be none
+-- a value, if any, nests at most n levels, and contains no zero where none is allowed
 abbrev IsTree : ℕ → Option Tree → Type 0
 IsTree depth_left None = Unit {0}
 IsTree depth_left (Some t) = (depth t ≤ depth_left) × (zero_in t ≡ false)
@@ -112,7 +112,7 @@ doc_plain : (depth_left : ℕ) (fs : Option Fields) → AreFields (depth_left - 
 doc_plain (suc depth_left) (Some fs) p = (let a = p.0 in omega arith, p.1)
 doc_plain _ _ p = tt
 
--- ---- objects that stand for values of other kinds
+-- ---- objects that mean values of other kinds
 
 scope_plain : (depth_left : ℕ) (s : Option (List ℕ)) (t : Option Tree) → IsTree (depth_left - 1) t → IsTree depth_left (nested depth_left (with_scope s t))
 scope_plain (suc depth_left) (Some s) (Some (doc fs)) p = (let a = p.0 in omega arith, p.1)
@@ -172,7 +172,7 @@ of_tree (Some (doc fs)) d p e =
     rw same p
 of_tree _ d p e = absurd cc
 
--- a document that is read of a text is plain: no document in it begins with the name of a wrapper
+-- a document read from a text is plain: no document in it begins with the name of a wrapper
 pub reads_plain : (text : List ℕ) (d : Doc) → ReadsAs text d → IsPlain d
 reads_plain text d = of_json (reads.json text)
   where

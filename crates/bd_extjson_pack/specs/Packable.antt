@@ -18,19 +18,19 @@ plain d = bytes_of (doc (fields_of d))
 abbrev pub IsPackable : List ℕ → Doc → Type 0
 IsPackable line d = ReadsAs line d × (length (plain d) ≤ longest_document)
 
--- The line is no document, or too long.
+-- The line is not a document, or its document is too long.
 abbrev pub IsBad : List ℕ → LineFault → Type 0
 IsBad line (faults.Unread f) = (f.kind ≢ kinds.NoMemory) × ((d : Doc) → ReadsAs line d → ⊥)
     × IsPlaced (length line) f × ReportsBadUtf8 line f
 IsBad line faults.TooLong = (d : Doc) × ReadsAs line d × (longest_document < length (plain d))
 
--- the fault that is reported of a line that is no document is the fault of its text
+-- the fault that is reported for a line that is not a document is the fault of its text
 abbrev pub ReportsFault : List ℕ → LineFault → Type 0
 ReportsFault line (faults.Unread f) = f ≡ text_fault line
 ReportsFault line faults.TooLong = Unit {0}
 
 -- A value of at most `depth_left` levels that is read back from its canonical text:
--- it fits, its text is of no other value, and no `cstring` has a zero.
+-- it fits, its text is that of no other value, and no `cstring` contains a zero.
 pub record IsCanonical (depth_left : ℕ) (t : Tree) : Type 0 where
   pub fits : Fits t
   pub determined : IsPlain t
@@ -42,7 +42,7 @@ abbrev pub AreCanonical : ℕ → List Tree → Type 0
 AreCanonical depth_left [] = Unit {0}
 AreCanonical depth_left (t ∷ ts) = IsCanonical depth_left t × AreCanonical depth_left ts
 
--- Each value is read back from its canonical text; each name is UTF-8 without a zero, and no wrapper name.
+-- Each value is read back from its canonical text; each name is UTF-8 without a zero, and not a wrapper name.
 abbrev pub AreCanonicalFields : ℕ → Doc → Type 0
 AreCanonicalFields depth_left [] = Unit {0}
 AreCanonicalFields depth_left (p ∷ ps) =

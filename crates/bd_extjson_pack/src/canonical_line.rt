@@ -1,5 +1,5 @@
-//! The bytes of a document straight from its canonical text, as `dump` writes it. Where a line is spelled in another way, or is no
-//! document, nothing is told but None.
+//! The bytes of a document straight from its canonical text, as `dump` writes it. If a line is spelled in another way, or is
+//! not a document, the result is only None.
 ghost use Rattle.std.specs.Prelude.{◌≡◌, ◌<◌, ◌≤◌, ◌++◌, ◌∷◌, [], ℕ, List, length, false, None, IfSome, ◌^◌, string_bytes, decimal, get_or, map, IsTrue};
 ghost use Rattle.bd_value.specs.Limits.{longest_document};
 ghost use Rattle.bd_value.specs.Tree.{Tree, Doc, leaf, doc, array, fields_of, items_of};
@@ -79,8 +79,8 @@ fn append_items<'a>(text: &'a str, depth_left: usize, out: &mut Vec<u8>) -> Opti
     after_word(rest, b"]")
 }
 
-/// Appends the element of that name of the value that the text begins with, and gives what follows. At most `depth_left` documents and
-/// arrays stand in one another in it.
+/// Appends the element of that name for the value that the text begins with, and returns what follows. It has at most
+/// `depth_left` levels of documents and arrays.
 #[cycle(canonical)]
 fn append_next<'a>(
     text: &'a str,
@@ -108,7 +108,7 @@ fn append_next<'a>(
     }
 }
 
-/// The text, unless it begins with the bracket that ends what is read.
+/// The text; None if it begins with the closing bracket.
 #[inline(always)]
 fn unless_ended<'a>(text: &'a str, bracket: u8) -> Option<&'a str>
     ensures { IfSome result (λ same. same.now ≡ text.now) }
@@ -119,7 +119,7 @@ fn unless_ended<'a>(text: &'a str, bracket: u8) -> Option<&'a str>
     }
 }
 
-/// Whether a name begins as those of all wrappers do.
+/// Whether a name begins as the names of all wrappers do.
 #[inline(always)]
 fn may_name_wrapper(name: &str) -> bool
     ensures { result ≡ false → wrapper_of name.now ≡ None }
@@ -130,7 +130,7 @@ fn may_name_wrapper(name: &str) -> bool
     }
 }
 
-/// Appends the element of that name of the wrapper that the text begins with.
+/// Appends the element of that name for the wrapper that the text begins with.
 #[inline(always)]
 fn append_wrapper<'a>(text: &'a str, name: &str, out: &mut Vec<u8>) -> Option<&'a str>
     ensures { IfSome result (λ rest. (t : Tree) × (text.now ≡ text_of t ++ rest.now)
@@ -169,7 +169,7 @@ fn append_wrapper<'a>(text: &'a str, name: &str, out: &mut Vec<u8>) -> Option<&'
     }
 }
 
-/// Appends the element of that name of the word that the text begins with.
+/// Appends the element of that name for the literal that the text begins with.
 #[inline(always)]
 fn append_word<'a>(text: &'a str, name: &str, out: &mut Vec<u8>) -> Option<&'a str>
     ensures { IfSome result (λ rest. (t : Tree) × (text.now ≡ text_of t ++ rest.now)
@@ -188,7 +188,7 @@ fn append_word<'a>(text: &'a str, name: &str, out: &mut Vec<u8>) -> Option<&'a s
     Some(rest)
 }
 
-/// Appends the element of that name of the string that the text begins with.
+/// Appends the element of that name for the string that the text begins with.
 #[inline(always)]
 fn append_string<'a>(text: &'a str, name: &str, out: &mut Vec<u8>) -> Option<&'a str>
     ensures { IfSome result (λ rest. (t : Tree) × (text.now ≡ text_of t ++ rest.now)
@@ -203,7 +203,7 @@ fn append_string<'a>(text: &'a str, name: &str, out: &mut Vec<u8>) -> Option<&'a
     }
 }
 
-/// Appends the element of that name of the string with escapes that the text begins with.
+/// Appends the element of that name for the string with escapes that the text begins with.
 #[inline(never)]
 fn append_escaped<'a>(text: &'a str, name: &str, out: &mut Vec<u8>) -> Option<&'a str>
     ensures { IfSome result (λ rest. (t : Tree) × (text.now ≡ text_of t ++ rest.now)
@@ -215,7 +215,7 @@ fn append_escaped<'a>(text: &'a str, name: &str, out: &mut Vec<u8>) -> Option<&'
     Some(rest)
 }
 
-/// Appends what a string with escapes holds, and gives what follows it.
+/// Appends the contents of a string with escapes, and returns what follows it.
 #[inline(never)]
 fn append_unescaped<'a>(text: &'a str, into: &mut String) -> Option<&'a str>
     ensures { IfSome result (λ rest. (decoded : List ℕ) × (text.now ≡ quoted decoded ++ rest.now)
@@ -262,7 +262,7 @@ fn string<'a>(text: &'a str) -> Option<(&'a str, &'a str)>
     Some((inside, rest))
 }
 
-/// What stands for itself in a string, to the first byte that does not, and what follows.
+/// The bytes without escapes, up to the first that needs one, and what follows.
 #[inline(always)]
 fn plain_run<'a>(text: &'a str) -> Option<(&'a str, &'a str)>
     ensures { IfSome result (λ p. text.now ≡ escaped p.0.now ++ p.1.now) }
@@ -270,7 +270,7 @@ fn plain_run<'a>(text: &'a str) -> Option<(&'a str, &'a str)>
     text.split_at_checked(plain_length(text.as_bytes()))
 }
 
-/// How many bytes stand for themselves, to the first that does not.
+/// How many bytes need no escape, up to the first that does.
 #[inline(always)]
 fn plain_length(text: &[u8]) -> usize
     ensures within { result ≤ length text.now }
@@ -287,7 +287,7 @@ fn plain_length(text: &[u8]) -> usize
     plain_length_from(text, passed)
 }
 
-/// The same, looking at one byte after the other, where so many were looked at.
+/// The same, one byte after the other, if the first `passed` bytes were examined.
 #[inline(always)]
 fn plain_length_from(text: &[u8], passed: usize) -> usize
     requires within { passed ≤ length text.now }
@@ -302,10 +302,10 @@ fn plain_length_from(text: &[u8], passed: usize) -> usize
     passed
 }
 
-/// How many bytes are looked at together.
+/// How many bytes are examined together.
 const STEP: usize = 32;
 
-/// A bit for each byte that may not stand for itself in a string, the lowest for the first.
+/// A bit for each byte that must be escaped in a string, the lowest for the first.
 #[inline(always)]
 fn stops(bytes: u8x32) -> u64
     ensures { result ≡ mask_l (map needs_escape bytes) }
@@ -315,7 +315,7 @@ fn stops(bytes: u8x32) -> u64
         | bytes.simd_lt(u8x32::splat(32))).to_bitmask()
 }
 
-/// Whether a byte may not stand for itself in a string.
+/// Whether a byte must be escaped in a string.
 #[inline(always)]
 fn needs_escape(b: u8) -> bool
     ensures { result ≡ needs_escape b }
@@ -353,7 +353,7 @@ fn whole_number<'a>(text: &'a str) -> Option<(i64, &'a str)>
     }
 }
 
-/// The number that the digits at the front write, as many as a number of 64 bits has, and what follows them.
+/// The number of the digits at the start, at most 64 bits, and what follows them.
 #[inline(always)]
 fn digits<'a>(text: &'a str) -> Option<(u64, &'a str)>
     ensures { IfSome result (λ p. (text.now ≡ decimal p.0 ++ p.1.now) × (p.0 < 2 ^ 64)) }
@@ -374,7 +374,7 @@ fn digits<'a>(text: &'a str) -> Option<(u64, &'a str)>
     Some((n, rest))
 }
 
-/// Whether there are digits, and no zero stands before others.
+/// Whether there are digits, and no leading zero before others.
 #[inline(always)]
 fn is_led_well(digits: &[u8], count: usize) -> bool
     requires { count ≤ length digits.now }
@@ -426,7 +426,7 @@ fn byte_digits<'a>(text: &'a str) -> Option<(u8, &'a str)>
     Some((byte, rest))
 }
 
-/// Whether a text is the digits of bytes, two each, in lower case. What reads digits takes upper case too.
+/// Whether a text is the digits of bytes, two each, in lower case. The readers of digits accept upper case too.
 #[inline(always)]
 fn is_hex_text(bytes: &[u8], text: &str) -> bool
     requires { length bytes.now ≤ 12 }
@@ -440,7 +440,7 @@ fn is_hex_text(bytes: &[u8], text: &str) -> bool
     text.as_bytes() == digits
 }
 
-/// What follows the word that a text begins with.
+/// What follows the literal that a text begins with.
 #[inline(always)]
 fn after_word<'a, const N: usize>(text: &'a str, word: &[u8; N]) -> Option<&'a str>
     ensures { IfSome result (λ rest. text.now ≡ word.now ++ rest.now) }
@@ -453,7 +453,7 @@ fn after_word<'a, const N: usize>(text: &'a str, word: &[u8; N]) -> Option<&'a s
     Some(rest)
 }
 
-/// Whether the bytes are those of the word. All are looked at together.
+/// Whether the bytes are those of the literal. All are compared together.
 #[inline(always)]
 fn is_word<const N: usize>(prefix: &[u8; N], word: &[u8; N]) -> bool
     ensures { IsTrue result → prefix.now ≡ word.now }

@@ -1,4 +1,5 @@
-//! Elements of scalars, appended to bytes. None is where no memory is left, and where the bytes are more than a document has.
+//! Elements of scalars, appended to bytes. The result is None if memory runs out, or if the bytes are more than a document
+//! may have.
 ghost use Rattle.std.specs.Prelude.{◌≡◌, ◌==◌, ◌++◌, false, IfSome, ◌∷◌, []};
 ghost use Rattle.bd_value.specs.Tree as trees;
 ghost use Rattle.bd_value.specs.Tree.{leaf};
@@ -117,7 +118,7 @@ fn push_name(name: &str, out: &mut Vec<u8>) -> Option<()>
     out.push(0).ok()
 }
 
-/// Appends what stands before an element's value, its type and its name: BSON 1.1, `element`.
+/// Appends what precedes an element's value, its type and its name: BSON 1.1, `element`.
 #[inline(always)]
 pub(crate) fn push_label(kind: Kind, name: &str, out: &mut Vec<u8>) -> Option<()>
     ensures { IfSome result (λ u.

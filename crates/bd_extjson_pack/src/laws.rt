@@ -9,8 +9,8 @@ ghost use Rattle.bd_bson_view.specs.Spelling.{IsDocument};
 ghost use Rattle.bd_bson_write.specs.TreeBytes.{SpellsPlainly};
 ghost use Rattle.bd_extjson.specs.Read.{ReadsAs};
 
-/// A document that is read from a line can be written but for its length: it is at most 200 deep, and no name and no part of a
-/// regular expression holds U+0000.
+/// A document read from a line can be written, except for its length: it is at most 200 levels deep, and no name and no part
+/// of a regular expression contains U+0000.
 pub fn reads_within_limits()
     ensures deep { (line : List ℕ) (d : Doc) →
         ReadsAs line d → depth (doc (fields_of d)) ≤ most_levels }
@@ -18,7 +18,7 @@ pub fn reads_within_limits()
         ReadsAs line d → zero_in (doc (fields_of d)) ≡ false }
 {}
 
-/// So what is packed is the line's document, written within all limits, and spells it by the grammar of BSON.
+/// So the packed bytes are the line's document, written within all limits, and spell it by the grammar of BSON.
 pub fn packs_documents()
     ensures written { (line : List ℕ) (d : Doc) → IsPackable line d → SpellsPlainly d (plain d) }
     ensures spelled { (line : List ℕ) (d : Doc) → IsPackable line d → IsDocument d (plain d) }

@@ -10,11 +10,11 @@
 //! assert!(rt; bytes.as_slice() == b"\x0c\0\0\0\x10a\0\x01\0\0\0\0".as_slice());
 //! ```
 //!
-//! - `line`: `Packer`, a line at a time; laws, that what is packed spells the line's document.
+//! - `line`: `Packer`, which packs a line at a time.
 //! - `canonical_line`: the bytes straight from a line as `dump` writes it.
 //! - `tokens`: the bytes straight from the tokens of any other line.
 //! - `elements`: elements of scalars, and their pieces.
-//! - `laws`: what packed lines are.
+//! - `laws`: the packed bytes spell the line's document.
 #![tactic(auto)]
 
 mod canonical_line;

@@ -1,4 +1,4 @@
-//! A line as the bytes of the document that it is, and laws of what is packed.
+//! A line as the bytes of the document that it is.
 ghost use Rattle.std.specs.Prelude.{◌≡◌, ◌++◌, IfOk, IfSome, OnErr, None, Ok};
 ghost use Rattle.bd_value.specs.Tree.{Doc};
 ghost use Rattle.bd_extjson_pack.specs.Packable.{plain, IsPackable, IsBad, ReportsFault};
@@ -15,7 +15,7 @@ use thiserror::Error;
 /// Why a line is not packed.
 #[derive(Clone, Copy, Debug, Drop, PartialEq, Eq, Error)]
 pub enum LineFault {
-    /// It is no document.
+    /// It is not a document.
     #[error("{0}")]
     Unread(JsonFault),
     /// Its document has more than 16,793,600 bytes.
@@ -23,12 +23,12 @@ pub enum LineFault {
     TooLong,
 }
 
-/// Packs lines. It keeps room from line to line, and nothing else.
+/// Packs lines. It reuses its buffers from line to line, and has no other state.
 #[derive(Drop)]
 pub struct Packer {
     alloc: Global,
     scratch: Scratch,
-    /// The bytes of one line: apart, since the limit of a document counts all of the vector that it is written to.
+    /// The bytes of one line: in a separate vector, since the limit of a document counts all of the vector that it is written to.
     spelled: Vec<u8>,
 }
 
@@ -42,11 +42,11 @@ impl Packer {
         }
     }
 
-    /// Appends the bytes of the document that the line is (Extended JSON v2, canonical form, and bare whole numbers; BSON 1.1,
-    /// `document`), or tells why there are none and leaves `out` as it was.
+    /// Appends the bytes of the document that the line is (Extended JSON v2, canonical form, and bare whole numbers; BSON
+    /// 1.1, `document`), or returns why it is none, with `out` unchanged.
     ///
     /// # Errors
-    /// `NoMemory` where the allocator gives none. It leaves `out` as it was.
+    /// `NoMemory` if memory runs out; `out` is unchanged.
     pub fn pack_line(
         &mut self,
         line: &[u8],
@@ -58,7 +58,7 @@ impl Packer {
         ensures fault { IfOk result (λ o. IfSome o (ReportsFault line.now)) }
         ensures err { OnErr result (out.new.items ≡ out.old.items) }
     {
-        // Of nearly every line the bytes come straight from its tokens. The others are read once more, by a tree.
+        // For nearly every line the bytes come straight from its tokens. The others are read again, by a tree.
         match spell_line(self.alloc, line, &mut self.scratch, &mut self.spelled) {
             Some(()) => {
                 out.extend_from_slice(&self.spelled)?;
@@ -69,7 +69,7 @@ impl Packer {
     }
 }
 
-/// Packs a line by a tree of its document, and tells what is wrong with it.
+/// Packs a line by a tree of its document, and returns what is wrong with it.
 #[cold]
 fn pack_tree(
     alloc: Global,
@@ -95,10 +95,8 @@ fn pack_tree(
         }
         Err(WriteFault::TooLong) => Ok(Some(LineFault::TooLong)),
         Err(WriteFault::NoMemory) => Err(AllocError),
-        // No text is read as such a document.
+        // No document read from a text has this fault.
         Err(WriteFault::TooDeep) => unreachable!(),
         Err(WriteFault::NulInName) => unreachable!(),
     }
 }
-
-// The body of each of these is empty: its contract is the law.

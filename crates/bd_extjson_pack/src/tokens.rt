@@ -1,4 +1,4 @@
-//! The bytes of a document straight from the tokens of its text, without a tree. What is refused here is not told why.
+//! The bytes of a document straight from the tokens of its text, without a tree. A refusal here has no reason.
 ghost use Rattle.std.specs.Prelude.{◌≡◌, ◌<◌, ◌≤◌, ◌++◌, ℕ, List, length, Some, IfSome, option_map, option_and_then, false, ◌∷◌, codes};
 ghost use Rattle.bd_value.specs.Limits.{longest_document, most_levels};
 ghost use Rattle.json.specs.Json.{value, items, members};
@@ -25,8 +25,8 @@ use bd_value::{Kind, MOST_BRACKETS, MOST_LEVELS, Tree, Value, has_zero};
 use json::{Reader, Scratch, Token};
 use std::alloc::Global;
 
-/// Puts the bytes of the document that the line is into `out`, in place of what it holds. None where there are none, and also
-/// where no memory is left.
+/// Replaces the contents of `out` by the bytes of the document that the line is. None if it is not a document, and also if
+/// memory runs out.
 pub(crate) fn spell_line(
     alloc: Global,
     line: &[u8],
@@ -102,8 +102,8 @@ fn append_fields<'a>(
     end_body(at, out).ok()
 }
 
-/// Appends the element of that name of the value that comes next. At most `depth_left` documents and arrays stand in one another in
-/// it, and `depth` brackets.
+/// Appends the element of that name for the next value, with at most `depth_left` levels of documents and arrays, and `depth`
+/// levels of brackets.
 #[cycle(tokens)]
 fn append_next(
     alloc: Global,
@@ -134,7 +134,7 @@ fn append_next(
     }
 }
 
-/// Appends the array whose bracket was read. The names of its elements are their places.
+/// Appends the array whose bracket was read. The names of its elements are their indexes.
 #[cycle(tokens)]
 #[inline(never)]
 fn append_items(
@@ -159,7 +159,7 @@ fn append_items(
     end_body(at, out).ok()
 }
 
-/// Appends the element of that name of the object whose brace was read.
+/// Appends the element of that name for the object whose brace was read.
 #[cycle(tokens)]
 #[inline(never)]
 fn append_object(
@@ -190,7 +190,7 @@ fn append_object(
     append_fields(alloc, reader, first, depth_left - 1, depth, out)
 }
 
-/// Appends the element of that name of a wrapper whose own name was read, by the value that it stands for.
+/// Appends the element of that name for a wrapper whose first name was read, by the value that it means.
 #[inline(never)]
 fn append_wrapped(
     alloc: Global,
@@ -221,7 +221,7 @@ fn append_number(name: &str, text: &str, out: &mut Vec<u8>) -> Option<()>
     append_read(name, bare_number(text)?, out)
 }
 
-/// Appends an element of a value that was read, and lets the value go.
+/// Appends an element of a value that was read, and drops the value.
 fn append_read(name: &str, value: Value, out: &mut Vec<u8>) -> Option<()>
     requires { zero_in (tree_of value) ≡ false }
     ensures { IfSome result (λ u. out.new.items
@@ -240,7 +240,7 @@ fn is_short(wrapper: Wrapper) -> bool {
     )
 }
 
-/// Appends the element of that name of such a wrapper, whose own name was read. `depth` brackets may stand in it.
+/// Appends the element of that name for such a wrapper, whose first name was read. It has at most `depth` levels of brackets.
 #[inline(always)]
 fn append_short(
     reader: &mut Reader<'_>,
@@ -264,7 +264,7 @@ fn append_short(
     }
 }
 
-/// The string after a wrapper's name, where the brace that ends the object follows.
+/// The string after a wrapper's name, if the closing brace follows.
 #[inline(always)]
 fn only_string<'a>(reader: &mut Reader<'a>) -> Option<&'a str>
     ensures { IfSome result (λ s. reader.old ≡ string s.now ∷ end_object ∷ reader.new) }
@@ -278,7 +278,7 @@ fn only_string<'a>(reader: &mut Reader<'a>) -> Option<&'a str>
     }
 }
 
-/// The string in `{"$numberLong":".."}` after a wrapper's name, where the brace that ends the object follows.
+/// The string in `{"$numberLong":".."}` after a wrapper's name, if the closing brace follows.
 #[inline(always)]
 fn only_long<'a>(reader: &mut Reader<'a>) -> Option<&'a str>
     ensures { IfSome result (λ s. reader.old ≡ begin_object

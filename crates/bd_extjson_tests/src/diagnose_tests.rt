@@ -1,9 +1,9 @@
-//! What is told of texts, where the program does not show it.
+//! Faults of texts that no test of the program prints.
 use bd_extjson_fault::{JsonFaultKind, diagnose};
 use bd_value::{MOST_BRACKETS, MOST_LEVELS};
 use std::test::Fail;
 
-/// Of a document no fault is told, at the text's end. These are the deepest.
+/// For a document the fault is at the text's end. These are the deepest.
 #[test]
 fn takes_the_deepest_documents(rt: HostRuntime) -> Result<(), Fail> {
     let alloc = rt.alloc();
@@ -28,7 +28,7 @@ fn has_limits_and_words(rt: HostRuntime) {
         JsonFaultKind::TooDeep.words() == "too deep"
             && JsonFaultKind::NoMemory.words() == "no memory"
     );
-    // It has no place.
+    // It has no offset.
     let reported = diagnose(rt.alloc(), b" [1]");
     assert!(rt; reported.kind == JsonFaultKind::NotADocument && reported.at == 0);
 }

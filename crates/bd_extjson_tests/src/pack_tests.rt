@@ -3,7 +3,7 @@ use bd_extjson_fault::{JsonFault, JsonFaultKind};
 use bd_extjson_pack::{LineFault, Packer};
 use std::test::Fail;
 
-/// A line is packed after what is there, and one that is refused leaves that as it was.
+/// The bytes of a line are appended, and a line that is refused leaves the output unchanged.
 #[test]
 fn packs_after_what_is_there(rt: HostRuntime) -> Result<(), Fail> {
     let mut packer = Packer::new(rt.alloc());

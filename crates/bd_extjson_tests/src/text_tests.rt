@@ -1,4 +1,4 @@
-//! Texts that are written after what is there, room that is used again, and laws.
+//! Texts that are appended, buffers that are reused, and laws.
 use bd_extjson::{read_doc_with, reads_back, text_determines_document};
 use bd_extjson_text::{
     TextBuffer, write_doc, write_node, write_number, write_path, write_string, write_value,
@@ -15,7 +15,7 @@ fn writes_numbers(rt: HostRuntime) {
     assert!(rt; out.as_slice() == b"18446744073709551615 0".as_slice());
 }
 
-/// What is there stays in front.
+/// The text before is unchanged.
 #[test]
 fn writes_strings_nodes_and_paths(rt: HostRuntime) {
     let mut out = Vec::new(rt.alloc());
@@ -26,7 +26,7 @@ fn writes_strings_nodes_and_paths(rt: HostRuntime) {
     assert!(rt; out.as_slice() == br#""\""null{"$minKey":1}"""#.as_slice());
 }
 
-/// Each is written over the one before, also where it is shorter.
+/// Each line replaces the one before, also if it is shorter.
 #[test]
 fn writes_lines(rt: HostRuntime) {
     let mut buffer = TextBuffer::new(rt.alloc());
@@ -36,7 +36,7 @@ fn writes_lines(rt: HostRuntime) {
     }
 }
 
-/// The second text, with a shorter string, is read in the room of the first.
+/// The second text, with a shorter string, is read into the buffer of the first.
 #[test]
 fn keeps_its_buffer_from_text_to_text(rt: HostRuntime) {
     let mut scratch = Scratch::new(rt.alloc());
@@ -51,7 +51,7 @@ fn keeps_its_buffer_from_text_to_text(rt: HostRuntime) {
     }
 }
 
-/// These are clauses alone.
+/// Calls of laws, which have no body.
 #[test]
 fn has_laws() {
     text_determines_document();

@@ -1,4 +1,4 @@
-//! The calls that reading is made of, once each.
+//! The functions that reading consists of, called once each.
 use bd_extjson::{bare_number, read_wrapper, wrapper_named};
 use bd_extjson_wrapper::{
     Wrapper, is_whole_number, names_code, names_scope, number_of, only, pair, unwrap_single, whole,

@@ -1,4 +1,4 @@
--- Strings: what needs no escape stands for itself, as digits and the symbols of bytes do.
+-- Strings: bytes that need no escape are written as they are, such as digits and the symbols of bytes.
 use Rattle.std.proofs.Common.{◌≡◌, ℕ, suc, ◌+◌, ◌-◌, ◌<◌, ◌≤◌, Bool, true, false, cond, List, [], ◌∷◌, ◌++◌, length, take, drop, get_or, Some, None, refl, sym, ap, ap₂}
 use Rattle.std.proofs.Common.{◌∙◌, subst, arith, add-one, drop-cons, append-nil, append_assoc, length-drop, ◌^◌, ℤ, pos, negsuc, decimal, zero, ◌*◌, ◌/◌, ◌%◌, replicate}
 use Rattle.std.proofs.Common.{slice_index, Option, inl, inr}
@@ -28,7 +28,7 @@ pub escape_byte-plain : (b : ℕ) → needs_escape b ≡ false → escape_byte b
 unfolding escape_byte
 escape_byte-plain b h = grind (arith, common_steps)
 
--- digits stand for themselves in a JSON string
+-- digits are written as they are in a JSON string
 pub escaped-digits : (ds : List ℕ) → AllDigits 10 ds → escaped ds ≡ ds
 escaped-digits [] h = refl
 escaped-digits (d ∷ ds) h =
@@ -36,7 +36,7 @@ escaped-digits (d ∷ ds) h =
     let plain : needs_escape d ≡ false = grind (arith, common_steps) in
     rw (escape_byte-plain d plain) (ap (λ (l : List ℕ). d ∷ l) (escaped-digits ds h.1))
 
--- bytes that need no escape stand for themselves in a JSON string
+-- bytes that need no escape are written as they are in a JSON string
 pub escaped-plain : (xs : List ℕ) → list_any needs_escape xs ≡ false → escaped xs ≡ xs
 escaped-plain [] h = refl
 escaped-plain (b ∷ bs) h =
@@ -67,7 +67,7 @@ escaped-to_end xs e =
     let beyond = not_found (position_or_len needs_escape xs) (length xs) e in
     escaped-from_run xs ∙ rw (take_all (position_or_len needs_escape xs) xs beyond, drop_of_length-le xs beyond) (append-nil xs)
 
--- a run and the escape after it are written, and the rest of the n bytes is still to come
+-- a run and the escape after it are written, and the rest of the n bytes remains
 pub run_step : (xs out total : List ℕ) (i n : ℕ) → position needs_escape xs ≡ Some i → length xs ≡ n → out ++ escaped xs ≡ total
     → ((out ++ take i xs) ++ escape_byte (get_or xs i 0)) ++ escaped (take (n - (i + 1)) (drop (i + 1) xs)) ≡ total
 run_step xs out total i n e len so_far =
@@ -111,7 +111,7 @@ symbol-plain [] i plain inside = absurd (omega arith)
 symbol-plain (b ∷ bs) zero plain inside = (or_parts (needs_escape b) (list_any needs_escape bs) plain).0
 symbol-plain (b ∷ bs) (suc i) plain inside = symbol-plain bs i (or_parts (needs_escape b) (list_any needs_escape bs) plain).1 (omega arith)
 
--- it stands for itself before any text that does
+-- it is written as it is before any text that is
 symbol-escaped : (t : List ℕ) (i : ℕ) (xs : List ℕ) → list_any needs_escape t ≡ false → i < length t → escaped xs ≡ xs → escaped (slice_index t i ∷ xs) ≡ slice_index t i ∷ xs
 symbol-escaped t i xs plain inside more = rw (escape_byte-plain (slice_index t i) (symbol-plain t i plain inside), more) refl
 
@@ -189,7 +189,7 @@ module _ (p : ℕ → Bool) where
   after (suc n) (x ∷ text) le quiet =
       step x text (quiet 0 (omega arith)) ∙ ap (option_map suc) (after n text (omega arith) (λ k lt. quiet (suc k) (omega arith))) ∙ twice n (position p (drop n text))
 
-  -- and so by the place in the rest of the text
+  -- and so by its offset in the rest of the text
   pub found_after : (n : ℕ) (text rest : List ℕ) (found : Option ℕ) → n ≤ length text → ((k : ℕ) → k < n → p (get_or text k 0) ≡ false) → rest ≡ drop n text → found ≡ position p rest
       → option_map (λ k. n + k) found ≡ position p text
   found_after n text rest found le quiet is place = rw (place, is) (sym (after n text le quiet))

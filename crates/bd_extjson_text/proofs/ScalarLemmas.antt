@@ -33,7 +33,7 @@ low_below bytes long =
     let small = Each1-all (λ a. bit_and a 15 < 16) (λ a. omega (arith, and_le_r a 15)) bytes in
     (length-zip2 bit_and bytes (replicate 16 15) long ∙ long, Each1-zip2 bit_and (λ n. n < 16) bytes (replicate 16 15) (Each2-splat (λ a b. bit_and a b < 16) bytes 16 15 small))
 
--- what is shown of any lanes holds for a list of so many
+-- what is proved for any lanes holds for a list of n
 abbrev pub ForLanes : ℕ → (List ℕ → Type 0) → Type 0
 ForLanes zero P = P []
 ForLanes (suc n) P = (x : ℕ) → ForLanes n (λ l. P (x ∷ l))
@@ -75,12 +75,12 @@ pairs_of bytes high low long first second =
     ∙ map_same (λ b. digit (bit_and b 15)) (λ b. digit (b % 16)) (λ b. ap digit (and_mask b 4)) bytes in
     ap₂ (λ (a b : List ℕ). in_turn (a ++ b)) highs lows ∙ in_turn-digits bytes long
 
--- the digits of an id stand before those of what follows it
+-- the digits of an id precede those of the bytes after it
 id_before : (id rest : List ℕ) → length id ≡ 12 → take 24 (hex_text (id ++ rest)) ≡ hex_text id
 unfolding hex_text encode_with
 id_before id rest long = by_lanes 12 (λ l. take 24 (encode_with lower_digits (l ++ rest)) ≡ encode_with lower_digits l) (λ a b c d e f g h i j k l. refl) id long
 
--- of the digits that were written after a text, those of an id
+-- the digits of an id are the first of those that were written after a text
 pub id_written : (end e : ℕ) (old new digits id rest : List ℕ) → end ≤ length old → end + 24 ≤ e → take e new ≡ take end old ++ digits → digits ≡ hex_text (id ++ rest) → length id ≡ 12
     → take (end + 24) new ≡ take end old ++ hex_text id
 id_written end e old new digits id rest inside fits put are long =

@@ -22,7 +22,7 @@ use Rattle.std.proofs.lemmas.Option.{slice_get-map, slice_get-get_or}
 use Rattle.bd_value.proofs.ViewLemmas.{next_at}
 use Rattle.std.proofs.lemmas.Grind.{flat_map-append}
 
--- ---- the scalars; what is in quotation marks here needs no escape
+-- ---- the scalars; the strings here need no escape
 
 pub written-int64 : (old : List ℕ) (z : ℤ) → mag z < 2 ^ 63
     → ((old ++ codes "{\"$numberLong\":\"") ++ signed_decimal z) ++ codes "\"}" ≡ old ++ scalar_text (int64 z)
@@ -44,7 +44,7 @@ pub written-db_pointer : (old s id : List ℕ) → IsBytes id
 unfolding scalar_text quoted escape_byte
 written-db_pointer old s id fits = simp (append_assoc, escaped-hex_text id fits)
 
--- these are named by their functions, and so begin with the whole text
+-- these are the steps of the functions that name them, and so begin with the whole text
 
 pub object_id_pieces : (old id : List ℕ) → IsBytes id → old ++ scalar_text (object_id id) ≡ ((old ++ codes "{\"$oid\":\"") ++ hex_text id) ++ codes "\"}"
 unfolding scalar_text quoted escape_byte
@@ -124,7 +124,7 @@ text_of-scope c (code_scope s fs) u scalar_of scope =
     rw (same, inside) (written-code_scope s fs)
 text_of-scope c _ u scalar_of scope = absurd cc
 
--- what a value that is no code with scope holds is all of it
+-- a value that is not code with scope is its scalar
 pub text_of_scalar : (t : Tree) (s : Scalar) → Some (scalar_leaf s) ≡ leaf_of t → text t ≡ scalar_text s
 text_of_scalar (leaf u) s is = let same : s ≡ u = cc in ap scalar_text (sym same)
 text_of_scalar _ s is = absurd cc
@@ -154,7 +154,7 @@ short_text _ u is a b c d e f = absurd cc
 abbrev pub before : Bool → ℕ → List ℕ
 before later separator = if later then separator ∷ [] else []
 
--- what is still to come: these pieces, and a separator before each but the first of all
+-- what remains: these pieces, and a separator before each but the first of all
 abbrev pub to_come : Bool → ℕ → List (List ℕ) → List ℕ
 to_come later separator [] = []
 to_come later separator (x ∷ xs) = before later separator ++ (x ++ to_come true separator xs)
@@ -163,7 +163,7 @@ after : (c : ℕ) (x : List ℕ) (xs : List (List ℕ)) → x ++ to_come true c 
 after c x [] = append-nil x
 after c x (y ∷ ys) = ap (λ (l : List ℕ). x ++ c ∷ l) (after c y ys)
 
--- at the start all pieces are to come, joined by the separator
+-- at the start all pieces remain, joined by the separator
 pub to_come-all : (c : ℕ) (xs : List (List ℕ)) → to_come false c xs ≡ join_with_byte c xs
 to_come-all c [] = refl
 to_come-all c (x ∷ xs) = after c x xs
@@ -180,7 +180,7 @@ unfolding escape_byte
 escaped-before true = refl
 escaped-before false = refl
 
--- the same of names inside one string
+-- the same for names inside one string
 name_step : (later : Bool) (x : List ℕ) (pieces xs : List (List ℕ)) (out total : List ℕ) → pieces ≡ x ∷ xs → out ++ escaped (to_come later 46 pieces) ≡ total
     → ((out ++ before later 46) ++ escaped x) ++ escaped (to_come true 46 xs) ≡ total
 name_step later x pieces xs out total is so_far =
@@ -190,13 +190,13 @@ name_step later x pieces xs out total is so_far =
     ∙ ap₂ (λ (a b : List ℕ). a ++ b) (escaped-before later) (flat_map-append escape_byte x (to_come true 46 xs)) in
     simp append_assoc (ap (λ (l : List ℕ). out ++ l) (sym splits) ∙ whole)
 
--- the same of what was written
+-- the same for what was written
 pub name_written : (later : Bool) (given x : List ℕ) (pieces xs : List (List ℕ)) (old separated out total : List ℕ)
     → separated ≡ old ++ before later 46 → out ≡ separated ++ escaped given → given ≡ x → pieces ≡ x ∷ xs
     → old ++ escaped (to_come later 46 pieces) ≡ total → out ++ escaped (to_come true 46 xs) ≡ total
 name_written later given x pieces xs old separated out total dot put same is so_far = rw (put, dot, same) (name_step later x pieces xs old total is so_far)
 
--- what a mapped list has at a place and after it
+-- the elements of a mapped list at an index and after it
 pub drop-map : {A B : Type 0} (f : A → B) (xs : List A) (i : ℕ) (x : A) → i < length xs → x ≡ get_or xs i x → drop i (map f xs) ≡ f x ∷ drop (i + 1) (map f xs)
 drop-map f xs i x inside is = next_at (map f xs) i (f x) (slice_get-map f xs i ∙ rw (slice_get-get_or xs i x inside, ← is) refl)
 

@@ -9,13 +9,13 @@ use Rattle.bd_value.specs.Tree.{Scalar, min_key, undefined, null, int32, int64, 
 use Rattle.bd_value.specs.Tree.{object_id, boolean, date, timestamp, regex, db_pointer, code, max_key, Tree, leaf, doc}
 use Rattle.bd_value.specs.Tree.{array, code_scope, Items, no_items, item, Fields, no_fields, field}
 
--- RFC 8259, section 7: the quotation mark, the reverse solidus and the control characters may not stand for themselves.
+-- RFC 8259, section 7: the quotation mark, the reverse solidus and the control characters must be escaped.
 abbrev pub needs_escape : ℕ → Bool
 needs_escape b = b == 34 || b == 92 || nat_lt b 32
 
 -- RFC 8259, section 7: the short escape if there is one,
 -- else \u00 and two lower-case digits, else the byte itself.
--- Bytes from 128 on, and so all characters beyond ASCII, stand for themselves.
+-- Bytes from 128 on, and so all characters beyond ASCII, are written as they are.
 unfoldable pub escape_byte : ℕ → List ℕ
 escape_byte b = if b == 34 || b == 92 then 92 ∷ b ∷ []
     else (if b == 8 then codes "\\b"
@@ -26,19 +26,19 @@ escape_byte b = if b == 34 || b == 92 then 92 ∷ b ∷ []
     else (if nat_lt b 32 then codes "\\u00" ++ (digit_char (b / 16) ∷ digit_char (b % 16) ∷ [])
     else b ∷ []))))))
 
--- RFC 8259, section 7: what stands between the quotation marks of a string
+-- RFC 8259, section 7: the text between the quotation marks of a string
 abbrev pub escaped : List ℕ → List ℕ
 escaped = flat_map escape_byte
 
--- RFC 8259, section 7: a string with this content, between quotation marks.
+-- RFC 8259, section 7: a string with this content, between quotation marks
 unfoldable pub quoted : List ℕ → List ℕ
 quoted s = 34 ∷ (escaped s ++ 34 ∷ [])
 
--- RFC 8259, section 5: an array of these values.
+-- RFC 8259, section 5: an array of these values
 abbrev pub listed : List (List ℕ) → List ℕ
 listed values = 91 ∷ (join_with_byte 44 values ++ 93 ∷ [])
 
--- RFC 8259, section 4: an object of these members.
+-- RFC 8259, section 4: an object of these members
 abbrev pub object : List (List ℕ) → List ℕ
 object members = 123 ∷ (join_with_byte 44 members ++ 125 ∷ [])
 
@@ -58,7 +58,7 @@ base64_text bytes = encode_of standard bytes
 unfoldable pub hex_text : List ℕ → List ℕ
 hex_text bytes = encode_lower bytes
 
--- Extended JSON v2, conversion table, canonical: an int64, `{"$numberLong":".."}`.
+-- Extended JSON v2, conversion table, canonical: an int64, `{"$numberLong":".."}`
 abbrev pub long_text : ℤ → List ℕ
 long_text z = wrapper_text (codes "$numberLong") (quoted (signed_decimal z))
 
@@ -95,7 +95,7 @@ scalar_text (db_pointer space id) =
 scalar_text (code s) = wrapper_text (codes "$code") (quoted s)
 scalar_text max_key = wrapper_text (codes "$maxKey") (codes "1")
 
--- The same for the values that hold values: each of these by its own text, in the stored order.
+-- The same for the values that contain values: each of these by its own text, in the stored order.
 abbrev mutual
   -- the canonical Extended JSON v2 of any value, without white space
   pub text : Tree → List ℕ
@@ -115,7 +115,7 @@ abbrev mutual
   fields_text no_fields = []
   fields_text (field n t fs) = member n (text t) ∷ fields_text fs
 
--- A value whose text is short: it holds no other value, no text, and no bytes but an id.
+-- A value whose text is short: it contains no other value, no text, and no bytes but an id.
 abbrev pub HasShortText : Tree → Type 0
 HasShortText (leaf (string s)) = ⊥
 HasShortText (leaf (symbol s)) = ⊥

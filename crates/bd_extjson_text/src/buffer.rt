@@ -1,19 +1,19 @@
-//! Text that is written into place: the first `end` bytes are text, and those after them room for more.
+//! Text that is written into a buffer: the first `end` bytes are text, and those after them are free.
 ghost use Rattle.std.specs.Prelude.{◌≡◌, ◌≤◌, ◌<◌, ◌+◌, ◌++◌, ◌∷◌, [], IfOk, OnOk, OnErr, is_ok, length, take};
 
 use bd_value::NoMemory;
 use std::alloc::AllocError;
 
-/// How much more room is made than is wanted, so that it is made seldom.
+/// How much more space is made than is needed, so that it is made seldom.
 const SPARE: usize = 512;
 
-/// More room than the text of a value takes that holds neither text nor bytes.
+/// More space than the text of a value takes that contains neither text nor bytes.
 pub(crate) const VALUE: usize = 80;
 
-/// Where the text ends once more of it is written.
+/// Where the text ends after more of it is written.
 pub(crate) type End = Result<usize, NoMemory>;
 
-/// Makes room for so many bytes after the text.
+/// Makes space for `size` bytes after the text.
 #[inline(always)]
 pub(crate) fn grow_buffer(out: &mut Vec<u8>, end: usize, size: usize) -> Result<(), NoMemory>
     requires { end ≤ length out.old.items }
@@ -28,7 +28,7 @@ pub(crate) fn grow_buffer(out: &mut Vec<u8>, end: usize, size: usize) -> Result<
     add_buffer(out, end, size)
 }
 
-/// `grow_buffer` where there is too little.
+/// `grow_buffer` if there is too little space.
 #[cold]
 #[inline(never)]
 fn add_buffer(out: &mut Vec<u8>, end: usize, size: usize) -> Result<(), NoMemory>
@@ -42,7 +42,7 @@ fn add_buffer(out: &mut Vec<u8>, end: usize, size: usize) -> Result<(), NoMemory
     out.resize(wanted, 0)
 }
 
-/// Writes bytes after the text, and gives the end of all.
+/// Writes bytes after the text, and returns the new end.
 #[inline(always)]
 pub(crate) fn put(bytes: &[u8], buffer: &mut [u8], end: usize) -> usize
     requires { end + length bytes.now ≤ length buffer.old }
@@ -54,7 +54,7 @@ pub(crate) fn put(bytes: &[u8], buffer: &mut [u8], end: usize) -> usize
     after
 }
 
-/// The same of bytes that are known as such, and not where they stand: it is not asked whether they stand in the room.
+/// The same for bytes of a constant length, passed by value: no check is made whether they overlap the buffer.
 #[inline(always)]
 pub(crate) fn put_known<const N: usize>(bytes: [u8; N], buffer: &mut [u8], end: usize) -> usize
     requires { end + N ≤ length buffer.old }
@@ -64,7 +64,7 @@ pub(crate) fn put_known<const N: usize>(bytes: [u8; N], buffer: &mut [u8], end: 
     put(&bytes, buffer, end)
 }
 
-/// Writes a byte after the text, and gives the end of both.
+/// Writes a byte after the text, and returns the new end.
 #[inline(always)]
 pub(crate) fn put_byte(byte: u8, buffer: &mut [u8], end: usize) -> usize
     requires { end < length buffer.old }
@@ -75,7 +75,7 @@ pub(crate) fn put_byte(byte: u8, buffer: &mut [u8], end: usize) -> usize
     end + 1
 }
 
-/// The same in a buffer, whose size stays.
+/// The same in a vector, whose length is unchanged.
 #[inline(always)]
 pub(crate) fn put_byte_in(byte: u8, out: &mut Vec<u8>, end: usize) -> usize
     requires { end < length out.old.items }
@@ -86,7 +86,7 @@ pub(crate) fn put_byte_in(byte: u8, out: &mut Vec<u8>, end: usize) -> usize
     put_byte(byte, out.as_mut_slice(), end)
 }
 
-/// Lets go of what is no text: of all after its end, or where there is none, after what stood before.
+/// Truncates to the text: at its end, or on an error at its end before.
 pub(crate) fn settle(end: End, before: usize, out: &mut Vec<u8>) -> Result<(), NoMemory>
     ensures ok { OnOk result (IfOk end (λ e. out.new.items ≡ take e out.old.items)) }
     ensures err { OnErr result (out.new.items ≡ take before out.old.items) }

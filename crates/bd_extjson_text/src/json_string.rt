@@ -1,4 +1,4 @@
-//! JSON strings: RFC 8259, section 7. Most names and texts need no escape: these are copied and looked at together.
+//! JSON strings: RFC 8259, section 7. Most names and texts need no escape: these are copied and examined at once.
 ghost use Rattle.std.specs.Prelude.{◌≡◌, ◌<◌, ◌≤◌, ◌+◌, ◌++◌, OnOk, OnErr, IfOk, IsTrue, string_bytes, map, if◌then◌else◌, [], ◌∷◌, length, take, false, true};
 ghost use Rattle.std.specs.Char.{digit_char};
 ghost use Rattle.std.specs.List.{list_any, position, join_with_byte};
@@ -8,12 +8,12 @@ ghost use Rattle.bd_extjson_text.specs.Text.{needs_escape, escape_byte, escaped,
 use crate::buffer::{End, VALUE, grow_buffer, put, put_byte, put_byte_in, put_known, settle};
 use bd_value::NoMemory;
 
-/// How many bytes are looked at together.
+/// How many bytes are examined together.
 const STEP: usize = 16;
 
 /// Appends a string with its quotation marks: RFC 8259, section 7.
 ///
-/// `NoMemory` leaves `out` as it was.
+/// `NoMemory`: memory ran out, and `out` is unchanged.
 pub fn write_string(text: &str, out: &mut Vec<u8>) -> Result<(), NoMemory>
     ensures ok { OnOk result (out.new.items ≡ out.old.items ++ quoted text.now) }
     ensures err { OnErr result (out.new.items ≡ out.old.items) }
@@ -26,7 +26,7 @@ pub fn write_string(text: &str, out: &mut Vec<u8>) -> Result<(), NoMemory>
 
 /// Appends the names of a path, joined by dots, as one string.
 ///
-/// `NoMemory` leaves `out` as it was.
+/// `NoMemory`: memory ran out, and `out` is unchanged.
 pub fn write_path(path: &[String], out: &mut Vec<u8>) -> Result<(), NoMemory>
     ensures ok { OnOk result (out.new.items
         ≡ out.old.items ++ quoted (join_with_byte 46 (map string_bytes path.now))) }
@@ -37,7 +37,7 @@ pub fn write_path(path: &[String], out: &mut Vec<u8>) -> Result<(), NoMemory>
     settle(end, before, out)
 }
 
-/// The same after the text that is there.
+/// The same after the text in `out`.
 #[tactic(auto, unfolding(crate::specs::Text::quoted))]
 fn append_path(path: &[String], out: &mut Vec<u8>, end: usize) -> End
     requires { end ≤ length out.old.items }
@@ -55,7 +55,7 @@ fn append_path(path: &[String], out: &mut Vec<u8>, end: usize) -> End
     Ok(put_byte_in(b'"', out, at))
 }
 
-/// Appends a string with its quotation marks: RFC 8259, section 7. There is room for the first of them.
+/// Appends a string with its quotation marks: RFC 8259, section 7. There is space for the first of them.
 #[inline(always)]
 #[tactic(auto, unfolding(crate::specs::Text::quoted))]
 pub(crate) fn append_string(text: &str, out: &mut Vec<u8>, end: usize) -> End
@@ -67,8 +67,8 @@ pub(crate) fn append_string(text: &str, out: &mut Vec<u8>, end: usize) -> End
     Ok(put_byte_in(b'"', out, at))
 }
 
-/// Appends a name as a string, with a comma before it where it comes `later` than others and a colon after it, and makes room for a
-/// value: `VALUE` bytes.
+/// Appends a name as a string, with a comma before it if `later`, and a colon after it, and makes space for a value: `VALUE`
+/// bytes.
 #[inline(always)]
 #[tactic(auto, unfolding(crate::specs::Text::quoted))]
 pub(crate) fn append_name(later: bool, name: &str, out: &mut Vec<u8>, end: usize) -> End
@@ -89,7 +89,7 @@ pub(crate) fn append_name(later: bool, name: &str, out: &mut Vec<u8>, end: usize
     Ok(put_known(*b"\":", out.as_mut_slice(), at))
 }
 
-/// Writes what stands before a piece after the text: the separator, where it comes `later` than others.
+/// Writes what precedes a piece after the text: the separator, if `later`.
 #[inline(always)]
 fn put_separator(later: bool, separator: u8, buffer: &mut [u8], end: usize) -> usize
     requires { end < length buffer.old }
@@ -103,7 +103,7 @@ fn put_separator(later: bool, separator: u8, buffer: &mut [u8], end: usize) -> u
     end
 }
 
-/// The same in a buffer, which gets room for a value after the separator: `VALUE` bytes.
+/// The same in a vector, which gets space for a value after the separator: `VALUE` bytes.
 #[inline(always)]
 pub(crate) fn append_separator(later: bool, separator: u8, out: &mut Vec<u8>, end: usize) -> End
     requires { end ≤ length out.old.items }
@@ -115,7 +115,8 @@ pub(crate) fn append_separator(later: bool, separator: u8, out: &mut Vec<u8>, en
     Ok(put_separator(later, separator, out.as_mut_slice(), end))
 }
 
-/// Appends what stands between the quotation marks of a string, and makes room for `after` bytes more. Most texts need no escape.
+/// Appends the contents of a string, without its quotation marks, and makes space for `after` bytes more. Most texts need no
+/// escape.
 #[inline(always)]
 fn append_text(text: &[u8], after: usize, out: &mut Vec<u8>, end: usize) -> End
     requires { (end ≤ length out.old.items) × (after ≤ 1000) }
@@ -129,8 +130,8 @@ fn append_text(text: &[u8], after: usize, out: &mut Vec<u8>, end: usize) -> End
     append_escaped(text, after, out, end)
 }
 
-/// Copies a text after the text that is there, and tells whether no byte of it needs an escape. Where one does, what is after `end`
-/// is room still.
+/// Copies a text after the text in the buffer, and returns whether no byte of it needs an escape. If one does, the buffer up
+/// to `end` is unchanged.
 #[inline(always)]
 fn copy_plain(text: &[u8], buffer: &mut [u8], end: usize) -> bool
     requires { end + length text.now ≤ length buffer.old }
@@ -150,7 +151,7 @@ fn copy_plain(text: &[u8], buffer: &mut [u8], end: usize) -> bool
     }
 }
 
-/// Copies a text byte by byte, and tells whether none needs an escape. Where one does, what was copied is a front of it.
+/// Copies a text byte by byte, and returns whether none needs an escape. If one does, a prefix was copied.
 #[inline(always)]
 fn copy_few(text: &[u8], buffer: &mut [u8], end: usize) -> bool
     requires { end + length text.now ≤ length buffer.old }
@@ -168,8 +169,8 @@ fn copy_few(text: &[u8], buffer: &mut [u8], end: usize) -> bool
     true
 }
 
-/// Copies a text of at least `size` and at most twice as many bytes, and tells whether none needs an escape. The first and the last
-/// `size` bytes are copied, so that each copy is of a known length.
+/// Copies a text of at least `size` and at most twice as many bytes, and returns whether none needs an escape. The first and
+/// the last `size` bytes are copied, so that each copy is of a known length.
 #[inline(always)]
 fn copy_ends(size: usize, text: &[u8], buffer: &mut [u8], end: usize) -> bool
     requires size { (size ≤ length text.now) × (length text.now ≤ size + size) }
@@ -185,7 +186,7 @@ fn copy_ends(size: usize, text: &[u8], buffer: &mut [u8], end: usize) -> bool
     !any_escape(first) && !any_escape(last)
 }
 
-/// Copies a text of at least 16 bytes, and tells whether none needs an escape. Where one does, what was copied is a front of it.
+/// Copies a text of at least 16 bytes, and returns whether none needs an escape. If one does, a prefix was copied.
 #[inline(always)]
 fn copy_many(text: &[u8], buffer: &mut [u8], end: usize) -> bool
     requires { (16 ≤ length text.now) × (end + length text.now ≤ length buffer.old) }
@@ -206,7 +207,7 @@ fn copy_many(text: &[u8], buffer: &mut [u8], end: usize) -> bool
     copy_ends(STEP, &text[passed..], buffer, end + passed)
 }
 
-/// The same of a text that needs escapes: what stands between two of them is copied as it is.
+/// The same for a text that needs escapes: the bytes between two of them are copied as they are.
 fn append_escaped(text: &[u8], after: usize, out: &mut Vec<u8>, end: usize) -> End
     requires { (end ≤ length out.old.items) × (after ≤ 1000) }
     ensures text { Appends out.old.items end result out.new.items (escaped text.now) }
@@ -225,7 +226,7 @@ fn append_escaped(text: &[u8], after: usize, out: &mut Vec<u8>, end: usize) -> E
     Ok(put(rest, out.as_mut_slice(), at))
 }
 
-/// The place of the first byte that may not stand for itself.
+/// The offset of the first byte that must be escaped.
 #[inline(always)]
 fn first_escape(text: &[u8]) -> Option<usize>
     ensures { result ≡ position needs_escape text.now }
@@ -278,7 +279,7 @@ fn hex_digit(n: u8) -> u8
     if n < 10 { b'0' + n } else { b'a' + (n - 10) }
 }
 
-/// Whether a byte may not stand for itself in a string.
+/// Whether a byte must be escaped in a string.
 #[inline(always)]
 fn needs_escape(b: u8) -> bool
     ensures { result ≡ needs_escape b }
@@ -286,7 +287,7 @@ fn needs_escape(b: u8) -> bool
     b == b'"' || b == b'\\' || b < 32
 }
 
-/// Whether a byte of these may not stand for itself. No byte ends the look, so that all are looked at together.
+/// Whether a byte of these must be escaped. No byte ends the loop, so that all are examined together.
 #[inline(always)]
 fn any_escape(bytes: &[u8]) -> bool
     ensures { result ≡ list_any needs_escape bytes.now }

@@ -10,11 +10,11 @@
 //! assert!(rt; text.as_slice() == b"{\"$numberInt\":\"5\"}".as_slice());
 //! ```
 //!
-//! - `text`: `write_node`, `write_value` and `write_doc`: a value wherever it lies, a value, a document; `TextBuffer`, the buffer of
-//!   a line for one node after the other.
+//! - `text`: `write_node`, `write_value` and `write_doc`: a value in memory or in bytes, a value, a document; `TextBuffer`,
+//!   the buffer of a line for one node after the other.
 //! - `scalar`: a row of the conversion table each, and numbers, base64 and hexadecimal digits.
 //! - `json_string`: strings, and the names of a path.
-//! - `buffer`: text that is written into a buffer whose space was made once.
+//! - `buffer`: text that is written into a buffer which already has the space.
 #![tactic(auto)]
 
 mod buffer;

@@ -20,7 +20,7 @@ use bd_value::{Kind, NoMemory, Reading, Scalar};
 use std::alloc::AllocError;
 use std::simd::prelude::*;
 
-/// What is made of what a node holds, whose kind is known: so nothing is left of the look at it.
+/// The result for the scalar of a node whose kind is known: it compiles to no second check of the kind.
 macro_rules! scalar_of {
     ($node:ident, $shape:pat => $made:expr) => {
         match $node.leaf() {
@@ -30,7 +30,7 @@ macro_rules! scalar_of {
     };
 }
 
-/// Appends the text of a value that holds no other and is no string. There is room for one that is short.
+/// Appends the text of a scalar that is not a string. There is space for a short one.
 #[inline(never)]
 #[tactic(auto, unfolding(crate::specs::Text::scalar_text, crate::specs::Text::quoted, crate::specs::Text::escape_byte))]
 pub(crate) fn append_scalar<N: Reading>(node: N, out: &mut Vec<u8>, end: usize) -> End
@@ -59,7 +59,7 @@ pub(crate) fn append_scalar<N: Reading>(node: N, out: &mut Vec<u8>, end: usize) 
     }
 }
 
-/// Writes the text of a value after the text, where it holds no text and no bytes but an id.
+/// Writes the text of a value after the text, if it contains no text and no bytes but an id.
 #[inline(always)]
 #[tactic(auto, unfolding(crate::specs::Text::scalar_text, crate::specs::Text::quoted, crate::specs::Text::escape_byte))]
 fn put_short<N: Reading>(node: N, buffer: &mut [u8], end: usize) -> usize
@@ -85,7 +85,7 @@ fn put_short<N: Reading>(node: N, buffer: &mut [u8], end: usize) -> usize
     }
 }
 
-/// Int32.
+/// An int32.
 #[inline(always)]
 #[tactic(auto, using(crate::proofs::TextLemmas::int32_steps))]
 fn put_int32(n: i32, buffer: &mut [u8], end: usize) -> usize
@@ -98,7 +98,7 @@ fn put_int32(n: i32, buffer: &mut [u8], end: usize) -> usize
     put_known(*b"\"}", buffer, at)
 }
 
-/// Int64.
+/// An int64.
 #[inline(always)]
 fn put_int64(n: i64, buffer: &mut [u8], end: usize) -> usize
     requires { end + VALUE ≤ length buffer.old }
@@ -110,7 +110,7 @@ fn put_int64(n: i64, buffer: &mut [u8], end: usize) -> usize
     put_known(*b"\"}", buffer, at)
 }
 
-/// Datetime: the milliseconds as an Int64 also before 1970 and after 9999.
+/// A datetime: the milliseconds as an int64, also before 1970 and after 9999.
 #[inline(always)]
 #[tactic(auto, using(crate::proofs::TextLemmas::date_steps))]
 fn put_date(milliseconds: i64, buffer: &mut [u8], end: usize) -> usize
@@ -124,7 +124,7 @@ fn put_date(milliseconds: i64, buffer: &mut [u8], end: usize) -> usize
     put_known(*b"\"}}", buffer, at)
 }
 
-/// Boolean.
+/// A boolean.
 #[inline(always)]
 #[tactic(auto, unfolding(crate::specs::Text::scalar_text))]
 fn put_bool(truth: bool, buffer: &mut [u8], end: usize) -> usize
@@ -139,7 +139,7 @@ fn put_bool(truth: bool, buffer: &mut [u8], end: usize) -> usize
     }
 }
 
-/// ObjectId: 24 lower-case digits.
+/// An ObjectId: 24 lower-case digits.
 #[inline(always)]
 #[tactic(auto, using(crate::proofs::TextLemmas::object_id_pieces))]
 fn put_object_id(id: &[u8; 12], buffer: &mut [u8], end: usize) -> usize
@@ -153,7 +153,7 @@ fn put_object_id(id: &[u8; 12], buffer: &mut [u8], end: usize) -> usize
     put_known(*b"\"}", buffer, at)
 }
 
-/// Timestamp: the seconds and the increment as plain numbers.
+/// A timestamp: the seconds and the increment as plain numbers.
 #[tactic(auto, using(crate::proofs::TextLemmas::timestamp_pieces))]
 fn put_timestamp(seconds: u32, increment: u32, buffer: &mut [u8], end: usize) -> usize
     requires { end + VALUE ≤ length buffer.old }
@@ -182,7 +182,7 @@ fn append_binary(subtype: u8, bytes: &[u8], out: &mut Vec<u8>, end: usize) -> En
     Ok(put_known(*b"\"}}", buffer, at))
 }
 
-/// Regular Expression: the options as they are stored.
+/// A regular expression: the options as they are stored.
 fn append_regex(pattern: &str, options: &str, out: &mut Vec<u8>, end: usize) -> End
     requires { end ≤ length out.old.items }
     ensures { Appends out.old.items end result out.new.items
@@ -193,7 +193,7 @@ fn append_regex(pattern: &str, options: &str, out: &mut Vec<u8>, end: usize) -> 
     append_few(b"}}", out, at)
 }
 
-/// DBPointer.
+/// A DBPointer.
 fn append_pointer(space: &str, id: &[u8; 12], out: &mut Vec<u8>, end: usize) -> End
     requires { end ≤ length out.old.items }
     ensures { Appends out.old.items end result out.new.items
@@ -206,7 +206,7 @@ fn append_pointer(space: &str, id: &[u8; 12], out: &mut Vec<u8>, end: usize) -> 
     Ok(put_known(*b"\"}}}", buffer, at))
 }
 
-/// Appends an object of one string: what leads to the string, the string, and the brace after it.
+/// Appends an object of one string: the text before the string, the string, and the brace after it.
 fn append_one(lead: &[u8], text: &str, out: &mut Vec<u8>, end: usize) -> End
     requires { (end ≤ length out.old.items) × (length lead.now ≤ 1000) }
     ensures { Appends out.old.items end result out.new.items
@@ -216,7 +216,7 @@ fn append_one(lead: &[u8], text: &str, out: &mut Vec<u8>, end: usize) -> End
     append_few(b"}", out, at)
 }
 
-/// Appends what leads to a string, and the string with its quotation marks.
+/// Appends the text before a string, and the string with its quotation marks.
 pub(crate) fn append_led(lead: &[u8], text: &str, out: &mut Vec<u8>, end: usize) -> End
     requires { (end ≤ length out.old.items) × (length lead.now ≤ 1000) }
     ensures { Appends out.old.items end result out.new.items (lead.now ++ quoted text.now) }
@@ -226,7 +226,7 @@ pub(crate) fn append_led(lead: &[u8], text: &str, out: &mut Vec<u8>, end: usize)
     append_string(text, out, at)
 }
 
-/// Appends bytes that are few.
+/// Appends a few bytes.
 pub(crate) fn append_few(bytes: &[u8], out: &mut Vec<u8>, end: usize) -> End
     requires { end ≤ length out.old.items }
     ensures text { Appends out.old.items end result out.new.items bytes.now }
@@ -236,7 +236,7 @@ pub(crate) fn append_few(bytes: &[u8], out: &mut Vec<u8>, end: usize) -> End
     Ok(put(bytes, out.as_mut_slice(), end))
 }
 
-/// Writes the base64 text of bytes, of that size, after the text.
+/// Writes the base64 text of bytes, which has that size, after the text.
 fn put_base64(bytes: &[u8], size: usize, buffer: &mut [u8], end: usize) -> usize
     requires size { size ≡ encoded_size_of standard (length bytes.now) }
     requires buffer { end + size ≤ length buffer.old }
@@ -250,8 +250,8 @@ fn put_base64(bytes: &[u8], size: usize, buffer: &mut [u8], end: usize) -> usize
     after
 }
 
-/// Appends the base64 text of bytes. It is written into place, so that no text in between takes memory. A length that no
-/// vector can have is told as `NoMemory`.
+/// Appends the base64 text of bytes. It is written in place, so that no text in between takes memory. A length that no vector
+/// can have is `NoMemory`.
 pub(crate) fn append_base64(bytes: &[u8], out: &mut Vec<u8>, end: usize) -> End
     requires { end ≤ length out.old.items }
     ensures { Appends out.old.items end result out.new.items (base64_text bytes.now) }
@@ -261,7 +261,7 @@ pub(crate) fn append_base64(bytes: &[u8], out: &mut Vec<u8>, end: usize) -> End
     Ok(put_base64(bytes, size, out.as_mut_slice(), end))
 }
 
-/// The digits that stand for these numbers.
+/// The digits of these numbers.
 #[inline(always)]
 fn digits_of(numbers: u8x16) -> u8x16
     requires { Each1 (λ n. n < 16) numbers }
@@ -281,7 +281,7 @@ fn digit_pairs(bytes: u8x16) -> (u8x16, u8x16)
     high.interleave(low)
 }
 
-/// Writes the 24 digits of an id after the text. Those of 16 bytes are made and written at once, and the last of them are room.
+/// Writes the 24 digits of an id after the text. Those of 16 bytes are written at once, and the last of them are beyond the end.
 #[inline(always)]
 pub(crate) fn put_id(id: &[u8; 12], buffer: &mut [u8], end: usize) -> usize
     requires { end + 32 ≤ length buffer.old }
@@ -313,7 +313,7 @@ pub(crate) fn put_hex(byte: u8, buffer: &mut [u8], end: usize) -> usize
 
 /// Appends a number of at most 64 bits in decimal.
 ///
-/// `NoMemory` leaves `out` as it was.
+/// `NoMemory`: memory ran out, and `out` is unchanged.
 pub fn write_number(n: u64, out: &mut Vec<u8>) -> Result<(), NoMemory>
     ensures ok { OnOk result (out.new.items ≡ out.old.items ++ decimal n) }
     ensures err { OnErr result (out.new.items ≡ out.old.items) }
@@ -322,11 +322,11 @@ pub fn write_number(n: u64, out: &mut Vec<u8>) -> Result<(), NoMemory>
     out.extend_from_slice(buffer.format(n).as_bytes())
 }
 
-/// The most digits of a number of 64 bits.
+/// The most digits of a 64-bit number.
 const DIGITS: usize = 20;
 
-/// Writes a number of at most 64 bits in decimal after the text, and gives the end of both. Twenty bytes are copied, however many the
-/// digits are, so that the copy is of a known length.
+/// Writes a number of at most 64 bits in decimal after the text, and returns the new end. Always twenty bytes are copied, so
+/// that the copy is of a known length.
 #[inline(always)]
 pub(crate) fn put_digits(n: u64, buffer: &mut [u8], end: usize) -> usize
     requires { end + 20 ≤ length buffer.old }
@@ -339,7 +339,7 @@ pub(crate) fn put_digits(n: u64, buffer: &mut [u8], end: usize) -> usize
     end + (DIGITS - start)
 }
 
-/// The same of a number with a sign.
+/// The same for a number with a sign.
 #[inline(always)]
 pub(crate) fn put_signed(n: i64, buffer: &mut [u8], end: usize) -> usize
     requires { end + 21 ≤ length buffer.old }

@@ -12,9 +12,9 @@ use crate::scalar::{append_few, append_led, append_scalar};
 use bd_value::{Document, Kind, NoMemory, Reading, Scalar, Tree, Value};
 use std::alloc::Global;
 
-/// Appends the text of what a node stands for: Extended JSON v2, canonical form, without white space.
+/// Appends the text of a node: Extended JSON v2, canonical form, without white space.
 ///
-/// `NoMemory` leaves `out` as it was.
+/// `NoMemory`: memory ran out, and `out` is unchanged.
 pub fn write_node<N: Reading>(node: N, out: &mut Vec<u8>) -> Result<(), NoMemory>
     ensures ok { OnOk result (out.new.items ≡ out.old.items ++ text (N.tree node)) }
     ensures err { OnErr result (out.new.items ≡ out.old.items) }
@@ -27,7 +27,7 @@ pub fn write_node<N: Reading>(node: N, out: &mut Vec<u8>) -> Result<(), NoMemory
 
 /// Appends the text of a value: Extended JSON v2, canonical form, without white space.
 ///
-/// `NoMemory` leaves `out` as it was.
+/// `NoMemory`: memory ran out, and `out` is unchanged.
 pub fn write_value(value: &Value, out: &mut Vec<u8>) -> Result<(), NoMemory>
     ensures ok { OnOk result (out.new.items ≡ out.old.items ++ text (tree_of value.now)) }
     ensures err { OnErr result (out.new.items ≡ out.old.items) }
@@ -37,7 +37,7 @@ pub fn write_value(value: &Value, out: &mut Vec<u8>) -> Result<(), NoMemory>
 
 /// Appends the text of a document: Extended JSON v2, canonical form, without white space.
 ///
-/// `NoMemory` leaves `out` as it was.
+/// `NoMemory`: memory ran out, and `out` is unchanged.
 pub fn write_doc(document: &Document, out: &mut Vec<u8>) -> Result<(), NoMemory>
     ensures ok { OnOk result (out.new.items
         ≡ out.old.items ++ text (doc (fields_of (pairs document.now)))) }
@@ -46,23 +46,23 @@ pub fn write_doc(document: &Document, out: &mut Vec<u8>) -> Result<(), NoMemory>
     write_node(Tree::Doc(document), out)
 }
 
-/// Room for one line after the other, each over the one before. It is made once, and grows where a line is longer.
+/// A buffer for one line after the other, each over the one before. It is allocated once, and grows if a line is longer.
 #[derive(Debug, Drop)]
 pub struct TextBuffer {
     buffer: Vec<u8>,
 }
 
 impl TextBuffer {
-    /// No room yet.
+    /// An empty buffer.
     pub fn new(alloc: Global) -> TextBuffer {
         TextBuffer {
             buffer: Vec::new(alloc),
         }
     }
 
-    /// The line of what a node stands for: its text, Extended JSON v2, canonical form, without white space, and a newline.
+    /// The line of a node: its text, Extended JSON v2, canonical form, without white space, and a newline.
     ///
-    /// `NoMemory` where there is too little room and none can be had.
+    /// `NoMemory` if the line does not fit and memory runs out.
     #[inline(always)]
     pub fn line<N: Reading>(&mut self, node: N) -> Result<&[u8], NoMemory>
         ensures { IfOk result (λ line. line.now ≡ text (N.tree node) ++ 10 ∷ []) }
@@ -74,7 +74,7 @@ impl TextBuffer {
     }
 }
 
-/// Appends the text of what a node stands for. There is room for a short one.
+/// Appends the text of a node. There is space for a short one.
 #[cycle(text)]
 #[inline(always)]
 fn append_node<N: Reading>(node: N, out: &mut Vec<u8>, end: usize) -> End
@@ -114,7 +114,7 @@ fn append_scope<N: Reading>(node: N, out: &mut Vec<u8>, end: usize) -> End
     append_few(b"}", out, at)
 }
 
-/// Appends the text of the document of these pairs. There is room for its first brace.
+/// Appends the text of the document of these pairs. There is space for its first brace.
 #[cycle(text)]
 #[inline(never)]
 fn append_fields<N: Reading>(fields: N::Rest, out: &mut Vec<u8>, end: usize) -> End
@@ -134,7 +134,7 @@ fn append_fields<N: Reading>(fields: N::Rest, out: &mut Vec<u8>, end: usize) -> 
     append_few(b"}", out, at)
 }
 
-/// Appends the text of the array of these elements. There is room for its first bracket.
+/// Appends the text of the array of these elements. There is space for its first bracket.
 #[cycle(text)]
 #[inline(never)]
 fn append_items<N: Reading>(items: N::Rest, out: &mut Vec<u8>, end: usize) -> End

@@ -11,7 +11,7 @@ use Rattle.std.proofs.lemmas.Str.Parse.{numerals_by_value, tells_all_ascii_digit
 use Rattle.std.specs.Prelude.{option_map, option_and_then}
 use Rattle.bd_extjson_wrapper.specs.WholeNumber.{are_digits, digits_number, fits_bits, if_fits, begins_digits, unsigned, whole, whole_64}
 
--- the decimal digits of a text, with what they are worth, are numerals as `parse` has them
+-- the decimal digits of a text, with their value, are numerals as `parse` reads them
 pub digits_model : IsNumeralModel (λ ds. all_ascii_digits ds ≡ true) (digits_value 10)
 digits_model = numerals_by_value (λ ds. all_ascii_digits ds ≡ true) tells_all_ascii_digits
 
@@ -36,7 +36,7 @@ fits_negative : (n : ℕ) → n ≤ 2 ^ 63 → fits_bits 63 (neg_ℤ (pos n)) �
 fits_negative zero h = refl
 fits_negative (suc n) h = grind arith
 
--- the same where the form is looked at first
+-- the same if the form is checked first
 fact : {E : Type 0} (d : Bool) (r : Result ℤ E) (P : Type 0) (v : ℤ) (b : Bool) → (d ≡ true → b ≡ true → P) → (P → (d ≡ true) × (b ≡ true))
     → OkIff r P v → result_ok r ≡ cond d (cond b (Some v) None) None
 fact true r P v b f g h = decided r P v b (f refl) (λ p. (g p).1) h

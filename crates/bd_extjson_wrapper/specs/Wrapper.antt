@@ -1,4 +1,4 @@
--- The objects that stand for values of other kinds (Extended JSON v2, conversion table): which, and what is in them.
+-- The objects that mean values of other kinds (Extended JSON v2, conversion table): which, and what is in them.
 use Rattle.std.specs.Prelude.{◌≡◌, ℕ, ◌+◌, ◌*◌, ℤ, pos, List, [], ◌∷◌, Bool, true, false, ◌==◌, ◌&&◌, nat_lt}
 use Rattle.std.specs.Prelude.{if◌then◌else◌, Option, Some, None, option_map, option_and_then, unwrap_or, Result, Ok}
 use Rattle.std.specs.Prelude.{Err, codes}
@@ -72,7 +72,7 @@ both_in f g p = option_zip (f p.0) (g p.1)
 abbrev pub id_of : Json → Option (List ℕ)
 id_of j = option_and_then (λ s. result_ok (decode_sized s 12)) (as_str j)
 
--- the data of binary: a JSON string of base64 (RFC 4648), padded, with no bits left over
+-- the data of binary: a JSON string of base64 (RFC 4648), padded, with no bits remaining
 abbrev pub data_in : Json → Option (List ℕ)
 data_in j = option_and_then (λ s. result_ok (decode_of standard s)) (as_str j)
 
@@ -112,7 +112,7 @@ is_one _ = false
 abbrev pub one : Json → Bool
 one j = is_one (option_and_then whole_64 (as_number j))
 
--- the scalar that a wrapper of one name stands for (Extended JSON v2, conversion table),
+-- the scalar that a wrapper of one name means (Extended JSON v2, conversion table),
 -- by the value after that name; None if it is malformed or not supported
 abbrev pub single : Wrapper → Json → Option Scalar
 single kinds.NumberInt j = option_map (λ z. trees.int32 z) (option_and_then whole_32 (as_str j))
@@ -148,12 +148,12 @@ through f (Some p) = option_map (λ a. (a, p.1)) (f p.0)
 abbrev pub after_key : ℕ → ℕ → Option (List ℕ) → List Token → Option (Members × List Token)
 after_key depth n key ts = members_step (value depth) (members (value depth) n) key ts
 
--- Why there is no result: memory ran out, or there is nothing to read.
+-- Why there is no result: memory ran out, or the definition gives None.
 abbrev pub Fails : {A : Type 0} → Trouble → Option A → Type 0
 Fails troubles.Memory there = Unit {0}
 Fails troubles.Refused there = there ≡ None
 
--- The result, by its view, is what there is; or there is nothing, or memory ran out.
+-- The view of the result is what the definition gives; or that is None, or memory ran out.
 abbrev pub Gives : {X A : Type 0} → (X → A) → Result X Trouble → Option A → Type 0
 Gives view (Ok x) there = there ≡ Some (view x)
 Gives view (Err e) there = Fails e there

@@ -1,6 +1,6 @@
-//! The objects of Extended JSON that stand for values of other kinds, by their first names, as `{"$oid":..}`.
+//! The objects of Extended JSON that mean values of other kinds, by their first names, such as `{"$oid":..}`.
 //!
-//! What each stands for: `specs/Wrapper.antt`. Which texts are whole numbers: `specs/WholeNumber.antt`.
+//! What each means: `specs/Wrapper.antt`. Which texts are whole numbers: `specs/WholeNumber.antt`.
 //!
 //! An example, which `bd_extjson_tests` proves and runs as `examples::wrapper`:
 //!
@@ -10,7 +10,7 @@
 //! assert!(rt; whole("-5") == Some(-5) && whole("05").is_none());
 //! ```
 //!
-//! - `wrapper`: `Wrapper`, which object a first name tells; `unwrap_single`, its value; `only` and `pair`, its members.
+//! - `wrapper`: `Wrapper`, the kind of object by its first name; `unwrap_single`, its value; `only` and `pair`, its members.
 //! - `whole_number`: whole numbers, as texts write them.
 #![tactic(auto)]
 

@@ -3,7 +3,7 @@ ghost use Rattle.std.specs.Prelude.{◌≡◌};
 ghost use Rattle.std.specs.Str.{all_ascii_digits};
 ghost use Rattle.bd_extjson_wrapper.specs.WholeNumber.{are_digits, begins_digits, unsigned, whole_64, whole_32};
 
-/// The text after a minus sign, where there is one.
+/// The text after a minus sign, if any.
 fn without_sign(text: &[u8]) -> &[u8]
     ensures { result.now ≡ unsigned text.now }
 {
@@ -13,7 +13,7 @@ fn without_sign(text: &[u8]) -> &[u8]
     }
 }
 
-/// Whether a digit stands first, and no zero before others.
+/// Whether the text begins with a digit, and not with a zero before others.
 fn begins_as_digits(digits: &[u8]) -> bool
     ensures { result ≡ begins_digits digits.now }
 {
@@ -24,18 +24,18 @@ fn begins_as_digits(digits: &[u8]) -> bool
     }
 }
 
-/// The number of 64 bits that a text of the form `-?(0|[1-9][0-9]*)` writes.
+/// The 64-bit number that a text of the form `-?(0|[1-9][0-9]*)` writes.
 pub fn whole(text: &str) -> Option<i64>
     ensures { result ≡ whole_64 text.now }
 {
-    // `parse` takes a plus sign and zeros in front too, and looks at the other digits itself.
+    // `parse` accepts a plus sign and leading zeros too, and checks the other digits itself.
     if !begins_as_digits(without_sign(text.as_bytes())) {
         return None;
     }
     text.parse::<i64>().ok()
 }
 
-/// The same of a number of 32 bits.
+/// The same for a 32-bit number.
 pub fn whole_of_32(text: &str) -> Option<i32>
     ensures { result ≡ whole_32 text.now }
 {

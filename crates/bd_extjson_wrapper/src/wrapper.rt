@@ -1,4 +1,4 @@
-//! The objects that stand for values of other kinds: which, by their first names, and what is in them.
+//! The objects that mean values of other kinds: which, by their first names, and what is in them.
 ghost use Rattle.std.specs.Prelude.{◌≡◌, ◌≢◌, Some, option_map, option_and_then, string_bytes, codes};
 ghost use Rattle.std.specs.Result.{result_ok};
 ghost use Rattle.hex.specs.Hex.{decode_sized, hex_digit_value};
@@ -19,7 +19,7 @@ use hex::FromHex;
 use std::alloc::{AllocError, AllocFailed, Global};
 use thiserror::Error;
 
-/// What an object stands for by its first name: Extended JSON v2, conversion table.
+/// What an object means by its first name: Extended JSON v2, conversion table.
 #[derive(Clone, Copy, Debug, Drop, PartialEq, Eq)]
 pub enum Wrapper {
     NumberInt,
@@ -69,7 +69,7 @@ impl Wrapper {
         }
     }
 
-    /// Whether it is `$code`, which `$scope` may stand beside.
+    /// Whether it is `$code`, which may have `$scope` beside it.
     pub fn is_code(self) -> bool
         ensures { result ≡ is_code_name (Some self) }
     {
@@ -98,7 +98,7 @@ pub fn names_scope(name: &str) -> bool
     matches!(Wrapper::from_name(name), Some(Wrapper::Scope))
 }
 
-/// What an object of one name stands for, of the value after the name.
+/// The value of an object of one name, by the value after the name.
 pub fn unwrap_single(
     alloc: Global,
     wrapper: Wrapper,
@@ -116,7 +116,7 @@ pub fn unwrap_single(
     }
 }
 
-/// The same of the kinds that hold no text and no bytes but an id: these take no memory.
+/// The same for the kinds with no text and no bytes but an id: these take no memory.
 fn fixed_of(wrapper: Wrapper, part: &json::Value<'_>) -> Option<Value>
     requires { (wrapper ≢ kinds.Symbol) × (wrapper ≢ kinds.Code) × (wrapper ≢ kinds.Binary)
         × (wrapper ≢ kinds.RegularExpression) × (wrapper ≢ kinds.DbPointer) }
@@ -212,7 +212,7 @@ fn data_of(alloc: Global, part: &json::Value<'_>) -> Result<Vec<u8>, Trouble>
     }
 }
 
-/// The value of an object of that one name.
+/// The value of an object whose only name this is.
 #[tactic(auto, unfolding(crate::specs::Wrapper::only))]
 pub fn only<'v, 'a>(part: &'v json::Value<'a>, name: &str) -> Option<&'v json::Value<'a>>
     ensures { option_map (λ v. value_view v.now) result ≡ only_in name.now (value_view part.now) }
@@ -225,7 +225,7 @@ pub fn only<'v, 'a>(part: &'v json::Value<'a>, name: &str) -> Option<&'v json::V
     if *key == name { Some(value) } else { None }
 }
 
-/// The values of an object of these two names, in either order.
+/// The values of an object of exactly these two names, in either order.
 #[tactic(auto, unfolding(crate::specs::Wrapper::pair))]
 pub fn pair<'v, 'a>(
     part: &'v json::Value<'a>,
@@ -259,7 +259,7 @@ fn members_of<'v, 'a>(part: &'v json::Value<'a>) -> Option<&'v [(&'a str, json::
     }
 }
 
-/// The text of a number: a bare one, in no string.
+/// The text of a bare number.
 pub fn number_of<'a>(part: &json::Value<'a>) -> Option<&'a str>
     ensures { option_map (λ s. s.now) result ≡ as_number (value_view part.now) }
 {
@@ -273,7 +273,7 @@ fn word_of(part: &json::Value<'_>) -> Option<u32>
     u32::try_from(whole(number_of(part)?)?).ok()
 }
 
-/// The 12 bytes of an id, of its 24 hexadecimal digits.
+/// The 12 bytes of an id, from its 24 hexadecimal digits.
 pub fn id_of_text(text: &str) -> Option<[u8; 12]>
     ensures { result ≡ result_ok (decode_sized text.now 12) }
 {
@@ -287,7 +287,7 @@ fn id_of(part: &json::Value<'_>) -> Option<[u8; 12]>
     id_of_text(part.as_str()?)
 }
 
-/// A text with no zero in it.
+/// A text without a zero.
 fn name_of<'a>(part: &'a json::Value<'_>) -> Option<&'a str>
     ensures { option_map (λ s. s.now) result ≡ name_in (value_view part.now) }
 {
@@ -321,10 +321,10 @@ fn digit(byte: u8) -> Option<u8>
 /// Why a part of a text was not read.
 #[derive(Clone, Copy, Debug, Drop, PartialEq, Eq, Error)]
 pub enum Trouble {
-    /// The allocator gave no memory.
+    /// Memory ran out.
     #[error("no memory")]
     Memory,
-    /// It is no JSON here, or stands for no value.
+    /// It is not JSON, or it means no value.
     #[error("not Extended JSON")]
     Refused,
 }

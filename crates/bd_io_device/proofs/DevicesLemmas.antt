@@ -21,7 +21,7 @@ reads_more {S} {gives} n s t u prefix part all reads last some e =
     let two : AreReads gives (suc n) s all u = subst (P (suc n)) (sym e) one in
     rw add-one two
 
--- reads and those after them
+-- reads, and the reads after them, are reads in a row
 pub reads_append : {S : Type 0} {gives : S → Option (List ℕ) → S → Type 0} (n m : ℕ) (s t u : S) (prefix rest : List ℕ)
     → AreReads gives n s prefix t → AreReads gives m t rest u → AreReads gives (n + m) s (prefix ++ rest) u
 reads_append {S} {gives} n m s t u prefix rest first (zero_reads v) =
@@ -33,21 +33,21 @@ reads_append {S} {gives} n m s t u prefix rest first (more_reads k w v x middle 
     subst (λ l. AreReads gives (suc (n + k)) s l x) (append_assoc prefix middle part) one in
     subst (λ i. AreReads gives i s (prefix ++ (middle ++ part)) x) (sym (add-suc n k)) two
 
--- each read gave a byte at least
+-- each read gave at least one byte
 pub reads_at_least : {S : Type 0} {gives : S → Option (List ℕ) → S → Type 0} (n : ℕ) (s t : S) (bytes : List ℕ) → AreReads gives n s bytes t → n ≤ length bytes
 reads_at_least {S} {gives} n s t bytes (zero_reads v) = omega arith
 reads_at_least {S} {gives} n s t bytes (more_reads k w v x prefix part first last some) =
     let h = reads_at_least k w v prefix first in omega (arith, h, length-append prefix part)
 
--- bytes taken from a device in two runs are taken in one
+-- if two runs take bytes from a device in turn, one run takes all of them
 pub Consumes-more : (a b c : Option (List ℕ)) (prefix part all : List ℕ) → Consumes a b prefix → Consumes b c part → all ≡ prefix ++ part → Consumes a c all
 Consumes-more a b c prefix part all p q e = subst (Consumes a c) (sym e) (Consumes-trans a b c prefix part p q)
 
--- a part that fits into what is left of the limit stays within it
+-- a part that fits into the rest of the limit stays within it
 pub length-within : (limit n : ℕ) (bytes buffer : List ℕ) → n ≤ limit - length bytes → length bytes ≤ limit → length (bytes ++ take n buffer) ≤ limit
 length-within limit n bytes buffer fits within = omega (arith, length-append {A = ℕ}, length-take {A = ℕ})
 
--- `&rest[n..]`
+-- one more write after others: the rest is `&rest[n..]`
 pub writes_more : {S : Type 0} {takes : S → List ℕ → Option ℕ → S → Type 0} {bytes : List ℕ} (s t u : S) (rest : List ℕ) (n : ℕ)
     → AreWrites takes bytes s rest t → takes t rest (Some n) u → 0 < n → AreWrites takes bytes s (take (length rest - n) (drop n rest)) u
 writes_more {S} {takes} {bytes} s t u rest n writes last some =
@@ -81,12 +81,12 @@ takes_both old mid new first second a b = (
   λ none. b.2 (rest_none first second none) ∙ a.2 (prefix_none first second none),
 )
 
--- a writer that failed within the first of two texts failed within both joined
+-- a writer that failed within the first of two texts failed within both texts joined
 pub write_fails_first : (old new : Writer) (first second : List ℕ) → WriteFailsWithin (between old new) first → WriteFailsWithin (between old new) (first ++ second)
 write_fails_first old new first second (prefix, rest, split, some, contents, failed) =
     (prefix, rest ++ second, ap (λ x. x ++ second) split ∙ append_assoc prefix rest second, λ none. some (prefix_none rest second none), contents, failed)
 
--- a writer that took the first of two texts and failed within the second failed within both joined
+-- a writer that took the first of two texts and failed within the second failed within both texts joined
 pub write_fails_second : (old mid new : Writer) (first second : List ℕ) → TakesText (between old mid) first → WriteFailsWithin (between mid new) second → WriteFailsWithin (between old new) (first ++ second)
 write_fails_second old mid new first second a (prefix, rest, split, some, contents, failed) = (
   first ++ prefix,
@@ -97,7 +97,7 @@ write_fails_second old mid new first second a (prefix, rest, split, some, conten
   failed ∙ ap (λ n. after_more n 1) a.1,
 )
 
--- a text that was taken whole, and a prefix of the next
+-- a writer that took one text and failed within the next failed after the first
 pub write_fails_after : (old mid new : Writer) (whole text : List ℕ) → TakesText (between old mid) whole → WriteFailsWithin (between mid new) text → WriteFailsAfter (between old new) whole text
 write_fails_after old mid new whole text a (prefix, rest, split, some, contents, failed) =
     (prefix, rest, split, some, Appends-trans old.contents mid.contents new.contents whole prefix a.0 contents, failed ∙ ap (λ n. after_more n 1) a.1)
@@ -106,7 +106,7 @@ write_fails_after old mid new whole text a (prefix, rest, split, some, contents,
 pub no_write_fails : (old new : Writer) (whole text : List ℕ) → WriteFailsAfter (between old new) whole text → text ≡ [] → ⊥
 no_write_fails old new whole text (prefix, rest, split, some, contents, failed) none = some (rest_none prefix rest (sym split ∙ none))
 
--- what stands in front of a place in a room and what a read put after it
+-- the bytes of a buffer before an offset, and those that a read put there
 pub grown : (a k n : ℕ) (xs ys : List ℕ) → a ≤ length xs → n ≤ length ys → take (a + n) (put_mid a k xs ys) ≡ take a xs ++ take n ys
 grown a k n xs ys within fits =
     let all : List ℕ = put_mid a k xs ys in
@@ -119,7 +119,7 @@ grown a k n xs ys within fits =
     let two : take a xs ++ take n (drop a all) ≡ take a xs ++ take n ys = ap (λ l. take a xs ++ l) part in
     split ∙ one ∙ two
 
--- a room after four bytes at its front
+-- a buffer with four bytes at its start, and what a read put after them
 pub after_head : (k n : ℕ) (head rest ys : List ℕ) → length head ≡ 4 → n ≤ length ys → take (4 + n) (put_mid 4 k (head ++ rest) ys) ≡ head ++ take n ys
 after_head k n head rest ys size fits =
     grown 4 k n (head ++ rest) ys (omega (arith, length-append head rest)) fits ∙ ap (λ xs. xs ++ take n ys) (take_at head rest 4 size)

@@ -1,4 +1,4 @@
--- Devices before calls and after them, also where their bytes are not known: what was read and what was written.
+-- Devices before calls and after them, even if their bytes are unknown: what was read and what was written.
 use Rattle.std.specs.Prelude.{◌≡◌, ◌≢◌, ℕ, ◌+◌, ◌<◌, ◌⊎◌, min, suc, ◌≤◌, List, [], ◌++◌, length, take, drop, codes}
 use Rattle.std.specs.Prelude.{Option, None, Some, Result, Ok, Err}
 use Rattle.std.specs.Io.KnownBytes.{Appends, Consumes}
@@ -13,25 +13,24 @@ greatest = 18446744073709551615
 abbrev pub after_more : ℕ → ℕ → ℕ
 after_more n more = min (n + more) greatest
 
--- a reader: the bytes that it will still give (None:
--- not known), how many reads were made, and how many failed
+-- a reader: the bytes that it will still give (None: unknown), how many reads were made, and how many failed
 pub record Reader : Type 0 where
   pub remaining : Option (List ℕ)
   pub calls : ℕ
   pub failures : ℕ
 
--- a writer: the bytes that it holds (None: not known), how many writes were made, and how many failed
+-- a writer: the bytes that it contains (None: unknown), how many writes were made, and how many failed
 pub record Writer : Type 0 where
   pub contents : Option (List ℕ)
   pub calls : ℕ
   pub failures : ℕ
 
--- a reader with these bytes to give (None: not known) after these counts of
+-- a reader with these bytes to give (None: unknown) after these counts of
 -- reads and of failures, each at most 2^64 - 1
 abbrev pub reader_of : Option (List ℕ) → Tally → Reader
 reader_of remaining tally = record { remaining = remaining; calls = min tally.calls greatest; failures = min tally.failures greatest }
 
--- a writer that took these bytes (None: not known) after these counts of
+-- a writer that took these bytes (None: unknown) after these counts of
 -- writes and of failures, each at most 2^64 - 1
 abbrev pub writer_of : Option (List ℕ) → Tally → Writer
 writer_of contents tally = record { contents = contents; calls = min tally.calls greatest; failures = min tally.failures greatest }
@@ -97,7 +96,7 @@ pub data AreWrites {S : Type 0} (takes : S → List ℕ → Option ℕ → S →
   more_writes : (s t u : S) (rest : List ℕ) (n : ℕ) → AreWrites takes bytes s rest t
       → takes t rest (Some n) u → 0 < n → AreWrites takes bytes s (drop n rest) u
 
--- For a reader whose read gives these bytes, or fails (None), and leaves the reader so.
+-- For a reader: a read of the first state may give these bytes, or fail (None), and lead to the second state.
 module _ {S : Type 0} (gives : S → Option (List ℕ) → S → Type 0) where
   -- Reads led from one device to the other: all but the last gave these bytes, each at least one,
   -- and the last gave `answer`, or failed if that is None.

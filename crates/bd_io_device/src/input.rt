@@ -1,4 +1,4 @@
-//! What gives bytes, with counts of calls and of failures.
+//! Devices that give bytes, with counts of calls and of failures.
 ghost use Rattle.std.specs.Prelude.{◌≡◌, ℕ, List, Option, None, Some, false, IfOk, IsTrue, OnOk, OnErr, length, ◌++◌, ◌<◌, ◌≤◌, ◌≢◌, min, MatchOption, ⊤};
 ghost use Rattle.std.proofs.Common.{rules};
 ghost use Rattle.std.specs.Io.Buffered.{reader_remaining};
@@ -15,16 +15,16 @@ pub struct DeviceFault;
 
 /// A device that gives bytes.
 ///
-/// Its two counts stay at the greatest number of 64 bits.
+/// Its two counts saturate at 2^64 - 1.
 pub trait Input {
-    /// The bytes that reads will still give, where they are known, how many reads were made, and how many failed.
+    /// The bytes that reads will still give, if known; how many reads were made; and how many failed.
     ghost state: { Self → Reader };
 
-    /// A read of the first device may give these bytes, or fail at `None`, and leave the second.
+    /// A read of the first device may give these bytes, or fail if `None`, and change it to the second.
     ghost read_gives: { Self → Option (List ℕ) → Self → Type 0 } = { λ _ _ _. ⊤ };
 
-    /// Reads into the front of `buffer` and tells how many bytes it gave: none only at the end, or where `buffer` is empty.
-    /// Where it fails it gives none.
+    /// Reads into the start of `buffer` and returns how many bytes it read: 0 only at the end, or if `buffer` is empty. A
+    /// read that fails takes no bytes from the device.
     fn read(&mut self, buffer: &mut [u8]) -> Result<usize, DeviceFault>
         ensures within { IfOk result (λ n. n ≤ length buffer.new) }
         ensures bytes { ReadConsumes
@@ -35,8 +35,8 @@ pub trait Input {
         ensures failed { OnErr result ((state self.new).failures
             ≡ after_more (state self.old).failures 1) };
 
-    /// Fills all of `buffer` by one read, where the device holds so many bytes and the room is not empty; else it does nothing,
-    /// and gives false. A device that holds none gives false always.
+    /// Fills all of `buffer` by one read and returns true, if the device has that many bytes buffered and `buffer` is not
+    /// empty; else it does nothing and returns false. A device without a buffer always returns false.
     #[inline(always)]
     fn read_buffered(&mut self, buffer: &mut [u8]) -> bool
         ensures bytes { IsTrue result → (0 < length buffer.old)
@@ -50,14 +50,14 @@ pub trait Input {
         false
     }
 
-    /// The count of reads has 64 bits at most.
+    /// The count of reads is at most 2^64 - 1.
     ghost calls_fit: { (s : Self) → (state s).calls ≤ greatest };
 
-    /// The count of failed reads has 64 bits at most.
+    /// The count of failed reads is at most 2^64 - 1.
     ghost failures_fit: { (s : Self) → (state s).failures ≤ greatest };
 }
 
-/// A reader of the system's, such as a file or standard input.
+/// A reader of the operating system, such as a file or standard input.
 #[derive(Drop)]
 pub struct SystemInput<R: Read + Drop> {
     reader: R,
@@ -91,7 +91,7 @@ impl<R: Read + Drop> Input for SystemInput<R> {
     }
 }
 
-/// A reader of the system's that is read in blocks. A read of bytes that are held already asks the system for nothing.
+/// A reader of the operating system, read in blocks. Bytes that are buffered already are read without a system call.
 #[derive(Drop)]
 pub struct BufferedInput<R: Read + Drop> {
     device: SystemInput<BufReader<R>>,
@@ -146,7 +146,7 @@ pub struct MemoryInput<'a> {
 }
 
 impl<'a> MemoryInput<'a> {
-    /// The device that gives `bytes`, at most `most` of them a call. The call with the number `failing`, counted from 1,
+    /// The device that gives `bytes`, at most `most` of them in a call. The call with the number `failing`, counted from 1,
     /// fails and gives none. Both counts are at 0.
     pub fn new(bytes: &'a [u8], most: usize, failing: Option<u64>) -> MemoryInput<'a>
         requires { 0 < most }
@@ -193,7 +193,7 @@ impl<'a> Input for MemoryInput<'a> {
 
     ghost failures_fit = { λ s. Prim.search rules };
 
-    /// All that the room, the device and `most` let a call give.
+    /// As many bytes as `buffer`, the device and `most` allow.
     fn read(&mut self, buffer: &mut [u8]) -> Result<usize, DeviceFault>
         ensures within { IfOk result (λ n. n ≤ length buffer.new) }
         ensures count { IfOk result (λ n.
@@ -221,7 +221,7 @@ impl<'a> Input for MemoryInput<'a> {
     }
 }
 
-/// How many calls a device took and how many of them failed, at first none. Both stay at the greatest number of 64 bits.
+/// How many calls a device took, and how many of them failed; both start at 0 and saturate at 2^64 - 1.
 #[derive(Default, Drop)]
 pub(crate) struct Tally {
     pub(crate) calls: u64,
@@ -237,7 +237,7 @@ impl Tally {
         self.calls = self.calls.saturating_add(1);
     }
 
-    /// Counts a failure of a call that is counted already, and tells it.
+    /// Counts a failure of a call that is counted already, and returns it.
     pub(crate) fn fail(&mut self) -> DeviceFault
         ensures calls { self.new.calls ≡ self.old.calls }
         ensures failures { self.new.failures ≡ after_more self.old.failures 1 }

@@ -17,7 +17,7 @@
 //! ```
 //!
 //! - `input`, `output`: `Input` and `Output`, over the system's readers and writers and over memory; `write_all`.
-//! - `reading`: `read_all`, all bytes of a device; `fill`, as many as a room takes.
+//! - `reading`: `read_all`, all bytes of a device; `fill`, as many as a buffer takes.
 #![tactic(auto)]
 
 mod input;

@@ -1,4 +1,4 @@
-//! What takes bytes, with counts of calls and of failures.
+//! Devices that take bytes, with counts of calls and of failures.
 ghost use Rattle.std.specs.Prelude.{◌≡◌, ◌≢◌, ℕ, List, None, Some, Option, IfOk, OnOk, OnErr, length, take, ◌-◌, ◌<◌, ◌≤◌, MatchOption, min, ⊤, ◌⊎◌, []};
 ghost use Rattle.std.proofs.Common.{rules};
 ghost use Rattle.std.specs.Io.KnownBytes.{WriteAppends, Appends};
@@ -10,16 +10,16 @@ use std::io::Write;
 
 /// A device that takes bytes.
 ///
-/// Its two counts stay at the greatest number of 64 bits.
+/// Its two counts saturate at 2^64 - 1.
 pub trait Output {
-    /// The bytes that it holds, where they are known, how many writes were made, and how many failed. One that took 0 bytes
-    /// of some is a failure.
+    /// The bytes that it contains, if known; how many writes were made; and how many failed. A write that took 0 bytes of
+    /// some is a failure.
     ghost state: { Self → Writer };
 
-    /// A write of these bytes to the first device may take so many, or fail at `None`, and leave the second.
+    /// A write of these bytes to the first device may take this many, or fail if `None`, and change it to the second.
     ghost write_takes: { Self → List ℕ → Option ℕ → Self → Type 0 } = { λ _ _ _ _. ⊤ };
 
-    /// Appends a front of `bytes` and tells how many bytes it took. Where it fails it took none.
+    /// Appends a prefix of `bytes` and returns its length. A write that fails takes nothing.
     fn write(&mut self, bytes: &[u8]) -> Result<usize, DeviceFault>
         ensures within { IfOk result (λ n. n ≤ length bytes.now) }
         ensures bytes { WriteAppends
@@ -33,14 +33,14 @@ pub trait Output {
         ensures failed { OnErr result ((state self.new).failures
             ≡ after_more (state self.old).failures 1) };
 
-    /// The count of writes has 64 bits at most.
+    /// The count of writes is at most 2^64 - 1.
     ghost calls_fit: { (s : Self) → (state s).calls ≤ greatest };
 
-    /// The count of failed writes has 64 bits at most.
+    /// The count of failed writes is at most 2^64 - 1.
     ghost failures_fit: { (s : Self) → (state s).failures ≤ greatest };
 }
 
-/// A writer of the system's, such as a file or standard output.
+/// A writer of the operating system, such as a file or standard output.
 #[derive(Drop)]
 pub struct SystemOutput<W: Write + Drop> {
     writer: W,
@@ -80,13 +80,13 @@ impl<W: Write + Drop> Output for SystemOutput<W> {
 /// The call of a `MemoryOutput` that fails, by its number, counted from 1, and how it fails.
 #[derive(Debug, Clone, Copy, PartialEq, Eq)]
 pub enum FailingWrite {
-    /// It answers an error.
+    /// It returns an error.
     Error(u64),
     /// It takes 0 bytes.
     Zero(u64),
 }
 
-/// Room in memory that is filled a few bytes at a time, with one call that may fail. It never grows.
+/// A buffer in memory that is filled a few bytes at a time, with one call that may fail. It never grows.
 #[derive(Drop)]
 pub struct MemoryOutput<'a> {
     /// How many bytes a call takes at most, above 0.
@@ -101,8 +101,8 @@ pub struct MemoryOutput<'a> {
 }
 
 impl<'a> MemoryOutput<'a> {
-    /// The device that fills `buffer` from its start, with at most `most` bytes a call. It takes 0 bytes where the room is
-    /// full. The call that `failing` names takes none. Both counts are at 0.
+    /// The device that fills `buffer` from its start, with at most `most` bytes in a call. A write takes 0 bytes if the
+    /// buffer is full. The call that `failing` names takes none. Both counts are at 0.
     pub fn new(buffer: &'a mut [u8], most: usize, failing: Option<FailingWrite>) -> MemoryOutput<'a>
         requires { 0 < most }
         ensures state { ⟦<MemoryOutput<'a> as Output>⟧.state result ≡ record {
@@ -123,7 +123,7 @@ impl<'a> MemoryOutput<'a> {
         }
     }
 
-    /// The bytes that it holds.
+    /// The bytes that it contains.
     pub fn bytes(&self) -> &[u8]
         ensures { (⟦<MemoryOutput<'a> as Output>⟧.state self.now).contents ≡ Some result.now }
     {
@@ -137,7 +137,7 @@ impl<'a> MemoryOutput<'a> {
         self.tally.calls
     }
 
-    /// How many writes failed. One that took 0 bytes of some is a failure.
+    /// How many writes failed. A write that took 0 bytes of some is a failure.
     pub fn failures(&self) -> u64
         ensures { result ≡ (⟦<MemoryOutput<'a> as Output>⟧.state self.now).failures }
     {
@@ -179,17 +179,17 @@ impl Output for MemoryOutput<'_> {
     }
 }
 
-/// Writes all of `bytes`, in as few calls as the device takes.
+/// Writes all of `bytes`, in as few calls as the device allows.
 ///
-/// No call is made again: an error ends it, and so does a call that takes 0 bytes. What the device took until then is a
-/// front of `bytes`.
+/// No call is retried: an error ends it, and so does a call that takes 0 bytes. What the device took until then is a prefix
+/// of `bytes`.
 pub fn write_all<W: Output>(writer: &mut W, bytes: &[u8]) -> Result<(), DeviceFault>
-    // What the device holds, where that is known, and its count of failures, which rises by one exactly at an error.
+    // What the device contains, if known, and its count of failures, which rises by one exactly if a write fails.
     ensures written { OnOk result (TakesText (over W.state writer.old writer.new) bytes.now) }
     ensures write_failed { OnErr result
         (WriteFailsWithin (over W.state writer.old writer.new) bytes.now) }
 
-    // The writes, also of an unknown device: each of all that was left, and none after a failure.
+    // The writes, for any device: each of all the remaining bytes, and none after a failure.
     ensures writes { OnOk result (AreWrites W.write_takes bytes.now writer.old [] writer.new) }
     ensures stopped { OnErr result ((rest : List ℕ)
         × (last : W) × AreWrites W.write_takes bytes.now writer.old rest last × (rest ≢ [])

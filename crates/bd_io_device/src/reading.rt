@@ -1,4 +1,4 @@
-//! The bytes of a device: all of them, or as many as a room takes.
+//! The bytes of a device: all of them, or as many as a buffer takes.
 ghost use Rattle.std.specs.Prelude.{◌≡◌, ℕ, List, [], Some, None, IfOk, IfSome, IsErrOf, OnErr, OnOk, length, vec_len, ◌+◌, ◌<◌, ◌≤◌, ◌++◌, take, IfErr, ◌-◌};
 ghost use Rattle.std.specs.Io.KnownBytes.{IsAtEnd, Consumes};
 ghost use Rattle.bd_io_device.specs.Devices.{AreReads, FailsToFill, FillsBuffer, after_more, over, read_words};
@@ -7,7 +7,7 @@ use crate::input::Input;
 use std::alloc::Global;
 use thiserror::Error;
 
-/// What may be taken of a device.
+/// How much may be read from a device.
 #[derive(Debug, Clone, Copy, PartialEq, Eq)]
 pub struct Limits {
     /// How many bytes it may give.
@@ -26,7 +26,7 @@ pub enum ReadFault {
     TooLong = 2,
     /// The limit of reads was reached before the end was found.
     TooManyTurns = 3,
-    /// The allocator gave no memory.
+    /// Memory ran out.
     NoMemory = 4,
 }
 
@@ -39,7 +39,7 @@ const TOO_MANY_READS: &str = "too many reads";
 const NO_MEMORY: &str = "no memory";
 
 impl ReadFault {
-    /// The fault in the words of the program.
+    /// The message of the fault.
     pub fn words(self) -> &'static str
         ensures { result.now ≡ read_words self }
     {
@@ -52,17 +52,17 @@ impl ReadFault {
     }
 }
 
-/// All bytes of a device, to its end. A turn is one read, and no read is made again.
+/// Reads all bytes of a device, to its end. A turn is one read, and no read is retried.
 ///
-/// At an error what was taken is a front of the device's bytes. `Device` comes at a read that failed, `TooLong` once more
-/// bytes were given than `limits.bytes`, and `TooManyTurns` where `limits.turns` reads each gave a byte at least, so that
-/// one more is wanted. `NoMemory` comes where the allocator refuses to grow.
+/// On an error the bytes taken are a prefix of the device's bytes. `Device`: a read failed. `TooLong`: the reads gave more
+/// bytes than `limits.bytes`. `TooManyTurns`: `limits.turns` reads each gave at least one byte, so another is needed.
+/// `NoMemory`: memory ran out.
 pub fn read_all<R: Input>(
     alloc: Global,
     reader: &mut R,
     limits: Limits,
 ) -> Result<Vec<u8>, ReadFault>
-    // All bytes, where they are known, and as the reads gave them.
+    // All bytes, if the device's are known; for any device those that the reads gave.
     ensures bytes { IfOk result (λ v. IfSome (R.state reader.old).remaining (λ xs. v.items ≡ xs)) }
     ensures end { OnOk result (IsAtEnd (R.state reader.new).remaining) }
     ensures whole { IfOk result (λ v. (n : ℕ)
@@ -74,7 +74,7 @@ pub fn read_all<R: Input>(
     ensures turns { (R.state reader.new).calls
         ≤ after_more (R.state reader.old).calls limits.turns }
 
-    // The last read went past the limit of bytes.
+    // The last read exceeded the limit of bytes.
     ensures too_long { IsErrOf result ReadFault.TooLong →
         (n : ℕ) × (given : List ℕ) × (part : List ℕ) × (last : R) × (n < limits.turns)
         × (length given ≤ limits.bytes) × (limits.bytes < length given + length part)
@@ -82,7 +82,7 @@ pub fn read_all<R: Input>(
     ensures too_long_known { IsErrOf result ReadFault.TooLong →
         IfSome (R.state reader.old).remaining (λ xs. limits.bytes < length xs) }
 
-    // All reads were made, and each gave a byte at least.
+    // All allowed reads were made, and each gave at least one byte.
     ensures too_many { IsErrOf result ReadFault.TooManyTurns →
         (given : List ℕ) × (length given ≤ limits.bytes)
         × AreReads R.read_gives limits.turns reader.old given reader.new
@@ -90,7 +90,7 @@ pub fn read_all<R: Input>(
     ensures too_many_calls { IsErrOf result ReadFault.TooManyTurns →
         (R.state reader.new).calls ≡ after_more (R.state reader.old).calls limits.turns }
 
-    // The last read failed, and it alone: exactly then the count of failures rises.
+    // Only the last read failed; exactly then the count of failures rises.
     ensures device { IsErrOf result ReadFault.Device →
         (n : ℕ) × (given : List ℕ) × (last : R) × (n < limits.turns) × (length given ≤ limits.bytes)
         × AreReads R.read_gives n reader.old given last × R.read_gives last None reader.new }
@@ -99,7 +99,7 @@ pub fn read_all<R: Input>(
     ensures no_failure { ¬ (IsErrOf result ReadFault.Device) →
         (R.state reader.new).failures ≡ (R.state reader.old).failures }
 
-    // The reads before a refusal of the allocator gave a byte each, and no more than the limit.
+    // Each read before memory ran out gave at least one byte, and together they gave no more than the limit.
     ensures memory { IsErrOf result ReadFault.NoMemory →
         (n : ℕ) × (given : List ℕ) × (n ≤ limits.turns)
         × (length given ≤ limits.bytes) × AreReads R.read_gives n reader.old given reader.new
@@ -124,16 +124,16 @@ pub fn read_all<R: Input>(
     Err(ReadFault::TooManyTurns)
 }
 
-/// What came of filling a room.
+/// The result of filling a buffer.
 #[derive(Clone, Copy)]
 pub struct FillCounts {
-    /// How many bytes came, the whole room unless the device is at its end.
+    /// How many bytes were read: the whole buffer, unless the device is at its end.
     pub bytes: usize,
     /// How many reads were made.
     pub turns: u64,
 }
 
-/// Reads until the room is full or the device is at its end, as long as the limits let it. No read is made again.
+/// Reads until the buffer is full or the device is at its end, within the limits. No read is retried.
 #[inline(always)]
 pub fn fill<R: Input>(
     reader: &mut R,
@@ -150,14 +150,14 @@ pub fn fill<R: Input>(
         (R.state reader.new).calls ≡ after_more (R.state reader.old).calls f.turns) }
     ensures turns { (R.state reader.new).calls
         ≤ after_more (R.state reader.old).calls limits.turns }
-    // The reads, also of an unknown device. Where too many would be needed, all were made and each gave a byte at least.
+    // The reads, for any device. If too many would be needed, all allowed ones were made, and each gave at least one byte.
     ensures reads { IfOk result (λ f. FillsBuffer R.read_gives
         (length buffer.old) f.turns reader.old (take f.bytes buffer.new) reader.new) }
     ensures unfilled { IfErr result
         (FailsToFill R.read_gives R.state limits (length buffer.old) reader.old reader.new) }
     ensures too_many_calls { IsErrOf result ReadFault.TooManyTurns →
         (R.state reader.new).calls ≡ after_more (R.state reader.old).calls limits.turns }
-    // The last read failed, and it alone: exactly then the count of failures rises.
+    // Only the last read failed; exactly then the count of failures rises.
     ensures failed { IsErrOf result ReadFault.Device →
         (R.state reader.new).failures ≡ after_more (R.state reader.old).failures 1 }
     ensures no_failure { ¬ (IsErrOf result ReadFault.Device) →
@@ -191,8 +191,8 @@ pub fn fill<R: Input>(
     Ok(FillCounts { bytes, turns })
 }
 
-/// Puts four bytes at the front of a room, and fills it after them up to `size`, which is at least 4 and no more than the
-/// room's length.
+/// Puts four bytes at the start of a buffer, and fills it after them up to `size`, which is at least 4 and at most the
+/// buffer's length.
 pub fn fill_after<R: Input>(
     reader: &mut R,
     buffer: &mut [u8],

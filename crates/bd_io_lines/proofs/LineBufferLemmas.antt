@@ -14,7 +14,7 @@ use Rattle.bd_io_lines.specs.LineBuffer.{EndsByOneRead, FailsToReadLine, FindsNo
 use Rattle.bd_io_lines.proofs.LinesLemmas.{line_grows, both_empty}
 use Rattle.bd_io_device.specs.declared.reading.ReadFault.TheVariants as reads
 
--- one read, which gives nothing at the end and something before it
+-- one read: it gives no bytes at the end, and at least one before it
 pub reads_one : {R : Type 0} (gives : R → Option (List ℕ) → R → Type 0) (ended : Bool) (old new : R) (given : List ℕ) → gives old (Some given) new
     → (ended ≡ true → given ≡ []) → (ended ≡ false → 0 < length given) → ReadsTo gives ended 1 old given new
 reads_one {R} gives true old new given one none some =
@@ -30,13 +30,13 @@ reads_then {R} gives false n m old mid new prefix rest first second = reads_appe
 pub adds_calls : (a b c n m : ℕ) → b ≡ after_more a n → c ≡ after_more b m → c ≡ after_more a (n + m)
 adds_calls a b c n m first second = search (rules, first, second)
 
--- reads, and then those of which the last is told apart
+-- reads, and then reads of which the last is listed separately
 pub one_read_then : {R : Type 0} {gives : R → Option (List ℕ) → R → Type 0} (n : ℕ) (old mid new : R) (first prefix part : List ℕ)
     → AreReads gives n old first mid → EndsByOneRead gives prefix part mid new → EndsByOneRead gives (first ++ prefix) part old new
 one_read_then {R} {gives} n old mid new first prefix part are (turns, last, more, one) =
     (n + turns, last, reads_append n turns old mid last first prefix are more, one)
 
--- why a line was not read, of a reader that gave bytes before
+-- why a line was not read, by a reader that gave bytes before
 pub cause_then : {R : Type 0} {gives : R → Option (List ℕ) → R → Type 0} (limit remaining n : ℕ) (old mid new : R) (before bytes rest : List ℕ) (fault : ReadFault)
     → AreReads gives n old before mid → remaining + length before ≡ limit → IsCause gives remaining bytes rest mid new fault
     → IsCause gives limit bytes (before ++ rest) old new fault
@@ -57,20 +57,20 @@ cause_then {R} {gives} limit remaining n old mid new before bytes rest reads.Too
 cause_then {R} {gives} limit remaining n old mid new before bytes rest reads.TooManyTurns are capacity (part, fits) = (part, omega (arith, capacity, fits, length-append before rest))
 cause_then {R} {gives} limit remaining n old mid new before bytes rest reads.NoMemory are capacity fits = omega (arith, capacity, fits, length-append before rest)
 
--- what the loop keeps: the bytes that were given are the line so far and what is held after it
+-- the loop invariant: the bytes given are the line so far and what is buffered after it
 pub record SoFar {R : Type 0} (state : R → Reader) (gives : R → Option (List ℕ) → R → Type 0) (before after : Buffered) (old new : R) : Type 0 where
   pub given : List ℕ
   pub reads : GivesBytes state gives before.remaining after.remaining after.ended given old new
   pub same : before.rest ++ given ≡ after.line ++ after.rest
   pub lazy : IsLazy gives before.rest given old new
 
--- the same of all that they gave
+-- the bytes before the last read, if more bytes were read before them
 pub before_last_then : {R : Type 0} {gives : R → Option (List ℕ) → R → Type 0} (n : ℕ) (old mid new : R) (first prefix given : List ℕ)
     → AreReads gives n old first mid → GivesBeforeLast gives prefix mid given new → GivesBeforeLast gives (first ++ prefix) old (first ++ given) new
 before_last_then {R} {gives} n old mid new first prefix given are (part, split, one) =
     (part, ap (λ x. first ++ x) split ∙ sym (append_assoc first prefix part), one_read_then n old mid new first prefix part are one)
 
--- after a part of a line no read was made once its newline was there
+-- after a part of a line, no read was made once the line had its newline
 lazy_then : {R : Type 0} {gives : R → Option (List ℕ) → R → Type 0} (n : ℕ) (old mid new : R) (head prefix line rest : List ℕ) → head ++ prefix ≡ line
     → AreReads gives n old prefix mid → IsLazy gives head prefix old mid → IsLazy gives line rest mid new → IsLazy gives head (prefix ++ rest) old new
 lazy_then {R} {gives} n old mid new head prefix line rest e are before (inl (none, same)) =
@@ -149,12 +149,12 @@ module _ {R : Type 0} {state : R → Reader} {gives : R → Option (List ℕ) �
     lazy = lazy_then a.turns old mid new head prefix line b.given e a.reads lazy b.lazy;
   }
 
-  -- so many reads gave this, and no further one was made
+  -- n reads gave these bytes, and no further read was made
   stops_by : {limits : Limits} {old new : R} {given : List ℕ} {fault : ReadFault} (turns : ℕ) → turns ≤ limits.turns → Consumes (state old).remaining (state new).remaining given
       → LastRead state gives limits turns old given new fault → (state new).calls ≡ after_more (state old).calls turns → StopsReading state gives limits given old new fault
   stops_by turns within gave last calls = record { turns = turns; within = within; gave = gave; reads = last; calls = search (rules, within, calls) }
 
-  -- no read may be made
+  -- no further read is allowed
   pub fails_turns : (limits : Limits) (old : R) (head : List ℕ) → limits.turns ≡ 0 → (state old).calls ≤ greatest → IsPart head
       → FailsToReadLine state gives limits head old old reads.TooManyTurns
   fails_turns limits old head none fit part =
@@ -189,7 +189,7 @@ module _ {R : Type 0} {state : R → Reader} {gives : R → Option (List ℕ) �
     lazy = inr ([], subst IsLine (sym (append-nil head)) part.0, ([], refl, (0, old, zero_reads old, inr (refl, none))));
   }
 
-  -- the read gave more than it may
+  -- the read gave more than the limit
   pub fails_limit : (limits : Limits) (old new : R) (head last : List ℕ) → 0 < limits.turns → IsPart head → Consumes (state old).remaining (state new).remaining last
       → gives old (Some last) new → (state new).calls ≡ after_more (state old).calls 1 → (state new).failures ≡ (state old).failures
       → limits.bytes < length last → FailsToReadLine state gives limits head old new reads.TooLong
@@ -200,7 +200,7 @@ module _ {R : Type 0} {state : R → Reader} {gives : R → Option (List ℕ) �
     lazy = inr ([], subst IsLine (sym (append-nil head)) part.0, (last, refl, (0, old, zero_reads old, inl one)));
   }
 
-  -- what the read gave found no room
+  -- memory ran out for the bytes that the read gave
   pub fails_capacity : (limits : Limits) (old new : R) (head last : List ℕ) → 0 < limits.turns → IsLine head → Consumes (state old).remaining (state new).remaining last
       → gives old (Some last) new → (state new).calls ≡ after_more (state old).calls 1 → (state new).failures ≡ (state old).failures
       → 0 < length last → length last ≤ limits.bytes → FailsToReadLine state gives limits head old new reads.NoMemory
@@ -211,7 +211,7 @@ module _ {R : Type 0} {state : R → Reader} {gives : R → Option (List ℕ) �
     lazy = inr ([], subst IsLine (sym (append-nil head)) part, (last, refl, (0, old, zero_reads old, inl one)));
   }
 
-  -- what the read gave was taken
+  -- the bytes that the read gave were taken
   pub gives_one : (limits remaining : Limits) (ended : Bool) (old new : R) (given : List ℕ) → Consumes (state old).remaining (state new).remaining given
       → gives old (Some given) new → (state new).calls ≡ after_more (state old).calls 1 → (state new).failures ≡ (state old).failures
       → remaining.bytes + length given ≡ limits.bytes → remaining.turns + 1 ≡ limits.turns → (ended ≡ true → IsAtEnd (state new).remaining)
@@ -284,7 +284,7 @@ module _ {R : Type 0} {state : R → Reader} {gives : R → Option (List ℕ) �
       head_is : IsLine (before.rest ++ so_far.given)
       head_is = subst IsLine (sym so_far.same) (line_grows lines.line lines.rest whole is)
 
-      -- so no newline was held at first
+      -- so no newline was buffered at first
       module _ (all : List ℕ) (grown : all ≡ lines.line ++ lines.rest) where
         pub line_grown : IsLine all
         line_grown = subst IsLine (sym grown) (line_grows lines.line lines.rest whole is)

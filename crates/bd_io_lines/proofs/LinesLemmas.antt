@@ -7,11 +7,11 @@ use Rattle.std.specs.List.{All, count_by, onto_first}
 use Rattle.bd_value.specs.Limits.{longest_command}
 use Rattle.bd_io_lines.specs.Lines.{AreShort, AreWhole, IsLine, IsPart, commands_of, is_empty_line, is_newline, not_empty, text_lines}
 
--- a line and more bytes of it
+-- a line with more bytes of it is a line
 pub line_grows : (line more : List ℕ) → IsLine line → IsLine more → IsLine (line ++ more)
 line_grows line more first rest = All-append (λ b. is_newline b ≡ false) line more first rest
 
--- the front of a line is one
+-- a prefix of a line is a line
 pub line_prefix : (line more : List ℕ) → IsLine (line ++ more) → IsLine line
 line_prefix line more all =
     subst IsLine (take_at line more (length line) refl) (All-take (λ b. is_newline b ≡ false) (length line) (line ++ more) all)
@@ -37,7 +37,7 @@ lines_step b prefix rest false is e =
     slice_split-cons_no is_newline b (prefix ++ 10 ∷ rest) is ∙ ap (λ x. onto_first b x) e ∙ onto_more b (text_lines prefix) (text_lines rest) (some_part prefix)
     ∙ ap (λ x. x ++ text_lines rest) (sym (slice_split-cons_no is_newline b prefix is))
 
--- lines before a newline and after it
+-- the lines before a newline and those after it
 pub lines_apart : (prefix rest : List ℕ) → text_lines (prefix ++ 10 ∷ rest) ≡ text_lines prefix ++ text_lines rest
 lines_apart [] rest = slice_split-cons_yes is_newline 10 rest refl
 lines_apart (b ∷ prefix) rest = lines_step b prefix rest (is_newline b) refl (lines_apart prefix rest)
@@ -57,7 +57,7 @@ no_commands = refl
 commands_apart : (prefix rest : List ℕ) → commands_of (prefix ++ 10 ∷ rest) ≡ commands_of prefix ++ commands_of rest
 commands_apart prefix rest = ap not_empty (lines_apart prefix rest) ∙ not_empty_apart (text_lines prefix) (text_lines rest)
 
--- a newline at the end makes no command
+-- a newline at the end adds no command
 commands_ended : (prefix : List ℕ) → commands_of (prefix ++ 10 ∷ []) ≡ commands_of prefix
 commands_ended prefix = commands_apart prefix [] ∙ ap (λ x. commands_of prefix ++ x) no_commands ∙ append-nil (commands_of prefix)
 

@@ -36,7 +36,7 @@ pub nothing_replied : {S : Type 0} (replies : S → List ℕ → List ℕ → S 
 unfolding not_empty
 nothing_replied {S} replies s = (refl, refl)
 
--- replies to commands and to those after them
+-- replies to commands, and replies to the commands after them
 pub replied_then : {S : Type 0} (replies : S → List ℕ → List ℕ → S → Type 0) (s t u : S) (done more : List (List ℕ)) (first second : List ℕ)
     → RepliesInTurn replies s done first t → RepliesInTurn replies t more second u → RepliesInTurn replies s (done ++ more) (first ++ second) u
 replied_then {S} replies s t u [] more first second (e, none) rest =
@@ -53,7 +53,7 @@ replied_then {S} replies s t u (command ∷ done) more first second (reply, mid,
 
 -- ---- the loop
 
--- what the loop keeps: whole lines that have their replies, and what is held after them
+-- the loop invariant: whole lines that have their replies, and what is buffered after them
 pub record Serving {R S : Type 0} (state : R → Reader) (gives : R → Option (List ℕ) → R → Type 0) (replies : S → List ℕ → List ℕ → S → Type 0)
     (limits : Limits) (lines : Buffered) (old new : R) (before after : Writer) (s t : S) : Type 0 where
   pub whole : List ℕ
@@ -131,7 +131,7 @@ module _ {R S : Type 0} {state : R → Reader} {gives : R → Option (List ℕ) 
   serves_end next new (inr going) same none = serves_by next.remaining new (subst (λ x. GivesBytes state gives limits next.remaining true x old new)
       (append-nil (so_far.whole ++ lines.rest) ∙ ap (λ x. so_far.whole ++ x) none.none.0 ∙ append-nil so_far.whole) (gives_then (gave going) (none.reads going)))
 
-  -- a fault of reading came
+  -- reading failed
   pub stops_unread : (new : R) (fault : ReadFault) → lines.ended ≡ false → FailsToReadLine state gives lines.remaining lines.rest mid new fault
       → StopsUnread state gives replies limits old new (between before now) s t fault
   stops_unread new fault going fails =

@@ -6,9 +6,9 @@ use Rattle.bd_io_device.specs.declared.reading.{Limits.Limits, ReadFault.ReadFau
 use Rattle.bd_value.specs.Limits.{longest_command}
 use Rattle.bd_io_lines.specs.{Lines.IsFirstLine, Lines.IsLine, Lines.IsPart}
 
--- the next line of a device, and how reading goes on
+-- the next line of a device, what is buffered after it, and what may still be read
 pub record Buffered : Type 0 where
-  -- what the device may still be asked for
+  -- how much may still be read from the device
   pub remaining : Limits
   -- the line that was read last
   pub line : List ℕ
@@ -18,10 +18,10 @@ pub record Buffered : Type 0 where
   pub block : ℕ
   -- the end of the device was found
   pub ended : Bool
-  -- the fault that an earlier call met
+  -- the fault of an earlier call
   pub failed : Option ReadFault
 
--- For a reader whose read gives these bytes, or fails (None), and leaves the reader so.
+-- For a reader: a read of the first state may give these bytes, or fail (None), and lead to the second state.
 module _ {R : Type 0} (gives : R → Option (List ℕ) → R → Type 0) where
   -- Reads gave these bytes, each at least one; if the end was found, the last of the reads gave none.
   abbrev pub ReadsTo : Bool → ℕ → R → List ℕ → R → Type 0
@@ -46,7 +46,7 @@ module _ {R : Type 0} (gives : R → Option (List ℕ) → R → Type 0) where
 
   -- Why the line that begins with these bytes was not read;
   -- the reader gave `given`, and may give `limit` bytes.
-  -- `TooLong`: the line is too long; or the last read, with a part of the line buffered, passed the limit.
+  -- `TooLong`: the line is too long; or the last read, with a part of the line buffered, exceeded the limit.
   abbrev pub IsCause : ℕ → List ℕ → List ℕ → R → R → ReadFault → Type 0
   IsCause limit bytes given old new ReadFault.TooLong =
       (((line : List ℕ) × (rest : List ℕ) × (bytes ≡ line ++ rest) × IsLine line × (longest_command < length line))
@@ -58,7 +58,7 @@ module _ {R : Type 0} (gives : R → Option (List ℕ) → R → Type 0) where
 
 -- For such a reader, and what contracts see of each of its states.
 module _ {R : Type 0} (state : R → Reader) (gives : R → Option (List ℕ) → R → Type 0) where
-  -- The reader gave these bytes, and what it may still be asked for fell from `limits` to `remaining`.
+  -- The reader gave these bytes, and what may still be read fell from `limits` to `remaining`.
   pub record GivesBytes (limits remaining : Limits) (ended : Bool) (given : List ℕ) (old new : R) : Type 0 where
     pub turns : ℕ
     pub gave : Consumes (state old).remaining (state new).remaining given
@@ -82,7 +82,7 @@ module _ {R : Type 0} (state : R → Reader) (gives : R → Option (List ℕ) �
     pub ended : after.ended ≡ true
     pub reads : before.ended ≡ false → GivesBytes before.remaining after.remaining true [] old new
 
-  -- Reads gave these bytes, and ended in this fault of reading.
+  -- Reads gave these bytes, and reading ended with this fault.
   abbrev pub LastRead : Limits → ℕ → R → List ℕ → R → ReadFault → Type 0
   LastRead limits turns old given new ReadFault.Device =
       (last : R) × AreReads gives turns old given last × gives last None new
@@ -93,7 +93,7 @@ module _ {R : Type 0} (state : R → Reader) (gives : R → Option (List ℕ) �
   LastRead limits turns old given new fault =
       AreReads gives turns old given new × ((state new).failures ≡ (state old).failures)
 
-  -- The reader gave these bytes, and then this fault of reading came.
+  -- The reader gave these bytes, and then reading failed with this fault.
   pub record StopsReading (limits : Limits) (given : List ℕ) (old new : R) (fault : ReadFault) : Type 0 where
     pub turns : ℕ
     pub within : turns ≤ limits.turns

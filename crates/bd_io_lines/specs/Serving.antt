@@ -27,7 +27,7 @@ IsReadInTime gives whole given old new = ((given ≡ []) × (new ≡ old))
     × GivesBeforeLast gives prefix old given new)
 
 -- For a reader whose reads may give these bytes, and for the replies that a command may have.
--- The reader goes from `old` to `new`.
+-- The reader changes from `old` to `new`.
 module _ {R S : Type 0} (state : R → Reader) (gives : R → Option (List ℕ) → R → Type 0)
     (replies : S → List ℕ → List ℕ → S → Type 0) (limits : Limits) (old new : R) where
   -- A command was read, and the text is the replies to those before it, which led from state s to t.
@@ -56,7 +56,7 @@ module _ {R S : Type 0} (state : R → Reader) (gives : R → Option (List ℕ) 
       pub replied : RepliesInTurn replies s (commands_of given) text t
       pub written : TakesText out text
 
-    -- A fault of reading came in the line after some whole lines,
+    -- Reading failed in the line after some whole lines,
     -- and the replies to the commands among these were written.
     pub record StopsUnread (fault : ReadFault) : Type 0 where
       pub whole : List ℕ
@@ -70,8 +70,7 @@ module _ {R S : Type 0} (state : R → Reader) (gives : R → Option (List ℕ) 
       pub replied : RepliesInTurn replies s (commands_of whole) text t
       pub written : TakesText out text
 
-    -- Not each command had a reply, for this reason:
-    -- those before had theirs, and `stays` says what is unchanged.
+    -- Not every command had a reply, for this reason: those before had theirs, and `stays` says what is unchanged.
     abbrev pub StopsServing : (S → S → Type 0) → ServeFault → Type 0
     StopsServing stays (ServeFault.Unread fault) = StopsUnread fault
     -- the reply to a command was not made

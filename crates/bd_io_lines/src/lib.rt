@@ -17,7 +17,7 @@
 //! ```
 //!
 //! - `line_buffer`: `LineBuffer`, the next line of a device.
-//! - `serving`: `serve`, which writes what a `Replier` replies to each command; `is_empty_line`, a line that is none.
+//! - `serving`: `serve`, which writes what a `Replier` replies to each command; `is_empty_line`, whether a line is no command.
 #![tactic(auto)]
 
 mod line_buffer;

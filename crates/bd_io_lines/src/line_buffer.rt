@@ -1,4 +1,4 @@
-//! The next line of a device, in a buffer that the lines share.
+//! The next line of a device, in a buffer that all lines share.
 
 ghost use Rattle.std.specs.Prelude.{◌≡◌, ◌++◌, ◌∷◌, [], None, true, IfSome, drop, length, take, ◌+◌, ◌<◌, ◌≤◌};
 ghost use Rattle.bd_value.specs.Limits.{longest_command};
@@ -13,20 +13,20 @@ use std::marker::Model;
 /// One line of a device, and the bytes that the device gave after it, which are fewer than those of one read.
 #[derive(Drop)]
 pub struct LineBuffer {
-    /// What the device may still be asked for.
+    /// How much may still be read from the device.
     remaining: Limits,
     line: Vec<u8>,
     /// The bytes of the last read.
     block: Vec<u8>,
-    /// Where in them the next line begins.
+    /// The offset in them at which the next line begins.
     start: usize,
     /// The end of the device was found.
     ended: bool,
-    /// The fault that an earlier call met.
+    /// The fault of an earlier call.
     failed: Option<ReadFault>,
 }
 
-/// A contract sees the line, the bytes after it, how many bytes the last read gave, and how reading goes on.
+/// A contract sees the line, the bytes after it, how many bytes the last read gave, and what may still be read.
 impl Model for LineBuffer {
     ghost use Rattle.std.specs.Prelude.{◌≡◌, ◌≤◌, [], drop, length, true};
     ghost use Rattle.bd_value.specs.Limits.{longest_command};
@@ -52,7 +52,7 @@ impl LineBuffer {
     ghost use Rattle.std.specs.Prelude.{Ok, Err, false, Some, IfErr, IsErrOf, List, OnErr, OnOk, ℕ, ◌⊎◌};
     ghost use Rattle.bd_io_lines.specs.LineBuffer.{FailsToReadLine, FindsNoLine, GivesBytes, ReadsLine};
 
-    /// No line yet. No memory is taken.
+    /// No line yet. It takes no memory.
     pub fn new(alloc: Global, limits: Limits) -> LineBuffer
         ensures empty { (result.remaining ≡ limits)
             × (result.line ≡ []) × (result.rest ≡ []) × (result.block ≡ 0) }
@@ -75,7 +75,7 @@ impl LineBuffer {
         &self.line
     }
 
-    /// How many bytes are held: those of a line and those of a read, at most 16,842,752.
+    /// How many bytes are buffered: those of a line and those of a read, at most 16,842,752.
     pub fn buffered(&self) -> usize
         ensures { (result ≡ length self.now.line + self.now.block)
             × (result ≤ 16842752) }
@@ -83,18 +83,18 @@ impl LineBuffer {
         self.line.len() + self.block.len()
     }
 
-    /// Takes the next line of a device into the buffer; false at the end.
+    /// Reads the next line of a device into the buffer; false at the end.
     ///
-    /// A line is the bytes before a newline. The last line needs none where it is not empty. The device is read only
-    /// where no whole line is held, and not after its end was found. All calls are to be handed one device.
+    /// A line is the bytes before a newline. The last line needs no newline if it is not empty. The device is read only if no
+    /// whole line is buffered, and never after its end was found. Pass the same device to all calls.
     ///
     /// # Errors
     /// - `Device`: a read failed before the line was whole;
     /// - `TooLong`: the line is longer than 16,777,216 bytes, or the device gave more than the limit of bytes;
-    /// - `TooManyTurns`: one more read was wanted than may be made;
-    /// - `NoMemory`: the allocator gave no memory.
+    /// - `TooManyTurns`: another read is needed, and the limit of reads is reached;
+    /// - `NoMemory`: memory ran out.
     ///
-    /// A call after one that met a fault answers the same fault, and reads nothing.
+    /// After an error, each call returns the same error, and reads nothing.
     pub fn read_next<R: Input>(&mut self, reader: &mut R) -> Result<bool, ReadFault>
         ensures reads { result ≡ Ok true →
             ReadsLine R.state R.read_gives self.old self.new reader.old reader.new }
@@ -107,7 +107,7 @@ impl LineBuffer {
         ensures no_read { self.old.ended ≡ true →
             (reader.new ≡ reader.old) × (self.new.remaining ≡ self.old.remaining) }
         ensures ends { self.old.ended ≡ true → self.old.failed ≡ None → result ≡ Ok false }
-        // After a fault each call answers it, and reads nothing.
+        // After an error, each call returns it again, and reads nothing.
         ensures again { IfSome self.old.failed (λ f. (result ≡ Err f) × (reader.new ≡ reader.old)) }
         ensures failed { IfErr result (λ f. (self.new.failed ≡ Some f)
             × (self.new.line ≡ [])) }
@@ -125,7 +125,7 @@ impl LineBuffer {
         result
     }
 
-    /// Takes the next line into the buffer, where it holds none; false at the end.
+    /// Reads the next line into the buffer, which is empty; false at the end.
     fn advance<R: Input>(&mut self, reader: &mut R) -> Result<bool, ReadFault>
         requires empty { self.old.line ≡ [] }
         ensures reads { result ≡ Ok true →
@@ -148,7 +148,7 @@ impl LineBuffer {
         Ok(!self.line.is_empty())
     }
 
-    /// Takes what is held after the line up to a newline into it; false where there is none.
+    /// Appends to the line what is buffered after it, up to a newline; false if there is no newline.
     fn take_part(&mut self) -> Result<bool, ReadFault>
         ensures found { result ≡ Ok true →
             (part : List ℕ) × IsLine part × (self.new.line ≡ self.old.line ++ part)
@@ -189,7 +189,7 @@ impl LineBuffer {
         }
     }
 
-    /// Reads once, where a part of a line is held and nothing after it.
+    /// Reads once, if a part of a line is buffered and nothing after it.
     #[tactic(auto, using(crate::proofs::LineBufferLemmas::fails_turns, crate::proofs::LineBufferLemmas::fails_device))]
     fn fetch<R: Input>(&mut self, reader: &mut R) -> Result<(), ReadFault>
         requires drained { self.old.rest ≡ [] }
@@ -225,7 +225,7 @@ impl LineBuffer {
     }
 }
 
-/// The place of the first newline.
+/// The offset of the first newline.
 fn find_newline(bytes: &[u8]) -> Option<usize>
     ensures found { IfSome result (λ k. (k < length bytes.now) × IsLine (take k bytes.now)
         × (bytes.now ≡ take k bytes.now ++ 10 ∷ drop (k + 1) bytes.now)) }

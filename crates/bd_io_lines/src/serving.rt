@@ -11,16 +11,16 @@ use bd_io_device::{DeviceFault, Input, Limits, Output, ReadFault, write_all};
 use std::alloc::{AllocError, Global};
 use thiserror::Error;
 
-/// What replies to commands.
+/// Replies to commands.
 pub trait Replier {
-    /// In the first state this command may have this reply, which leaves the second state.
+    /// In the first state this command may have this reply, which leads to the second state.
     ghost replies: { Self → List ℕ → List ℕ → Self → Type 0 };
 
-    /// The second state is as the first.
+    /// The second state is unchanged from the first.
     ghost stays: { Self → Self → Type 0 };
 
-    /// Appends the reply to a command, a line without its newline. Where memory runs out the text is as it was, and no more
-    /// commands are to be handed to it: it is as before this one, or as after a reply to it that was not made.
+    /// Appends the reply to a command, a line without its newline. If memory runs out, `text` is unchanged, and no more
+    /// commands may be passed: the state is unchanged, or is the one after a reply that was not made.
     fn reply(&mut self, command: &[u8], text: &mut Vec<u8>) -> Result<(), AllocError>
         ensures replies { OnOk result ((reply : List ℕ) × (text.new.items ≡ text.old.items ++ reply)
             × replies self.old command.now reply self.new) }
@@ -67,7 +67,7 @@ impl From<DeviceFault> for ServeFault {
     }
 }
 
-/// Writes the reply to a line, where it is a command. `text` is room that lines share.
+/// Writes the reply to a line, if it is a command. `text` is a buffer that the lines share.
 #[tactic(auto, using(crate::proofs::ServingLemmas::replied_none, crate::proofs::ServingLemmas::replied_one, bd_io_device::proofs::DevicesLemmas::takes_none))]
 fn answer<O: Output, S: Replier>(
     line: &[u8],
@@ -96,15 +96,15 @@ fn answer<O: Output, S: Replier>(
     Ok(write_all(out, text)?)
 }
 
-/// Writes a reply to each command of a device: to each line that is not white space alone, in their order.
+/// Writes a reply to each command of a device: to each line that is not white space alone, in order.
 ///
-/// Each reply has a newline after it, and is written before the device is read for a later line.
+/// Each reply ends with a newline, and is written before the device is read for a later line.
 ///
 /// # Errors
-/// The replies to the commands before it stand then.
-/// - `ServeFault::Unread`: a line was not read, as `LineBuffer::read_next` tells;
-/// - `ServeFault::NoMemory`: memory for a reply ran out, of which nothing is written; `Replier::reply` tells what it left;
-/// - `ServeFault::Unwritten`: a write failed, and a front of the reply was written. No line is read after it.
+/// The replies to the commands before the error are written.
+/// - `ServeFault::Unread`: a line was not read; the causes are those of `LineBuffer::read_next`;
+/// - `ServeFault::NoMemory`: memory for a reply ran out, and nothing of it is written; for the state see `Replier::reply`;
+/// - `ServeFault::Unwritten`: a write failed, and a prefix of the reply was written. No line is read after it.
 pub fn serve<R: Input, O: Output, S: Replier>(
     alloc: Global,
     limits: Limits,

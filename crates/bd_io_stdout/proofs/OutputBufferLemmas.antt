@@ -1,4 +1,4 @@
--- Lemmas on what was written, what of it a device has, and what waits.
+-- Lemmas on what was written: what the device has of it, and what is still buffered.
 use Rattle.std.proofs.Common.{◌≡◌, ℕ, List, [], ◌++◌, take, drop, Option, None, Some, refl, sym, ap, ◌∙◌, subst, append_assoc, append-nil, take-append-drop, ◌⊎◌}
 use Rattle.std.specs.{Prelude.◌≢◌, Prelude.Result, Prelude.Ok, Prelude.Err, Prelude.OnErr, Prelude.OnOk, Prelude.true, Prelude.false, Result.is_err}
 use Rattle.bd_io_device.proofs.DevicesLemmas.{write_fails_first as first_write_fails, write_fails_second, takes_both, takes_none}
@@ -13,7 +13,7 @@ is_intact Intact none = refl
 is_intact Lost none = absurd (none (λ e. let bad : ⊥ = cc in bad))
 is_intact Reported none = absurd (none (λ e. let bad : ⊥ = cc in bad))
 
--- what a row of writes took is a front of the bytes
+-- the writes in a row took a prefix of the bytes
 taken_of : {S : Type 0} {takes : S → List ℕ → Option ℕ → S → Type 0} {bytes : List ℕ} (s t : S) (rest : List ℕ) → AreWrites takes bytes s rest t
     → (taken : List ℕ) × (bytes ≡ taken ++ rest) × AreTaken takes s taken t
 taken_of {S} {takes} {bytes} s t rest (no_write v) = ([], refl, none_taken s)
@@ -34,7 +34,7 @@ module _ {D : Type 0} (o : Output D) where
   pub TakesAllBytes-nil : (s : D) → TakesAllBytes o s [] s
   TakesAllBytes-nil s = record { contents = takes_none (o.state s); writes = none_taken s }
 
-  -- writes in a row that left nothing over took all of the bytes
+  -- writes in a row with nothing remaining took all of the bytes
   pub TakesAllBytes-writes : (s t : D) (bytes : List ℕ) → TakesText (over o.state s t) bytes → AreWrites o.write_takes bytes s [] t → TakesAllBytes o s bytes t
   TakesAllBytes-writes s t bytes contents writes =
       let (taken, split, all) = taken_of s t [] writes in
@@ -47,7 +47,7 @@ module _ {D : Type 0} (o : Output D) where
     writes = taken_append s t u first second a.writes b.writes;
   }
 
-  -- writes in a row of which the last one failed broke off within the bytes
+  -- writes in a row of which the last failed: the device took a prefix of the bytes
   pub WriteFails-writes : (s t : D) (bytes : List ℕ) → WriteFailsWithin (over o.state s t) bytes
       → ((rest : List ℕ) × (last : D) × AreWrites o.write_takes bytes s rest last × (rest ≢ []) × (o.write_takes last rest None t ⊎ o.write_takes last rest (Some 0) t))
       → WriteFails o s bytes t
@@ -55,7 +55,7 @@ module _ {D : Type 0} (o : Output D) where
       let (taken, split, all) = taken_of s last rest writes in
       record { contents = contents; writes = (taken, rest, [], last, split ∙ ap (λ l. taken ++ l) (sym (append-nil rest)), all, some, failed) }
 
-  -- more bytes that come after them
+  -- a failure within the bytes is one within these and more bytes after them
   pub WriteFails-more : (s t : D) (bytes more : List ℕ) → WriteFails o s bytes t → WriteFails o s (bytes ++ more) t
   WriteFails-more s t bytes more b =
       let (taken, text, later, last, is, all, some, failed) = b.writes in
@@ -64,7 +64,7 @@ module _ {D : Type 0} (o : Output D) where
         writes = (taken, text, later ++ more, last, ap (λ l. l ++ more) is ∙ (append_assoc taken (text ++ later) more ∙ ap (λ l. taken ++ l) (append_assoc text later more)), all, some, failed);
       }
 
-  -- bytes before them that the device took
+  -- a failure after first bytes that the device took is one within all of them
   pub WriteFails-after : (s t u : D) (first bytes : List ℕ) → TakesAllBytes o s first t → WriteFails o t bytes u → WriteFails o s (first ++ bytes) u
   WriteFails-after s t u first bytes a b =
       let (taken, text, later, last, is, all, some, failed) = b.writes in
@@ -101,7 +101,7 @@ module _ {D : Type 0} {s t : BufferState D} where
   same_write_state is = ap (λ v. v.write_state) is
 
 module _ {D : Type 0} (o : Output D) where
-  -- the bytes wait
+  -- the bytes are buffered
   pub buffers_waiting : (old new : BufferState D) (bytes : List ℕ) → new.device ≡ old.device → new.waiting ≡ old.waiting ++ bytes → Buffers o old bytes new
   buffers_waiting old new bytes device waiting =
       let same : TakesAllBytes o old.device [] new.device = subst (λ d. TakesAllBytes o old.device [] d) (sym device) (TakesAllBytes-nil o old.device) in
@@ -123,17 +123,17 @@ module _ {D : Type 0} (o : Output D) where
       let joined = ap (λ l. l ++ bytes) start ∙ (append_assoc first mid.waiting bytes ∙ (ap (λ l. first ++ l) rest ∙ sym (append_assoc first second new.waiting))) in
       (first ++ second, joined, TakesAllBytes-trans o old.device mid.device new.device first second a b)
 
-  -- what was not held was handed on
+  -- the bytes were not buffered, so the buffer was flushed
   pub buffers_handed : (old buffered handed : BufferState D) → buffered.device ≡ old.device → buffered.waiting ≡ old.waiting → Buffers o buffered [] handed → Buffers o old [] handed
   buffers_handed old buffered handed device waiting rest = buffers_after old buffered handed [] (buffers_none old buffered device waiting) rest
 
-  -- the device took all that waited
+  -- the device took all that was buffered
   pub takes_all : (old new : BufferState D) → Buffers o old [] new → new.waiting ≡ [] → TakesAllBytes o old.device old.waiting new.device
   takes_all old new (handed, split, taken) none =
       let is : old.waiting ≡ handed = sym (append-nil old.waiting) ∙ (split ∙ (ap (λ l. handed ++ l) none ∙ append-nil handed)) in
       subst (λ l. TakesAllBytes o old.device l new.device) (sym is) taken
 
-  -- nothing waited
+  -- nothing was buffered
   pub hands_none : (old new : BufferState D) → new.write_state ≡ old.write_state → new.device ≡ old.device → new.waiting ≡ old.waiting → HandsOn o old new
   hands_none old new write_state device waiting = record {
     intact = λ e. (sym write_state ∙ e, buffers_none old new device waiting);
@@ -156,7 +156,7 @@ module _ {D : Type 0} (o : Output D) where
     after_loss = λ not. absurd (not before);
   }
 
-  -- a write of what waited failed, so the bytes after it were not written either
+  -- a write of the buffered bytes failed, so the bytes after them were not written either
   pub write_fails_first : (old mid : BufferState D) (bytes : List ℕ) (end : D) → mid.device ≡ old.device → mid.waiting ≡ old.waiting
       → WriteFails o mid.device mid.waiting end → WriteFails o old.device (old.waiting ++ bytes) end
   write_fails_first old mid bytes end device waiting write_fails =

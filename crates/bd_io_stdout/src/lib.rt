@@ -1,6 +1,6 @@
 //! Standard output in large writes, tied to what is read and to standard error.
 //!
-//! What was written, what of it a device has, and what waits: `specs/OutputBuffer.antt`.
+//! What was written, what the device has of it, and what is buffered: `specs/OutputBuffer.antt`.
 //!
 //! An example, which `bd_io_tests` proves and runs as `examples::buffered`:
 //!
@@ -14,7 +14,7 @@
 //! assert!(rt; hand_on(&output_buffer) == WriteState::Intact);
 //! ```
 //!
-//! - `output_buffer`: `OutputBuffer`, what waits to be written; `BufferedOutput`, `FlushingInput` and `FlushingError` over one.
+//! - `output_buffer`: `OutputBuffer`, the buffer of standard output; `BufferedOutput`, `FlushingInput` and `FlushingError` over one.
 #![tactic(auto)]
 
 mod output_buffer;

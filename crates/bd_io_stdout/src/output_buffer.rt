@@ -1,11 +1,12 @@
 //! Standard output in large writes, tied to what is read and to standard error, as `cin` and `cout` of C++ are tied.
 //!
-//! What is written waits in memory. It is handed to the device when the next write does not fit beside it, before the
-//! system is asked for more input, before anything is told on standard error, and at the end. So whoever reads along sees
-//! each line before the program waits for more, and the lines stand before what is told of them.
+//! Output is buffered in memory. The buffer is flushed if the next write does not fit after it, before more input is read
+//! from the system, before anything is written to standard error, and at the end. So a reader of the output gets each
+//! line before the program waits for input, and before standard error reports on it.
 //!
-//! The device can so refuse bytes of a write that was answered as done. Then no input is read any more, and nothing is told
-//! on standard error, until a write is answered by that loss. Where none comes, the end has to tell it.
+//! So the device can refuse bytes of a write that already returned success. Then no more input is read, and nothing is
+//! written to standard error, until a write has returned that loss as its error. If no write follows, the end of the program
+//! has to report it.
 ghost use Rattle.std.specs.Prelude.{◌≡◌, ◌≢◌, [], length, IfOk, None};
 ghost use Rattle.std.specs.Io.{WritesAtMost};
 ghost use Rattle.std.specs.Io.KnownBytes.{WriteAppends};
@@ -18,21 +19,21 @@ use std::io;
 use std::io::{ErrorKind, Read, Write};
 use std::marker::Model;
 
-/// How many bytes wait at most.
+/// How many bytes are buffered at most.
 const CAPACITY: usize = 65_536;
 
 /// What became of the bytes that were written.
 #[derive(Debug, Clone, Copy, PartialEq, Eq)]
 pub enum WriteState {
-    /// They wait, or the device has them.
+    /// They are buffered, or the device has them.
     Intact,
-    /// The device refused some of them, and no write was answered by that yet.
+    /// The device refused some of them, and no write has returned the error yet.
     Lost,
-    /// The device refused some of them, and a write failed by that: who made it tells it.
+    /// The device refused some of them, and a write returned the error; its caller reports it.
     Reported,
 }
 
-/// What waits to be handed to a device.
+/// Bytes that are buffered for a device.
 #[derive(Drop)]
 pub struct OutputBuffer<D: Output + Drop> {
     waiting: Vec<u8>,
@@ -40,7 +41,7 @@ pub struct OutputBuffer<D: Output + Drop> {
     write_state: WriteState,
 }
 
-/// A contract sees the bytes that wait, the device, and what became of the bytes before.
+/// A contract sees the buffered bytes, the device, and what became of the bytes before.
 impl<D: Output + Drop> Model for OutputBuffer<D> {
     ghost use Rattle.std.specs.Prelude.{◌≡◌, ◌≢◌, ◌≤◌, [], length};
     ghost use Rattle.bd_io_stdout.specs.OutputBuffer.{BufferState};
@@ -63,7 +64,7 @@ impl<D: Output + Drop> OutputBuffer<D> {
     ghost use Rattle.bd_io_stdout.specs.OutputBuffer.{Buffers, HandsOn};
     ghost use Rattle.bd_io_stdout.specs.declared.output_buffer.WriteState.TheVariants.{Lost, Reported};
 
-    /// Nothing yet, for this device.
+    /// An empty buffer for this device.
     pub fn new(alloc: Global, device: D) -> OutputBuffer<D>
         ensures device { result.device ≡ device }
         ensures empty { result.waiting ≡ [] }
@@ -76,7 +77,7 @@ impl<D: Output + Drop> OutputBuffer<D> {
         }
     }
 
-    /// Hands on what waits, and tells what became of the bytes so far. After a loss nothing waits.
+    /// Flushes the buffer, and returns what became of the bytes so far. After a loss the buffer is empty.
     fn hand_on(&mut self) -> WriteState
         ensures write_state { result ≡ self.new.write_state }
         ensures handed { HandsOn D.Output self.old self.new }
@@ -94,8 +95,7 @@ impl<D: Output + Drop> OutputBuffer<D> {
         self.write_state
     }
 
-    /// Lets bytes wait after those that do, where both fit, the bytes are few and there is memory for them; else it changes
-    /// nothing.
+    /// Appends bytes to the buffer, if they are few, fit, and there is memory for them; else it changes nothing.
     fn buffers(&mut self, bytes: &[u8]) -> bool
         requires { self.old.write_state ≡ Intact }
         ensures buffered { result ≡ true →
@@ -109,8 +109,8 @@ impl<D: Output + Drop> OutputBuffer<D> {
             && self.waiting.extend_from_slice(bytes).is_ok()
     }
 
-    /// Takes bytes after those that wait; these are handed on before, where both do not fit. The bytes go to the device
-    /// themselves where they are many, or where there is no memory for them.
+    /// Appends bytes to the buffer, which is flushed first if they do not fit. Many bytes, or bytes without memory for them,
+    /// go to the device directly.
     fn append(&mut self, bytes: &[u8]) -> Result<(), DeviceFault>
         ensures buffered { OnOk result ((self.old.write_state ≡ Intact)
             × (self.new.write_state ≡ Intact) × Buffers D.Output self.old bytes.now self.new) }
@@ -135,7 +135,7 @@ impl<D: Output + Drop> OutputBuffer<D> {
         write_all(&mut self.device, bytes)
     }
 
-    /// The same; an error answers the bytes by the loss.
+    /// The same; an error reports the loss.
     fn take(&mut self, bytes: &[u8]) -> Result<(), DeviceFault>
         ensures taken { OnOk result ((self.old.write_state ≡ Intact)
             × (self.new.write_state ≡ Intact) × Buffers D.Output self.old bytes.now self.new) }
@@ -151,8 +151,8 @@ impl<D: Output + Drop> OutputBuffer<D> {
         taken
     }
 
-    /// Reads after all that waits was handed on. After a loss it fails and asks the reader for nothing, since that could wait
-    /// for bytes that serve no one.
+    /// Reads after the buffer was flushed. After a loss it fails without reading, since a read could wait for input that
+    /// serves no one.
     #[tactic(auto, using(crate::proofs::OutputBufferLemmas::hands_none))]
     fn read_after<R: Read>(&mut self, reader: &mut R, buffer: &mut [u8]) -> io::Result<usize>
         ensures handed { HandsOn D.Output self.old self.new }
@@ -169,8 +169,8 @@ impl<D: Output + Drop> OutputBuffer<D> {
         reader.read(buffer)
     }
 
-    /// Writes to another writer after all that waits was handed on. It fails and writes nothing while a loss is untold, so that
-    /// no count is shown of lines that did not arrive.
+    /// Writes to another writer after the buffer was flushed. It fails and writes nothing while a loss is unreported, so that
+    /// no count is printed of lines that did not arrive.
     #[tactic(auto, using(crate::proofs::OutputBufferLemmas::hands_none))]
     fn write_after<E: Write>(&mut self, writer: &mut E, bytes: &[u8]) -> io::Result<usize>
         ensures handed { HandsOn D.Output self.old self.new }
@@ -188,15 +188,15 @@ impl<D: Output + Drop> OutputBuffer<D> {
     }
 }
 
-/// The error of a call that is refused for a loss. Its kind is not looked at.
+/// The error of a call that is refused because of a loss. Nothing reads its kind.
 fn refusal() -> io::Error {
     io::Error::from(ErrorKind::Other)
 }
 
-// What goes over one `OutputBuffer`, which they share in a cell. No contract knows what a cell holds, so what they do with it is
-// said of the methods of `OutputBuffer`.
+// Readers and writers over one `OutputBuffer`, which they share in a cell. No contract knows what a cell contains, so the
+// contracts are those of the methods of `OutputBuffer`.
 
-/// Hands on what waits, and tells what became of the bytes so far.
+/// Flushes the buffer, and returns what became of the bytes so far.
 pub fn hand_on<D: Output + Drop>(output_buffer: &RefCell<OutputBuffer<D>>) -> WriteState {
     match output_buffer.try_borrow_mut() {
         Ok(mut output_buffer) => output_buffer.hand_on(),
@@ -204,14 +204,14 @@ pub fn hand_on<D: Output + Drop>(output_buffer: &RefCell<OutputBuffer<D>>) -> Wr
     }
 }
 
-/// Standard output: what is written is gathered.
+/// Standard output, which is buffered.
 #[derive(Drop)]
 pub struct BufferedOutput<'a, D: Output + Drop> {
     pub output_buffer: &'a RefCell<OutputBuffer<D>>,
 }
 
 impl<D: Output + Drop> Write for BufferedOutput<'_, D> {
-    /// All bytes are taken, or none.
+    /// It takes all bytes or none.
     fn write(&mut self, bytes: &[u8]) -> io::Result<usize>
         ensures bound { WritesAtMost result bytes.now }
         ensures bytes { WriteAppends None None result bytes.now }
@@ -231,7 +231,7 @@ impl<D: Output + Drop> Write for BufferedOutput<'_, D> {
     }
 }
 
-/// An input: what waits is handed on before a read. After a loss a read fails and asks the system for nothing.
+/// An input: the buffer is flushed before a read. After a loss a read fails without a system call.
 #[derive(Drop)]
 pub struct FlushingInput<'a, R: Read + Drop, D: Output + Drop> {
     pub reader: R,
@@ -250,7 +250,7 @@ impl<R: Read + Drop, D: Output + Drop> Read for FlushingInput<'_, R, D> {
     }
 }
 
-/// Standard error: what waits is handed on before a write. A write fails while a loss is untold.
+/// Standard error: the buffer is flushed before a write. A write fails while a loss is unreported.
 #[derive(Drop)]
 pub struct FlushingError<'a, E: Write + Drop, D: Output + Drop> {
     pub writer: E,

@@ -1,4 +1,4 @@
-//! Tests of `bd_io_device` and `bd_io_lines`, over their public calls: devices that fail, or give a byte a call.
+//! Tests of `bd_io_device` and `bd_io_lines`, over their public calls: devices that fail, or give one byte in a call.
 #![tactic(auto)]
 
 #[cfg(test)]

@@ -1,4 +1,4 @@
-//! Lines of devices in memory, with outcomes that were worked by hand.
+//! Lines of devices in memory, with expected results worked out by hand.
 use bd_io_device::{Limits, MemoryInput, ReadFault};
 use bd_io_lines::LineBuffer;
 use std::test::Fail;
@@ -8,7 +8,7 @@ const AMPLE: Limits = Limits {
     turns: 4_294_967_296,
 };
 
-/// The last line counts without a newline where it is not empty. A carriage return is a byte of its line.
+/// The last line counts without a newline if it is not empty. A carriage return is a byte of its line.
 #[test]
 fn each_line_in_its_order(rt: HostRuntime) {
     let rows: [(&[u8], &[&[u8]]); 8] = [
@@ -41,7 +41,7 @@ fn each_line_in_its_order(rt: HostRuntime) {
     }
 }
 
-/// How many reads were made at each line, and at the end. One finds the end, and none is made after it.
+/// How many reads were made at each line, and at the end. One read finds the end, and none is made after it.
 #[test]
 fn no_read_if_a_line_is_buffered(rt: HostRuntime) {
     for (most, counts, end) in [(1, [2, 4, 6], 6), (3, [1, 2, 3], 3), (100, [1, 1, 2], 2)] {
@@ -60,7 +60,7 @@ fn no_read_if_a_line_is_buffered(rt: HostRuntime) {
     }
 }
 
-/// The byte past the limit may be the first of the line or the last of a block.
+/// The byte after the limit may be the first of the line or the last of a block.
 #[test]
 fn a_line_of_the_limit_and_one_longer(rt: HostRuntime) -> Result<(), Fail> {
     let mut bytes = Vec::new(rt.alloc());
@@ -82,7 +82,7 @@ fn a_line_of_the_limit_and_one_longer(rt: HostRuntime) -> Result<(), Fail> {
     Ok(())
 }
 
-/// The fault after so many lines of seven bytes, which a later call answers too. A read that failed is the last.
+/// The fault after n lines of seven bytes, which a later call returns too. No read is made after one that failed.
 #[test]
 fn a_fault_ends_the_lines(rt: HostRuntime) {
     for (bytes, turns, failing, count, fault) in [

@@ -9,7 +9,7 @@ use std::alloc::AllocError;
 pub struct Numbered {
     /// The digit of the next reply.
     pub digit: u8,
-    /// The digit in whose place memory runs out.
+    /// The digit of the reply at which memory runs out.
     pub last: u8,
 }
 

@@ -1,4 +1,4 @@
-//! Reads of devices in memory, with outcomes that were worked by hand.
+//! Reads of devices in memory, with expected results worked out by hand.
 use bd_io_device::ReadFault::{Device, NoMemory, TooLong, TooManyTurns};
 use bd_io_device::{FillCounts, Limits, MemoryInput, fill, fill_after, read_all};
 use std::test::Fail;
@@ -8,8 +8,8 @@ const AMPLE: Limits = Limits {
     turns: 100,
 };
 
-/// What ends the reading, if anything, how many reads were made, and how many bytes they took: one read finds the end, and one that
-/// fails takes nothing and is not made again. The next call goes on after them.
+/// What ends the reading, if anything, how many reads were made, and how many bytes they took: one read finds the end, and
+/// one that fails takes nothing and is not retried. The next call continues after them.
 #[test]
 fn reads_all_within_limits(rt: HostRuntime) -> Result<(), Fail> {
     let mut long = Vec::new(rt.alloc());
@@ -66,7 +66,7 @@ fn a_buffer_is_filled(rt: HostRuntime) {
     assert!(rt; matches!(filled, Ok(FillCounts { bytes: 5, turns: 3 })) && &buffer == b"hello");
     let filled = fill_after(&mut input, &mut buffer, *b"well", 5, AMPLE);
     assert!(rt; matches!(filled, Ok(FillCounts { bytes: 1, turns: 1 })) && &buffer == b"well,");
-    // The device is at its end before the room is full.
+    // The device is at its end before the buffer is full.
     let filled = fill(&mut input, &mut buffer, AMPLE);
     assert!(rt; matches!(filled, Ok(FillCounts { bytes: 4, turns: 3 })) && &buffer == b" you,");
 }

@@ -1,4 +1,4 @@
-//! Replies to commands of devices in memory, with outcomes that were worked by hand.
+//! Replies to commands of devices in memory, with expected results worked out by hand.
 use crate::numbered::Numbered;
 use bd_io_device::FailingWrite::{Error, Zero};
 use bd_io_device::ReadFault::{Device, TooLong, TooManyTurns};
@@ -42,13 +42,13 @@ fn a_reply_to_each_command(rt: HostRuntime) {
     }
 }
 
-/// How many bytes of two replies are there, and how many reads of a byte each were made. A reply is written as soon as its line was
-/// read, by two bytes a write.
+/// How many bytes of two replies are written, and how many one-byte reads were made. A reply is written as soon as its line
+/// was read, by two bytes in a write.
 #[test]
 fn a_call_that_fails(rt: HostRuntime) {
     let replies = b"1ab\n2cd\n";
     for (failing, bytes, turns, last, write_failed, fault, printed, calls) in [
-        // The replies to the lines that were whole stand, and no other.
+        // The replies to the whole lines are written, and no other.
         (Some(1), 1000, 1000, b'9', None, Unread(Device), 0, 1),
         (Some(3), 1000, 1000, b'9', None, Unread(Device), 0, 3),
         (Some(4), 1000, 1000, b'9', None, Unread(Device), 4, 4),
@@ -56,7 +56,7 @@ fn a_call_that_fails(rt: HostRuntime) {
         (Some(8), 1000, 1000, b'9', None, Unread(Device), 8, 8),
         (None, 6, 1000, b'9', None, Unread(TooLong), 4, 7),
         (None, 1000, 7, b'9', None, Unread(TooManyTurns), 8, 7),
-        // No line is read after one whose reply was not written, or found no memory.
+        // No line is read after one whose reply was not written, or for which memory ran out.
         (None, 1000, 1000, b'9', Some(Error(1)), Unwritten, 0, 3),
         (None, 1000, 1000, b'9', Some(Zero(1)), Unwritten, 0, 3),
         (None, 1000, 1000, b'9', Some(Error(2)), Unwritten, 2, 3),

@@ -36,7 +36,7 @@ fn reads_what_is_buffered(rt: HostRuntime) -> Result<(), Fail> {
     let mut buffer = [0; 3];
     assert!(rt; !input.read_buffered(&mut buffer));
     assert!(rt; input.read(&mut buffer) == Ok(3) && &buffer == b"hel");
-    // One byte is held.
+    // One byte is buffered.
     assert!(rt; !input.read_buffered(&mut buffer) && !input.read_buffered(&mut []));
     assert!(rt; input.read_buffered(&mut buffer[..1]) && &buffer == b"lel");
     let rest = read_all(rt.alloc(), &mut input, LIMITS)?;
@@ -44,8 +44,8 @@ fn reads_what_is_buffered(rt: HostRuntime) -> Result<(), Fail> {
     Ok(())
 }
 
-/// A reader and a writer of which one call fails, and each other call is of one byte. It counts the calls where the test
-/// sees them.
+/// A reader and a writer of which one call fails, and each other call is of one byte. It counts the calls in a cell of the
+/// test.
 #[derive(Clone, Copy)]
 struct FailsOnce<'a> {
     calls: &'a Cell<u32>,
@@ -82,7 +82,7 @@ impl Write for FailsOnce<'_> {
     }
 }
 
-/// The call that fails is the last, though the next one would work: it is made by the next read or write alone.
+/// The call that fails is the last, though the next one would work: only the next read or write makes it.
 #[test]
 fn requests_once_where_a_call_fails(rt: HostRuntime) {
     for (failing, kind) in [

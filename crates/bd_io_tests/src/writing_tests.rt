@@ -1,8 +1,8 @@
-//! Writes to devices in memory, with outcomes that were worked by hand.
+//! Writes to devices in memory, with expected results worked out by hand.
 use bd_io_device::FailingWrite::{Error, Zero};
 use bd_io_device::{Input, MemoryInput, MemoryOutput, Output, write_all};
 
-/// A write of nothing makes no call, and one that fails takes nothing, so that a later call writes the rest where there is room.
+/// An empty write makes no call, and one that fails takes nothing, so that a later call writes the rest if there is space.
 #[test]
 fn writes_until_a_call_fails(rt: HostRuntime) {
     let hello = b"hello";

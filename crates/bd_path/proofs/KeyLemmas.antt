@@ -1,4 +1,4 @@
--- What was appended to the keys.
+-- Lemmas on appending keys.
 use Rattle.std.proofs.Common.{◌≡◌, ◌<◌, ℕ, List, [], ◌∷◌, ◌++◌, ◌+◌, Bool, true, false, length, map, get_or, take, refl, sym, ap, ◌∙◌, append-nil, append_assoc, arith}
 use Rattle.std.specs.Prelude.{Result, Ok, Err, OnOk, Some, is_ok, ◌||◌, slice_get}
 use Rattle.std.specs.List.{flat_map, list_any}
@@ -13,18 +13,18 @@ use Rattle.bd_path.specs.PathWalk.{Stops, stops, TakesStops, TakesOrEnds}
 use Rattle.bd_path.proofs.{SortLemmas.distinct_has, SortLemmas.equal_itself, SortLemmas.equal_on, PathWalkLemmas.at_more, PathWalkLemmas.keys_are}
 use Rattle.bd_path.proofs.ReachLemmas.{any_at, any_still as none_passes, found_from}
 
--- what holds anyway holds on success
+-- what holds in any case holds on success
 pub on_ok_always : {T E Q : Type 0} (r : Result T E) → Q → OnOk r Q
 on_ok_always (Ok x) h = h
 on_ok_always (Err e) h = tt
 
--- ---- of equal keys the first
+-- ---- the first of equal keys
 
 with_append : (ks xs ys : List Tree) → with_keys ks (xs ++ ys) ≡ with_keys (with_keys ks xs) ys
 with_append ks [] ys = refl
 with_append ks (x ∷ xs) ys = with_append (with_key ks x) xs ys
 
--- none new: they change nothing
+-- if none is new, they change nothing
 none_added : (ks xs : List Tree) → list_any (is_new ks) xs ≡ false → with_keys ks xs ≡ ks
 none_added ks [] h = refl
 none_added ks (x ∷ xs) h = let both = or_parts (is_new ks x) (list_any (is_new ks) xs) h in rw (not-false _ both.0) (none_added ks xs both.1)
@@ -59,11 +59,11 @@ any_map : {A : Type 0} (t : Tree → Bool) (f : A → Tree) (xs : List A) → li
 any_map t f [] = refl
 any_map t f (x ∷ xs) = ap (λ (b : Bool). t (f x) || b) (any_map t f xs)
 
--- whether a key equals one of them
+-- whether a key equals one of the keys
 pub equal_there : {A : Type 0} (f : A → Tree) (xs ys : List A) (k : A) (r : Bool) → r ≡ list_any (λ x. equal (f x) (f k)) ys → ys ≡ xs → list_any (λ x. equal x (f k)) (map f xs) ≡ r
 equal_there f xs ys k r is same = rw (any_map, ← same, is)
 
--- of a list with an equal one it adds nothing
+-- a key that equals one of the list adds nothing
 pub equals_last : {A : Type 0} (f : A → Tree) (xs : List A) (i : ℕ) (x k : A) → slice_get xs i ≡ Some x → equal (f x) (f k) ≡ true → distinct (map f xs) ≡ distinct (map f xs ++ f k ∷ [])
 equals_last f xs i x k at e =
     let first = found_from (λ y. equal y (f k)) (map f xs) (any_map (λ y. equal y (f k)) f xs ∙ any_passes_from_place (λ y. equal (f y) (f k)) xs i x at e) in
@@ -76,7 +76,7 @@ equals_last f xs i x k at e =
 pub one_passed : (old new : List Tree) (t : Tree) (us vs all : List Tree) → distinct new ≡ distinct (old ++ t ∷ []) → us ≡ t ∷ vs → distinct (old ++ us) ≡ all → distinct (new ++ vs) ≡ all
 one_passed old new t us vs all is e so_far = rw (with_append [] new vs, is, ← with_append [] (old ++ t ∷ []) vs, append_assoc, ← e) so_far
 
--- what a value gives that is no array
+-- a value that is not an array gives itself
 pub single_key : (t : Tree) → (kind_of t ≡ kinds.Array → ⊥) → end_keys t ≡ t ∷ []
 single_key (array ts) n = absurd (n refl)
 single_key _ n = refl

@@ -1,4 +1,4 @@
--- A walk down a path, by its parts: positions, what was walked before, stops, what was taken in.
+-- A path walk, by its parts: positions, values visited before, stops, and what they change.
 use Rattle.std.proofs.Common.{◌≡◌, ◌+◌, ◌<◌, ◌≤◌, ◌⊎◌, inl, inr, ℕ, zero, suc, Bool, true, false, not, cond, Bor, List, [], ◌∷◌, ◌++◌, Option, Some, None, option_map}
 use Rattle.std.proofs.Common.{length, get_or, drop, drop-cons, take, string_bytes, refl, sym, ap, ap₂, ◌∙◌, add-one, append-nil, append_assoc, arith}
 use Rattle.std.specs.{Prelude.IfSome, Prelude.slice_get, List.flat_map, List.list_any}
@@ -44,7 +44,7 @@ named path k l = record { name = get_or path k []; is_there = slice_get-get_or p
 pub as_many : (cs : List Component) → length (component_names cs) ≡ length cs
 as_many cs = length-map cs name_of
 
--- ---- the elements that are left
+-- ---- the elements that remain
 
 -- the first of the elements from an index on is the one at this index
 pub next_is : (es : List Tree) (i : ℕ) (u : Tree) (us : List Tree) → u ∷ us ≡ drop i es → slice_get es i ≡ Some u
@@ -85,7 +85,7 @@ element_at g es n path k i u e l at = rw add-one (indexed_is g es n (drop (suc k
 -- ---- the rest of a path from a component on
 
 module _ {A : Type 0} (g : Collecting A) (t : Tree) (path : Names) (k : ℕ) where
-  -- at the end of the path a value is gathered itself
+  -- at the end of the path the value itself is collected
   pub end_is : k ≡ length path → collecting g t (drop k path) ≡ g.at_end t
   end_is e = ap (collecting g t) (drop_all k path (omega arith))
 
@@ -93,7 +93,7 @@ module _ {A : Type 0} (g : Collecting A) (t : Tree) (path : Names) (k : ℕ) whe
   pub other_is : (kind_of t ≡ kinds.Doc → ⊥) → (kind_of t ≡ kinds.Array → ⊥) → k < length path → collecting g t (drop k path) ≡ g.missing
   other_is a b l = let n = named path k l in ap (collecting g t) (drop_at path k n.name n.is_there) ∙ down.of_other g t n.name (drop (suc k) path) a b
 
-  -- a document gathers from its field of the next name, if it has one
+  -- a document collects from its field of the next name, if it has one
   pub field_is : (n : List ℕ) (u : Tree) → kind_of t ≡ kinds.Doc → slice_get path k ≡ Some n → first_of n (pairs_in t) ≡ Some u → collecting g t (drop k path) ≡ collecting g u (drop (k + 1) path)
   field_is n u d at e = rw add-one (ap (collecting g t) (drop_at path k n at) ∙ down.found g t u n (drop (suc k) path) d e)
 
@@ -108,9 +108,9 @@ module _ {A : Type 0} (g : Collecting A) (t : Tree) (path : Names) (k : ℕ) whe
       → collecting g t (drop k path) ≡ g.of_array (document_collecting g t (drop k path) ++ index_collecting g t (drop k path))
   parts_are n a at = rw (drop_at path k n at) (down.of_elements g t n (drop (suc k) path) a)
 
--- ---- what was walked before
+-- ---- values visited before
 
--- what is gathered from an array is of its parts
+-- what is collected from an array contains what is collected from its parts
 abbrev KeepsParts : {A : Type 0} → (A → Bool) → Collecting A → Type 0
 KeepsParts {A} f g = (xs : List A) → list_any f (g.of_array xs) ≡ false → list_any f xs ≡ false
 
@@ -126,7 +126,7 @@ module _ {A : Type 0} (f : A → Bool) (g : Collecting A) where
   each_left (x ∷ es) (suc i) u p e d h = each_left es i u p e d (each_parts x es p h).1
 
   module _ (keeps : KeepsParts f g) (t : Tree) (cs : List Component) (w : Visits) (before : CollectsNone f g t (component_names cs) w) where
-    -- nothing that passes the test is gathered from a field that is entered as the value was
+    -- nothing that passes the test is collected from a field that is visited from such positions
     pub field_inside : (s : Bor (List ℕ)) (u : Tree) (v : Visits) → kind_of t ≡ kinds.Doc → first_of s.now (pairs_in t) ≡ Some u
         → ((j : ℕ) → IsVisited v j → LedTo (Field s) (component_names cs) w j) → CollectsNone f g u (component_names cs) v
     field_inside s u v d e only j o =
@@ -135,7 +135,7 @@ module _ {A : Type 0} (f : A → Bool) (g : Collecting A) where
         rw (by.after ∙ sym (add-one by.before)) (ap (list_any f) (sym is) ∙ before by.before by.led.here)
 
     module _ (a : kind_of t ≡ kinds.Array) where
-      -- from a position that was walked, neither its documents nor the element at the index have any
+      -- from a visited position, neither the documents of the array nor the element at the index collect any
       parts_none : (k : ℕ) (n : List ℕ) → slice_get (component_names cs) k ≡ Some n → IsVisited w k
           → (list_any f (document_collecting g t (drop k (component_names cs))) ≡ false) × (list_any f (index_collecting g t (drop k (component_names cs))) ≡ false)
       parts_none k n at o =
@@ -157,7 +157,7 @@ module _ {A : Type 0} (f : A → Bool) (g : Collecting A) where
           let is = indexed_is g (elements_in t) by.led.name (drop (suc by.before) (component_names cs)) i u by.led.takes l e in
           rw by.after (ap (list_any f) (sym (first ∙ is)) ∙ (parts_none by.before by.led.name by.led.is_there by.led.here).1)
 
-      -- nor from a document in an array
+      -- nor is any collected from a document in an array
       pub document_inside : (i : ℕ) (u : Tree) (v : Visits) → slice_get (elements_in t) i ≡ Some u → i < 18446744073709551615 → is_document u ≡ true
           → ((j : ℕ) → IsVisited v j → LedTo (Element i) (component_names cs) w j ⊎ (j < length cs) × IsVisited w j) → CollectsNone f g u (component_names cs) v
       document_inside i u v e l d only j o = elim (only j o) [ inl by ↦ element_none i u j e l by | inr h ↦ document_none j i u e d h.0 h.1 ]
@@ -246,7 +246,7 @@ module _ (t : Tree) (path : Names) (k : ℕ) (n : List ℕ) (at : slice_get path
   pub no_element : IfSome (index_of n) (λ i. length (elements_in t) ≤ i) → index_collecting stopping t (drop k path) ≡ []
   no_element h = first_is stopping t path k n at ∙ none_at (elements_in t) (index_of n) (drop (suc k) path) h
 
--- ---- what is gathered comes of the stops
+-- ---- what is collected is collected at the stops
 
 module _ {A : Type 0} (g : Collecting A) (of : Stop Tree → List A) (at_end : (t : Tree) → g.at_end t ≡ of (Value t)) (lost : g.missing ≡ of Missing)
     (parts : (ss : Stops) → g.of_array (flat_map of ss) ≡ flat_map of (or_stop ss)) where
@@ -277,7 +277,7 @@ module _ {A : Type 0} (g : Collecting A) (of : Stop Tree → List A) (at_end : (
     collected_at (item t ts) (Some zero) r = collected t r
     collected_at (item t ts) (Some (suc n)) r = collected_at ts (Some n) r
 
--- the keys
+-- the keys are collected
 or_else_more : (ks : List Tree) (k : Tree) (ls ms : List Tree) → or_else (or_else ks (k ∷ []) ++ ls) ms ≡ or_else ks (k ∷ []) ++ ls
 or_else_more ks k ls ms = grind arith
 
@@ -291,11 +291,11 @@ key_parts sparse [] = sym (append-nil (missing_key sparse))
 key_parts true (s ∷ ss) = grind arith
 key_parts false (s ∷ ss) = some_keys s (flat_map (stop_keys false) ss) (missing_key false)
 
--- the keys of a document are those of the stops of a walk, in turn
+-- the keys of a document are those of the stops of a path walk, in order
 pub keys_are : (sparse : Bool) (t : Tree) (p : Names) → all_keys sparse t p ≡ flat_map (stop_keys sparse) (stops t p)
 keys_are sparse t p = collected (key_collecting (missing_key sparse)) (stop_keys sparse) (λ t. refl) refl (key_parts sparse) t p
 
--- some key is the earliest
+-- there is at least one key
 pub some_key : (t : Tree) (p : Names) (ms : List Tree) → or_else (flat_map (stop_keys false) (stops t p)) ms ≡ flat_map (stop_keys false) (stops t p)
 some_key t p ms = go (stops t p) (some_stop t p)
   where
@@ -303,7 +303,7 @@ some_key t p ms = go (stops t p) (some_stop t p)
     go [] o = absurd cc
     go (s ∷ ss) o = some_keys s (flat_map (stop_keys false) ss) ms
 
--- the ends
+-- the ends of a path that a stop has
 abbrev pub stop_ends : Stop Tree → List End
 stop_ends (Value t) = Some t ∷ []
 stop_ends Missing = None ∷ []
@@ -319,15 +319,15 @@ any_passed : (test : End → Bool) (ss : Stops) → list_any (is_passed test) ss
 any_passed test [] = refl
 any_passed test (s ∷ ss) = grind (arith, any_passed test ss)
 
--- a walk ended early where an end passed
+-- a path walk ended early if an end passed
 pub decided : (test : End → Bool) {F : Type 0} (amounts : F → List ℕ → Stops → Type 0) (bytes : List ℕ) (before after : F) (t : Tree) (p : Names) (b : Bool)
     → TakesOrEnds amounts (λ _. is_passed test) (is_passed test) b bytes before after (stops t p) → not b ≡ list_any test (reach t p)
 decided test amounts bytes before after t p true h = rw (ends_are t p, ← any_passed test (stops t p)) (sym h.none_new)
 decided test amounts bytes before after t p false h = rw (ends_are t p, ← any_passed test (stops t p)) (sym h)
 
--- ---- a key at the stops of a walk
+-- ---- a key at the stops of a path walk
 
--- a key at some stops is one at these and more
+-- a key at some stops is a key at these and more
 pub at_more : {N : Type 0} (sparse : Bool) (ss more : Stops) (k : Key N) → IsKeyAt sparse ss k → IsKeyAt sparse (ss ++ more) k
 at_more sparse ss more (Node n) h = tt
 at_more sparse ss more Null h = (h.0, list_any-append is_no_value ss more ∙ or_left _ _ h.1)
@@ -357,23 +357,23 @@ pub no_value_keys : (sparse : Bool) (s : Stop Tree) → is_no_value s ≡ true �
 no_value_keys sparse (Value t) h = absurd cc
 no_value_keys sparse _ h = refl
 
--- ---- what was taken in
+-- ---- stops that were processed
 
--- one of the documents of an array has a stop at which the walk ended
+-- one of the documents of an array has a stop at which the path walk ended
 pub ended_in : (f : Stop Tree → Bool) (es : List Tree) (i : ℕ) (u : Tree) (p : Names) → slice_get es i ≡ Some u → is_document u ≡ true → list_any f (stops u p) ≡ true
     → list_any f (each_collecting stopping (items_of es) p) ≡ true
 ended_in f es i u p e d h = true_from_ne_false _ (λ is. let none = each_left f stopping es i u p e d is in cc)
 
--- what was walked stays in vain
+-- a visited value adds nothing for a weaker test either
 pub still_vain : (f g : Stop Tree → Bool) (t : Tree) (path : Names) (w : Visits) → ((s : Stop Tree) → f s ≡ false → g s ≡ false) → CollectsNone f stopping t path w → CollectsNone g stopping t path w
 still_vain f g t path w still visited k o = any_still f g still _ (visited k o)
 
 module _ {F : Type 0} (amounts : F → List ℕ → Stops → Type 0) (is_new : F → Stop Tree → Bool) where
-  -- nothing was taken in
+  -- no stop was processed
   pub none_taken : (found : F) (bytes : List ℕ) → TakesStops amounts is_new bytes found found []
   none_taken found bytes = record { adds = λ ss h. rw append-nil h; none_new = refl; still = λ s h. h }
 
-  -- one part after another
+  -- one part after another was processed
   pub both_taken : (bytes : List ℕ) (before between after : F) (xs ys : Stops) → TakesStops amounts is_new bytes before between xs → TakesStops amounts is_new bytes between after ys
       → TakesStops amounts is_new bytes before after (xs ++ ys)
   both_taken bytes before between after xs ys first second = record {
@@ -387,7 +387,7 @@ module _ {F : Type 0} (amounts : F → List ℕ → Stops → Type 0) (is_new : 
   then_taken ends true bytes before between after xs ys first second = both_taken bytes before between after xs ys first second
   then_taken ends false bytes before between after xs ys first second = rw list_any-append (or_right _ _ second)
 
-  -- one more element of an array
+  -- one more element of an array was processed
   pub element_taken : (bytes : List ℕ) (before between after : F) (es : List Tree) (i : ℕ) (u : Tree) (p : Names) → slice_get es i ≡ Some u
       → TakesStops amounts is_new bytes before between (each_collecting stopping (items_of (take i es)) p) → TakesStops amounts is_new bytes between after (cond (is_document u) (stops u p) [])
       → TakesStops amounts is_new bytes before after (each_collecting stopping (items_of (take (i + 1) es)) p)

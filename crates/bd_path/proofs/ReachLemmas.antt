@@ -1,4 +1,4 @@
--- What is gathered on the way down, by what each value is.
+-- What a path collects, by the kind of each value.
 use Rattle.std.proofs.Common.{◌≡◌, ◌<◌, ◌≤◌, ℕ, zero, suc, List, [], ◌∷◌, ◌++◌, Some, None, length, refl, ap, arith, Bool, true, false, cond, ◌⊎◌, inl, inr, sym, ◌∙◌}
 use Rattle.std.specs.{Prelude.slice_get, Prelude.Contains, Prelude.slice_index_or, List.list_any}
 use Rattle.bd_value.specs.Tree as trees
@@ -15,7 +15,7 @@ pub scalar_is_no_array : (s : Scalar) → scalar_kind s ≡ kinds.Array → ⊥
 scalar_is_no_array trees.min_key k = cc
 scalar_is_no_array _ k = cc
 
--- ---- what is inside is smaller
+-- ---- values inside are smaller
 
 first_in_smaller : (name : List ℕ) (fs : Fields) (u : Tree) → first_of name (pairs_of fs) ≡ Some u → tree_size u < fields_size fs
 first_in_smaller name no_fields u e = absurd cc
@@ -49,7 +49,7 @@ pub length_elements : (t : Tree) → kind_of t ≡ kinds.Array → length_of t �
 length_elements (doc fs) k = absurd cc
 length_elements _ k = refl
 
--- ---- what is gathered
+-- ---- what is collected
 
 module _ {A : Type 0} (g : Collecting A) where
   found_in : (fs : Fields) (name : List ℕ) (r : Names) (u : Tree) → first_of name (pairs_of fs) ≡ Some u → first_collecting g fs name r ≡ collecting g u r
@@ -116,7 +116,7 @@ in_cases x [] ys h = inr h
 in_cases x (z ∷ xs) ys (inl e) = inl (inl e)
 in_cases x (z ∷ xs) ys (inr h) = elim (in_cases x xs ys h) [ inl a ↦ inl (inr a) | inr b ↦ inr b ]
 
--- of two lists that one test chooses
+-- members of two lists that one test chooses
 pub in_either : {A B : Type 0} (t : Bool) (x : A) (y : B) (ws vs : List A) (bs cs : List B) → (In x ws → In y bs) → (In x vs → In y cs) → In x (cond t ws vs) → In y (cond t bs cs)
 in_either true x y ws vs bs cs f g h = f h
 in_either false x y ws vs bs cs f g h = g h
@@ -127,7 +127,7 @@ any_at test [] x h e = absurd h
 any_at test (y ∷ ys) x (inl p) e = or_left (test y) (list_any test ys) (ap test (sym p) ∙ e)
 any_at test (y ∷ ys) x (inr h) e = or_right (test y) (list_any test ys) (any_at test ys x h e)
 
--- where what fails one test fails another
+-- if each member that fails one test fails another, and all fail the first, all fail the second
 pub any_still : {A : Type 0} (f g : A → Bool) → ((x : A) → f x ≡ false → g x ≡ false) → (xs : List A) → list_any f xs ≡ false → list_any g xs ≡ false
 any_still f g h [] none = refl
 any_still f g h (x ∷ xs) none = let both = or_parts (f x) (list_any f xs) none in or_from (g x) (list_any g xs) (h x both.0) (any_still f g h xs both.1)
@@ -164,7 +164,7 @@ in_from {A} x xs h = go xs h.0 h.1 h.2
 pub one : (f : End → Bool) (e : End) (b : Bool) (es : List End) → b ≡ f e → es ≡ e ∷ [] → b ≡ list_any f es
 one f e b es h k = grind arith
 
--- of two parts, the first has one, or has none
+-- of two parts, either the first has a member that passes, or it has none
 pub in_first : (f : End → Bool) (b : Bool) (es fs all : List End) → b ≡ list_any f es → b ≡ true → all ≡ es ++ fs → b ≡ list_any f all
 in_first f b es fs all is passed joined = grind (arith, list_any-append f es fs)
 

@@ -65,7 +65,7 @@ module _ (dir : Dir) where
       let both = or_parts (is_earlier dir (Some a) k) (list_any (is_earlier dir (Some a)) ks) h in
       in_turn (Some a) (Some k) (earliest_key dir ks) ∙ rw both.0 (none_taken (Some a) ks both.1)
 
-  -- an earlier one than those before has none earlier among them
+  -- the earlier of two keys has none earlier than itself among those that were not earlier
   one_still : (e y : Option Tree) (k : Tree) → is_earlier dir e k ≡ false → is_earlier dir (earlier_key dir e y) k ≡ false
   one_still None y k h = absurd cc
   one_still (Some a) None k h = h
@@ -75,7 +75,7 @@ module _ (dir : Dir) where
   one_taken None k = ap is_lt (tied_itself (dir_total dir) k)
   one_taken (Some a) k = cond_both (is_lt (dir_cmp dir k a)) (Some k) (Some a) (λ x. is_earlier dir x k ≡ false) (λ e. ap is_lt (tied_itself (dir_total dir) k)) (λ e. e)
 
-  -- once they are taken, none of them is earlier
+  -- once all are processed, none of them is earlier
   all_taken : (e : Option Tree) (ks : List Tree) → list_any (is_earlier dir (earlier_key dir e (earliest_key dir ks))) ks ≡ false
   all_taken e [] = refl
   all_taken e (k ∷ ks) =
@@ -109,7 +109,7 @@ module _ (dir : Dir) where
   pub earliest_is : (t : Tree) (p : Names) → earliest_key dir (keys t p) ≡ earliest_key dir (flat_map (stop_keys false) (stops t p))
   earliest_is t p = all_of_keys [] (all_keys false t p) ∙ ap (earliest_key dir) (stop.keys_are false t p)
 
-  -- ---- what stands for no keys
+  -- ---- there is always a key
 
   some_key : (x : Tree) (e : Option Tree) → None ≡ earlier_key dir (Some x) e → ⊥
   some_key x e is = grind arith
@@ -118,11 +118,11 @@ module _ (dir : Dir) where
   no_earliest [] is = refl
   no_earliest (k ∷ ks) is = absurd (some_key k (earliest_key dir ks) is)
 
-  -- on each path there is one
+  -- each path has an earliest key
   pub earliest_there : (t : Tree) (p : Names) → None ≡ earliest_key dir (flat_map (stop_keys false) (stops t p)) → ⊥
   earliest_there t p is = let some = rw (no_earliest (flat_map (stop_keys false) (stops t p)) is) at (stop.some_key t p (leaf trees.null ∷ [])) in cc
 
--- what holds of both holds of either
+-- if P holds of both, it holds of either
 pub of_either : {A : Type 0} (P : A → Type 0) (r : A) (a : Option A) (b : A) → (Some r ≡ a) ⊎ (r ≡ b) → IfSome a P → P b → P r
 of_either P r a b (inl is) first second = rw (← is) at first
 of_either P r a b (inr is) first second = rw is second
@@ -132,7 +132,7 @@ ends_of_array (array ts) k = refl
 ends_of_array (leaf s) k = absurd (scalar_is_no_array s k)
 ends_of_array _ k = absurd cc
 
--- the earliest so far is taken on, over the first of those that are left
+-- the earliest so far, and the first of those that remain, continue as the earliest of both
 pub end_on : (dir : Dir) (e f : Option Tree) (t : Tree) (ts us : List Tree) (all : Option Tree)
     → earlier_key dir e (earliest_key dir ts) ≡ all → ts ≡ t ∷ us → f ≡ earlier_key dir e (Some t) → earlier_key dir f (earliest_key dir us) ≡ all
 end_on dir e f t ts us all so_far first is = rw is (sym (in_turn dir e (Some t) (earliest_key dir us)) ∙ rw first at so_far)
@@ -187,7 +187,7 @@ module _ {N : Type 0} (tree : N → Tree) (source : N → List ℕ) (dir : Dir) 
 abbrev null : Tree
 null = leaf trees.null
 
--- a null is gathered at each stop that is no value
+-- each stop without a value gives a null
 missing_at : (ss : Stops) → In None (flat_map stop_ends ss) → In null (flat_map (stop_keys false) ss)
 missing_at [] h = absurd h
 missing_at (Value t ∷ ss) h = elim h [ inl e ↦ cc | inr r ↦ in_right null (end_keys t) (flat_map (stop_keys false) ss) (missing_at ss r) ]
@@ -198,7 +198,7 @@ nowhere_at [] o e = absurd cc
 nowhere_at (Value t ∷ ss) o e = absurd cc
 nowhere_at (_ ∷ ss) o e = inl refl
 
--- where the path misses a field, null is a key
+-- if a field is missing on the path, null is a key
 missing : (t : Tree) (p : Names) → In None (reach t p) → In null (all_keys false t p)
 missing t p h = rw (keys_are false t p) (missing_at (stops t p) (rw (ends_are t p) at h))
 
@@ -207,7 +207,7 @@ no_values [] h = inl refl
 no_values (None ∷ es) h = inr (inl refl)
 no_values (Some t ∷ es) h = absurd cc
 
--- where the path reaches no value at all, too
+-- also if the path reaches no value at all
 pub absent : (t : Tree) (p : Names) → list_any is_some (reach t p) ≡ false → In null (all_keys false t p)
 absent t p h = elim (no_values (reach t p) h) [
   | inl none ↦ rw (keys_are false t p) (nowhere_at (stops t p) (some_stop t p) (sym (ends_are t p) ∙ none))
@@ -272,7 +272,7 @@ missing_gives_null t p h = null_is_key t p (missing t p h)
 pub nothing_gives_null : (t : Tree) (p : Names) → list_any is_some (reach t p) ≡ false → In null (keys t p)
 nothing_gives_null t p h = null_is_key t p (absent t p h)
 
--- ---- sparse keys: those that are no nulls are the same with and without the nulls
+-- ---- sparse keys: those that are not null are the same with and without the nulls
 
 abbrev is_other : Tree → Bool
 is_other x = not (equal x null)

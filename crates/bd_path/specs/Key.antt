@@ -23,7 +23,7 @@ abbrev pub end_keys : Tree → List Tree
 end_keys (array ts) = or_else (list_of ts) (leaf undefined ∷ [])
 end_keys t = t ∷ []
 
--- gathers the keys on a path; an array that gives no key gives what a missing field gives
+-- collects the keys on a path; an array that gives no key gives what a missing field gives
 abbrev pub key_collecting : List Tree → Collecting Tree
 key_collecting missing = record { at_end = end_keys; missing = missing; of_array = λ ks. or_else ks missing }
 
@@ -79,12 +79,12 @@ IsKeyOf source bytes _ = Unit {0}
 abbrev pub AreKeysOf : {N : Type 0} → (N → List ℕ) → List ℕ → List (Key N) → Type 0
 AreKeysOf source bytes ks = All (IsKeyOf source bytes) ks
 
--- whether a walk stops here without a value
+-- whether a path walk stops here without a value
 abbrev pub is_no_value : Stop Tree → Bool
 is_no_value (Value t) = false
 is_no_value _ = true
 
--- whether a walk stops here at an empty array
+-- whether a path walk stops here at an empty array
 abbrev pub is_empty_array : Stop Tree → Bool
 is_empty_array (Value (array no_items)) = true
 is_empty_array _ = false
@@ -100,14 +100,14 @@ IsKeyAt sparse ss Undefined = list_any is_empty_array ss ≡ true
 abbrev pub AreKeysAt : {N : Type 0} → Bool → Stops → List (Key N) → Type 0
 AreKeysAt sparse ss ks = All (IsKeyAt sparse ss) ks
 
--- ---- keys found so far, of which those that equal an earlier one count for nothing
+-- ---- keys found so far; those that equal an earlier one do not count
 
--- the keys that a stop of a walk gives
+-- the keys that a stop of a path walk gives
 abbrev pub stop_keys : Bool → Stop Tree → List Tree
 stop_keys sparse (Value t) = end_keys t
 stop_keys sparse _ = missing_key sparse
 
--- The keys after are the keys before and these, of equal ones the first.
+-- The new keys are the old keys and these, of equal ones the first.
 abbrev pub AddsKeys : {N : Type 0} → (N → Tree) → List (Key N) → List (Key N) → List Tree → Type 0
 AddsKeys tree before after more = distinct (key_trees tree after) ≡ distinct (key_trees tree before ++ more)
 

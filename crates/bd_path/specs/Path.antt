@@ -6,7 +6,7 @@ use Rattle.bd_path.specs.{Reach.Names, declared.component.Component.Component, d
 use Rattle.bd_path.specs.declared.path.PathFault.TheVariants.{EmptyComponent, TooLong, NoMemory}
 
 -- the components of a path in dot notation (MongoDB manual): the parts between dots;
--- of the empty text one empty part
+-- the empty text has one empty part
 abbrev pub components_of : List ℕ → Names
 components_of text = slice_split (λ c. c == 46) text
 

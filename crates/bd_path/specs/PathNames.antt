@@ -6,6 +6,6 @@ use Rattle.bd_path.specs.{Path.component_names, Reach.Names, declared.path.Path.
 abbrev pub names_of : Path → Names
 names_of path = component_names path.components.items
 
--- the text of a path in memory, from which it was made
+-- the text of a path in memory, from which it was parsed
 abbrev pub path_text : Path → List ℕ
 path_text path = string_bytes path.text

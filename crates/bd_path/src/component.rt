@@ -7,11 +7,11 @@ ghost use Rattle.bd_path.specs.Reach.{is_index, bounded_index};
 use bd_value::NoMemory;
 use std::alloc::Global;
 
-/// A name, and the index of an array that it is.
+/// A name, and the array index in it.
 #[derive(Drop)]
 pub struct Component {
     pub name: String,
-    /// None where the name is no index; the greatest number where it is past every array.
+    /// None if the name is not an index; the greatest number if it is beyond the end of every array.
     pub index: Option<usize>,
 
     ghost known: { index ≡ bounded_index (string_bytes name) },
@@ -28,7 +28,7 @@ impl Component {
     }
 }
 
-/// Whether a name is `0`, or digits of which the first is none.
+/// Whether a name is `0`, or digits of which the first is not 0.
 fn is_index(name: &[u8]) -> bool
     ensures { result ≡ is_index name.now }
 {
@@ -51,7 +51,7 @@ fn are_digits(bytes: &[u8]) -> bool
     true
 }
 
-/// The index that a name is; the greatest number for one past every array.
+/// The array index in a name; the greatest number for one beyond the end of every array.
 fn index_of(name: &str) -> Option<usize>
     ensures { result ≡ bounded_index name.now }
 {

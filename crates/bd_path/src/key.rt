@@ -18,19 +18,18 @@ use bd_value::{Kind, NoMemory, Reading, Tree, Value, compare_nodes, to_value};
 use std::alloc::{AllocError, Global};
 use std::cmp::Ordering;
 
-/// A node of the document, or what stands for a value that is not there.
+/// A node of the document, or a value that is not in it.
 #[derive(Clone, Copy)]
 pub enum Key<N> {
     Node(N),
-    /// For a field that is missing.
+    /// For a missing field.
     Null,
     /// For the elements of an empty array.
     Undefined,
 }
 
 /// The keys of a document on a path, as nodes of the document: the elements of an array that the path reaches, every other
-/// value itself, a null for a field that is missing. A key that equals an earlier one is dropped. It fails only if memory
-/// runs out.
+/// value itself, a null for a missing field. A key that equals an earlier one is dropped. It fails only if memory runs out.
 pub fn key_nodes<N: Reading>(alloc: Global, doc: N, path: &Path) -> Result<Vec<Key<N>>, NoMemory>
     ensures trees { IfOk result (λ ks.
         key_trees N.tree ks.items ≡ keys (N.tree doc) (names_of path.now)) }
@@ -42,7 +41,7 @@ pub fn key_nodes<N: Reading>(alloc: Global, doc: N, path: &Path) -> Result<Vec<K
     distinct_keys(alloc, &all)
 }
 
-/// The same without a null for a field that is missing: what a sparse index has. It fails only if memory runs out.
+/// The same without a null for a missing field, as in a sparse index. It fails only if memory runs out.
 pub fn sparse_keys<N: Reading>(alloc: Global, doc: N, path: &Path) -> Result<Vec<Key<N>>, NoMemory>
     ensures trees { IfOk result (λ ks.
         key_trees N.tree ks.items ≡ sparse_keys_of (N.tree doc) (names_of path.now)) }
@@ -54,9 +53,8 @@ pub fn sparse_keys<N: Reading>(alloc: Global, doc: N, path: &Path) -> Result<Vec
     distinct_keys(alloc, &all)
 }
 
-/// The keys in their order, some equal ones too, without a null for a field that is missing where the index is sparse. An index
-/// that sorts them finds equal ones side by side then, where `key_nodes` takes the square of their number to drop them. It fails
-/// only if memory runs out.
+/// The keys in order, with some equal ones, and without a null for a missing field if `sparse`. An index that sorts them then
+/// finds equal ones side by side, while `key_nodes` removes them by linear search, O(n²). It fails only if memory runs out.
 pub fn all_key_nodes<N: Reading>(
     alloc: Global,
     doc: N,
@@ -89,8 +87,8 @@ pub fn keys<N: Reading>(alloc: Global, doc: N, path: &Path) -> Result<Vec<Value>
     Ok(values)
 }
 
-/// Gathers the keys. One that equals the last is not appended: a path that repeats an index comes to a value, or to a field that is
-/// missing, once from each of its positions.
+/// Collects the keys. A key that equals the last is not appended: a path that repeats an index reaches a value, or a missing
+/// field, once from each of its positions.
 #[derive(Clone, Copy)]
 struct KeyCollector {
     sparse: bool,
@@ -105,7 +103,7 @@ impl<N: Reading> Collector<N> for KeyCollector {
 
     ghost ends = { λ _ _. true };
 
-    /// It goes on until memory runs out.
+    /// The path walk continues until memory runs out.
     fn take(&self, keys: &mut Vec<Key<N>>, stop: Stop<N>) -> bool
         ensures { (bytes : List ℕ) → IsStopOf N.source bytes stop →
             TakesOrEnds (λ ks. AreKeysFrom N.tree N.source self.now.sparse ks.items) (λ ks.
@@ -119,7 +117,7 @@ impl<N: Reading> Collector<N> for KeyCollector {
     }
 }
 
-/// Appends what stands for a field that is missing.
+/// Appends the key of a missing field, if any.
 fn add_missing<N: Reading>(sparse: bool, keys: &mut Vec<Key<N>>) -> Result<(), NoMemory>
     ensures added { OnOk result
         (AddsKeys N.tree keys.old.items keys.new.items (missing_key sparse)) }
@@ -171,7 +169,7 @@ fn add_elements<N: Reading>(node: N, keys: &mut Vec<Key<N>>) -> Result<(), NoMem
     Ok(())
 }
 
-/// Appends a key, where it does not equal the last.
+/// Appends a key, unless it equals the last.
 fn add_next<N: Reading>(keys: &mut Vec<Key<N>>, key: Key<N>) -> Result<(), NoMemory>
     ensures added { OnOk result
         (AddsKeys N.tree keys.old.items keys.new.items (key_tree N.tree key ∷ [])) }
@@ -205,7 +203,7 @@ fn distinct_keys<N: Reading>(alloc: Global, all: &[Key<N>]) -> Result<Vec<Key<N>
     Ok(keys)
 }
 
-/// Appends a key, where it equals none before it.
+/// Appends a key, unless it equals an earlier one.
 fn add_key<N: Reading>(keys: &mut Vec<Key<N>>, key: Key<N>) -> Result<(), NoMemory>
     ensures added { OnOk result (key_trees N.tree keys.new.items
         ≡ with_key (key_trees N.tree keys.old.items) (key_tree N.tree key)) }

@@ -9,8 +9,8 @@ ghost use Rattle.bd_path.specs.Reach.{Names, reach};
 ghost use Rattle.std.specs.Cmp.{IsTotalOrder};
 ghost use Rattle.bd_path.specs.Sort.{SortPath, sort_cmp};
 
-/// What always holds of keys, for a proof that calls it: a document has a key on each path, null where the path misses a field or
-/// reaches no value.
+/// Keys always exist: a document has a key on each path, null if the path misses a field or reaches no value. Call it where a
+/// proof needs that.
 pub fn keys_are_there()
     ensures some { (t : trees.Tree) (path : Names) → keys t path ≢ [] }
     ensures missing { (t : trees.Tree) (path : Names) →
@@ -19,13 +19,13 @@ pub fn keys_are_there()
         list_any is_some (reach t path) ≡ false → Contains (keys t path) (trees.leaf trees.null) }
 {}
 
-/// A sparse index leaves out nulls alone: a key that does not equal null is a sparse key.
+/// A sparse index omits only nulls: a key that does not equal null is a sparse key.
 pub fn sparse_keys_are_the_rest()
     ensures { (t : trees.Tree) (path : Names) (k : trees.Tree) → Contains (keys t path) k →
         equal k (trees.leaf trees.null) ≡ false → Contains (sparse_keys_of t path) k }
 {}
 
-/// A sort is total up to a tie, for any number of paths.
+/// A sort is a total order up to ties, for any number of paths.
 pub fn sorts_order_all_documents()
     ensures { (sort : List SortPath) → IsTotalOrder (sort_cmp sort) }
 {}

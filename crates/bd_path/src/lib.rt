@@ -1,8 +1,8 @@
 //! Paths into values: what a path reaches, and the keys by which a document is sorted and indexed.
 //!
 //! A path is a text of names with full stops between them. It goes into documents by name, and into arrays both by index and
-//! through each document in them: MongoDB manual, "Query on Embedded/Nested Documents" and "Query an Array". All calls read a
-//! value wherever it lies, in memory or in the bytes of a dump.
+//! through each document in them: MongoDB manual, "Query on Embedded/Nested Documents" and "Query an Array". All functions
+//! read a value in memory or in the bytes of a dump.
 //!
 //! An example, which `bd_query_tests` proves and runs as `examples::sort_key_of_a_document`:
 //!
@@ -13,13 +13,13 @@
 //! assert!(rt; matches!(key, Value::Int32(5)));
 //! ```
 //!
-//! - `path`, `component`: `Path`, a text cut into its components: `specs/Path.antt`.
-//! - `path_walk`: `any_end`, whether a value that the path reaches passes a test: `specs/Reach.antt`; the one walk down a path, for
-//!   whatever gathers what it leads to, into each value once from each position of the path: `specs/PathWalk.antt`.
-//! - `key`: the keys of a document on a path, as nodes of the document; they are always there: `specs/Key.antt`.
-//! - `sort`: the key of a document in a sort, found with no list of keys, and the order of two documents by several paths, which
-//!   is total: `specs/Sort.antt`.
-//! - `laws`: what always holds of keys and of sorts.
+//! - `path`, `component`: `Path`, a text split into its components: `specs/Path.antt`.
+//! - `path_walk`: `any_end`, whether a value that the path reaches passes a test: `specs/Reach.antt`; the path walk for any
+//!   collector, which visits each value once from each position of the path: `specs/PathWalk.antt`.
+//! - `key`: the keys of a document on a path, as nodes of the document; they always exist: `specs/Key.antt`.
+//! - `sort`: the key of a document in a sort, found without a list of keys, and the order of two documents by several paths,
+//!   which is total: `specs/Sort.antt`.
+//! - `laws`: laws of keys and of sorts.
 #![tactic(auto)]
 
 mod component;

@@ -1,4 +1,4 @@
-//! Paths, and why a text is none.
+//! Paths, and why a text is not a path.
 
 ghost use Rattle.std.specs.Prelude.{◌≡◌, ◌<◌, ◌≤◌, ◌⊎◌, [], length, map, slice_get, string_bytes, Some, Ok, Err, IfOk, IfErr};
 ghost use Rattle.std.specs.{List.list_any, Str.bytes_eq};
@@ -11,7 +11,7 @@ use bd_value::{MOST_NAMES, NoMemory};
 use std::alloc::{AllocError, AllocFailed, Global};
 use thiserror::Error;
 
-/// A path: one to a hundred names, none empty, with a full stop between each and the next.
+/// A path: one to a hundred names, none empty, with a full stop between them.
 #[derive(Drop)]
 pub struct Path {
     text: String,
@@ -24,8 +24,7 @@ pub struct Path {
 impl Path {
     ghost use Rattle.bd_path.specs.PathNames.{names_of, path_text};
 
-    /// The path that a text is. It fails where there are more than 100 components, else where one is empty, and for want of
-    /// memory.
+    /// Parses a path from a text. It fails if there are more than 100 components, else if one is empty, or if memory runs out.
     pub fn parse(alloc: Global, text: &str) -> Result<Path, PathFault>
         ensures path { IfOk result (λ p. path_of text.now ≡ Ok (names_of p)) }
         ensures text { IfOk result (λ p. path_text p ≡ text.now) }
@@ -44,7 +43,7 @@ impl Path {
         Ok(Path { text, components })
     }
 
-    /// The same path once more, with no text read again. It fails only if memory runs out.
+    /// A copy of the path; no text is parsed again. It fails only if memory runs out.
     pub fn try_copy(&self, alloc: Global) -> Result<Path, NoMemory>
         ensures names { IfOk result (λ p. names_of p ≡ names_of self.now) }
         ensures text { IfOk result (λ p. path_text p ≡ path_text self.now) }
@@ -76,7 +75,7 @@ impl Path {
         &self.components
     }
 
-    /// The text that it was cut from. It takes no memory.
+    /// The text that it was parsed from. It takes no memory.
     pub fn as_str(&self) -> &str
         ensures { result.now ≡ path_text self.now }
     {
@@ -114,7 +113,7 @@ fn named(alloc: Global, names: &[&str]) -> Result<Vec<Component>, NoMemory>
     Ok(components)
 }
 
-/// The same components once more. It fails only if memory runs out.
+/// A copy of the components. It fails only if memory runs out.
 fn copied(alloc: Global, components: &[Component]) -> Result<Vec<Component>, NoMemory>
     ensures { IfOk result (λ v. component_names v.items ≡ component_names components.now) }
 {
@@ -127,23 +126,23 @@ fn copied(alloc: Global, components: &[Component]) -> Result<Vec<Component>, NoM
     Ok(copies)
 }
 
-/// Why a text is no path.
+/// Why a text is not a path.
 #[derive(Clone, Copy, Debug, Drop, PartialEq, Eq, Error)]
 #[error("{}", self.words())]
 pub enum PathFault {
-    /// A full stop stands first, last or after another, or the text is empty.
+    /// A full stop is first, last or after another, or the text is empty.
     EmptyComponent = 1,
-    /// There are more than 100 components, an empty one among them or not.
+    /// There are more than 100 components, whether one is empty or not.
     TooLong = 2,
-    /// No memory was given.
+    /// Memory ran out.
     NoMemory = 3,
 }
 
-/// What went wrong, in words: by number, from 1 on.
+/// The messages, by number, from 1 on.
 const FAULT_WORDS: [&str; 3] = ["empty component", "too many components", "no memory"];
 
 impl PathFault {
-    /// What is wrong, in words.
+    /// The message.
     #[tactic(auto, unfolding(crate::specs::Path::path_fault_words))]
     pub fn words(self) -> &'static str
         ensures { result.now ≡ path_fault_words self }
@@ -151,7 +150,7 @@ impl PathFault {
         FAULT_WORDS[self as usize - 1]
     }
 
-    /// The number by which a reply tells it, 1 or 2; 3 for out of memory.
+    /// The number of the fault in a reply, 1 or 2; 3 for out of memory.
     pub fn number(self) -> u32
         ensures { result ≡ path_fault_number self }
     {

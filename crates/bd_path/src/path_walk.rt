@@ -1,4 +1,4 @@
-//! The one walk down a path, for whatever gathers what it leads to.
+//! The path walk, for any collector of its stops.
 
 ghost use Rattle.std.specs.Prelude.{◌≡◌, ◌≤◌, ◌<◌, ◌⊎◌, ◌∷◌, [], List, ℕ, suc, Bool, true, false, IsTrue, IsFalse, Option, Some, option_map, is_some, IfSome, IfNone};
 ghost use Rattle.std.specs.Prelude.{drop, length, slice_get, string_bytes};
@@ -21,20 +21,20 @@ use crate::component::Component;
 use crate::path::Path;
 use bd_value::{Kind, Reading};
 
-/// What an end of a path is asked.
+/// A test of an end of a path.
 pub trait EndTest {
-    /// The test, of the tree of an end, or of none where the path reaches no value there.
+    /// The test, of the tree of an end, or of None if the path reaches no value there.
     ghost passes: { Self → Option trees.Tree → Bool };
 
-    /// Whether an end passes. None stands for a field that is missing.
+    /// Whether an end passes. None means a missing field.
     fn test<N: Reading>(&self, end: Option<N>) -> bool
         ensures { result ≡ passes self.now (option_map N.tree end) };
 }
 
-/// Whether some end of a path passes a test. It takes no memory, and stops at the first end that does.
+/// Whether some end of a path passes a test. It takes no memory, and stops at the first end that passes.
 ///
-/// The ends of a document are those of its first field of the component's name, or one that is missing; those of an array
-/// are the ends of each document in it, and those of the element whose index the component is.
+/// The ends of a document are those of its first field of the component's name, or a missing one; those of an array are the
+/// ends of each document in it, and those of the element whose index the component is.
 pub fn any_end<N: Reading, T: EndTest>(node: N, path: &Path, test: &T) -> bool
     ensures { result ≡ list_any (T.passes test.now) (reach (N.tree node) (names_of path.now)) }
 {
@@ -42,7 +42,7 @@ pub fn any_end<N: Reading, T: EndTest>(node: N, path: &Path, test: &T) -> bool
     !path_walk(&collector, &mut (), node, path)
 }
 
-/// Looks for an end that passes, and ends the walk at the first.
+/// Searches an end that passes, and ends the path walk at the first.
 #[derive(Drop)]
 struct EndCollector<'a, T> {
     test: &'a T,
@@ -71,26 +71,26 @@ impl<N: Reading, T: EndTest> Collector<N> for EndCollector<'_, T> {
     }
 }
 
-/// What a walk down a path gathers.
+/// What a path walk collects.
 pub(crate) trait Collector<N: Reading> {
     /// What was found.
     type Found;
 
-    /// What was found amounts to these stops, whose values stand in these bytes.
+    /// What was found accounts for these stops, whose values are in these bytes.
     ghost amounts: { Self → Self.Found → List ℕ → Stops → Type 0 };
-    /// A stop would change what was found.
+    /// Whether a stop would change what was found.
     ghost is_new: { Self → Self.Found → stop_type.Stop trees.Tree → Bool };
-    /// The walk may end at a stop.
+    /// Whether the path walk may end at a stop.
     ghost ends: { Self → stop_type.Stop trees.Tree → Bool };
 
-    /// Takes a stop in, and says whether the walk goes on.
+    /// Processes a stop, and returns whether the path walk continues.
     fn take(&self, found: &mut Self::Found, stop: Stop<N>) -> bool
         ensures { (bytes : List ℕ) →
             IsStopOf N.source bytes stop → TakesOrEnds (amounts self.now) (is_new self.now)
             (ends self.now) result bytes found.old found.new (stop_tree N.tree stop ∷ []) };
 }
 
-/// Walks down a path, and says whether it came to the end.
+/// Walks down a path, and returns whether it reached the end.
 pub(crate) fn path_walk<N: Reading, G: Collector<N>>(
     collector: &G,
     found: &mut G::Found,
@@ -107,8 +107,8 @@ pub(crate) fn path_walk<N: Reading, G: Collector<N>>(
 
 /// Walks down the rest of a path, from a component on.
 ///
-/// An array may lead to a value from two positions of the path, and a path that repeats an index in as many ways as there are
-/// of counting up to it. So a value is gone into once from each position: the second time nothing in it is new.
+/// An array may lead to a value from two positions of the path, and a path that repeats an index in many more ways. So a
+/// value is visited once from each position: a second visit finds nothing new.
 #[cycle(path_walk)]
 fn path_walk_from<N: Reading, G: Collector<N>>(
     collector: &G,
@@ -158,7 +158,7 @@ fn path_walk_from<N: Reading, G: Collector<N>>(
     }
 }
 
-/// The same in the documents of an array. It says whether there is one; none where the walk ended.
+/// The same in the documents of an array. It returns whether there is one; None if the path walk ended.
 #[cycle(path_walk)]
 fn path_walk_documents<N: Reading, G: Collector<N>>(
     collector: &G,
@@ -195,7 +195,7 @@ fn path_walk_documents<N: Reading, G: Collector<N>>(
         }
         remaining = next.2;
     }
-    // Nothing is left: an array has no more elements than can be counted.
+    // Nothing remains: an array has no more elements than can be counted.
     let _count = node.len();
     Some(has_document)
 }
@@ -265,22 +265,22 @@ pub(crate) fn name_at(path: &[Component], k: usize) -> &str
     path[k].name.as_str()
 }
 
-/// What a path leads to.
+/// Where a path walk stops.
 #[derive(Clone, Copy)]
 pub enum Stop<N> {
     /// A value, at the end of the path.
     Value(N),
     /// A field that is missing.
     Missing,
-    /// An array below which the path does not go on.
+    /// An array below which the path does not continue.
     NoBranch,
 }
 
-/// The positions of a path from which a value was walked before. Along most paths a value is walked once, and no set of them is
-/// made.
+/// The positions of a path from which a value was visited before. On most paths a value is visited once, and no set is
+/// created.
 ///
-/// They follow from those of the value that it is in, so that none is kept but on the way down. By them a walk of one position
-/// at a time goes into each value once from each position.
+/// They follow from those of the enclosing value, so they exist only on the way down. By them a path walk of one position at
+/// a time visits each value once from each position.
 #[derive(Drop)]
 pub enum Visits {
     Nowhere,
@@ -288,7 +288,7 @@ pub enum Visits {
 }
 
 impl Visits {
-    /// Whether it was walked from a position.
+    /// Whether the value was visited from a position.
     pub fn has(&self, k: usize) -> bool
         requires { k ≤ most_names }
         ensures { result ≡ is_visited self.now k }
@@ -299,7 +299,7 @@ impl Visits {
         }
     }
 
-    /// Where the first field of a name was walked, when the document was.
+    /// The visits of the first field of a name, from those of the document.
     pub fn at_field(&self, path: &[Component], name: &str) -> Visits
         requires { length path.now ≤ most_names }
         ensures { (j : ℕ) → IsVisited result j →
@@ -311,7 +311,7 @@ impl Visits {
         }
     }
 
-    /// Where a document in an array was walked, when the array was.
+    /// The visits of a document in an array, from those of the array.
     pub fn at_document(&self, path: &[Component], index: usize) -> Visits
         requires { length path.now ≤ most_names }
         ensures { (j : ℕ) →
@@ -324,7 +324,8 @@ impl Visits {
         }
     }
 
-    /// Where the element of an array at an index was walked, when the array was, and its documents from one position more.
+    /// The visits of the element of an array at an index, from those of the array, whose documents were visited from position
+    /// `k` too.
     pub fn at_index(&self, path: &[Component], k: usize, index: usize, is_document: bool) -> Visits
         requires within_limit { length path.now ≤ most_names }
         requires at { k < length path.now }
@@ -357,7 +358,7 @@ pub enum Step<'a> {
 }
 
 impl Step<'_> {
-    /// Whether a component takes it.
+    /// Whether a component leads along the step.
     fn is_of(self, component: &Component) -> bool
         ensures yes { IsTrue result → Takes self.entry (string_bytes component.now.name) }
         ensures no { IsFalse result → Takes self.entry (string_bytes component.now.name) → ⊥ }
@@ -376,7 +377,7 @@ pub struct Positions {
 }
 
 impl Positions {
-    /// None of them.
+    /// No positions.
     pub fn none() -> Positions
         ensures { (k : ℕ) → is_open result k ≡ false }
     {
@@ -385,7 +386,7 @@ impl Positions {
         }
     }
 
-    /// Opens one more.
+    /// Adds one position.
     pub fn open_at(&mut self, k: usize)
         requires { k ≤ most_names }
         ensures here { IsOpen self.new k }
@@ -395,7 +396,7 @@ impl Positions {
         self.are_open[k] = true;
     }
 
-    /// Whether a position is open.
+    /// Whether a position is in the set.
     pub fn has(&self, k: usize) -> bool
         requires { k ≤ most_names }
         ensures { result ≡ is_open self.now k }
@@ -403,7 +404,7 @@ impl Positions {
         self.are_open[k]
     }
 
-    /// Whether a position is open and its component takes the step.
+    /// Whether a position is in the set and its component leads along the step.
     fn leads(&self, path: &[Component], k: usize, step: Step) -> bool
         requires within_limit { length path.now ≤ most_names }
         requires at { k < length path.now }
@@ -415,7 +416,7 @@ impl Positions {
         self.has(k) && step.is_of(&path[k])
     }
 
-    /// Those after a step.
+    /// The positions after a step.
     fn after(&self, path: &[Component], step: Step) -> Positions
         requires { length path.now ≤ most_names }
         ensures all { (k : ℕ) →
@@ -432,7 +433,7 @@ impl Positions {
         next
     }
 
-    /// Opens those of others that are before an end.
+    /// Adds the positions of others that are before an end.
     fn open_before(&mut self, others: &Positions, end: usize)
         requires { end ≤ most_names }
         ensures stays_open { (j : ℕ) → IsOpen self.old j → IsOpen self.new j }
@@ -447,7 +448,7 @@ impl Positions {
         }
     }
 
-    /// Those at an element of an array. A document in an array is gone into from the same positions too.
+    /// The positions at an element of an array. A document in an array is visited from the same positions too.
     pub fn at_element(&self, path: &[Component], index: usize, is_document: bool) -> Positions
         requires { length path.now ≤ most_names }
         ensures stays { is_document ≡ true →

@@ -1,4 +1,4 @@
-//! The key of a document in a sort, found with no list of keys, and the order of two documents by several paths.
+//! The key of a document in a sort, found without a list of keys, and the order of two documents by several paths.
 
 ghost use Rattle.std.specs.Prelude.{◌≡◌, ◌⊎◌, ◌∷◌, [], List, ℕ, false, Some, option_map, IfOk};
 ghost use Rattle.bd_value.specs.View.{tree_of};
@@ -23,7 +23,7 @@ pub enum Dir {
     Down,
 }
 
-/// The order of two documents in a sort: the first path decides whose sort keys differ. It takes no memory.
+/// The order of two documents in a sort: the first path on which their sort keys differ decides. It takes no memory.
 pub fn compare_sort<M: Reading, N: Reading>(a: M, b: N, sort: &[(Path, Dir)]) -> Ordering
     ensures { result ≡ sort_cmp (sort_paths sort.now) (M.tree a) (N.tree b) }
 {
@@ -38,8 +38,8 @@ pub fn compare_sort<M: Reading, N: Reading>(a: M, b: N, sort: &[(Path, Dir)]) ->
     Ordering::Equal
 }
 
-/// The key by which a document stands in a sort: the least of its keys on the path, for `Dir::Down` the greatest. It is a node
-/// of the document, or what stands for a value that is not there. It takes no memory.
+/// The sort key of a document: the least of its keys on the path, for `Dir::Down` the greatest. It is a node of the document,
+/// or a value that is not in it. It takes no memory.
 ///
 /// MongoDB manual, "Sort by an array field".
 pub fn sort_key_node<N: Reading>(doc: N, path: &Path, dir: Dir) -> Key<N>
@@ -126,7 +126,7 @@ fn earliest_end<N: Reading>(node: N, dir: Dir) -> Key<N>
     }
 }
 
-/// The earlier of two keys; the first of two that are equal, the second where there is no first.
+/// The earlier of two keys; the first of two that are equal, the second if there is no first.
 fn earlier<N: Reading>(dir: Dir, first: Option<Key<N>>, second: Key<N>) -> Key<N>
     ensures tree { Some (key_tree N.tree result)
         ≡ earlier_key dir (option_map (key_tree N.tree) first) (Some (key_tree N.tree second)) }

@@ -1,17 +1,17 @@
 //! The calls, by their names.
 //!
-//! | `call` | Asked of | Answer |
+//! | `call` | Arguments | Answer |
 //! |---|---|---|
 //! | `value` | `value` | the value |
-//! | `components` | `path` | the components of the path: the index that a name is, and each other name |
-//! | `equals` | `path`, `document`, `value` | whether an end of the path equals the value, a missing one for null |
+//! | `components` | `path` | the components of the path: each index as a number, and each other name |
+//! | `equals` | `path`, `document`, `value` | whether an end of the path equals the value; a missing one counts as null |
 //! | `missing` | `path`, `document` | whether an end is missing |
 //! | `keys`, `sparse` | `path`, `document` | the keys, and those of a sparse index |
 //! | `all`, `all sparse` | `path`, `document` | the same with equal ones |
 //! | `least`, `greatest` | `path`, `document` | the key in a sort upward, and downward |
-//! | `order` | `groups` | true where the values of each group are equal, and less than those of each later one |
-//! | `classes` | `groups` | the same of their classes |
-//! | `sort` | `groups`, `by` | the same of documents, by the paths of `by`, each 1 for upward or -1 |
+//! | `order` | `groups` | true if the values of each group are equal, and less than those of each later one |
+//! | `classes` | `groups` | the same for their classes |
+//! | `sort` | `groups`, `by` | the same for documents, by the paths of `by`, each 1 for upward or -1 |
 ghost use Rattle.std.specs.Prelude.{is_none, unwrap_or};
 ghost use Rattle.bd_value.specs.Order.{equal};
 ghost use Rattle.bd_value.specs.Tree.{leaf, null};
@@ -41,7 +41,7 @@ pub(crate) fn items<N: Reading>(alloc: Global, array: N) -> Result<Vec<N>, RowFa
     Ok(items)
 }
 
-/// Whether an end equals a value. A missing one stands for null.
+/// Whether an end equals a value. A missing one counts as null.
 #[derive(Drop)]
 struct Equals<N>(N);
 
@@ -88,7 +88,7 @@ fn key_values<N: Reading>(alloc: Global, keys: &[Key<N>]) -> Result<Value, RowFa
     Ok(Value::Array(values))
 }
 
-/// What a call that has a path answers.
+/// The answer of a call that has a path.
 fn path_call<N: Reading>(
     alloc: Global,
     name: &str,
@@ -120,7 +120,7 @@ fn text_in<N: Reading>(alloc: Global, row: N, name: &str) -> Result<String, RowF
     }
 }
 
-/// What the call of a row answers. Of two values one is taken from each place where the row lies.
+/// The answer of the call of a row. Of two values, each is read in both forms of the row.
 pub(crate) fn call<M: Reading, N: Reading>(
     alloc: Global,
     row: M,

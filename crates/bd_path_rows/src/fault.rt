@@ -5,7 +5,7 @@ use bd_extjson_fault::JsonFault;
 use bd_path::PathFault;
 use std::alloc::{AllocError, AllocFailed};
 
-/// Why a row has no answer, in words.
+/// Why a row has no answer, as a message.
 #[derive(Clone, Copy, Drop)]
 pub(crate) struct RowFault(pub(crate) &'static str);
 

@@ -1,13 +1,14 @@
-//! `bd_path_rows`: what the calls of `bd_path`, and the order of values of `bd_value`, answer to rows.
+//! `bd_path_rows`: the answers of the functions of `bd_path`, and of the order of values of `bd_value`, to rows.
 //!
-//! A row is a line of standard input, a document as Extended JSON: its field `call` names a call, and other fields are what it is
-//! asked of. The answer is a line too: a value as Extended JSON, or in words why there is none. Each call is made over the row in
-//! memory and over its bytes, and one that compares values over each beside the other: all have to answer the same.
+//! A row is a line of standard input, a document as Extended JSON: its field `call` names a function, and other fields are
+//! its arguments. The answer is a line too: a value as Extended JSON, or a message why there is none. Each function is called
+//! over the row in memory and over its bytes, and one that compares values over each pair of these: all must give the same
+//! answer.
 //!
-//! The rows are the file `stdin`, and what they have to answer is `stdout`. No program wrote that: the answers were worked by hand,
-//! from the MongoDB manual ("Comparison/Sort Order", "Query on Embedded/Nested Documents", "Query an Array", "Query for Null or
-//! Missing Fields") and, where it leaves a choice open, from what this project chose. The texts that are read and written again
-//! are those of `tests/rows/pack-*.jsonl`. Of one row alone, whose values were put together at random,
+//! The rows are the file `stdin`, and the expected answers are `stdout`. No program wrote these: the answers were worked out
+//! by hand, from the MongoDB manual ("Comparison/Sort Order", "Query on Embedded/Nested Documents", "Query an Array", "Query
+//! for Null or Missing Fields") and, if it leaves a choice open, from what this project chose. The texts that are read and
+//! written again are those of `tests/rows/pack-*.jsonl`. For one row only, whose values were put together at random,
 //! `tests/model/answers.py` found the order.
 //!
 //! - `calls`: the calls, by their names.
@@ -29,14 +30,14 @@ use fault::RowFault;
 use std::alloc::Global;
 use std::io;
 
-/// The text of what a row is answered, which lies in two places.
+/// The text of the answer to a row, which is given in two forms.
 fn text_of<M: Reading, N: Reading>(alloc: Global, row: M, other: N) -> Result<Vec<u8>, RowFault> {
     let mut text = Vec::new(alloc);
     write_value(&call(alloc, row, other)?, &mut text)?;
     Ok(text)
 }
 
-/// The text of what a row is answered, wherever it lies.
+/// The text of the answer to a row, the same in memory and in bytes.
 fn answer(alloc: Global, row: &str) -> Result<Vec<u8>, RowFault> {
     let document = read_doc(alloc, row.as_bytes())?;
     let bytes = write_document(alloc, &document)?;

@@ -6,7 +6,7 @@ use bd_value::{Kind, Reading, Scalar, Value, class_of_node, compare_nodes};
 use std::alloc::Global;
 use std::cmp::Ordering;
 
-/// By what values are ordered.
+/// How values are ordered.
 #[derive(Drop)]
 pub(crate) enum By {
     Value,
@@ -24,7 +24,7 @@ impl By {
     }
 }
 
-/// The direction that a number is.
+/// The direction of a number.
 fn direction<N: Reading>(value: N) -> Result<Dir, RowFault> {
     match value.leaf() {
         Some(Scalar::Int32(1)) => Ok(Dir::Up),
@@ -60,7 +60,7 @@ fn grouped<N: Reading>(alloc: Global, row: N) -> Result<Vec<(N, i32)>, RowFault>
     Ok(values)
 }
 
-/// The groups of two values that do not compare as these groups stand.
+/// The groups of two values that do not compare as their groups do.
 fn misplaced<M: Reading, N: Reading>(
     values: &[(M, i32)],
     others: &[(N, i32)],
@@ -76,8 +76,8 @@ fn misplaced<M: Reading, N: Reading>(
     None
 }
 
-/// Whether each value of a row compares with each of the same values in another row as their groups stand, and as equal where
-/// they are of one group. If not, the answer is two groups whose values do not.
+/// Whether each value of a row compares with each of the same values in another row as their groups do, and as equal if they
+/// are in one group. If not, the answer is two groups whose values do not.
 pub(crate) fn ascending<M: Reading, N: Reading>(
     alloc: Global,
     row: M,

@@ -6,7 +6,7 @@ use Rattle.bd_query_filter.specs.Filter.{filter_tree, operator_tree}
 use Rattle.bd_query.specs.declared.filter_match.Body.{Body}
 use Rattle.bd_query.specs.declared.filter_match.Body.TheVariants as bodies
 
--- ---- what is inside is smaller
+-- ---- the parts are smaller
 
 abbrev mutual
   pub filter_size : Filter → ℕ

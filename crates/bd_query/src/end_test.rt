@@ -1,4 +1,4 @@
-//! What an end of a path is asked.
+//! Tests of an end of a path.
 
 ghost use Rattle.std.specs.Prelude.{◌≡◌, ◌&&◌, ◌||◌, Bool, is_some, map};
 ghost use Rattle.std.specs.List.{list_all, list_any};
@@ -14,7 +14,7 @@ use bd_path::{EndTest, Path, any_end};
 use bd_query_filter::{Members, Relation};
 use bd_value::{Kind, Reading, Tree, Value};
 
-/// A candidate passes, where a missing field is a null.
+/// A candidate passes; a missing field counts as null.
 #[derive(Clone, Copy)]
 pub struct CandidateTest<T>(pub T);
 
@@ -44,7 +44,7 @@ impl<T: ValueTest> EndTest for ValueCandidateTest<T> {
     }
 }
 
-/// Whether it passes or, where it is an array, an element does.
+/// Whether it passes or, if it is an array, an element does.
 fn any_inside<N: Reading, T: ValueTest>(node: N, test: &T) -> bool
     ensures { result ≡ (T.accepts test.now (N.tree node)
         || list_any (T.accepts test.now) (elements_in (N.tree node))) }
@@ -52,7 +52,7 @@ fn any_inside<N: Reading, T: ValueTest>(node: N, test: &T) -> bool
     test.test(node) || any_element(node, test)
 }
 
-/// An array of so many elements.
+/// An array of exactly n elements.
 #[derive(Clone, Copy)]
 pub struct SizeTest(pub u64);
 
@@ -67,7 +67,7 @@ impl EndTest for SizeTest {
     }
 }
 
-/// Whether it is an array of so many elements.
+/// Whether it is an array of exactly `size` elements.
 pub(crate) fn has_size<N: Reading>(node: N, size: u64) -> bool
     ensures { result ≡ is_of_size size (N.tree node) }
 {
@@ -77,7 +77,7 @@ pub(crate) fn has_size<N: Reading>(node: N, size: u64) -> bool
     }
 }
 
-/// A value is there.
+/// There is a value.
 #[derive(Clone, Copy)]
 pub struct PresenceTest;
 
@@ -89,7 +89,7 @@ impl EndTest for PresenceTest {
     }
 }
 
-/// Whether each member is equalled by a candidate, and there is one.
+/// Whether there are members, and each is equalled by a candidate.
 pub(crate) fn equals_all<N: Reading>(members: &[Value], path: &Path, node: N) -> bool
     ensures { result ≡ (is_nonempty (map tree_of members.now) && list_all
         (any_equal (reach (N.tree node) (names_of path.now))) (map tree_of members.now)) }
@@ -108,7 +108,7 @@ fn are_equalled<N: Reading>(members: &[Value], path: &Path, node: N) -> bool
     members.iter().all(|member| any_end(node, path, &CandidateTest(EqualityTest(member))))
 }
 
-/// Whether a candidate of the operand's class stands to it so.
+/// Whether a candidate of the operand's class satisfies the relation.
 pub(crate) fn any_related<N: Reading>(
     relation: Relation,
     operand: &Value,
@@ -125,7 +125,7 @@ pub(crate) fn any_related<N: Reading>(
     )
 }
 
-/// Whether a candidate equals a member. The path is walked once, whatever the number of members.
+/// Whether a candidate equals a member. There is one path walk, whatever the number of members.
 pub(crate) fn any_member<N: Reading>(members: &Members, path: &Path, node: N) -> bool
     ensures { result
         ≡ list_any (any_equal (reach (N.tree node) (names_of path.now))) (trees_in members.now) }

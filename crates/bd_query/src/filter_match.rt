@@ -25,7 +25,7 @@ use bd_value::{Kind, Reading};
 
 /// Whether a value matches a filter. It takes no memory.
 ///
-/// A path that leads nowhere in a value has one end, a field that is missing: MongoDB manual, "Query Documents".
+/// A path that reaches nothing in a value has one end, a missing field: MongoDB manual, "Query Documents".
 #[cycle(matching)]
 pub fn matches<N: Reading>(filter: &Filter, node: N) -> bool
     ensures { result ≡ matches (filter_tree filter.now) (N.tree node) }
@@ -62,7 +62,7 @@ fn some_match<N: Reading>(filters: &[Filter], node: N) -> bool
     false
 }
 
-/// Whether operators hold of what a path reaches.
+/// Whether operators hold of the ends of a path.
 #[cycle(matching)]
 fn all_hold<N: Reading>(operators: &[Operator], path: &Path, node: N) -> bool
     ensures { result ≡ all_hold (operators_from (map operator_tree operators.now))
@@ -100,7 +100,7 @@ fn holds<N: Reading>(operator: &Operator, path: &Path, node: N) -> bool
     }
 }
 
-/// Whether an element of an array that a path reaches suits the body of `$elemMatch`.
+/// Whether an element of an array that a path reaches matches the body of `$elemMatch`.
 #[cycle(matching)]
 fn reaches_suited<N: Reading>(node: N, path: &Path, body: &Body) -> bool
     ensures { result ≡ list_any (is_matching body.now) (reach (N.tree node) (names_of path.now)) }
@@ -109,9 +109,9 @@ fn reaches_suited<N: Reading>(node: N, path: &Path, body: &Body) -> bool
     any_end_matches(node, 0, &Visits::Nowhere, &PathWalk { path, body: &*body })
 }
 
-/// Whether an element of an array at an end of the rest of a path suits the body of `$elemMatch`, from a component on.
+/// Whether an element of an array at an end of the rest of a path matches the body of `$elemMatch`, from a component on.
 ///
-/// It goes down as `any_end` does. A test of an end can't come back to the operators: it would be called by its own walk.
+/// It goes down as `any_end` does. It does not use `any_end`, since a test of an end cannot call the operators that call it.
 #[cycle(matching)]
 fn any_end_matches<N: Reading>(node: N, k: usize, visits: &Visits, path_walk: &PathWalk) -> bool
     requires within_limit { length path_walk.now.path.now ≤ most_names }
@@ -194,12 +194,12 @@ fn any_end_matches_in_documents<N: Reading>(
         }
         remaining = next.2;
     }
-    // Nothing is left: an array has no more elements than can be counted.
+    // Nothing remains: an array has no more elements than can be counted.
     let _count = node.len();
     false
 }
 
-/// The same in the element of an array whose index the component is, where there is one, after its documents.
+/// The same in the element of an array whose index the component is, if any, after its documents.
 #[cycle(matching)]
 fn any_end_matches_at_index<N: Reading>(
     node: N,
@@ -228,7 +228,7 @@ fn any_end_matches_at_index<N: Reading>(
     }
 }
 
-/// Whether an element of an array suits the body of `$elemMatch`.
+/// Whether an element of an array matches the body of `$elemMatch`.
 #[cycle(matching)]
 fn any_matches_element<N: Reading>(node: N, body: &Body) -> bool
     ensures { result ≡ list_any (matches_element body.now) (elements_in (N.tree node)) }
@@ -296,7 +296,7 @@ fn accepts<N: Reading>(operator: &Operator, element: N) -> bool
     }
 }
 
-/// What `$elemMatch` asks of an element.
+/// The body of `$elemMatch`, which tests an element.
 #[derive(Clone, Copy)]
 pub(crate) enum Body<'a> {
     /// They all hold of the element by itself.
@@ -305,7 +305,7 @@ pub(crate) enum Body<'a> {
     Filters(&'a [Filter]),
 }
 
-/// The components of a path, and what is asked of the elements of the arrays that it reaches.
+/// The components of a path, and the test of the elements of the arrays that it reaches.
 #[derive(Clone, Copy)]
 pub(crate) struct PathWalk<'a> {
     path: &'a [Component],

@@ -1,7 +1,7 @@
 //! Queries: which documents match a filter.
 //!
 //! MongoDB manual, "Query and Projection Operators": comparison, logical, element and array operators, with whole numbers and
-//! without regular expressions. What is left out is refused by name and place.
+//! without regular expressions. What is not supported is refused by name and path.
 //!
 //! An example, which `bd_query_tests` proves and runs as `examples::shirts_in_stock`:
 //!
@@ -13,9 +13,9 @@
 //! ```
 //!
 //! - `filter_match`: `matches`, whether a value matches a filter.
-//! - `end_test`, `value_test`: what an end of a path and one value are asked.
+//! - `end_test`, `value_test`: tests of an end of a path, and of one value.
 //!
-//! Filters themselves are those of `bd_query_filter`, whose calls stand here too.
+//! Filters themselves are those of `bd_query_filter`, whose names are re-exported here.
 #![tactic(auto)]
 
 mod end_test;

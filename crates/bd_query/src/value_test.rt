@@ -1,4 +1,4 @@
-//! What one value is asked.
+//! Tests of one value.
 
 ghost use Rattle.std.specs.Prelude.{◌≡◌, ◌&&◌, Bool, map};
 ghost use Rattle.std.specs.List.{list_all, list_any};
@@ -47,7 +47,7 @@ impl<'a> ValueTest for MemberTest<'a> {
     }
 }
 
-/// It is of the operand's class, and stands to it so.
+/// It is of the operand's class, and satisfies the relation.
 #[derive(Clone, Copy)]
 pub struct RelationTest<'a> {
     pub relation: Relation,
@@ -106,7 +106,7 @@ pub(crate) fn any_element<N: Reading, T: ValueTest>(node: N, test: &T) -> bool
     false
 }
 
-/// Whether it equals each member, and there is one.
+/// Whether there are members, and it equals each.
 pub(crate) fn equals_each<N: Reading>(members: &[Value], node: N) -> bool
     ensures { result ≡ (is_nonempty (map tree_of members.now)
         && list_all (equal (N.tree node)) (map tree_of members.now)) }
@@ -125,7 +125,7 @@ fn are_equal<N: Reading>(members: &[Value], node: N) -> bool
         .all(|member| compare_nodes(node, Tree::Value(member)).is_eq())
 }
 
-/// Whether it is of the operand's class, and stands to it so.
+/// Whether it is of the operand's class, and satisfies the relation.
 pub(crate) fn is_related<N: Reading>(relation: Relation, operand: &Value, node: N) -> bool
     ensures { result ≡ is_related relation (tree_of operand.now) (N.tree node) }
 {

@@ -1,4 +1,4 @@
--- Where a part of a filter is refused, it breaks that rule there; where it is read, it breaks none.
+-- If a part of a filter is refused, it breaks that rule there; if it is read, it breaks none.
 use Rattle.std.proofs.Common.{◌≡◌, ◌⊎◌, inl, inr, ℕ, zero, suc, ◌+◌, ◌-◌, Bool, true, false, if◌then◌else◌}
 use Rattle.std.proofs.Common.{List, [], ◌∷◌, Result, Ok, Err, refl, subst}
 use Rattle.std.specs.Prelude.{IsTrue, IsFalse, decimal, is_err}
@@ -18,11 +18,11 @@ use Rattle.bd_query_filter.specs.declared.fault.FilterFaultKind.TheVariants as f
 use Rattle.bd_query_filter.specs.declared.filter_of.PlainOperator.TheVariants as plain
 use Rattle.bd_query_filter.specs.declared.filter_of.NameKind.TheVariants as name_kinds
 
--- which refusals are true of a part
+-- the refusals that are true of a part
 abbrev Refusals : Type 1
 Refusals = Refusal → Type 0
 
--- a part is refused for what is bad in it, and is read where nothing is
+-- a part is refused for something bad in it, and is read if nothing in it is bad
 abbrev Agrees : {A : Type 0} → Result A Refusal → Refusals → Type 0
 Agrees (Ok x) IsBad = (r : Refusal) → IsBad r → ⊥
 Agrees (Err r) IsBad = IsBad r
@@ -45,7 +45,7 @@ inside_agrees : {A : Type 0} (depth_left : ℕ) (part : Result A Refusal) (IsBad
 inside_agrees zero part IsBad h = refl
 inside_agrees (suc depth_left) part IsBad h = h
 
--- a level more, read as something
+-- one more level, with a function of what is read
 level_agrees : {A B : Type 0} (depth_left : ℕ) (f : A → B) (part : Result A Refusal) (IsBad : Refusals)
     → Agrees part IsBad → Agrees (inner_part depth_left (read_as f part)) (BreaksInside depth_left IsBad)
 level_agrees depth_left f part IsBad h = inside_agrees depth_left (read_as f part) IsBad (as_agrees f part IsBad h)
@@ -58,7 +58,7 @@ true_is_not e = absurd cc
 false_is_not : {A : Type 0} → true ≡ false → A
 false_is_not e = absurd cc
 
--- a part that is bad as it is read
+-- a part that is bad if reading it fails
 itself_agrees : {A : Type 0} (part : Result A Refusal) → Agrees part (λ r. part ≡ Err r)
 itself_agrees (Ok x) = λ r e. absurd cc
 itself_agrees (Err r) = refl
@@ -80,7 +80,7 @@ plain_agrees plain.NotIn (array ts) = array_agrees (λ vs. negation_of (is_in vs
 plain_agrees plain.All (array ts) = array_agrees has_all ts
 plain_agrees p t = itself_agrees (plain_operator p t)
 
--- ---- pairs, by what their names stand for
+-- ---- pairs, by the meaning of their names
 
 path_agrees : (path : Result Names PathFault) (fs : Result (List Filter) Refusal) (os : Result (List Operator) Refusal) (IsBad : Refusals)
     → Agrees os IsBad → Agrees (pair_filter name_kinds.Field path fs os) (λ r. (IsTrue (is_err path) × BreaksHere faults.Path r) ⊎ IsBad r)
@@ -101,7 +101,7 @@ operator_agrees name_kinds.Not t inverse element InNot InElemMatch h k = h
 operator_agrees name_kinds.ElemMatch t inverse element InNot InElemMatch h k = k
 operator_agrees w t inverse element InNot InElemMatch h k = refl
 
--- ---- documents, by how they begin
+-- ---- documents, by their beginning
 
 value_form : (b : Bool) (os : Result (List Operator) Refusal) (x : List Operator) (AreBad : Refusals) → Agrees os AreBad
     → Agrees (if b then os else Ok x) (λ r. IsTrue b × AreBad r)
@@ -205,6 +205,6 @@ where_refused (Err q) IsBad r h is = let same : q ≡ r = cc in subst IsBad same
 pub none_bad_where_taken : (d : Doc) (f : Filter) → filter_of d ≡ Ok f → (r : Refusal) → IsBadAt d r → ⊥
 none_bad_where_taken d f is = where_taken (filter_of d) (IsBadAt d) f (document_agrees d) is
 
--- the refusal of a document is a rule that it breaks at that place
+-- the refusal of a document is a rule that it breaks at that path
 pub bad_where_refused : (d : Doc) (r : Refusal) → filter_of d ≡ Err r → IsBadAt d r
 bad_where_refused d r is = where_refused (filter_of d) (IsBadAt d) r (document_agrees d) is

@@ -1,4 +1,4 @@
--- Parts that are read in turn, and what is looked up in a table.
+-- Parts that are read in turn, and look-ups in a table.
 use Rattle.std.proofs.Common.{◌≡◌, ◌≢◌, ℕ, zero, suc, ◌-◌, Bool, true, false, ◌||◌, cond, length, Option, Some, None, if◌then◌else◌, List, [], ◌∷◌, ◌++◌, Result, Ok}
 use Rattle.std.proofs.Common.{Err, map, refl, sym, ap, ◌∙◌, subst, append_assoc, append-nil, Bor, option_map, rules, Vec}
 use Rattle.std.proofs.lemmas.List.{map_push}
@@ -37,22 +37,22 @@ pub none_yet : {A : Type 0} (rest : Result (List A) Refusal) → joined [] rest 
 none_yet (Ok ys) = refl
 none_yet (Err r) = refl
 
--- of parts in memory: none was read yet, one more was read, and all were
+-- for parts in memory: none was read yet, one more was read, and all were read
 pub none_read : {A B : Type 0} (view : A → B) (xs : List A) (whole : Result (List B) Refusal) → xs ≡ [] → joined (map view xs) whole ≡ whole
 none_read view xs whole none = ap (λ ys. joined (map view ys) whole) none ∙ none_yet whole
 
--- one more part was read, before those still to be read
+-- one more part was read, before those that remain
 pub one_read : {A B : Type 0} (view : A → B) (xs ys : List A) (x : A) (name : List ℕ) (part : Result B Refusal) (remaining rest whole : Result (List B) Refusal)
     → ys ≡ xs ++ x ∷ [] → part ≡ Ok (view x) → remaining ≡ read_at name part rest → joined (map view xs) remaining ≡ whole → joined (map view ys) rest ≡ whole
 one_read view xs ys x name part remaining rest whole pushed is next so_far =
     ap (λ zs. joined (map view zs) rest) pushed ∙ ap (λ zs. joined zs rest) (map_push view xs x) ∙ sym (one_more (map view xs) name (view x) rest)
     ∙ sym (ap (joined (map view xs)) (next ∙ ap (λ p. read_at name p rest) is)) ∙ so_far
 
--- all parts were read, and none is left
+-- all parts were read, and none remains
 pub all_read : {B : Type 0} (xs : List B) (rest whole : Result (List B) Refusal) → joined xs rest ≡ whole → rest ≡ Ok [] → whole ≡ Ok xs
 all_read xs rest whole so_far none = sym so_far ∙ ap (joined xs) none ∙ no_more xs
 
--- a part that is refused under a name is the refusal of all
+-- the refusal of a part under a name is the refusal of the whole
 pub refused : {A : Type 0} (xs : List A) (name : List ℕ) (part : Result A Refusal) (remaining rest whole : Result (List A) Refusal) (stop result : Stop)
     → remaining ≡ read_at name part rest → joined xs remaining ≡ whole → ((r : Refusal) → ReportsMisfit stop r → ReportsMisfit result (deeper name r))
     → StopsAt stop part → StopsAt result whole
@@ -74,7 +74,7 @@ ordered_is (leaf trees.min_key) regex least greatest = absurd (least refl)
 ordered_is (leaf trees.max_key) regex least greatest = absurd (greatest refl)
 ordered_is t regex least greatest = refl
 
--- ---- the array of `$in` and its kin
+-- ---- the array of `$in`, `$nin` and `$all`
 
 pub members_start : (t : Tree) (ps : Doc) → kind_of t ≡ kinds.Array → AreParts t ps
     → joined [] (member_values 0 (items_of (values_of ps))) ≡ members_of t
@@ -84,7 +84,7 @@ members_start (array ts) ps is are =
     none_yet (member_values 0 (items_of (values_of ps))) ∙ ap (λ vs. member_values 0 (items_of vs)) are ∙ ap (member_values 0) (items_of-list_of ts)
 members_start (code_scope s fs) ps is are = absurd are
 
--- ---- parts that stand for others
+-- ---- parts that are read as others
 
 pub stops_as : {A B : Type 0} (f : A → B) (part : Result A Refusal) (whole : Result B Refusal) (stop : Stop)
     → whole ≡ read_as f part → StopsAt stop part → StopsAt stop whole
@@ -99,11 +99,11 @@ with_depth_left : {A : Type 0} (depth_left : ℕ) (part : Result A Refusal) → 
 with_depth_left zero part some = absurd (some refl)
 with_depth_left (suc depth_left) part some = refl
 
--- the fields of a document in hand
+-- a function of a document's fields, by its parts
 fields_are : {A : Type 0} (f : Fields → A) (fs : Fields) (ps : Doc) → AreParts (doc fs) ps → f fs ≡ f (fields_of ps)
 fields_are f fs ps are = ap f (sym (fields_of-pairs_of fs) ∙ ap fields_of (sym are))
 
--- those of one a level down
+-- the same for a document one level down
 inner_is : {A B : Type 0} (depth_left : ℕ) (f : A → B) (g : Fields → Result A Refusal) (fs : Fields) (ps : Doc) → AreParts (doc fs) ps → depth_left ≢ 0
     → inner_part depth_left (read_as f (g fs)) ≡ read_as f (g (fields_of ps))
 inner_is depth_left f g fs ps are some = with_depth_left depth_left (read_as f (g fs)) some ∙ fields_are (λ gs. read_as f (g gs)) fs ps are
@@ -194,7 +194,7 @@ row_first : {R S A : Type 0} (see : R → S) (test : S → Bool) (f : S → A) (
 row_first see test f [] = refl
 row_first see test f (row ∷ rows) = row_step see f (test (see row)) row (find (λ x. test (see x)) rows) (find test (map see rows)) (row_first see test f rows)
 
--- what f says of the row that was found, in the table as definitions see it
+-- f of the row that was found, in the table as definitions have it
 pub row_found : {R S A : Type 0} (see : R → S) (test : S → Bool) (f : S → A) (rows : List R) (found : Option (Bor R))
     → option_map (λ row. row.now) found ≡ find (λ row. test (see row)) rows
     → option_map (λ row. f (see row.now)) found ≡ option_map f (find test (map see rows))
@@ -205,7 +205,7 @@ pub else_is : {A : Type 0} (b : Bool) (x y : A) → b ≡ false → y ≡ cond b
 else_is true x y is = absurd cc
 else_is false x y is = refl
 
--- ---- filters in memory, a level at a time
+-- ---- filters in memory, one level at a time
 
 -- the filter of `$and` in memory is that of its members
 pub filter_tree-And : (v : Vec Filter Global) → filter_tree (And v) ≡ all_of (filters_from (map filter_tree v.items))

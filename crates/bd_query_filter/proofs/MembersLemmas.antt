@@ -49,7 +49,7 @@ eq_of_reverse Greater = refl
 ties_back : {K : Type 0} (R : K → K → Ordering) → IsTotalOrder R → (x y : K) (o : Ordering) → R y x ≡ o → is_eq (R x y) ≡ is_eq o
 ties_back R total x y o is = ap is_eq (total.antisymm x y) ∙ eq_of_reverse (R y x) ∙ ap is_eq is
 
--- it finds a index that ties with x where there is one
+-- it finds an index that ties with x, if there is one
 pub found_as_any : {K : Type 0} (R : K → K → Ordering) → IsTotalOrder R → (key : ℕ → K) (indexes : List ℕ) (x : K) (r : Result ℕ ℕ)
     → IsSortedByKey key R indexes → IsSearchInRange r (length indexes) → IsBinarySearchResult (λ i. R (key i) x) indexes r
     → is_ok r ≡ list_any (λ i. is_eq (R x (key i))) indexes

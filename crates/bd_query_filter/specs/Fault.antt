@@ -1,11 +1,11 @@
--- Why a document is no filter: which rule a pair or a member breaks,
+-- Why a document is not a filter: which rule a pair or a member breaks,
 -- and its path of names and positions from the top.
 use Rattle.std.specs.Prelude.{◌≡◌, ℕ, List, [], ◌∷◌, Result, Ok, Err, map, string_bytes, codes}
 use Rattle.bd_query_filter.specs.declared.fault.{FilterFault.FilterFault, FilterFaultKind.FilterFaultKind, Stop.Stop}
 use Rattle.bd_query_filter.specs.declared.fault.FilterFaultKind.TheVariants as kinds
 use Rattle.bd_query_filter.specs.declared.fault.Stop.TheVariants as stops
 
--- why a document is no filter: the rule that is broken,
+-- why a document is not a filter: the rule that is broken,
 -- and the path of names and array positions from the top to the pair or member that breaks it
 pub record Refusal : Type 0 where
   pub kind : FilterFaultKind

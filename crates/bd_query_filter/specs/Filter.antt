@@ -1,4 +1,4 @@
--- Filters (MongoDB manual, "Query and Projection Operators"), and the filter that one in memory stands for.
+-- Filters (MongoDB manual, "Query and Projection Operators"), and the filter that a filter in memory means.
 use Rattle.std.specs.Prelude.{ℕ, Bool, List, [], ◌∷◌, map}
 use Rattle.bd_value.specs.{Tree.Tree, View.tree_of, declared.document.Value.Value, declared.node.Kind.Kind}
 use Rattle.bd_path.specs.{Reach.Names, PathNames.names_of}
@@ -42,12 +42,12 @@ mutual
     no_operators : Operators
     operator : Operator → Operators → Operators
 
--- a list of filters in the form that a filter holds, in the same order
+-- a list of filters in the form that a filter contains, in the same order
 abbrev pub filters_from : List Filter → Filters
 filters_from [] = no_filters
 filters_from (f ∷ fs) = filter f (filters_from fs)
 
--- a list of operators in the form that a filter holds, in the same order
+-- a list of operators in the form that a filter contains, in the same order
 abbrev pub operators_from : List Operator → Operators
 operators_from [] = no_operators
 operators_from (o ∷ os) = operator o (operators_from os)
@@ -66,14 +66,14 @@ values_in members = members.values.items
 abbrev pub trees_in : Members → List Tree
 trees_in members = map tree_of (values_in members)
 
--- one level of a filter in memory, whose parts are already read so
+-- one level of a filter in memory, whose parts are already read as filters and operators
 abbrev pub filter_step : Filter-F Filter Operator → Filter
 filter_step (Filter-F.And fs) = all_of (filters_from fs.items)
 filter_step (Filter-F.Or fs) = some_of (filters_from fs.items)
 filter_step (Filter-F.Nor fs) = none_of (filters_from fs.items)
 filter_step (Filter-F.Field path os) = at_path (names_of path) (operators_from os.items)
 
--- one level of an operator, whose parts are already read so; `$ne` and `$nin` become negations
+-- one level of an operator, whose parts are already read; `$ne` and `$nin` become negations
 abbrev pub operator_step : Operator-F Filter Operator → Operator
 operator_step (Operator-F.Equal v) = equals (tree_of v)
 operator_step (Operator-F.NotEqual v) = negation_of (equals (tree_of v))
@@ -91,10 +91,10 @@ operator_step (Operator-F.Not os) = negates (operators_from os.items)
 operator_step (Operator-F.ElemMatch os) = has_element (operators_from os.items)
 operator_step (Operator-F.ElemMatchDocument fs) = has_document (filters_from fs.items)
 
--- the filter that a `Filter` in memory stands for
+-- the filter that a `Filter` in memory means
 abbrev pub filter_tree : FilterInMemory → Filter
 filter_tree = fold-Filter Filter Operator filter_step operator_step
 
--- the operator that an `Operator` in memory stands for
+-- the operator that an `Operator` in memory means
 abbrev pub operator_tree : OperatorInMemory → Operator
 operator_tree = fold-Operator Filter Operator filter_step operator_step

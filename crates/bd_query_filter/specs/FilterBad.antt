@@ -1,6 +1,5 @@
--- Which pairs and members of a document break a rule of filters (MongoDB manual, "Query and Projection
--- Operators"), and where. Nothing is read in turn: each breaks a rule or not by itself.
--- `FilterOf` says what one operand may be.
+-- Which pairs and members of a document break a rule of filters (MongoDB manual, "Query and Projection Operators"), and
+-- where. Nothing is read in order: each breaks a rule or not by itself. `FilterOf` says what one operand may be.
 use Rattle.std.specs.Prelude.{◌≡◌, ◌⊎◌, ℕ, zero, ◌+◌, ◌-◌, List, [], Err, is_err, decimal, IsTrue, IsFalse}
 use Rattle.bd_value.specs.Limits.{most_filter_levels}
 use Rattle.bd_value.specs.Tree.{Tree, doc, array, Items, no_items, item, Fields, no_fields, field, Doc, fields_of}
@@ -22,7 +21,7 @@ abbrev pub BreaksUnder : List ℕ → (Refusal → Type 0) → Refusal → Type 
 BreaksUnder name IsBad r = (inner : Refusal) × (r ≡ deeper name inner) × IsBad inner
 
 -- The refusal is inside the part, a level further in;
--- or of the part itself, which is too deep if no level is left.
+-- or of the part itself, which is too deep if no level remains.
 abbrev pub BreaksInside : ℕ → (Refusal → Type 0) → Refusal → Type 0
 BreaksInside zero IsBad r = BreaksHere faults.TooDeep r
 BreaksInside depth_left IsBad r = IsBad r
@@ -32,23 +31,23 @@ abbrev pub HasBadElement : ℕ → Items → Refusal → Type 0
 HasBadElement i no_items r = ⊥
 HasBadElement i (item t ts) r = BreaksUnder (decimal i) (λ q. member_value t ≡ Err q) r ⊎ HasBadElement (i + 1) ts r
 
--- The operand of an operator is refused: a list by some member, any other as it is read.
+-- The operand of an operator is refused: a list for some member, any other for itself.
 abbrev pub IsBadPlain : PlainOperator → Tree → Refusal → Type 0
 IsBadPlain plain.In (array ts) r = HasBadElement 0 ts r
 IsBadPlain plain.NotIn (array ts) r = HasBadElement 0 ts r
 IsBadPlain plain.All (array ts) r = HasBadElement 0 ts r
 IsBadPlain p t r = plain_operator p t ≡ Err r
 
--- A pair of a filter is refused, by what its name is: `$and` and its kin by their filters,
--- a field by its path or by its value, each whatever the other is. No other operator may be there.
+-- A pair of a filter is refused, by the meaning of its name: `$and`, `$or` and `$nor` for their filters,
+-- a field for its path or for its value, each whatever the other is. No other operator is allowed there.
 abbrev pub IsBadPair : NameKind → List ℕ → (Refusal → Type 0) → (Refusal → Type 0) → Refusal → Type 0
 IsBadPair (name_kinds.Logical l) name AreBad IsBad r = AreBad r
 IsBadPair name_kinds.Field name AreBad IsBad r = (IsTrue (is_err (path_of name)) × BreaksHere faults.Path r) ⊎ IsBad r
 IsBadPair name_kinds.Omitted name AreBad IsBad r = BreaksHere faults.NotInProfile r
 IsBadPair w name AreBad IsBad r = BreaksHere faults.UnknownOperator r
 
--- A pair among operators is refused, by what its name is:
--- `$not` and `$elemMatch` by their bodies, others by their operand.
+-- A pair among operators is refused, by the meaning of its name:
+-- `$not` and `$elemMatch` for their bodies, others for their operand.
 abbrev pub IsBadOperator : NameKind → Tree → (Refusal → Type 0) → (Refusal → Type 0) → Refusal → Type 0
 IsBadOperator (name_kinds.Plain p) t InNot InElemMatch r = IsBadPlain p t r
 IsBadOperator name_kinds.Not t InNot InElemMatch r = InNot r
@@ -64,7 +63,7 @@ abbrev mutual
   HasBadPair depth_left (field n t fs) r =
       BreaksUnder n (IsBadPair (name_kind_of n) n (AreBadFilters depth_left t) (IsBadValue depth_left t)) r ⊎ HasBadPair depth_left fs r
 
-  -- The operand of `$and`, `$or` or `$nor` is refused: it is no array, or empty, or some member is refused.
+  -- The operand of `$and`, `$or` or `$nor` is refused: it is not an array, or empty, or some member is refused.
   pub AreBadFilters : ℕ → Tree → Refusal → Type 0
   AreBadFilters depth_left (array (item t ts)) r = HasBadMember depth_left 0 (item t ts) r
   AreBadFilters depth_left t r = BreaksHere faults.BadOperand r
@@ -74,13 +73,13 @@ abbrev mutual
   HasBadMember depth_left i no_items r = ⊥
   HasBadMember depth_left i (item t ts) r = BreaksUnder (decimal i) (IsBadMember depth_left t) r ⊎ HasBadMember depth_left (i + 1) ts r
 
-  -- a member of `$and`, `$or` or `$nor`: it is no document, too deep, or a pair in it breaks a rule
+  -- a member of `$and`, `$or` or `$nor`: it is not a document, too deep, or a pair in it breaks a rule
   pub IsBadMember : ℕ → Tree → Refusal → Type 0
   IsBadMember depth_left (doc fs) r = BreaksInside depth_left (HasBadPair (depth_left - 1) fs) r
   IsBadMember depth_left t r = BreaksHere faults.BadOperand r
 
-  -- The value of a path is refused: some operator in it,
-  -- or a value to equal that may not be there, a regular expression.
+  -- The value of a path is refused: for some operator in it,
+  -- or, if it is a value to equal, since it is a regular expression.
   pub IsBadValue : ℕ → Tree → Refusal → Type 0
   IsBadValue depth_left (doc fs) r = IsTrue (first_is_operator fs) × HasBadOperator depth_left fs r
   IsBadValue depth_left t r = path_operators depth_left t ≡ Err r

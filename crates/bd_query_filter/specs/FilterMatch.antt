@@ -22,7 +22,7 @@ is_array _ = false
 abbrev pub value_or_null : End → Tree
 value_or_null end = unwrap_or end (leaf trees.null)
 
--- what an operator looks at for an end: the end itself, and if it is an array, each element
+-- the candidates of an end, which an operator tests: the end itself, and if it is an array, each element
 abbrev pub candidates : End → List End
 candidates None = None ∷ []
 candidates (Some t) = Some t ∷ map Some (elements_in t)
@@ -36,7 +36,7 @@ abbrev pub is_value : (Tree → Bool) → End → Bool
 is_value test None = false
 is_value test (Some t) = test t
 
--- whether a value that compares so to the operand satisfies `$gt`, `$gte`, `$lt` or `$lte`
+-- whether a value in this order to the operand satisfies `$gt`, `$gte`, `$lt` or `$lte`
 abbrev pub relates : Relation → Ordering → Bool
 relates relation.Above o = is_gt o
 relates relation.AtLeast o = is_ge o
@@ -72,17 +72,17 @@ abbrev mutual
   matches (none_of fs) d = not (some_match fs d)
   matches (at_path path os) d = all_hold os (reach d path)
 
-  -- each of the filters matches the document; of no filter, every document
+  -- each of the filters matches the document; without filters, every document matches
   pub all_match : Filters → Tree → Bool
   all_match no_filters d = true
   all_match (filter f fs) d = matches f d && all_match fs d
 
-  -- at least one of the filters matches the document; of no filter, none
+  -- at least one of the filters matches the document; without filters, none matches
   pub some_match : Filters → Tree → Bool
   some_match no_filters d = false
   some_match (filter f fs) d = matches f d || some_match fs d
 
-  -- whether an operator holds of what its path reaches
+  -- whether an operator holds of the ends of its path
   pub holds : Operator → List End → Bool
   holds (equals v) ends = any_equal ends v
   holds (compares r v) ends = any_candidate (λ e. is_related r v (value_or_null e)) ends

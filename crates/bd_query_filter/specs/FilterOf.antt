@@ -19,7 +19,7 @@ use Rattle.bd_query_filter.specs.declared.filter_of.LogicalOperator.TheVariants 
 use Rattle.bd_query_filter.specs.declared.filter_of.PlainOperator.TheVariants as plain
 use Rattle.bd_query_filter.specs.declared.filter_of.NameKind.TheVariants as name_kinds
 
--- what is made of a part that is not refused; a refusal stays
+-- a function of a part that is not refused; a refusal stays
 abbrev pub read_as : {A B : Type 0} → (A → B) → Result A Refusal → Result B Refusal
 read_as f (Ok x) = Ok (f x)
 read_as f (Err r) = Err r
@@ -32,7 +32,7 @@ read_at name (Ok x) (Ok xs) = Ok (x ∷ xs)
 
 -- ---- operands
 
--- whether the operand is a regular expression, which only `$eq` takes
+-- whether the operand is a regular expression, which only `$eq` accepts
 abbrev pub is_regex : Tree → Bool
 is_regex (leaf (trees.regex p o)) = true
 is_regex t = false
@@ -58,7 +58,7 @@ has_operators t = false
 abbrev pub unless_omitted : Bool → Tree → Result Tree Refusal
 unless_omitted omitted t = if omitted then refuse faults.NotInProfile else Ok t
 
--- a member of `$in`, `$nin` or `$all`: any value but a regular expression and a document of operators
+-- a member of `$in`, `$nin` or `$all`: any value except a regular expression and a document of operators
 abbrev pub member_value : Tree → Result Tree Refusal
 member_value t = unless_omitted (is_regex t || has_operators t) t
 
@@ -92,7 +92,7 @@ type_kinds (leaf (trees.int32 z)) = kinds_numbered z
 type_kinds (leaf (trees.int64 z)) = kinds_numbered z
 type_kinds t = None
 
--- the kinds of all types in an array; None if a member is no type
+-- the kinds of all types in an array; None if a member is not a type
 abbrev pub all_kinds : Items → Option (List Kind)
 all_kinds no_items = Some []
 all_kinds (item t ts) = option_and_then (λ kinds. option_map (λ more. kinds ++ more) (all_kinds ts)) (type_kinds t)
@@ -108,7 +108,7 @@ or_bad_operand None = refuse faults.BadOperand
 or_bad_operand (Some x) = Ok x
 
 -- the operator of this name and operand, or why it is refused:
--- no regular expression but after `$eq`, and no MinKey or MaxKey after `$gt`, `$gte`, `$lt`, `$lte`
+-- no regular expression except after `$eq`, and no MinKey or MaxKey after `$gt`, `$gte`, `$lt`, `$lte`
 abbrev pub plain_operator : PlainOperator → Tree → Result Operator Refusal
 plain_operator plain.Equal t = Ok (equals t)
 plain_operator plain.NotEqual t = read_as (λ v. negation_of (equals v)) (unless_omitted (is_regex t) t)
@@ -122,13 +122,13 @@ plain_operator plain.Type t = read_as has_type (or_bad_operand (operand_kinds t)
 
 -- ---- filters
 
--- the filter that `$and`, `$or` or `$nor` is of these filters
+-- the filter of `$and`, `$or` or `$nor` with these filters
 abbrev pub logical_filter : LogicalOperator → List Filter → Filter
 logical_filter logical.And fs = all_of (filters_from fs)
 logical_filter logical.Or fs = some_of (filters_from fs)
 logical_filter logical.Nor fs = none_of (filters_from fs)
 
--- a part that is a level further in, or the refusal `too deep` if no level is left
+-- a part that is a level further in, or the refusal `too deep` if no level remains
 abbrev pub inner_part : {A : Type 0} → ℕ → Result A Refusal → Result A Refusal
 inner_part zero part = refuse faults.TooDeep
 inner_part depth_left part = part
@@ -145,8 +145,8 @@ abbrev pub has_value_form : Fields → Bool
 has_value_form no_fields = false
 has_value_form (field n t fs) = is_value_form (name_kind_of n)
 
--- the filter of a pair, by what its name is:
--- `$and` and its kin of their filters, a field of its path and operators
+-- the filter of a pair, by the meaning of its name:
+-- `$and`, `$or` and `$nor` with their filters, a field with its path and operators
 abbrev pub pair_filter : NameKind → Result Names PathFault → Result (List Filter) Refusal → Result (List Operator) Refusal
     → Result Filter Refusal
 pair_filter (name_kinds.Logical l) path filters operators = read_as (logical_filter l) filters
@@ -155,7 +155,7 @@ pair_filter name_kinds.Field (Ok path) filters operators = read_as (λ os. at_pa
 pair_filter name_kinds.Omitted path filters operators = refuse faults.NotInProfile
 pair_filter w path filters operators = refuse faults.UnknownOperator
 
--- the operator of a pair among operators, by what its name is
+-- the operator of a pair among operators, by the meaning of its name
 abbrev pub operator_of : NameKind → Tree → Result Operator Refusal → Result Operator Refusal → Result Operator Refusal
 operator_of (name_kinds.Plain p) t inverse element = plain_operator p t
 operator_of name_kinds.Not t inverse element = inverse

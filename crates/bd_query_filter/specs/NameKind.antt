@@ -11,7 +11,7 @@ use Rattle.bd_query_filter.specs.declared.filter_of.NameKind.{NameKind}
 use Rattle.bd_query_filter.specs.declared.filter_of.NameKind.TheVariants as name_kinds
 use Rattle.bd_query_filter.specs.declared.operand.Relation.TheVariants as relation
 
--- whether a name begins with `$`, so that it is no field name in a filter
+-- whether a name begins with `$`, so that it is not a field name in a filter
 abbrev pub begins_with_dollar : List ℕ → Bool
 begins_with_dollar [] = false
 begins_with_dollar (c ∷ cs) = c == 36
@@ -46,7 +46,7 @@ omitted_names =
 unfoldable pub is_omitted : List ℕ → Bool
 is_omitted name = list_any (λ omitted. bytes_eq omitted name) omitted_names
 
--- the supported operator with this name, if there is one
+-- the supported operator with this name, if any
 unfoldable pub known_operator : List ℕ → Option NameKind
 known_operator name = option_map (λ row. row.1) (find (λ row. bytes_eq row.0 name) query_operators)
 

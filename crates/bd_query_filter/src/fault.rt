@@ -1,4 +1,4 @@
-//! Why a document is no filter, and where.
+//! Why a document is not a filter, and where.
 
 ghost use Rattle.std.specs.Prelude.{◌≡◌, []};
 ghost use Rattle.bd_query_filter.specs.Fault.{Refusal, ReportsMisfit, deeper, filter_fault_number, filter_fault_words};
@@ -11,23 +11,23 @@ use thiserror::Error;
 #[derive(Clone, Copy, Debug, Drop, PartialEq, Eq, Error)]
 #[error("{}", self.words())]
 pub enum FilterFaultKind {
-    /// A name with a dollar sign that is no operator, or an operator that may not stand there.
+    /// A name with a dollar sign that is not an operator, or an operator that is not allowed there.
     UnknownOperator = 1,
-    /// An operator of the manual that is left out, or an operand that is.
+    /// An operator or an operand of the manual that is not supported.
     NotInProfile = 2,
-    /// An operand of another kind than the operator takes.
+    /// An operand of another kind than the operator needs.
     BadOperand = 3,
     /// A name without a dollar sign among operators.
     MixedOperators = 4,
-    /// A name that is no path.
+    /// A name that is not a path.
     Path = 5,
     /// A filter at level 51.
     TooDeep = 6,
-    /// No memory was given.
+    /// Memory ran out.
     NoMemory = 7,
 }
 
-/// What is wrong, in words: by number, from 1 on.
+/// The messages, by number, from 1 on.
 const WORDS: [&str; 7] = [
     "unknown operator",
     "not in the profile",
@@ -39,7 +39,7 @@ const WORDS: [&str; 7] = [
 ];
 
 impl FilterFaultKind {
-    /// What is wrong, in words.
+    /// The message.
     #[tactic(auto, unfolding(crate::specs::Fault::filter_fault_words))]
     pub fn words(self) -> &'static str
         ensures { result.now ≡ filter_fault_words self }
@@ -47,7 +47,7 @@ impl FilterFaultKind {
         WORDS[self as usize - 1]
     }
 
-    /// The number by which a reply tells it, 1 to 6; 7 for out of memory.
+    /// The number of the fault in a reply, 1 to 6; 7 for out of memory.
     pub fn number(self) -> u32
         ensures { result ≡ filter_fault_number self }
     {
@@ -55,16 +55,16 @@ impl FilterFaultKind {
     }
 }
 
-/// The first pair or member of a document that is no part of a filter.
+/// The first pair or member of a document that is not part of a filter.
 ///
-/// As a text it tells all but the place.
+/// Its text has all but the path.
 #[derive(Debug, Drop, Error)]
 #[error("{kind}")]
 pub struct FilterFault {
     /// Which rule it breaks.
     pub kind: FilterFaultKind,
-    /// The names from the top of the document down to it. A member of an array stands by its index, from 0. It is empty where
-    /// no memory was given.
+    /// The names from the top of the document down to it. A member of an array is named by its index, from 0. It is empty if
+    /// memory ran out.
     pub place: Vec<String>,
 }
 
@@ -72,7 +72,7 @@ pub struct FilterFault {
 #[derive(Drop)]
 pub enum Stop {
     NoMemory,
-    /// Its place begins at the part that was read.
+    /// Its path begins at the part that was read.
     Fault(FilterFault),
 }
 
@@ -84,7 +84,7 @@ pub(crate) fn stop_at(alloc: Global, kind: FilterFaultKind) -> Stop
     Stop::Fault(FilterFault { kind, place })
 }
 
-/// The stop as it is seen from one name up.
+/// The stop, one name up.
 pub(crate) fn under(alloc: Global, name: &str, stop: Stop) -> Stop
     ensures { (r : Refusal) → ReportsMisfit stop r → ReportsMisfit result (deeper name.now r) }
 {

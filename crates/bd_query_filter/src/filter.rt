@@ -11,26 +11,26 @@ use bd_value::{Kind, NoMemory, Reading, Tree, Value, compare_nodes};
 use std::alloc::Global;
 use std::cmp::Ordering;
 
-/// What a document is asked.
+/// A filter of documents.
 ///
 /// MongoDB manual, "Logical Query Operators". A document of several pairs is `And` of them, and so is one of a single pair.
 #[cycle(filter)]
 #[derive(Drop)]
 pub enum Filter {
-    /// `$and`: each of the filters matches. All documents match where there are none.
+    /// `$and`: each of the filters matches. Without filters all documents match.
     And(Vec<Filter>),
     /// `$or`: one of the filters matches.
     Or(Vec<Filter>),
     /// `$nor`: none of the filters matches.
     Nor(Vec<Filter>),
-    /// A path, and the operators that must all hold of what it reaches.
+    /// A path, and the operators that must all hold of the values that it reaches.
     Field {
         path: Path,
         operators: Vec<Operator>,
     },
 }
 
-/// What the values that a path reaches are asked, or an element of an array by itself.
+/// A test of the values that a path reaches, or of an element of an array by itself.
 ///
 /// MongoDB manual, "Comparison Query Operators", "Element Query Operators" and "Array Query Operators".
 #[cycle(filter)]
@@ -52,9 +52,9 @@ pub enum Operator {
     In(Members),
     /// `$nin`: none equals a member.
     NotIn(Members),
-    /// `$all`: each member is equalled. Nothing matches where there are none.
+    /// `$all`: each member is equalled. Without members nothing matches.
     All(Vec<Value>),
-    /// `$size`: an array of so many elements.
+    /// `$size`: an array of exactly n elements.
     Size(u64),
     /// `$exists`: whether a value is there.
     Exists(bool),
@@ -68,7 +68,7 @@ pub enum Operator {
     ElemMatchDocument(Vec<Filter>),
 }
 
-/// The members of `$in` and `$nin`, in the order of the query, and looked up in the order of values.
+/// The members of `$in` and `$nin`, in the order of the query, with an index for look-ups in the order of values.
 #[derive(Drop)]
 pub struct Members {
     values: Vec<Value>,
@@ -82,7 +82,7 @@ pub struct Members {
 impl Members {
     ghost use Rattle.bd_query_filter.specs.Filter.{trees_in, values_in};
 
-    /// Members of these values, in their order. It fails only if memory runs out, and then drops them.
+    /// Members of these values, in order. It fails only if memory runs out, and then drops them.
     pub fn new(alloc: Global, values: Vec<Value>) -> Result<Members, NoMemory>
         ensures { IfOk result (λ m. values_in m ≡ values.items) }
     {
@@ -90,14 +90,15 @@ impl Members {
         Ok(Members { values, indexes })
     }
 
-    /// The values, in their order. It takes no memory.
+    /// The values, in order. It takes no memory.
     pub fn as_slice(&self) -> &[Value]
         ensures { result.now ≡ values_in self.now }
     {
         &self.values
     }
 
-    /// Whether a value equals a member, wherever it lies. It takes no memory, and looks at some log n of n members.
+    /// Whether a value, in memory or in bytes, equals a member. It takes no memory, and compares the value with about log n
+    /// of n members.
     pub fn contains<N: Reading>(&self, node: N) -> bool
         ensures { result ≡ list_any (equal (N.tree node)) (trees_in self.now) }
     {
@@ -124,7 +125,7 @@ fn indexes_below(alloc: Global, end: usize) -> Result<Vec<usize>, NoMemory>
     (0..end).collect(alloc)
 }
 
-/// The order of two values by their indexes. Past the last a null stands.
+/// The order of two values by their indexes. After the last an index means null.
 fn compare_indexes(values: &[Value], first: usize, second: usize) -> Ordering
     ensures { result ≡ cmp (tree_at values.now first) (tree_at values.now second) }
 {
@@ -134,7 +135,7 @@ fn compare_indexes(values: &[Value], first: usize, second: usize) -> Ordering
     }
 }
 
-/// The order of the value at an index to another value. Past the last a null stands.
+/// The order of the value at an index to another value. After the last an index means null.
 fn compare_at<N: Reading>(values: &[Value], index: usize, node: N) -> Ordering
     ensures { result ≡ cmp (tree_at values.now index) (N.tree node) }
 {

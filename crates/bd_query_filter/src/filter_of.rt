@@ -19,15 +19,15 @@ use bd_path::{Path, PathFault};
 use bd_value::{Document, Kind, MOST_FILTER_LEVELS, Reading, Tree};
 use std::alloc::Global;
 
-/// The filter that a document is.
+/// Parses a filter from a document.
 ///
 /// MongoDB manual, "Query and Projection Operators". Each member of `$and`, `$or` and `$nor` and each body of `$not` and
-/// `$elemMatch` is a level more, and there are fifty at most.
+/// `$elemMatch` is one more level, and there are at most fifty.
 ///
 /// # Errors
 ///
-/// The first pair or member that is no part of a filter, in the order in which they stand, and which rule it breaks; `NoMemory`
-/// where no memory was given.
+/// The first pair or member that is not part of a filter, in stored order, and which rule it breaks; `NoMemory` if memory
+/// runs out.
 pub fn parse(alloc: Global, document: &Document) -> Result<Filter, FilterFault>
     ensures filter { IfOk result (λ f. filter_of (pairs document.now) ≡ Ok (filter_tree f)) }
     ensures fault { IfErr result (λ f. IsOutOfMemory f
@@ -149,7 +149,7 @@ fn read_member<N: Reading>(alloc: Global, depth_left: u32, member: N) -> Result<
     Ok(Filter::And(filters))
 }
 
-/// The operators that the value of a path stands for.
+/// The operators of the value of a path.
 #[cycle(parse)]
 fn read_value<N: Reading>(alloc: Global, depth_left: u32, value: N) -> Result<Vec<Operator>, Stop>
     ensures { ReadsPart (λ os.
@@ -242,7 +242,7 @@ fn read_elem_match<N: Reading>(alloc: Global, depth_left: u32, operand: N) -> Re
     Ok(Operator::ElemMatchDocument(filters))
 }
 
-/// Whether the body of `$elemMatch` is operators for an element, and no filter.
+/// Whether the body of `$elemMatch` is operators for an element, and not a filter.
 fn is_value_form<N: Reading>(pairs: &N::Rest) -> bool
     ensures { result ≡ has_value_form (fields_of (N.remaining pairs.now)) }
 {
@@ -252,7 +252,7 @@ fn is_value_form<N: Reading>(pairs: &N::Rest) -> bool
     !matches!(NameKind::from_name(name), NameKind::Logical(_) | NameKind::Field)
 }
 
-/// What a name stands for in a filter.
+/// The meaning of a name in a filter.
 #[derive(Clone, Copy)]
 pub enum NameKind {
     /// An operator whose operand is an array of filters.
@@ -263,7 +263,7 @@ pub enum NameKind {
     Not,
     /// `$elemMatch`
     ElemMatch,
-    /// An operator of the manual that is left out.
+    /// An operator of the manual that is not supported.
     Omitted,
     /// Another name that begins with a dollar sign.
     Unknown,
@@ -293,7 +293,7 @@ pub enum PlainOperator {
     Type,
 }
 
-/// The operators that are known.
+/// The operators that are supported.
 const OPERATORS: [(&str, NameKind); 17] = [
     ("$and", NameKind::Logical(LogicalOperator::And)),
     ("$or", NameKind::Logical(LogicalOperator::Or)),
@@ -315,7 +315,7 @@ const OPERATORS: [(&str, NameKind); 17] = [
 ];
 
 impl NameKind {
-    /// What a name stands for.
+    /// The meaning of a name.
     #[tactic(auto, unfolding(crate::specs::NameKind::name_kind_of))]
     pub(crate) fn from_name(name: &str) -> NameKind
         ensures { result ≡ name_kind_of name.now }
@@ -331,7 +331,7 @@ impl NameKind {
     }
 }
 
-/// What the name of a known operator stands for.
+/// The meaning of the name of a supported operator.
 fn known_operator(name: &str) -> Option<NameKind>
     ensures { result ≡ known_operator name.now }
 {
@@ -348,7 +348,7 @@ pub(crate) fn begins_with_dollar(name: &str) -> bool
     }
 }
 
-/// The operators of the manual that are left out, and the parts of a DBRef.
+/// The operators of the manual that are not supported, and the names of a DBRef.
 const OMITTED: [&str; 19] = [
     "$regex",
     "$options",
@@ -371,7 +371,7 @@ const OMITTED: [&str; 19] = [
     "$db",
 ];
 
-/// Whether it is the name of an operator of the manual that is left out, or a part of a DBRef.
+/// Whether it is the name of an operator of the manual that is not supported, or a name of a DBRef.
 #[tactic(auto, unfolding(crate::specs::NameKind::is_omitted))]
 fn is_omitted(name: &str) -> bool
     ensures { result ≡ is_omitted name.now }

@@ -7,7 +7,7 @@ ghost use Rattle.bd_query_filter.specs.Filter as filters;
 ghost use Rattle.bd_query_filter.specs.FilterBad.{IsBadAt};
 ghost use Rattle.bd_query_filter.specs.FilterOf.{filter_of};
 
-/// A document has no filter exactly where some pair or member of it breaks a rule.
+/// A document is not a filter exactly if some pair or member of it breaks a rule.
 pub fn bad_documents_alone_are_refused()
     ensures taken { (d : Doc) (f : filters.Filter) →
         filter_of d ≡ Ok f → (r : Refusal) → IsBadAt d r → ⊥ }

@@ -1,8 +1,8 @@
-//! Filters: what a document of a query asks of other documents, and the first thing in it that is no part of a filter.
+//! Filters: documents of queries, and the first pair or member of one that is not part of a filter.
 //!
 //! MongoDB manual, "Query and Projection Operators": comparison, logical, element and array operators, with whole numbers and
-//! without regular expressions. What is left out is refused by name and place. Which documents match is defined here too:
-//! `specs/FilterMatch.antt`; `bd_query` has the call.
+//! without regular expressions. What is not supported is refused by name and path. Which documents match is defined here too:
+//! `specs/FilterMatch.antt`; `bd_query` has the function.
 //!
 //! An example, which `bd_query_tests` proves and runs as `examples::mixed`:
 //!
@@ -17,11 +17,11 @@
 //!
 //! - `filter`: `Filter` and `Operator`, to match on, and `Members`, those of `$in` and `$nin`, looked up by binary search:
 //!   `specs/Filter.antt`.
-//! - `filter_of`: `parse`, the filter that a document is, or its first fault: `specs/FilterOf.antt`. A document has no filter
-//!   exactly where a pair or member of it breaks a rule: `specs/FilterBad.antt`.
-//! - `operand`: operators that take values, the types of `$type`, and `Relation`, how a value stands to an operand.
-//! - `fault`: `FilterFault`, which pair or member is no part of a filter: `specs/Fault.antt`.
-//! - `laws`: which documents are no filters.
+//! - `filter_of`: `parse`, the filter of a document, or its first fault: `specs/FilterOf.antt`. A document is not a filter
+//!   exactly if a pair or member of it breaks a rule: `specs/FilterBad.antt`.
+//! - `operand`: operators that take values, the types of `$type`, and `Relation`, the order of a value to an operand.
+//! - `fault`: `FilterFault`, which pair or member is not part of a filter: `specs/Fault.antt`.
+//! - `laws`: which documents are not filters.
 #![tactic(auto)]
 
 mod fault;

@@ -17,7 +17,7 @@ use bd_value::{Kind, Reading, Scalar, Value, to_value};
 use std::alloc::Global;
 use std::cmp::Ordering;
 
-/// The operator of a word and its operand.
+/// The operator of a name and its operand.
 pub(crate) fn plain_operator<N: Reading>(
     alloc: Global,
     plain: PlainOperator,
@@ -38,7 +38,7 @@ pub(crate) fn plain_operator<N: Reading>(
     })
 }
 
-/// The operator that asks for values in a relation to an operand.
+/// The operator that compares values with an operand by a relation.
 fn comparing(relation: Relation, operand: Value) -> Operator
     ensures { operator_tree result ≡ compares relation (tree_of operand) }
 {
@@ -50,7 +50,7 @@ fn comparing(relation: Relation, operand: Value) -> Operator
     }
 }
 
-/// A value that is no regular expression, in memory.
+/// A value that is not a regular expression, in memory.
 pub(crate) fn plain_value<N: Reading>(alloc: Global, operand: N) -> Result<Value, Stop>
     ensures { ReadsPart tree_of result
         (unless_omitted (is_regex (N.tree operand)) (N.tree operand)) }
@@ -61,7 +61,7 @@ pub(crate) fn plain_value<N: Reading>(alloc: Global, operand: N) -> Result<Value
     Ok(to_value(alloc, operand)?)
 }
 
-/// A value that is above some and below others, and no regular expression.
+/// A value that is above some and below others, and not a regular expression.
 pub(crate) fn ordered_value<N: Reading>(alloc: Global, operand: N) -> Result<Value, Stop>
     ensures { ReadsPart tree_of result (unless_omitted (is_regex (N.tree operand)
         || is_bound (N.tree operand)) (N.tree operand)) }
@@ -74,7 +74,7 @@ pub(crate) fn ordered_value<N: Reading>(alloc: Global, operand: N) -> Result<Val
     }
 }
 
-/// Whether it is a document that begins as operators do.
+/// Whether it is a document whose first name is an operator.
 pub(crate) fn has_operators<N: Reading>(operand: N) -> bool
     ensures { result ≡ has_operators (N.tree operand) }
 {
@@ -117,7 +117,7 @@ pub(crate) fn members_of<N: Reading>(alloc: Global, operand: N) -> Result<Vec<Va
     Ok(members)
 }
 
-/// The stop as it is seen from the array, of the member at an index.
+/// The stop of the member at an index, one level up from the array.
 pub(crate) fn under_index(alloc: Global, index: usize, stop: Stop) -> Stop
     ensures { (r : Refusal) →
         ReportsMisfit stop r → ReportsMisfit result (deeper (decimal index) r) }
@@ -208,8 +208,8 @@ fn kinds_of_type<N: Reading>(operand: N) -> Option<&'static [Kind]>
     }
 }
 
-/// The types of `$type`, by number and name, and the kinds that each has: MongoDB manual, "$type". Doubles and decimals are not
-/// read.
+/// The types of `$type`, by number and name, and the kinds that each has: MongoDB manual, "$type". Doubles and decimals are
+/// not supported.
 const TYPES: [(i64, &str, &[Kind]); 21] = [
     (1, "double", &[]),
     (2, "string", &[Kind::Text]),
@@ -234,7 +234,7 @@ const TYPES: [(i64, &str, &[Kind]); 21] = [
     (127, "maxKey", &[Kind::MaxKey]),
 ];
 
-/// The kinds of a type by its name; `number` stands for the two whole numbers.
+/// The kinds of a type by its name; `number` means the two whole numbers.
 #[tactic(auto, unfolding(crate::specs::NameKind::kinds_named))]
 fn kinds_named(name: &str) -> Option<&'static [Kind]>
     ensures { option_map (λ kinds. kinds.now) result ≡ kinds_named name.now }
@@ -253,7 +253,7 @@ fn kinds_numbered(number: i64) -> Option<&'static [Kind]>
     TYPES.iter().find(|row| row.0 == number).map(|row| row.2)
 }
 
-/// How a value stands to an operand of its class.
+/// The order of a value to an operand of its class.
 #[derive(Clone, Copy, Debug, PartialEq, Eq)]
 pub enum Relation {
     /// `$gt`
@@ -266,7 +266,7 @@ pub enum Relation {
     AtMost,
 }
 
-/// Whether a value in this order to an operand stands to it so.
+/// Whether a value in this order to an operand satisfies the relation.
 pub fn relates(relation: Relation, order: Ordering) -> bool
     ensures { result ≡ relates relation order }
 {

@@ -1,4 +1,4 @@
-//! Bounds of filters, worked by hand.
+//! Bounds of filters, worked out by hand.
 use crate::filter_tests::split_filter;
 use bd_extjson::read_doc;
 use bd_index_bounds::Bounds;
@@ -8,7 +8,8 @@ use bd_value::{Tree, Value};
 use std::alloc::Global;
 use std::process::Abort;
 
-/// A filter, a document of several keys, and how many of them are inside for an index on `a`, whatever is said of the index.
+/// A filter, a document of several keys, and how many of them are inside for an index on `a`, whether it counts as multikey
+/// or not.
 const ANY_INDEX: &str = r#"{"a":{"$gte":5}} | {"a":[5,7,5]} | 2
 {"a":[1,2]} | {"a":[2,1]} | 1
 {"a":{"$in":[1,[2,3],9]}} | {"a":[1,2,3]} | 2
@@ -46,7 +47,7 @@ fn count_inside(
     inside
 }
 
-/// The program never says of an index over such a document that it is not multikey.
+/// In the program an index over such a document is always multikey.
 #[test]
 fn counts_keys_inside(rt: HostRuntime) {
     for line in ANY_INDEX.lines() {
@@ -74,7 +75,7 @@ fn ranges(bounds: &Bounds<'_>) -> u64 {
     }
 }
 
-/// Two lists of members are kept side by side, and not each member with each.
+/// Two lists of members stay side by side, without one range for each pair of members.
 #[test]
 fn two_lists_stay_two(rt: HostRuntime) {
     let (filter, _) = split_filter(

@@ -13,7 +13,7 @@ fn is_match(rt: &impl Abort, alloc: Global, filter: &Filter, text: &str) -> bool
     matches(filter, Tree::Doc(&document))
 }
 
-/// Whether the document of a line matches a filter as the word after it tells.
+/// Whether the document of a line matches a filter as the line says.
 fn is_as_reported(rt: &impl Abort, alloc: Global, filter: &Filter, line: &str) -> bool {
     let (document, wanted) = line.split_once(" | ").expect(rt, line);
     wanted.parse::<bool>() == Ok(is_match(rt, alloc, filter, document))
@@ -57,7 +57,7 @@ fn takes_filters_made_by_hand(rt: HostRuntime) {
     }
 }
 
-/// The filter of that name without members. An operator stands at the path `a.b`.
+/// The filter of that name without members. Its operator is at the path `a.b`.
 fn without_members(rt: &impl Abort, alloc: Global, name: &str) -> Filter {
     let operator = match name {
         "$and" => return Filter::And(Vec::new(alloc)),
@@ -73,7 +73,7 @@ fn without_members(rt: &impl Abort, alloc: Global, name: &str) -> Filter {
     at_path(rt, alloc, operators)
 }
 
-/// A part without members, which no text is: all of none hold, and none of them does.
+/// A part without members, which no text can be: each of none holds, and none of them does.
 #[test]
 fn takes_parts_of_no_members(rt: HostRuntime) {
     for (name, wanted) in [
@@ -125,6 +125,6 @@ fn looks_at_documents_in_memory(rt: HostRuntime) {
         let (filter, rest) = split_filter(&rt, rt.alloc(), line);
         assert!(rt; is_as_reported(&rt, rt.alloc(), &filter, rest), "{line}");
     }
-    // No row sees it come.
+    // No row can cause it.
     assert!(rt; FilterFaultKind::NoMemory.words() == "no memory");
 }

@@ -1,5 +1,6 @@
-//! Tests of the crates of questions, `bd_path`, `bd_query_filter`, `bd_query`, `bd_index_bounds`, `bd_index_prefix` and `bd_index`, over their public calls:
-//! what no text is, values in memory, and counted reads. Rows of filters and indexes are in `tests/rows`.
+//! Tests of the crates of queries, `bd_path`, `bd_query_filter`, `bd_query`, `bd_index_bounds`, `bd_index_prefix` and
+//! `bd_index`, over their public calls: filters that no text can be, values in memory, and counted reads. Rows of filters and
+//! indexes are in `tests/rows`.
 #![tactic(auto)]
 
 #[cfg(test)]

@@ -9,7 +9,7 @@ use bd_value::{
 };
 use std::test::Fail;
 
-/// Whether a value equals the number seven of 64 bits, and is greater than null, by each call that compares.
+/// Whether a value equals the int64 7, and is greater than null, by each function that compares.
 fn is_seven(value: &Value) -> bool {
     let long = Value::Int64(7);
     let are_numbers = class(value) == Class::Number
@@ -26,7 +26,7 @@ fn orders_values_in_memory(rt: HostRuntime) -> Result<(), Fail> {
     Ok(())
 }
 
-/// What stands for values that are not there, between values.
+/// Keys that are not nodes, between values.
 #[test]
 fn orders_keys(rt: HostRuntime) {
     let keys = [
@@ -52,7 +52,7 @@ fn orders_keys(rt: HostRuntime) {
     }
 }
 
-/// These are clauses alone.
+/// Calls of laws, which have no body.
 #[test]
 fn has_laws() {
     orders_all_values();

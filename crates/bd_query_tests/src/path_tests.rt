@@ -1,4 +1,4 @@
-//! Paths, texts that are none, and the keys of a document as its nodes.
+//! Paths, texts that are not paths, and the keys of a document as its nodes.
 use bd_extjson::read_doc;
 use bd_path::{Dir, Path, PathFault, compare_keys, key_nodes, sort_key_node};
 use bd_value::Tree;
@@ -25,7 +25,7 @@ fn splits_and_copies_a_path(rt: HostRuntime) -> Result<(), Fail> {
     Ok(())
 }
 
-/// No text is refused because memory runs out here.
+/// No text is refused here because memory runs out.
 #[test]
 fn reports_why_a_text_is_no_path(rt: HostRuntime) -> Result<(), Fail> {
     let alloc = rt.alloc();

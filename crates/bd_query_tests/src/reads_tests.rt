@@ -1,4 +1,4 @@
-//! How many documents are read, which no contract tells.
+//! How many documents are read, of which no contract says anything.
 ghost use Rattle.bd_index.specs.IndexView.{IsIndexOf};
 
 use crate::index_samples::{read_documents, read_filter};
@@ -26,7 +26,7 @@ const QUERIES: [(&str, &[u32]); 4] = [
     (r#"{"a":1000}"#, &[]),
 ];
 
-/// How many keys are read to find a query's documents, where the index finds these; none where it does not.
+/// How many keys are read to find a query's documents, if the index finds these; None if it does not.
 fn value_reads(
     alloc: Global,
     dump: &Dump,
@@ -44,7 +44,7 @@ fn value_reads(
     Ok(is_found.then_some(dump.value_reads().saturating_sub(before)))
 }
 
-/// How many documents a walk on the index gives.
+/// How many documents a scan of the index gives.
 fn walked(alloc: Global, dump: &Dump, index: &Index) -> Result<u64, Fail>
     requires { IsIndexOf dump.now index.now }
 {
@@ -58,7 +58,7 @@ fn walked(alloc: Global, dump: &Dump, index: &Index) -> Result<u64, Fail>
     Ok(walked)
 }
 
-/// An index reads each document once, while it is built, and none later: no query looks through the documents, nor compares many of
+/// An index reads each document once, while it is built, and none later: no query scans the documents, nor compares many of
 /// the keys.
 #[test]
 fn reads_none_once_it_is_built(rt: HostRuntime) -> Result<(), Fail> {
@@ -68,7 +68,7 @@ fn reads_none_once_it_is_built(rt: HostRuntime) -> Result<(), Fail> {
     assert!(rt; dump.reads() == 1000);
     for (query, wanted) in QUERIES {
         let compared = value_reads(alloc, &dump, &index, query, wanted)?;
-        // Each of two cuts a range is found by halves, with some ten keys read.
+        // Each of the two limits of a range is found by binary search, with about ten keys read.
         assert!(rt;
             compared.is_some_and(|it| it < 100),
             "{query}: {compared:?}"

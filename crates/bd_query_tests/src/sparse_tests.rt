@@ -1,4 +1,4 @@
-//! A sparse index without bounds, which the program does not take.
+//! A sparse index without bounds, which the program does not accept.
 use crate::index_samples::read_documents;
 use bd_index::Index;
 use bd_path::Path;

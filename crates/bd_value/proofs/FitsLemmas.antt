@@ -1,4 +1,4 @@
--- A tree fits where its parts do.
+-- A tree fits if its parts fit.
 use Rattle.std.proofs.Common.{◌≡◌, ◌⊎◌, ℕ, List, inl, inr, [], ◌∷◌, Some, None, refl, ap, subst, ◌∙◌}
 use Rattle.bd_value.specs.Tree.{Scalar, Leaf, scalar_leaf, leaf_of, Tree, leaf, doc, array, code_scope, Items, no_items, item, Fields, no_fields, field, Doc, fields_of, items_of, fields_of-pairs_of, items_of-list_of}
 use Rattle.bd_value.specs.Tree.{text, symbol, regex, db_pointer, code, values_of, scope_of, AreParts}
@@ -20,7 +20,7 @@ module _ (IsSuch : List ℕ → Type 0) where
   leaf_fits (leaf s) o leaf_is scope_is fits = let is : o ≡ scalar_leaf s = cc in subst (LeafFits IsSuch) is fits
   leaf_fits _ o leaf_is scope_is fits = absurd cc
 
--- what fits with texts of one kind fits with those of another that they all are
+-- a tree that fits with texts of P fits with texts of Q, if P implies Q
 module _ (P Q : List ℕ → Type 0) (so : (s : List ℕ) → P s → Q s) where
   scalar_fits_with : (s : Scalar) → ScalarFits P s → ScalarFits Q s
   scalar_fits_with (text s) fits = so s fits
@@ -45,7 +45,7 @@ module _ (P Q : List ℕ → Type 0) (so : (s : List ℕ) → P s → Q s) where
     fields_fit_with no_fields fits = tt
     fields_fit_with (field n t fs) fits = (so n fits.0, (fits_with t fits.1.0, fields_fit_with fs fits.1.1))
 
--- a tree whose texts are UTF-8 also fits if nothing is asked of its texts
+-- a tree whose texts are UTF-8 also fits if its texts may be any bytes
 pub fits_types : (t : Tree) → Fits t → FitsTypes t
 fits_types = fits_with _ _ (λ s utf8. tt)
 

@@ -1,4 +1,4 @@
--- Two values of one class, by what they are made of; and that the order of values is total, up to a tie.
+-- The order of two values of one class, by their parts; and the proof that the order of values is total, up to ties.
 use Rattle.std.proofs.Common.{◌≡◌, ◌≢◌, ℕ, zero, suc, ◌+◌, ◌<◌, ◌≤◌, List, Some, false, refl, sym, ap, ap₂, ◌∙◌, arith, Ordering, Less, Equal, Greater, nat_cmp}
 use Rattle.std.specs.Prelude.{not, ◌==◌}
 use Rattle.std.specs.Ordering.{ordering_index, ordering_then, then_cmp, on, ordering_reverse, MatchOrdering}
@@ -72,7 +72,7 @@ class_rank_of t = class_rank (class_of t)
 abbrev pair_cmp : (Tree → Tree → Ordering) → Pair → Pair → Ordering
 pair_cmp R = then_cmp (on (λ (p : Pair). class_rank_of p.1) nat_cmp) (then_cmp (on (λ (p : Pair). p.0) bytes_cmp) (on (λ (p : Pair). p.1) R))
 
--- the order, looked at so many levels deep
+-- the order, one level deep: values inside are compared by R
 abbrev parts_cmp : (Tree → Tree → Ordering) → Tree → Tree → Ordering
 parts_cmp R =
     then_cmp (on class_rank_of nat_cmp) (then_cmp (on rank_in rank_cmp)
@@ -102,7 +102,7 @@ then_equal Less = refl
 then_equal Equal = refl
 then_equal Greater = refl
 
--- where the numbers differ, what follows is not looked at
+-- if the numbers differ, the later comparisons do not matter
 apart : (m n : ℕ) (p q : Ordering) → m ≢ n → ordering_then (nat_cmp m n) p ≡ ordering_then (nat_cmp m n) q
 apart m n p q ne = go (nat_cmp m n) (ranked m n (nat_cmp m n) refl)
   where
@@ -111,13 +111,13 @@ apart m n p q ne = go (nat_cmp m n) (ranked m n (nat_cmp m n) refl)
     go Equal h = absurd (ne h)
     go Greater h = refl
 
--- what was looked at need not be looked at again
+-- a comparison that was equal need not be made again
 once : (o p r : Ordering) → ordering_then o (ordering_then p r) ≡ ordering_then o (ordering_then p (ordering_then o r))
 once Less p r = refl
 once Equal p r = refl
 once Greater p r = refl
 
--- the class of a scalar is none of the others
+-- the class of a scalar is not that of documents, of arrays or of code with scope
 pub record IsPlain (k : ℕ) : Type 0 where
   pub not5 : k ≢ 5
   pub not6 : k ≢ 6
@@ -130,7 +130,7 @@ plain _ = record { not5 = omega arith; not6 = omega arith; not15 = omega arith }
 ne_sym : (m n : ℕ) → m ≢ n → n ≢ m
 ne_sym m n h e = h (sym e)
 
--- how deep a value goes, and more
+-- an upper bound of the depth of a value
 abbrev mutual
   height : Tree → ℕ
   height (leaf s) = 1
@@ -147,7 +147,7 @@ abbrev mutual
   height_fields (field n t fs) = height t + height_fields fs
 
 mutual
-  -- looked at deep enough, it is the order
+  -- compared deep enough, it is the order
   agree : (a : Tree) (n : ℕ) (b : Tree) → height a ≤ n → cmp a b ≡ cmp_to n a b
   agree (leaf s) zero b h = absurd (omega arith)
   agree (leaf s) (suc n) (leaf t) h = ap (ordering_then (class_cmp (leaf s) (leaf t))) (then_equal (rank_cmp (rank_in (leaf s)) (rank_in (leaf t))))

@@ -1,4 +1,4 @@
--- What a value is made of.
+-- The parts of a value: they are smaller and less deep than it.
 use Rattle.std.proofs.Common.{◌≡◌, ℕ, ◌+◌, ◌<◌, suc, List, [], ◌∷◌, Some, max, refl, sym, ap, ap₂, ◌∙◌, arith}
 use Rattle.bd_value.specs.Tree.{Tree, doc, array, code_scope, Doc, fields_of, items_of, fields_of-pairs_of, items_of-list_of, tree_size, fields_size, items_size}
 use Rattle.bd_value.specs.Tree.{code_leaf, leaf_of, values_of, scope_of, AreParts, depth, fields_depth, items_depth}
@@ -27,7 +27,7 @@ code_is (code_scope s fs) u c ps scalar_leaf scope are =
     ap₂ code_scope code fields
 code_is _ u c ps scalar_leaf scope are = absurd cc
 
--- ---- the inside is smaller
+-- ---- the parts are smaller
 
 values_size : (ps : Doc) → items_size (items_of (values_of ps)) ≡ fields_size (fields_of ps)
 values_size [] = refl
@@ -48,7 +48,7 @@ pub scope_smaller : (t u : Tree) → scope_of t ≡ Some u → tree_size u < tre
 scope_smaller (code_scope s fs) u scope = let inside : doc fs ≡ u = cc in let e = ap tree_size inside in omega arith
 scope_smaller _ u scope = absurd cc
 
--- ---- the inside is less deep
+-- ---- the parts are less deep
 
 values_depth : (ps : Doc) → items_depth (items_of (values_of ps)) ≡ fields_depth (fields_of ps)
 values_depth [] = refl

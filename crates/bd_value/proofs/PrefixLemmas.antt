@@ -1,4 +1,4 @@
--- What a vector held before is still a front of it, also where memory gave out in the middle.
+-- What a vector contained before is still a prefix of it, even if memory ran out in the middle.
 use Rattle.std.proofs.Common.{◌≡◌, ℕ, List, ◌++◌, length, take, drop, append_assoc, sym, ap, ◌∙◌}
 use Rattle.std.specs.Io.{StartsWith}
 use Rattle.std.proofs.Math.Seq.{take-append_seam, take-length}

@@ -1,4 +1,4 @@
--- What a document's pairs are, at each place, and what is read of a value in memory.
+-- The pairs of a document, at each index, and how a value in memory is read as a tree.
 use Rattle.std.proofs.Common.{◌≡◌, ℕ, zero, suc, ◌+◌, ◌<◌, List, [], ◌∷◌, length, map, drop, get_or, Option, Some, true, false, Vec, refl, sym, ap, subst, ◌∙◌, add-one, rules, arith}
 use Rattle.std.specs.Prelude.{String, string_bytes, slice_get}
 use Rattle.std.specs.Str.{bytes_eq}
@@ -47,7 +47,7 @@ pair_at d i p lt is =
     let inside : i < length d.pairs.items = omega arith in
     slice_get-map pair_of d.pairs.items i ∙ rw (slice_get-get_or d.pairs.items i p inside, ← is) refl
 
--- ---- going down a document and an array
+-- ---- descending into a document and an array
 
 -- from the index of a member on, a list is that member and those after it
 pub next_at : {A : Type 0} (xs : List A) (i : ℕ) (x : A) → slice_get xs i ≡ Some x → drop i xs ≡ x ∷ drop (i + 1) xs
@@ -66,7 +66,7 @@ module _ (name : List ℕ) (ps : Doc) (i : ℕ) (p : Pair) (total : Option Tree)
   pub skipped : false ≡ bytes_eq p.0 name → first_of name (drop (i + 1) ps) ≡ total
   skipped other = sym (ap (first_of name) (next_at ps i p at) ∙ rw (← other) refl) ∙ so_far
 
-  -- a pair of the name, with none before it, has the first value of the name
+  -- the first pair of the name has the first value of the name
   pub found : true ≡ bytes_eq p.0 name → total ≡ Some p.1
   found same = sym so_far ∙ ap (first_of name) (next_at ps i p at) ∙ rw (← same) refl
 
@@ -77,11 +77,11 @@ pub list_of-items_of : (ts : List Tree) → list_of (items_of ts) ≡ ts
 list_of-items_of [] = refl
 list_of-items_of (t ∷ ts) = ap (λ (x : List Tree). t ∷ x) (list_of-items_of ts)
 
--- a node over a document in memory stands for the tree of its pairs
+-- a node over a document in memory has the tree of its pairs
 pub is_doc : (s : node.Tree) (v : Bor Value) (d : Document) → s ≡ nodes.Value v → v.now ≡ values.Doc d → node_tree s ≡ doc (fields_of (pairs d))
 is_doc s v d is e = ap node_tree is ∙ ap tree_of e ∙ tree_of-Doc d
 
--- a node over an array in memory stands for the tree of its values
+-- a node over an array in memory has the tree of its values
 pub is_array : (s : node.Tree) (v : Bor Value) (xs : Vec Value Global) → s ≡ nodes.Value v → v.now ≡ values.Array xs → node_tree s ≡ array (items_of (map tree_of xs.items))
 is_array s v xs is e = ap node_tree is ∙ ap tree_of e ∙ tree_of-Array xs
 

@@ -1,6 +1,6 @@
 -- What the type of a value in memory guarantees of its tree:
 -- each number fits, bytes are bytes, and texts are UTF-8.
--- And whether a name, or a text of a regular expression, has a zero, which BSON cannot hold there.
+-- Also whether a name, or a text of a regular expression, contains a zero byte, which BSON cannot store there.
 use Rattle.std.specs.Prelude.{◌≡◌, ◌<◌, ◌^◌, ℕ, List, length, slice_index, IsUtf8, [], ◌∷◌, Bool, false, ◌&&◌, ◌||◌}
 use Rattle.std.specs.Prelude.{◌==◌}
 use Rattle.std.specs.{Int.w32, Int.w64, Int.RustNames.FitsSigned}
@@ -61,7 +61,7 @@ module _ (IsSuch : List ℕ → Type 0) where
 abbrev pub Fits : Tree → Type 0
 Fits = TreeFits IsUtf8
 
--- Nothing is asked of a text: any bytes pass, UTF-8 or not.
+-- Every text is accepted: any bytes, UTF-8 or not.
 abbrev pub IsAny : List ℕ → Type 0
 IsAny s = Unit {0}
 
@@ -69,19 +69,19 @@ IsAny s = Unit {0}
 abbrev pub FitsTypes : Tree → Type 0
 FitsTypes = TreeFits IsAny
 
--- whether a byte of the text is 0: then BSON's `cstring` cannot hold it, and `string` can
+-- whether a byte of the text is 0: then BSON's `cstring` cannot store it, and `string` can
 abbrev pub has_zero : List ℕ → Bool
 has_zero [] = false
 has_zero (b ∷ bs) = (b == 0) || has_zero bs
 
--- whether the pattern or the options of a regular expression (element 0x0B) hold a zero byte;
--- false for every other scalar, since a `string` may hold zeros
+-- whether the pattern or the options of a regular expression (element 0x0B) contain a zero byte;
+-- false for every other scalar, since a `string` may contain zeros
 abbrev pub zero_in_scalar : Scalar → Bool
 zero_in_scalar (regex pattern options) = has_zero pattern || has_zero options
 zero_in_scalar s = false
 
 abbrev mutual
-  -- whether a `cstring` of the value holds a zero byte, at any level:
+  -- whether a `cstring` of the value contains a zero byte, at any level:
   -- the name of a field, or a text of a regular expression; BSON has no bytes for such a value
   pub zero_in : Tree → Bool
   zero_in (leaf s) = zero_in_scalar s

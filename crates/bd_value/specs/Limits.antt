@@ -17,11 +17,11 @@ longest_command = 16777216
 abbrev pub most_reads : ℕ
 most_reads = 4294967296
 
--- the most levels of documents and arrays inside one another; the outermost document is level 1
+-- the most levels of nested documents and arrays; the outermost document is level 1
 abbrev pub most_levels : ℕ
 most_levels = 200
 
--- the most brackets of JSON inside one another:
+-- the most levels of nested brackets in JSON:
 -- a value at the deepest level may be a wrapper with an object in an object
 abbrev pub most_brackets : ℕ
 most_brackets = 203

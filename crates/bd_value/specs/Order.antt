@@ -103,7 +103,7 @@ abbrev pub leaf_rank : Leaf → Rank
 leaf_rank (scalar_leaf s) = scalar_rank s
 leaf_rank (code_leaf s) = by_bytes s []
 
--- the rank that one in memory stands for, wherever its bytes are
+-- the rank that a rank in memory means
 abbrev pub rank_view : memory.Rank → Rank
 rank_view r = record { number = r.number; size = r.size; lesser = r.lesser; bytes = r.bytes.now; more = r.more.now }
 

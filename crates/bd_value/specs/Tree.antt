@@ -1,12 +1,12 @@
--- The tree that a BSON value stands for (BSON 1.1, `document`, `e_list` and `element`),
--- wherever it is in memory.
+-- The tree that a BSON value means (BSON 1.1, `document`, `e_list` and `element`),
+-- in memory or in bytes.
 -- A text and a name are their UTF-8 bytes, a number is a whole number.
 use Rattle.std.specs.Prelude.{◌≡◌, ℕ, suc, ◌+◌, ℤ, Bool, List, [], ◌∷◌, refl, Option, Some, None, length, map}
 use Rattle.std.specs.Prelude.{if◌then◌else◌, max}
 use Rattle.std.proofs.Common.{ap}
 use Rattle.std.specs.Str.{bytes_eq}
 
--- A value that holds no other value: a case for each such element type of BSON 1.1.
+-- A scalar, with no other value inside: a case for each such element type of BSON 1.1.
 -- Binary has its subtype first, a timestamp its seconds, a regular expression its pattern.
 pub data Scalar : Type 0 where
   min_key : Scalar
@@ -54,22 +54,22 @@ Pair = List ℕ × Tree
 abbrev pub Doc : Type 0
 Doc = List Pair
 
--- the fields of a document in the form that a tree holds, in the same order
+-- the fields of a document in the form that a tree contains, in the same order
 abbrev pub fields_of : Doc → Fields
 fields_of [] = no_fields
 fields_of (p ∷ ps) = field p.0 p.1 (fields_of ps)
 
--- a list of values in the form that a tree holds for an array, in the same order
+-- a list of values in the form that a tree contains for an array, in the same order
 abbrev pub items_of : List Tree → Items
 items_of [] = no_items
 items_of (t ∷ ts) = item t (items_of ts)
 
--- the fields that a tree holds, as a list, in the same order
+-- the fields that a tree contains, as a list, in the same order
 abbrev pub pairs_of : Fields → Doc
 pairs_of no_fields = []
 pairs_of (field n t fs) = (n, t) ∷ pairs_of fs
 
--- the elements that a tree holds for an array, as a list, in the same order
+-- the elements that a tree contains for an array, as a list, in the same order
 abbrev pub list_of : Items → List Tree
 list_of no_items = []
 list_of (item t ts) = t ∷ list_of ts
@@ -110,7 +110,7 @@ abbrev pub scope_of : Tree → Option Tree
 scope_of (code_scope s fs) = Some (doc fs)
 scope_of _ = None
 
--- what a value holds besides other values: a scalar, or the code of code with scope
+-- the content of a value besides other values: a scalar, or the code of code with scope
 pub data Leaf : Type 0 where
   scalar_leaf : Scalar → Leaf
   code_leaf : List ℕ → Leaf
@@ -169,7 +169,7 @@ abbrev mutual
   items_depth no_items = 0
   items_depth (item t ts) = max (depth t) (items_depth ts)
 
--- how many values stand in it
+-- how many values are in it
 abbrev mutual
   -- how many values are inside a value, at all levels; the scope of code counts as one
   pub tree_size : Tree → ℕ
@@ -178,12 +178,12 @@ abbrev mutual
   tree_size (array ts) = suc (items_size ts)
   tree_size (code_scope s fs) = suc (suc (fields_size fs))
 
-  -- how many values the elements are, those inside them too
+  -- how many values the elements are, with those inside them
   pub items_size : Items → ℕ
   items_size no_items = 0
   items_size (item t ts) = suc (tree_size t) + items_size ts
 
-  -- how many values the fields have, those inside them too
+  -- how many values the fields have, with those inside them
   pub fields_size : Fields → ℕ
   fields_size no_fields = 0
   fields_size (field n t fs) = suc (tree_size t) + fields_size fs

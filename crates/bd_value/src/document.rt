@@ -1,7 +1,7 @@
 //! A value is a scalar, a document or an array; a document is a list of named values.
 //!
-//! In a tree a number is any whole number and a text any bytes. Those of a value in hand fit, since it exists, but a proof knows
-//! that only where the code has looked: `value_fits`, `document_fits` and `node_fits` look at all of a value, and do nothing else.
+//! In a tree a number is any whole number and a text any bytes. Those of an actual value fit, since it exists, but a proof
+//! knows that only after a call: `value_fits`, `document_fits` and `node_fits` visit all of a value, and do nothing else.
 
 ghost use Rattle.std.specs.Prelude.{◌≡◌, ◌<◌, ◌++◌, [], ◌∷◌, length, map, min, slice_get, Some, None, IfSome, IfNone};
 ghost use Rattle.std.specs.Prelude.{IfOk, IsUtf8, OnOk, OnErr, string_bytes, IsTrue, ◌↔◌};
@@ -12,7 +12,7 @@ ghost use Rattle.bd_value.specs.Fits.{AreBytes, Fits, FieldsFit, IsId, LeafFits,
 use crate::node::{Kind, Reading, Scalar, Tree};
 use std::alloc::{AllocError, Global};
 
-/// The only refusal of a call that grows: the allocator gave no memory.
+/// The only error of a call that allocates: memory ran out.
 pub type NoMemory = AllocError;
 
 /// A BSON value.
@@ -31,18 +31,18 @@ pub enum Value {
     Int32(i32),
     /// Element 0x12: a signed number of 64 bits.
     Int64(i64),
-    /// Element 0x02: UTF-8 text, which may hold U+0000.
+    /// Element 0x02: UTF-8 text, which may contain U+0000.
     Text(String),
     /// Element 0x0E: a symbol, which BSON 1.1 deprecates.
     Symbol(String),
     /// Element 0x03: an embedded document.
     Doc(Document),
-    /// Element 0x04: values in their order; the names that stand in the bytes of an array are not kept.
+    /// Element 0x04: values in order; the names that the bytes of an array have are dropped.
     Array(Vec<Value>),
     /// Element 0x05: bytes of a subtype.
     Binary {
         subtype: u8,
-        /// Of subtype 02 the bytes after its inner length.
+        /// For subtype 02, the bytes after its inner length.
         payload: Vec<u8>,
     },
     /// Element 0x07: 12 bytes.
@@ -51,12 +51,12 @@ pub enum Value {
     Bool(bool),
     /// Element 0x09: milliseconds since 1970-01-01T00:00:00Z.
     Date(i64),
-    /// Element 0x11: the high and the low half of a number of 64 bits.
+    /// Element 0x11: the high and the low half of a 64-bit number.
     Timestamp {
         seconds: u32,
         increment: u32,
     },
-    /// Element 0x0B: a regular expression; neither text holds U+0000 where it comes from bytes.
+    /// Element 0x0B: a regular expression; if it was read from bytes, neither text contains U+0000.
     Regex {
         pattern: String,
         options: String,
@@ -74,7 +74,7 @@ pub enum Value {
     MaxKey,
 }
 
-/// Names and values in their order. A name may occur more than once.
+/// Names and values in order. A name may occur more than once.
 ///
 /// BSON 1.1, `document`.
 #[cycle(value)]
@@ -93,9 +93,9 @@ impl Document {
         }
     }
 
-    /// Adds a pair after the last one.
+    /// Appends a pair.
     ///
-    /// `NoMemory` leaves the document as it was, and drops the name and the value.
+    /// If memory runs out (`NoMemory`), the document is unchanged, and the name and the value are dropped.
     pub fn push(&mut self, name: String, value: Value) -> Result<(), NoMemory>
         ensures ok { OnOk result (pairs self.new
             ≡ pairs self.old ++ (string_bytes name, tree_of value) ∷ []) }
@@ -119,7 +119,7 @@ impl Document {
         self.pairs.is_empty()
     }
 
-    /// The pairs, in their order.
+    /// The pairs, in order.
     pub(crate) fn as_pairs(&self) -> &[(String, Value)]
         ensures { pairs self.now ≡ map pair_of result.now }
     {
@@ -135,7 +135,7 @@ impl Document {
         (name.as_str(), value)
     }
 
-    /// The value of the first pair of that name; none where no pair has it. It takes no memory.
+    /// The value of the first pair of that name; None if no pair has it. It takes no memory.
     pub fn first(&self, name: &str) -> Option<&Value>
         ensures found { IfSome result (λ v.
             first_of name.now (pairs self.now) ≡ Some (tree_of v.now)) }
@@ -151,15 +151,15 @@ impl Document {
     }
 }
 
-/// Whether a text has U+0000: no `cstring` of BSON 1.1 holds one, since it ends there.
+/// Whether a text contains U+0000: a `cstring` of BSON 1.1 cannot, since it ends there.
 pub fn has_zero(text: &str) -> bool
     ensures { result ≡ has_zero text.now }
 {
     text.as_bytes().contains(&0)
 }
 
-/// How deep documents and arrays nest: a document or an array is one deeper than the deepest value in it, code with scope
-/// one deeper than its scope, and every other value has 0. It stays at the greatest number of 64 bits.
+/// How deep documents and arrays nest: a document or an array is one deeper than the deepest value in it, code with scope one
+/// deeper than its scope, and every other value has depth 0. The result saturates at 2^64 - 1.
 pub fn depth(document: &Document) -> u64
     ensures { result ≡ min (depth_in (doc (fields_of (pairs document.now)))) 18446744073709551615 }
 {
@@ -194,7 +194,7 @@ fn deepest<N: Reading>(values: N::Rest) -> u64
     deepest
 }
 
-/// What a node stands for, in memory. It fails only if memory runs out.
+/// The value of a node, in memory. It fails only if memory runs out.
 #[cycle(copying)]
 pub fn to_value<N: Reading>(alloc: Global, node: N) -> Result<Value, NoMemory>
     ensures { IfOk result (λ v. tree_of v ≡ N.tree node) }
@@ -242,7 +242,7 @@ fn to_items<N: Reading>(alloc: Global, items: N::Rest) -> Result<Vec<Value>, NoM
     Ok(copied)
 }
 
-/// What is neither a document nor an array.
+/// A copy of a value that is neither a document nor an array.
 #[cycle(copying)]
 fn leaf_value<N: Reading>(alloc: Global, node: N) -> Result<Value, NoMemory>
     requires { HasNoParts (N.tree node) }
@@ -297,8 +297,7 @@ fn scalar_value(alloc: Global, scalar: Scalar<'_>) -> Result<Value, NoMemory>
     })
 }
 
-/// Every value in memory fits: its numbers have the bits of their types, an id has twelve bytes, and its texts and names are
-/// UTF-8.
+/// Every value in memory fits: its numbers fit their types, an id has twelve bytes, and its texts and names are UTF-8.
 ///
 /// ```
 /// value_fits(value);
@@ -322,7 +321,7 @@ pub fn document_fits(document: &Document)
     node_fits(Tree::Doc(document));
 }
 
-/// What any node stands for fits, wherever it lies.
+/// The value of any node fits, in memory or in bytes.
 ///
 /// ```
 /// node_fits(check_document(bytes)?.value()); // of a view into bytes
@@ -368,7 +367,7 @@ fn scalar_fits(scalar: Scalar<'_>)
     }
 }
 
-/// Every slice of bytes holds bytes.
+/// Every byte of a slice is at most 255.
 fn bytes_fit(bytes: &[u8])
     ensures { AreBytes bytes.now }
 {}

@@ -7,7 +7,7 @@ ghost use Rattle.bd_value.specs.Order.{bytes_cmp, class_of, class_cmp, cmp};
 ghost use Rattle.bd_value.specs.Tree.{doc, field, Fields, int32, int64, leaf, no_fields};
 ghost use Rattle.bd_value.specs.Tree as trees;
 
-/// The order is total up to a tie: it goes one way round as the other, and values that are equal stand at one place.
+/// The order is total up to ties: it is antisymmetric and transitive, and equal values compare alike with every other.
 pub fn orders_all_values()
     ensures { IsTotalOrder cmp }
 {}
@@ -17,13 +17,13 @@ pub fn equals_have_one_class()
     ensures { (a b : trees.Tree) → cmp a b ≡ Equal → class_of a ≡ class_of b }
 {}
 
-/// Numbers of 32 and of 64 bits are one line of whole numbers.
+/// Numbers of 32 and of 64 bits compare by value.
 pub fn numbers_are_one_line()
     ensures { (a b : trees.Tree) (m n : ℤ) → (a ≡ leaf (int32 m)) ⊎ (a ≡ leaf (int64 m)) →
         (b ≡ leaf (int32 n)) ⊎ (b ≡ leaf (int64 n)) → cmp a b ≡ int_cmp m n }
 {}
 
-/// Documents compare pair by pair: the class of the value, then the name, then the value; one with no further pair is less.
+/// Documents compare pair by pair: the class of the value, then the name, then the value; the one with no further pair is less.
 pub fn pairs_compare_in_turn()
     ensures turns { (m n : List ℕ) (a b : trees.Tree) (fs gs : Fields) →
         cmp (doc (field m a fs)) (doc (field n b gs)) ≡ ordering_then (class_cmp a b)

@@ -1,8 +1,8 @@
 //! BSON values and documents in memory.
 //!
 //! A contract sees a value as a tree and a document as a list of pairs of a name and a tree: `specs/Tree.antt` and
-//! `specs/View.antt`. That the numbers and the texts in it fit their types, a proof has after a call of `value_fits`,
-//! `document_fits` or `node_fits`: `specs/Fits.antt`.
+//! `specs/View.antt`. After a call of `value_fits`, `document_fits` or `node_fits`, a proof also knows that the numbers and
+//! the texts in it fit their types: `specs/Fits.antt`.
 //!
 //! An example, which `bd_bson_tests` proves and runs as `examples::value`:
 //!
@@ -13,11 +13,11 @@
 //! assert!(rt; matches!(document.first("a"), Some(Value::Int32(1))));
 //! ```
 //!
-//! - `document`: `Document` and `Value`, what is asked of them, how deep they nest, copies of any value in memory, and what the
-//!   types of a value in hand promise.
-//! - `node`: `Reading` and `Node`, a value wherever it lies, with its `Kind` and `Scalar`; `Tree`, one in memory.
+//! - `document`: `Document` and `Value`, their methods, how deep they nest, copies of any value in memory, and what the types
+//!   of an actual value guarantee.
+//! - `node`: `Reading` and `Node`, a value in memory or in bytes, with its `Kind` and `Scalar`; `Tree`, one in memory.
 //! - `order`: the comparison order, of any two readings: `specs/Order.antt`; `laws`, its laws.
-//! - `limits`: the limits of documents, inputs, paths, filters and requests, cited by all that keeps to them.
+//! - `limits`: the limits of documents, inputs, paths, filters and requests, for all code that checks them.
 #![tactic(auto)]
 
 mod document;

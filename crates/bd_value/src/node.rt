@@ -1,4 +1,4 @@
-//! The reading of a value, wherever it lies, through calls alone; and of one in memory.
+//! Reading a value, in memory or in bytes, through method calls alone; and a value in memory.
 
 ghost use Rattle.std.specs.Prelude.{◌≡◌, ◌<◌, Some, None, Option, option_map, length, slice_get, List, ℕ, [], ◌∷◌, IfSome, IfNone};
 ghost use Rattle.bd_value.specs.Tree as trees;
@@ -7,29 +7,28 @@ ghost use Rattle.bd_value.specs.View.{tree_of, pairs, view_of, node_tree, node_p
 
 use crate::document::{Document, Value};
 
-/// The reading of a value, with no lifetime, so that a function can go down a value by it.
+/// The reading of a value, without a lifetime, so that a function can descend into a value by it.
 ///
-/// What a node stands for is a tree, and each call is that of the tree. The nodes that a call hands out keep the source.
-/// No call takes memory.
+/// A node means a tree, and each method answers as for the tree. The nodes that a method returns have the same source. No
+/// method takes memory.
 pub trait Reading: Copy {
-    /// The pairs of a document or the elements of an array, from one on.
+    /// The pairs of a document or the elements of an array, from an index on.
     type Rest: Copy;
 
-    /// What it stands for.
+    /// The value of the node.
     ghost tree: { Self → trees.Tree };
-    /// The bytes that it stands in. A tree in memory has none.
+    /// The bytes that contain it. A tree in memory has none.
     ghost source: { Self → List ℕ };
-    /// The names and the trees that are left. The names of an array's elements are any.
+    /// The remaining names and trees. The names of an array's elements may be anything.
     ghost remaining: { Self.Rest → trees.Doc };
-    /// The bytes that they stand in.
+    /// The bytes that contain them.
     ghost rest_source: { Self.Rest → List ℕ };
 
-    /// What it is.
+    /// Its kind.
     fn kind(self) -> Kind
         ensures { result ≡ kind_of (tree self) };
 
-    /// What it holds besides other values: of code with scope the code. Documents and arrays have none. It lives as long
-    /// as the node is held.
+    /// The scalar, or the code of code with scope; None for a document and an array. It lives as long as the node.
     fn leaf(&self) -> Option<Scalar<'_>>
         ensures { option_map view_of result ≡ leaf_of (tree self.now) };
 
@@ -38,11 +37,11 @@ pub trait Reading: Copy {
         ensures scope { option_map tree result ≡ scope_of (tree self) }
         ensures same_source { IfSome result (λ n. source n ≡ source self) };
 
-    /// How many pairs a document has, or elements an array; else 0.
+    /// The number of pairs of a document, or of elements of an array; 0 for any other value.
     fn len(self) -> usize
         ensures { result ≡ length_of (tree self) };
 
-    /// The name and the value of the pair of a document at an index, counted from 0, as long as the node is held.
+    /// The name and the value of the pair of a document at an index, counted from 0. The name lives as long as the node.
     fn field(&self, i: usize) -> (&str, Self)
         requires { i < length (pairs_in (tree self.now)) }
         ensures field { slice_get (pairs_in (tree self.now)) i
@@ -55,7 +54,7 @@ pub trait Reading: Copy {
         ensures element { slice_get (elements_in (tree self)) i ≡ Some (tree result) }
         ensures same_source { source result ≡ source self };
 
-    /// The value of the first pair of that name of a document; none where no pair has it, or it is no document.
+    /// The value of the first pair of that name; None if no pair has it, or if it is not a document.
     fn first(self, name: &str) -> Option<Self>
         ensures first { option_map tree result ≡ first_of name.now (pairs_in (tree self)) }
         ensures same_source { IfSome result (λ n. source n ≡ source self) };
@@ -66,7 +65,7 @@ pub trait Reading: Copy {
         ensures parts { AreParts (tree self) (remaining result) }
         ensures same_source { rest_source result ≡ source self };
 
-    /// The next of them: its name, its value, and those after it.
+    /// The next of them: its name, its value, and those after it; None at the end.
     fn next(rest: &Self::Rest) -> Option<(&str, Self, Self::Rest)>
         ensures some { IfSome result (λ x.
             remaining rest.now ≡ (x.0.now, tree x.1) ∷ remaining x.2) }
@@ -75,9 +74,9 @@ pub trait Reading: Copy {
         ensures none { IfNone result (remaining rest.now ≡ []) };
 }
 
-/// The reading of a value whose texts live as long as what holds it.
+/// The reading of a value whose texts live as long as the value.
 pub trait Node<'a>: Reading {
-    /// What it holds besides other values: of code with scope the code. Documents and arrays have none.
+    /// The scalar, or the code of code with scope; None for a document and an array.
     fn scalar(self) -> Option<Scalar<'a>>
         ensures { option_map view_of result ≡ leaf_of (Self.tree self) };
 
@@ -89,7 +88,7 @@ pub trait Node<'a>: Reading {
         ensures same_source { Self.source result.1 ≡ Self.source self };
 }
 
-/// What a value is, without what it holds: the nineteen kinds, in the order of `Value`.
+/// The kind of a value: one of nineteen, in the order of `Value`.
 ///
 /// BSON 1.1, the types of `element`.
 #[derive(Clone, Copy, Debug, PartialEq, Eq)]
@@ -115,7 +114,7 @@ pub enum Kind {
     MaxKey,
 }
 
-/// What a value holds besides other values. Documents and arrays have none; of code with scope it is the code.
+/// A scalar, or the code of code with scope, borrowed. Documents and arrays have none.
 ///
 /// BSON 1.1, the values of `element`.
 #[derive(Clone, Copy)]
@@ -129,7 +128,7 @@ pub enum Scalar<'a> {
     Symbol(&'a str),
     Binary {
         subtype: u8,
-        /// Of subtype 02 the bytes after its inner length.
+        /// For subtype 02, the bytes after its inner length.
         payload: &'a [u8],
     },
     ObjectId([u8; 12]),
@@ -180,7 +179,7 @@ pub enum Class {
 }
 
 impl Value {
-    /// What it is.
+    /// Its kind.
     pub fn kind(&self) -> Kind
         ensures { result ≡ kind_of (tree_of self.now) }
     {
@@ -207,7 +206,7 @@ impl Value {
         }
     }
 
-    /// What it holds besides other values: of code with scope the code. Documents and arrays have none.
+    /// The scalar, or the code of code with scope; None for a document and an array.
     pub fn scalar(&self) -> Option<Scalar<'_>>
         ensures { option_map view_of result ≡ leaf_of (tree_of self.now) }
     {
@@ -245,7 +244,7 @@ pub enum Tree<'a> {
     Doc(&'a Document),
 }
 
-/// The pairs of a document or the elements of an array in memory, from one on.
+/// The pairs of a document or the elements of an array in memory, from an index on.
 #[derive(Clone, Copy)]
 pub enum TreeParts<'a> {
     Pairs(&'a [(String, Value)]),

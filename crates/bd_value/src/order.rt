@@ -19,14 +19,14 @@ pub fn class(value: &Value) -> Class
     class_of_node(Tree::Value(value))
 }
 
-/// The class of a value, wherever it lies. It takes no memory.
+/// The class of a value, in memory or in bytes. It takes no memory.
 pub fn class_of_node<N: Reading>(node: N) -> Class
     ensures { result ≡ class_of (N.tree node) }
 {
     class_of_kind(node.kind())
 }
 
-/// The class of values of a kind. It takes no memory.
+/// The class of the values of a kind. It takes no memory.
 pub fn class_of_kind(kind: Kind) -> Class
     ensures { result ≡ class_of_kind kind }
 {
@@ -58,14 +58,14 @@ pub fn compare(a: &Value, b: &Value) -> Ordering
     compare_nodes(Tree::Value(a), Tree::Value(b))
 }
 
-/// Whether two values compare as equal, as the numbers 5 of 32 and of 64 bits do. It takes no memory.
+/// Whether two values compare as equal, such as an int32 5 and an int64 5. It takes no memory.
 pub fn equal(a: &Value, b: &Value) -> bool
     ensures { result ≡ equal (tree_of a.now) (tree_of b.now) }
 {
     compare(a, b).is_eq()
 }
 
-/// The order of two values, wherever each of them lies. It takes no memory.
+/// The order of two values, each in memory or in bytes. It takes no memory.
 ///
 /// MongoDB manual, "Comparison/Sort Order".
 #[cycle(order)]
@@ -175,7 +175,7 @@ fn compare_scopes<M: Reading, N: Reading>(a: M, b: N) -> Ordering
     compare_documents::<M, N>(first.parts(), second.parts())
 }
 
-/// The order of what two values of one class hold besides other values.
+/// The order of two values of one class by their scalars, or by the code of code with scope.
 fn compare_leaves<M: Reading, N: Reading>(a: M, b: N) -> Ordering
     requires first { HasNoParts (M.tree a) }
     requires second { HasNoParts (N.tree b) }
@@ -196,7 +196,7 @@ fn compare_classes<M: Reading, N: Reading>(a: M, b: N) -> Ordering
     (class_of_node(a) as u8).cmp(&(class_of_node(b) as u8))
 }
 
-/// A number, a size, a lesser number, bytes, and more bytes, which are compared in turn. What a class has not is 0 or empty.
+/// A number, a size, a lesser number, bytes, and more bytes, which are compared in turn. What a class does not use is 0 or empty.
 #[derive(Clone, Copy)]
 struct Rank<'a> {
     number: i64,
@@ -240,7 +240,7 @@ fn binary_size(subtype: u8, payload: &[u8]) -> u64
     if subtype == 2 { size + 4 } else { size }
 }
 
-/// What a scalar is compared by; of code with scope, its code.
+/// What a scalar is compared by, or code with scope by its code.
 fn rank_of<'a>(scalar: &'a Scalar<'a>) -> Rank<'a>
     ensures { rank_view result ≡ leaf_rank (view_of scalar.now) }
 {
@@ -271,7 +271,7 @@ fn rank_of<'a>(scalar: &'a Scalar<'a>) -> Rank<'a>
     }
 }
 
-/// The order of two of one class.
+/// The order of the ranks of two values of one class.
 fn compare_ranks(a: Rank<'_>, b: Rank<'_>) -> Ordering
     ensures { result ≡ rank_cmp (rank_view a.entry) (rank_view b.entry) }
 {

@@ -2,7 +2,7 @@ use Rattle.std.proofs.Common.{◌≡◌, refl, sym, ap, ◌∙◌, map, List, []
 use Rattle.std.proofs.lemmas.List.{map_push, reverse-append}
 use Rattle.bd_bson_check.proofs.fault.fault_of.Goals as goal
 
--- what is seen of a reversed list
+-- the view of a reversed list is the reversed view
 map-reverse : {A B : Type 0} (f : A → B) (xs : List A) → map f (reverse xs) ≡ reverse (map f xs)
 map-reverse f [] = refl
 map-reverse f (x ∷ xs) =

@@ -13,7 +13,7 @@ none_beyond xs e = λ i. elim (cases_lt i (length xs)) [
   | inr above ↦ rw (get_or_past xs i 0 above) (omega arith)
 ]
 
--- of bytes at most twice as many the first and the last are all
+-- the first n and the last n of at most 2n bytes are all of them
 both_ends : (size : ℕ) (xs first last : List ℕ) → size ≤ length xs → length xs ≤ size + size → first ≡ take size xs
     → last ≡ drop (length xs - size) xs → list_any beyond first ≡ false → list_any beyond last ≡ false → IsAscii xs
 both_ends size xs first last fits near prefix back one two = λ i. elim (cases_lt i size) [

@@ -3,7 +3,7 @@ use Rattle.std.proofs.lemmas.{Bool.Decides.nat_tests, List.length-map, Simd.bitm
 use lib.Lanes.{Each1, mask_l}
 use Rattle.bd_bson_check.proofs.parts.ascii_ends.Goals as goal
 
--- half the range further, zero and what is not ASCII are the lowest
+-- after adding 128 modulo 256, zero and the bytes that are not ASCII are at most 128
 further : (x : ℕ) → x < 256 → leb ((x + 128) % 256) 128 ≡ (x == 0 || nat_lt 127 x)
 further x fits = grind (arith, nat_tests)
 

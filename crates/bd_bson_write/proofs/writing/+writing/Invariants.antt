@@ -20,7 +20,7 @@ decreases-append_fields g l = 4 * fields_size (fields_of (g.N.Reading.remaining 
 abbrev pub decreases-append_items : goal.decreases-append_items
 decreases-append_items g l = 4 * fields_size (fields_of (g.N.Reading.remaining l.items))
 
--- what was written and what is still to come are all; what is to come being spelled, all is
+-- what was written and what remains are together all; if what remains is spelled, all is
 abbrev pub invariant-append_fields-loop-next : goal.invariant-append_fields-loop-next
 invariant-append_fields-loop-next g l = record {
   whole : l.out.items ++ fields_bytes (fields_of (g.N.Reading.remaining l.rest)) ≡ (l.fn.out.items ++ number 0) ++ fields_bytes (fields_of (g.N.Reading.remaining l.fn.fields));

@@ -27,7 +27,7 @@ decreases-read_scope_first l = 5 * l.depth + 1
 abbrev pub decreases-read_scope_second : goal.decreases-read_scope_second
 decreases-read_scope_second l = 5 * l.depth + 1
 
--- what is read, and what is still to come, is the whole
+-- what is read and what remains are together the whole
 abbrev pub invariant-read_fields-loop-next : goal.invariant-read_fields-loop-next
 invariant-read_fields-loop-next l =
     (n : ℕ) × (length l.reader ≤ n) × (through (wrap_fields l.depth_left) (after_key l.depth (length l.initial.reader) (option_map (λ s. s.now) l.initial.next) l.initial.reader)

@@ -19,7 +19,7 @@ decreases-append_items l = 2 * l.depth_left + 1
 abbrev pub decreases-append_fields : goal.decreases-append_fields
 decreases-append_fields l = 2 * l.depth_left + 1
 
--- what was read, and what is still to come, is the whole text
+-- what was read and what remains are together the whole text
 abbrev pub invariant-append_items-loop-next : goal.invariant-append_items-loop-next
 invariant-append_items-loop-next l =
     (ts : List Tree) × AreCanonical l.depth_left ts

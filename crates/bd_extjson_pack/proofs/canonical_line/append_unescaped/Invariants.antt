@@ -5,7 +5,7 @@ use denote.Text.{Utf8}
 use Rattle.bd_extjson_text.specs.Text.{escaped}
 use Rattle.bd_extjson_pack.proofs.canonical_line.append_unescaped.Given as goal
 
--- what was read of the string, and what it holds
+-- the part of the string that was read, and its contents
 abbrev pub invariant-loop-byte : goal.invariant-loop-byte
 invariant-loop-byte l =
     (decoded : List ℕ) × (l.fn.text ≡ 34 ∷ (escaped decoded ++ l.rest)) × shadow (Utf8 l.rest) × (string_bytes l.into ≡ string_bytes l.fn.into ++ decoded)

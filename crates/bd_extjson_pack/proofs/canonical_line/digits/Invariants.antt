@@ -2,7 +2,7 @@ use Rattle.std.proofs.Common.{◌≡◌, ◌≤◌, ◌<◌, ◌-◌, ◌^◌, t
 use Rattle.std.specs.{Str.all_ascii_digits, Str.Parse.digits_value}
 use Rattle.bd_extjson_pack.proofs.canonical_line.digits.Given as goal
 
--- what the digits that were passed write
+-- the number of the digits so far
 abbrev pub invariant-loop-count : goal.invariant-loop-count
 invariant-loop-count l =
     (l.count ≤ length l.bytes) × (digits_value 10 (take l.count l.bytes) ≡ l.n) × (all_ascii_digits (take l.count l.bytes) ≡ true)

@@ -20,7 +20,7 @@ decreases-append_next l = 5 * l.depth
 abbrev pub decreases-append_object : goal.decreases-append_object
 decreases-append_object l = 5 * l.depth + 2
 
--- what was read and written, and what is still to come, is the whole
+-- what was read and written, and what remains, are together the whole
 abbrev pub invariant-append_fields-loop-next : goal.invariant-append_fields-loop-next
 invariant-append_fields-loop-next l =
     (n : ℕ) × (ps : Doc) × (length l.reader ≤ n) × (through (wrap_fields l.depth_left) (after_key l.depth (length l.initial.reader) (option_map (λ s. s.now) l.initial.next) l.initial.reader)

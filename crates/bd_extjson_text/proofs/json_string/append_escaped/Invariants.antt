@@ -2,7 +2,7 @@ use Rattle.std.proofs.Common.{◌≡◌, ◌≤◌, ◌++◌, length, take}
 use Rattle.bd_extjson_text.specs.Text.{escaped}
 use Rattle.bd_extjson_text.proofs.json_string.append_escaped.Given as goal
 
--- what is written, and what is still to come, is the whole
+-- what is written and what remains are together the whole
 abbrev pub invariant-loop-run : goal.invariant-loop-run
 invariant-loop-run l = record {
   inside : l.at ≤ length l.out.items;

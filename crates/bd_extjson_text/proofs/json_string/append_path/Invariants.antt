@@ -5,7 +5,7 @@ use Rattle.bd_extjson_text.specs.Text.{escaped}
 use Rattle.bd_extjson_text.proofs.TextLemmas.{to_come}
 use Rattle.bd_extjson_text.proofs.json_string.append_path.Given as goal
 
--- what is written, and what is still to come, is the whole
+-- what is written and what remains are together the whole
 abbrev pub invariant-loop-name : goal.invariant-loop-name
 invariant-loop-name l = record {
   inside : l.at < length l.out.items;

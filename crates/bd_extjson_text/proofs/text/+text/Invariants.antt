@@ -17,7 +17,7 @@ decreases-append_fields g l = 2 * fields_size (fields_of (g.N.Reading.remaining 
 abbrev pub decreases-append_items : goal.decreases-append_items
 decreases-append_items g l = 2 * fields_size (fields_of (g.N.Reading.remaining l.items))
 
--- what is written, and what is still to come, is the whole text
+-- what is written and what remains are together the whole text
 abbrev pub invariant-append_fields-loop-name : goal.invariant-append_fields-loop-name
 invariant-append_fields-loop-name g l = record {
   whole : take l.at l.out.items ++ (to_come l.later 44 (fields_text (fields_of (g.N.Reading.remaining l.rest))) ++ 125 ∷ []) ≡ take l.end l.fn.out.items

@@ -27,7 +27,7 @@ loop-preserved g c =
       no_failure = search rules;
     }
 
--- what was read with this read's part, which a refusal does not keep
+-- the bytes read before, and those of this read, which are dropped on an error
 pub returns-then-limits-len-clause-prefix : goal.returns-then-limits-len-clause-prefix
 returns-then-limits-len-clause-prefix g c =
     (_, Consumes-trans _ _ _ _ _ c.loop.invariant.consumed c.in-Ok.ensures.bytes.0)

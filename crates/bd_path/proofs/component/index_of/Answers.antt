@@ -13,7 +13,7 @@ some_digit : (name : List ℕ) → is_index name ≡ true → 0 < length name
 some_digit [] is = absurd cc
 some_digit (c ∷ cs) is = omega arith
 
--- what is read where the number fits, and the greatest number where it does not
+-- the number read, if it fits, and the greatest number if it does not
 least_beyond : (v : ℕ) → ¬ (v < 18446744073709551616) → 18446744073709551615 ≡ min v 18446744073709551615
 least_beyond v h = grind arith
 

@@ -13,7 +13,7 @@ decreases-path_walk_documents g l = 2 * tree_size (g.N.Reading.tree l.node)
 abbrev pub decreases-path_walk_index : goal.decreases-path_walk_index
 decreases-path_walk_index g l = 2 * tree_size (g.N.Reading.tree l.node)
 
--- the stops of the documents before those that are left were taken in
+-- the stops of the documents before those that remain were processed
 abbrev pub invariant-path_walk_documents-loop-i : goal.invariant-path_walk_documents-loop-i
 invariant-path_walk_documents-loop-i g l = record {
   remaining : values_of (g.N.Reading.remaining l.remaining) ≡ drop l.i (elements_in (g.N.Reading.tree l.fn.node));

@@ -4,7 +4,7 @@ use Rattle.bd_value.specs.Tree.{values_of, elements_in}
 use Rattle.bd_path.specs.{Sort.earlier_key, Sort.earliest_key, Key.IsKeyAt, Key.IsKeyOf, Key.key_tree, declared.path_walk.Stop.TheVariants.Value}
 use Rattle.bd_path.proofs.sort.earliest_end.Given as goal
 
--- the earliest so far, and of those that are left, is that of all
+-- the earliest so far, and that of those that remain, give the earliest of all
 abbrev pub invariant-loop-next : goal.invariant-loop-next
 invariant-loop-next g l = record {
   so_far : earlier_key l.dir (option_map (key_tree g.N.Reading.tree) l.earliest) (earliest_key l.dir (values_of (g.N.Reading.remaining l.remaining)))

@@ -51,7 +51,7 @@ decreases-all_accept g l = 5 * (operators_size (operators_from (map operator_tre
 abbrev pub decreases-accepts : goal.decreases-accepts
 decreases-accepts g l = 5 * (operator_size (operator_tree l.operator.now) + tree_size (g.N.Reading.tree l.element))
 
--- what is left decides
+-- the rest decides
 abbrev pub invariant-all_match-loop-filter : goal.invariant-all_match-loop-filter
 invariant-all_match-loop-filter g l = record {
   so_far : all_match (filters_from (map filter_tree (drop l.filter-index l.filters))) (g.N.Reading.tree l.node)
@@ -80,7 +80,7 @@ invariant-all_accept-loop-operator g l = record {
   smaller : operators_size (operators_from (map operator_tree (drop l.operator-index l.operators))) ≤ operators_size (operators_from (map operator_tree l.operators));
 }
 
--- no end suits in the documents before those that are left
+-- no end matches in the documents before those that remain
 abbrev pub invariant-any_end_matches_in_documents-loop-i : goal.invariant-any_end_matches_in_documents-loop-i
 invariant-any_end_matches_in_documents-loop-i g l = record {
   remaining : values_of (g.N.Reading.remaining l.remaining) ≡ drop l.i (elements_in (g.N.Reading.tree l.fn.node));

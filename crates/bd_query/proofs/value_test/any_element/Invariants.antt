@@ -3,7 +3,7 @@ use Rattle.std.specs.List.{list_any}
 use Rattle.bd_value.specs.Tree.{elements_in, values_of}
 use Rattle.bd_query.proofs.value_test.any_element.Given as goal
 
--- what is left of the array decides
+-- the rest of the array decides
 abbrev pub invariant-loop-next : goal.invariant-loop-next
 invariant-loop-next g l =
     list_any (g.T.ValueTest.accepts l.test) (values_of (g.N.Reading.remaining l.remaining))

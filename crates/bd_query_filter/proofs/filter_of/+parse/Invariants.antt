@@ -4,7 +4,7 @@ use Rattle.bd_query_filter.specs.{FilterOf.filters_of, FilterOf.member_filters, 
 use Rattle.bd_query_filter.proofs.FilterOfLemmas.{joined}
 use Rattle.bd_query_filter.proofs.filter_of.+parse.Given as goal
 
--- a level down, the room is one less
+-- one level down, `depth_left` is one less
 abbrev pub decreases-read_filters : goal.decreases-read_filters
 decreases-read_filters g l = 6 * l.depth_left + 5
 
@@ -35,7 +35,7 @@ decreases-read_not g l = 6 * l.depth_left
 abbrev pub decreases-read_elem_match : goal.decreases-read_elem_match
 decreases-read_elem_match g l = 6 * l.depth_left
 
--- what was read, and what is left to read, are all
+-- what was read and what remains are together all
 abbrev pub invariant-read_filters-loop-next : goal.invariant-read_filters-loop-next
 invariant-read_filters-loop-next g l =
     joined (map filter_tree l.filters.items) (filters_of l.depth_left (fields_of (g.N.Reading.remaining l.remaining)))

@@ -4,7 +4,7 @@ use Rattle.bd_query_filter.specs.FilterOf.{all_kinds}
 use Rattle.bd_query_filter.proofs.FilterOfLemmas.{more_kinds}
 use Rattle.bd_query_filter.proofs.operand.add_members.Given as goal
 
--- the kinds so far, and those of the types that are left, are all
+-- the kinds so far, and those of the types that remain, are together all
 abbrev pub invariant-loop-next : goal.invariant-loop-next
 invariant-loop-next g l =
     more_kinds l.kinds.items (all_kinds (items_of (values_of (g.N.Reading.remaining l.remaining))))

@@ -4,7 +4,7 @@ use Rattle.bd_query_filter.specs.FilterOf.{member_values, members_of}
 use Rattle.bd_query_filter.proofs.FilterOfLemmas.{joined}
 use Rattle.bd_query_filter.proofs.operand.members_of.Given as goal
 
--- the members so far, and those that are left, are all
+-- the members so far and those that remain are together all
 abbrev pub invariant-loop-next : goal.invariant-loop-next
 invariant-loop-next g l =
     joined (map tree_of l.members.items) (member_values (length l.members.items) (items_of (values_of (g.N.Reading.remaining l.remaining))))

@@ -15,7 +15,7 @@ decreases-to_document g l = 3 * fields_size (fields_of (g.N.Reading.remaining l.
 abbrev pub decreases-to_items : goal.decreases-to_items
 decreases-to_items g l = 3 * fields_size (fields_of (g.N.Reading.remaining l.items)) + 3
 
--- what was copied, and what is still left, are all
+-- what was copied and what remains are together all
 abbrev pub invariant-to_document-loop-name : goal.invariant-to_document-loop-name
 invariant-to_document-loop-name g l = record {
   so_far : pairs l.copied ++ g.N.Reading.remaining l.rest ≡ g.N.Reading.remaining l.fn.fields;

@@ -9,7 +9,7 @@ decreases-node_fits g l = 2 * tree_size (g.N.Reading.tree l.node) + 1
 abbrev pub decreases-parts_fit : goal.decreases-parts_fit
 decreases-parts_fit g l = 2 * fields_size (fields_of (g.N.Reading.remaining l.values)) + 2
 
--- where what is left fits, all does
+-- if what remains fits, all fit
 abbrev pub invariant-parts_fit-loop-node : goal.invariant-parts_fit-loop-node
 invariant-parts_fit-loop-node g l = record {
   fits : FieldsFit IsUtf8 (fields_of (g.N.Reading.remaining l.rest)) → FieldsFit IsUtf8 (fields_of (g.N.Reading.remaining l.fn.values));

@@ -21,7 +21,7 @@ decreases-compare_documents g l = 3 * fields_size (fields_of (g.M.Reading.remain
 abbrev pub decreases-compare_arrays : goal.decreases-compare_arrays
 decreases-compare_arrays g l = 3 * fields_size (fields_of (g.M.Reading.remaining l.first)) + 3
 
--- what is left decides
+-- what remains decides the order
 abbrev pub invariant-compare_documents-loop-m : goal.invariant-compare_documents-loop-m
 invariant-compare_documents-loop-m g l = record {
   so_far : fields_cmp (fields_of (g.M.Reading.remaining l.remaining)) (fields_of (g.N.Reading.remaining l.right))
