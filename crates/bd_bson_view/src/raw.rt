@@ -122,7 +122,7 @@ impl<'a> Elements<'a> {
         let value = RawValue {
             bytes: self.bytes,
             start: self.at + name.len() + 2,
-            kind: parts::same_source(byte),
+            kind: parts::kind_of_byte(byte),
         };
         let after = Elements {
             bytes: self.bytes,

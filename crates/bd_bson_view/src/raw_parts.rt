@@ -92,7 +92,7 @@ pub fn element_type(byte: u8) -> Option<ElementType>
 
 /// The kind of the type byte of an element.
 #[inline(always)]
-pub fn same_source(byte: u8) -> Kind
+pub fn kind_of_byte(byte: u8) -> Kind
     requires { (kind : kinds.Kind) × (type_at byte ≡ Some (Kept kind)) }
     ensures { type_at byte ≡ Some (Kept result) }
 {

@@ -305,7 +305,7 @@ impl At {
         RawValue {
             bytes,
             start: self.start as usize,
-            kind: parts::same_source(self.kind),
+            kind: parts::kind_of_byte(self.kind),
         }
     }
 }

@@ -18,14 +18,15 @@ use Rattle.clap.specs.{Faults.fault_of, Faults.is_simple_and_free, Faults.level_
 use Rattle.clap.specs.{Words.ReadsOne, ValueTests.is_unsigned_in, declared.builder.value_parser.ValueParser.TheVariants.Unsigned}
 use Rattle.clap.proofs.ValueTestLemmas.{accepts-Accepts, Accepts-accepts}
 use Rattle.clap.proofs.{OnLiterals.clap_on_literals, WalkLemmas.first_value-rows, WalkLemmas.one_text-rows}
-use Rattle.bd_cli_args.specs.CommandLine.{OrderView, GivesOrder, meant, check, dump, pack, serve, fault_for, file_app, find_app, find_words_in, explain_refusal}
+use Rattle.bd_cli_args.specs.CommandLine.{OrderView, GivesOrder, meant, check, dump, pack, serve, fault_for, find_app, find_words_in}
+use Rattle.bd_cli_args.specs.FileCommands.{explain_refusal, file_app}
 use Rattle.bd_cli_args.specs.CommandLine.{commands, is_help_line, is_serve_of_input, line_app, order_of, ordered_by, parser_refusal, serves_input, IsFileCommand, is_file_word}
 use Rattle.bd_cli_args.specs.CommandLine.{is_serve_input_line, number_read}
 use Rattle.bd_cli_args.specs.declared.order.WordsFault.TheVariants.{NoMemory, Usage}
 use Rattle.bd_cli_args.specs.{declared.order.Order.Order, declared.order.WordsFault.WordsFault}
 use Rattle.bd_cli_args.proofs.FaultLemmas.{SameExplained, given_first, is_plain, level-sound, same-entered, same-fault}
 
-refused : (k : ErrorKind) → k ∷ [] ≡ [] → ⊥
+pub refused : (k : ErrorKind) → k ∷ [] ≡ [] → ⊥
 refused k e = cc
 
 pub line_simple : is_simple line_app ≡ true
@@ -35,11 +36,11 @@ pub line_free : is_simple_and_free line_app ≡ true
 line_free = refl
 
 -- what holds of each command
-EachShape : (Shape → Type 0) → List Shape → Type 0
+pub EachShape : (Shape → Type 0) → List Shape → Type 0
 EachShape P [] = ⊤
 EachShape P (s ∷ rest) = P s × EachShape P rest
 
-found_shape : (P : Shape → Type 0) (p : Shape → Bool) (shapes : List Shape) → EachShape P shapes → IfSome (find p shapes) P
+pub found_shape : (P : Shape → Type 0) (p : Shape → Bool) (shapes : List Shape) → EachShape P shapes → IfSome (find p shapes) P
 unfolding EachShape
 found_shape P p [] each = tt
 found_shape P p (s ∷ rest) each = elim (p s) as (λ b. IfSome (cond b (Some s) (find p rest)) P) [ true ↦ each.0 | false ↦ found_shape P p rest each.1 ]
@@ -48,12 +49,12 @@ found_shape P p (s ∷ rest) each = elim (p s) as (λ b. IfSome (cond b (Some s)
 abbrev HasOrders : Shape → Type 0
 HasOrders s = (words : List Text) → level_fault s [] nothing_held words false [] ≡ [] → is_some (ordered_by s.name (rows_after s.rules [] words)) ≡ true
 
-file_given : (given rest : Bool) → check_kinds false false (not given || rest) ≡ [] → given ≡ true
+pub file_given : (given rest : Bool) → check_kinds false false (not given || rest) ≡ [] → given ≡ true
 file_given true rest e = refl
 file_given false rest e = absurd (refused MissingRequiredArgument e)
 
 -- a command that requires FILE has it
-file_there : (s : Shape) (words : List Text) → is_plain s ≡ true
+pub file_there : (s : Shape) (words : List Text) → is_plain s ≡ true
     → ((rows : List Row) → check_fault s rows false ≡ [] → is_given (codes "file") rows ≡ true)
     → level_fault s [] nothing_held words false [] ≡ [] → is_some (first_of (codes "file") (rows_after s.rules [] words)) ≡ true
 file_there s words plain given e =
@@ -61,7 +62,7 @@ file_there s words plain given e =
     let level = (level-sound s [] words false [] plain tt).leaves e in
     given_first (codes "file") rows level.0 (given rows level.2)
 
-some_mapped : {X Y : Type 0} (f : X → Y) (o : Option X) → is_some o ≡ true → is_some (option_map f o) ≡ true
+pub some_mapped : {X Y : Type 0} (f : X → Y) (o : Option X) → is_some o ≡ true → is_some (option_map f o) ≡ true
 some_mapped f None e = let bad : ⊥ = cc in absurd bad
 some_mapped f (Some x) e = refl
 
@@ -164,7 +165,7 @@ IsTaken words order = (fault_of line_app words ≡ []) × (order_of words ≡ So
 
 -- ---- what a refusal is told as
 
-first_explained : (kinds : Kinds) (k : ErrorKind) → SameExplained kinds → IsAmong k kinds → option_map explain_refusal (slice_get kinds 0) ≡ Some (explain_refusal k)
+pub first_explained : (kinds : Kinds) (k : ErrorKind) → SameExplained kinds → IsAmong k kinds → option_map explain_refusal (slice_get kinds 0) ≡ Some (explain_refusal k)
 first_explained [] k same a = absurd a
 first_explained (x ∷ xs) k same (inl is) = ap (λ y. Some (explain_refusal y)) (sym is)
 first_explained (x ∷ xs) k same (inr more) = ap (λ f. Some f) (sym (same k more))
@@ -186,11 +187,11 @@ only_memory words f is (inr explained) =
 
 -- ---- from what the code reads of the matches to the order
 
-names_read : {Z : Type 0} (s : Option (Box SubCommand Z)) → option_map (λ b. (out-SubCommand (box_value b)).name.now) s ≡ option_map (λ p. p.0) (subcommand_rows s)
+pub names_read : {Z : Type 0} (s : Option (Box SubCommand Z)) → option_map (λ b. (out-SubCommand (box_value b)).name.now) s ≡ option_map (λ p. p.0) (subcommand_rows s)
 names_read None = refl
 names_read (Some b) = refl
 
-pair_read : (o : Option (Text × List Row)) (name : Text) (rows : List Row) → Some name ≡ option_map (λ p. p.0) o → Some rows ≡ option_map (λ p. p.1) o → o ≡ Some (name, rows)
+pub pair_read : (o : Option (Text × List Row)) (name : Text) (rows : List Row) → Some name ≡ option_map (λ p. p.0) o → Some rows ≡ option_map (λ p. p.1) o → o ≡ Some (name, rows)
 pair_read None name rows n r = let bad : ⊥ = cc in absurd bad
 pair_read (Some p) name rows n r =
     let n' : name ≡ p.0 = ap (λ o. unwrap_or o name) n in

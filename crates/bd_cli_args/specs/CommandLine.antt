@@ -5,23 +5,16 @@ use Rattle.std.specs.Prelude.{slice_get, codes, String, string_bytes, Option, So
 use Rattle.std.specs.{Prelude.unwrap_or, Prelude.Result, Prelude.MatchResult, Option.option_map_or, Option.option_or}
 use Rattle.std.specs.Map.{lookup}
 use Rattle.std.specs.Str.{bytes_eq, Parse.digits_value, Parse.without_leading_plus}
-use Rattle.clap.specs.Simple.{App, new_app, new_rule, on_top, subcommand_of, with_rule, with_subcommand}
+use Rattle.clap.specs.Simple.{App, new_rule, subcommand_of, with_rule}
 use Rattle.clap.specs.Walk.{Row, Rule, Text, first_of, one_of}
 use Rattle.clap.specs.declared.builder.{value_parser.ValueParser.ValueParser, action.ArgAction.ArgAction}
-use Rattle.clap.specs.{Faults.fault_of, ValueTests.is_unsigned_in, declared.error.kind.ErrorKind.ErrorKind}
+use Rattle.clap.specs.{Faults.fault_of, ValueTests.is_unsigned_in}
 use Rattle.bd_value.specs.Limits.{greatest_count}
+use Rattle.bd_cli_args.specs.FileCommands.{explain_refusal, file_app, program_app}
 use Rattle.bd_cli_args.specs.{FindWords.FindWords, FindWords.find_words_of}
 use Rattle.bd_cli_args.specs.declared.order.{Order.Order, WordsFault.WordsFault}
 
 -- ---- the lines that are taken, as the parser has them
-
--- the argument FILE, which each command requires once
-abbrev pub file_rule : Rule
-file_rule = record (new_rule (codes "file")) { required = true; action = Some ArgAction.Set }
-
--- the command of this name, which takes one file and nothing else
-abbrev pub file_app : Text → App
-file_app name = with_rule (new_app name) file_rule
 
 -- an option `--name` of `find`, with a text, or with a number from 0 to 2,147,483,647
 abbrev pub option_rule : Text → Bool → Rule
@@ -42,22 +35,10 @@ find_app = with_options (file_app (codes "find"))
     ((codes "query", false) ∷ (codes "sort", false) ∷ (codes "skip", true) ∷ (codes "limit", true)
     ∷ (codes "batch", true) ∷ (codes "index", false) ∷ (codes "after", false) ∷ [])
 
--- the command line of `bsonfind` before its commands are added: one of them is required
-abbrev pub top_app : App
-top_app = on_top (λ s. record s { no_binary_name = true; subcommand_required = true; disable_help_subcommand = true })
-    (new_app (codes "bsonfind"))
-
--- the command line with these commands too, each of which takes one file and nothing else
-abbrev pub with_file_commands : App → List Text → App
-with_file_commands app [] = app
-with_file_commands app (name ∷ names) = with_file_commands (with_subcommand app (file_app name).top) names
-
 -- the command lines that `bsonfind` accepts: `dump`, `check`, `pack` or `serve` with one file,
 -- and `find` with one file and its options
 abbrev pub line_app : App
-line_app = with_subcommand
-    (with_file_commands top_app (codes "dump" ∷ codes "check" ∷ codes "pack" ∷ codes "serve" ∷ []))
-    find_app.top
+line_app = program_app (codes "bsonfind") (codes "dump" ∷ codes "check" ∷ codes "pack" ∷ codes "serve" ∷ []) find_app
 
 -- a command: what the arguments ask for, with texts as their bytes
 pub data OrderView : Type 0 where
@@ -118,12 +99,6 @@ ordered_by name rows =
 -- the command that arguments ask for; None if they are refused
 abbrev pub order_of : List Text → Option OrderView
 order_of words = option_and_then (λ p. ordered_by p.0 p.1) (subcommand_of line_app words)
-
--- how a refusal of the parser is reported: as a request for help, as out of memory, else by the usage
-abbrev pub explain_refusal : ErrorKind → WordsFault
-explain_refusal ErrorKind.DisplayHelp = WordsFault.Help
-explain_refusal ErrorKind.OutOfMemory = WordsFault.NoMemory
-explain_refusal _ = WordsFault.Usage
 
 -- how the parser's refusal of arguments is reported; None if it accepts them.
 -- All its faults are reported as the first one.

@@ -1,19 +1,19 @@
 //! Reads the words of a line, by `clap`: the line that it takes, and the order that a line is.
 
 ghost use Rattle.std.specs.Prelude.{◌≡◌, ◌⊎◌, [], ◌∷◌, ℕ, List, map, true, false, IfErr, IfOk, IsErrOf, IsSome, IsTrue, None, Some, option_map, codes, string_bytes};
-ghost use Rattle.clap.specs.Simple.{with_subcommand};
-ghost use Rattle.clap.specs.Words.{app_of, first_of, found_of, kind_of, rows_of, rule_of, takes};
+ghost use Rattle.clap.specs.Words.{app_of, first_of, found_of, rows_of, rule_of, takes};
 ghost use Rattle.clap.specs.declared.builder.command.Command.TheViews.{out-Command as fields_of};
-ghost use Rattle.bd_cli_args.specs.CommandLine.{GivesOrder, IsFileCommand, OrderView, fault_for, file_app, file_rule, find_app, find_words_in, is_file_word, is_help_line, is_serve_input_line, is_serve_of_input, line_app, meant, option_number, option_rule, order_of, ordered_by, parser_refusal, explain_refusal, serves_input, top_app, with_file_commands, with_options, words_of};
+ghost use Rattle.bd_cli_args.specs.CommandLine.{GivesOrder, IsFileCommand, OrderView, fault_for, find_app, find_words_in, is_file_word, is_help_line, is_serve_input_line, is_serve_of_input, line_app, meant, option_number, option_rule, order_of, ordered_by, parser_refusal, serves_input, with_options, words_of};
+ghost use Rattle.bd_cli_args.specs.FileCommands.{IsBuiltAs};
 ghost use Rattle.bd_cli_args.specs.FindWords.{find_words_of};
 ghost use Rattle.bd_cli_args.specs.declared.order.WordsFault.TheVariants.{NoMemory};
 
+use crate::file_commands::{Made, explain_error, of_file, program_command};
 use crate::order::{FindOptions, Order, WordsFault};
 use bd_value::GREATEST_COUNT;
 use clap::builder::ValueParser;
-use clap::error::ErrorKind;
-use clap::{Arg, ArgAction, ArgMatches, Command, Error};
-use std::alloc::{AllocError, Global};
+use clap::{Arg, ArgAction, ArgMatches, Command};
+use std::alloc::Global;
 
 /// What a request for help and a refused line are answered with.
 pub const USAGE: &str = "usage: bsonfind dump FILE
@@ -125,16 +125,6 @@ fn order_in(alloc: Global, words: &[String]) -> Result<Order, WordsFault>
     order_named(alloc, name, inner)
 }
 
-fn explain_error(error: &Error) -> WordsFault
-    ensures { result ≡ explain_refusal (kind_of error.now) }
-{
-    match error.kind() {
-        ErrorKind::DisplayHelp => WordsFault::Help,
-        ErrorKind::OutOfMemory => WordsFault::NoMemory,
-        _ => WordsFault::Usage,
-    }
-}
-
 /// The order of the command `name` with these matches.
 #[tactic(auto, using(crate::proofs::LineLemmas::no_file, crate::proofs::LineLemmas::readings))]
 fn order_named(alloc: Global, name: &str, matches: &ArgMatches<'_>) -> Result<Order, WordsFault>
@@ -201,61 +191,15 @@ fn number_of(matches: &ArgMatches<'_>, name: &str) -> Option<u32>
     matches.get_one::<u32>(name)
 }
 
-/// A command that was put together, unless memory ran out.
-type Made<'a> = Result<Command<'a>, AllocError>;
-
 /// The program's whole line.
 fn line_command<'a>(alloc: Global) -> Made<'a>
-    ensures { IfOk result (λ c. (app_of c ≡ line_app) × ((fields_of c).has_globals ≡ false)) }
+    ensures { IfOk result (IsBuiltAs line_app) }
 {
-    let find = find_command(alloc)?;
-    with_file_commands(alloc, top_command(alloc), &FILE_COMMANDS)?.subcommand(find)
-}
-
-/// The program's line without its commands.
-fn top_command<'a>(alloc: Global) -> Command<'a>
-    ensures { (app_of result ≡ top_app) × ((fields_of result).has_globals ≡ false) }
-{
-    Command::new(alloc, "bsonfind")
-        .no_binary_name(true)
-        .subcommand_required(true)
-        .disable_help_subcommand(true)
+    program_command(alloc, "bsonfind", &FILE_COMMANDS, find_command(alloc)?)
 }
 
 /// The commands that take a file and nothing else.
 const FILE_COMMANDS: [&str; 4] = ["dump", "check", "pack", "serve"];
-
-/// The line with these commands more, each of which takes a file and nothing else.
-fn with_file_commands<'a>(alloc: Global, line: Command<'a>, names: &[&'a str]) -> Made<'a>
-    requires { (fields_of line).has_globals ≡ false }
-    ensures app { IfOk result (λ c.
-        app_of c ≡ with_file_commands (app_of line.entry) (map (λ name. name.now) names.now)) }
-    ensures local { IfOk result (λ c. (fields_of c).has_globals ≡ false) }
-{
-    let mut with = line;
-    for name in names {
-        let command = of_file(alloc, name)?;
-        with = with.subcommand(command)?;
-    }
-    Ok(with)
-}
-
-/// A command that takes a file and nothing else.
-fn of_file<'a>(alloc: Global, name: &'a str) -> Made<'a>
-    ensures { IfOk result (λ c. (app_of c ≡ file_app name.entry.now)
-        × ((fields_of c).has_globals ≡ false)) }
-{
-    let file = file_argument(alloc);
-    Command::new(alloc, name).arg(file)
-}
-
-fn file_argument<'a>(alloc: Global) -> Arg<'a>
-    ensures { (rule_of result ≡ file_rule) × (result.global ≡ false) }
-{
-    Arg::new(alloc, "file")
-        .required(true)
-        .action(ArgAction::Set)
-}
 
 /// The options of `find`, and whether each takes a number and not a text.
 const OPTIONS: [(&str, bool); 7] = [
@@ -270,7 +214,7 @@ const OPTIONS: [(&str, bool); 7] = [
 
 /// The command `find` with all its options.
 fn find_command<'a>(alloc: Global) -> Made<'a>
-    ensures { IfOk result (λ c. (app_of c ≡ find_app) × ((fields_of c).has_globals ≡ false)) }
+    ensures { IfOk result (IsBuiltAs find_app) }
 {
     with_options(alloc, of_file(alloc, "find")?, &OPTIONS)
 }

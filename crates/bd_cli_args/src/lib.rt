@@ -16,10 +16,13 @@
 //!
 //! - `order`: what a line orders, or why it does not.
 //! - `command_line`: `parse_words`, by `clap`.
+//! - `file_commands`: what the command line of `bsonwide` shares: `specs/FileCommands.antt`.
 #![tactic(auto)]
 
 mod command_line;
+mod file_commands;
 mod order;
 
 pub use command_line::{USAGE, parse_words};
+pub use file_commands::{Made, explain_error, of_file, program_command};
 pub use order::{FindOptions, Order, WordsFault};

@@ -95,14 +95,14 @@ fn holds<N: Reading>(operator: &Operator, path: &Path, node: N) -> bool
         Operator::Exists(exists) => any_end(node, path, &PresenceTest) == *exists,
         Operator::Type(kinds) => any_of_type(kinds, path, node),
         Operator::Not(operators) => !all_hold(operators, path, node),
-        Operator::ElemMatch(operators) => reaches_suited(node, path, &Body::Operators(operators)),
-        Operator::ElemMatchDocument(filters) => reaches_suited(node, path, &Body::Filters(filters)),
+        Operator::ElemMatch(operators) => reaches_match(node, path, &Body::Operators(operators)),
+        Operator::ElemMatchDocument(filters) => reaches_match(node, path, &Body::Filters(filters)),
     }
 }
 
 /// Whether an element of an array that a path reaches matches the body of `$elemMatch`.
 #[cycle(matching)]
-fn reaches_suited<N: Reading>(node: N, path: &Path, body: &Body) -> bool
+fn reaches_match<N: Reading>(node: N, path: &Path, body: &Body) -> bool
     ensures { result ≡ list_any (is_matching body.now) (reach (N.tree node) (names_of path.now)) }
 {
     let path = path.components();

@@ -12,14 +12,12 @@ use Rattle.clap.specs.{declared.parser.matches.SubCommand.SubCommand, declared.e
 use Rattle.clap.specs.{Walk.Text, Walk.answers_to, Walk.finished, Walk.first_of, Walk.nothing_held, Walk.rows_after, Walk.walk, Faults.check_fault, Faults.entered_fault}
 use Rattle.clap.specs.{Faults.fault_of, Faults.is_simple_and_free, Faults.level_fault, Takes.is_given, Takes.takes, declared.error.kind.ErrorKind.ErrorKind}
 use Rattle.clap.proofs.{WalkLemmas.first_value-rows, WalkLemmas.one_text-rows, WalkLemmas.raw_values-rows}
-use Rattle.bd_cli_args.specs.CommandLine.{file_app, explain_refusal}
+use Rattle.bd_cli_args.specs.FileCommands.{file_app, explain_refusal}
 use Rattle.bd_wide_args.specs.CommandLine.{OrderView, wide_commands, mask, wrap, order, fault_for, line_app, order_app, order_of, ordered_by, texts_in}
 use Rattle.bd_cli_args.specs.declared.order.WordsFault.TheVariants.{NoMemory}
 use Rattle.bd_cli_args.specs.declared.order.WordsFault.{WordsFault}
+use Rattle.bd_cli_args.proofs.LineLemmas.{refused, EachShape, found_shape, file_given, file_there, some_mapped, first_explained, names_read, pair_read}
 use Rattle.bd_cli_args.proofs.FaultLemmas.{SameExplained, given_first, is_plain, level-sound, same-entered, same-fault}
-
-refused : (k : ErrorKind) → k ∷ [] ≡ [] → ⊥
-refused k e = cc
 
 pub line_simple : is_simple line_app ≡ true
 line_simple = refl
@@ -27,36 +25,9 @@ line_simple = refl
 pub line_free : is_simple_and_free line_app ≡ true
 line_free = refl
 
--- what holds of each command
-EachShape : (Shape → Type 0) → List Shape → Type 0
-EachShape P [] = ⊤
-EachShape P (s ∷ rest) = P s × EachShape P rest
-
-found_shape : (P : Shape → Type 0) (p : Shape → Bool) (shapes : List Shape) → EachShape P shapes → IfSome (find p shapes) P
-unfolding EachShape
-found_shape P p [] each = tt
-found_shape P p (s ∷ rest) each = elim (p s) as (λ b. IfSome (cond b (Some s) (find p rest)) P) [ true ↦ each.0 | false ↦ found_shape P p rest each.1 ]
-
 -- the words of the command have an order where they have no fault
 abbrev HasOrders : Shape → Type 0
 HasOrders s = (words : List Text) → level_fault s [] nothing_held words false [] ≡ [] → is_some (ordered_by s.name (rows_after s.rules [] words)) ≡ true
-
-file_given : (given rest : Bool) → check_kinds false false (not given || rest) ≡ [] → given ≡ true
-file_given true rest e = refl
-file_given false rest e = absurd (refused MissingRequiredArgument e)
-
--- a command that requires FILE has it
-file_there : (s : Shape) (words : List Text) → is_plain s ≡ true
-    → ((rows : List Row) → check_fault s rows false ≡ [] → is_given (codes "file") rows ≡ true)
-    → level_fault s [] nothing_held words false [] ≡ [] → is_some (first_of (codes "file") (rows_after s.rules [] words)) ≡ true
-file_there s words plain given e =
-    let rows = rows_after s.rules [] words in
-    let level = (level-sound s [] words false [] plain tt).leaves e in
-    given_first (codes "file") rows level.0 (given rows level.2)
-
-some_mapped : {X Y : Type 0} (f : X → Y) (o : Option X) → is_some o ≡ true → is_some (option_map f o) ≡ true
-some_mapped f None e = let bad : ⊥ = cc in absurd bad
-some_mapped f (Some x) e = refl
 
 -- a command, as it is built
 abbrev pub shape_in : App → Shape
@@ -111,11 +82,6 @@ order_there words e =
 
 -- ---- what a refusal is told as
 
-first_explained : (kinds : Kinds) (k : ErrorKind) → SameExplained kinds → IsAmong k kinds → option_map explain_refusal (slice_get kinds 0) ≡ Some (explain_refusal k)
-first_explained [] k same a = absurd a
-first_explained (x ∷ xs) k same (inl is) = ap (λ y. Some (explain_refusal y)) (sym is)
-first_explained (x ∷ xs) k same (inr more) = ap (λ f. Some f) (sym (same k more))
-
 kind_explained : (words : List Text) (e : Error) → HasKind (fault_of line_app words) e
     → (explain_refusal (kind_of e) ≡ NoMemory) ⊎ (fault_for words ≡ Some (explain_refusal (kind_of e)))
 kind_explained words e (inl memory) = inl (ap explain_refusal memory)
@@ -125,17 +91,6 @@ pub refusal_none : (words : List Text) → fault_of line_app words ≡ [] → fa
 refusal_none words is = ap (λ ks. option_map explain_refusal (slice_get ks 0)) is
 
 -- ---- from what the code reads of the matches to the order
-
-names_read : {Z : Type 0} (s : Option (Box SubCommand Z)) → option_map (λ b. (out-SubCommand (box_value b)).name.now) s ≡ option_map (λ p. p.0) (subcommand_rows s)
-names_read None = refl
-names_read (Some b) = refl
-
-pair_read : (o : Option (Text × List Row)) (name : Text) (rows : List Row) → Some name ≡ option_map (λ p. p.0) o → Some rows ≡ option_map (λ p. p.1) o → o ≡ Some (name, rows)
-pair_read None name rows n r = let bad : ⊥ = cc in absurd bad
-pair_read (Some p) name rows n r =
-    let n' : name ≡ p.0 = ap (λ o. unwrap_or o name) n in
-    let r' : rows ≡ p.1 = ap (λ o. unwrap_or o rows) r in
-    ap₂ (λ (a : Text) (b : List Row). Some (a, b)) (sym n') (sym r')
 
 -- what the getters read of the matches
 pub ruleset readings = (first_value-rows, one_text-rows, raw_values-rows)

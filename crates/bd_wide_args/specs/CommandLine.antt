@@ -4,18 +4,13 @@ use Rattle.std.specs.Prelude.{List, [], ◌∷◌, map, slice_get, codes, string
 use Rattle.std.specs.Map.{lookup}
 use Rattle.std.specs.Str.{bytes_eq}
 use Rattle.clap.specs.Lexer.{usize_max}
-use Rattle.clap.specs.Simple.{App, new_app, new_rule, on_top, subcommand_of, with_rule, with_subcommand}
+use Rattle.clap.specs.Simple.{App, new_rule, subcommand_of, with_rule, with_subcommand}
 use Rattle.clap.specs.Walk.{Row, Rule, Text, all_of, first_of}
 use Rattle.clap.specs.declared.builder.action.ArgAction.{ArgAction}
 use Rattle.clap.specs.Faults.{fault_of}
-use Rattle.bd_cli_args.specs.CommandLine.{file_app, explain_refusal, with_file_commands}
+use Rattle.bd_cli_args.specs.FileCommands.{explain_refusal, file_app, program_app}
 use Rattle.bd_cli_args.specs.declared.order.WordsFault.{WordsFault}
 use Rattle.bd_wide_args.specs.declared.command_line.Order.{Order}
-
--- the command line of `bsonwide` before its commands are added: one of them is required
-abbrev pub top_app : App
-top_app = on_top (λ s. record s { no_binary_name = true; subcommand_required = true; disable_help_subcommand = true })
-    (new_app (codes "bsonwide"))
 
 -- the argument PATH, which may be given any number of times
 abbrev pub paths_rule : Rule
@@ -31,7 +26,7 @@ order_app = with_rule (file_app (codes "order")) paths_rule
 -- the command lines that `bsonwide` accepts: `mask` or `wrap` with one file,
 -- and `order` with one file and any paths
 abbrev pub line_app : App
-line_app = with_subcommand (with_file_commands top_app (codes "mask" ∷ codes "wrap" ∷ [])) order_app.top
+line_app = program_app (codes "bsonwide") (codes "mask" ∷ codes "wrap" ∷ []) order_app
 
 -- a command: what the arguments ask for, with texts as their bytes
 pub data OrderView : Type 0 where

@@ -1,16 +1,15 @@
 //! Reads the words of a line, by `clap`: the line that it takes, and the order that a line is.
 
 ghost use Rattle.std.specs.Prelude.{◌≡◌, ◌⊎◌, map, string_bytes, true, false, IfErr, IfOk, IsSome, None, Some};
-ghost use Rattle.clap.specs.Words.{app_of, found_of, kind_of, rows_of, rule_of, takes};
-ghost use Rattle.clap.specs.declared.builder.command.Command.TheViews.{out-Command as fields_of};
-ghost use Rattle.bd_cli_args.specs.CommandLine.{file_app, file_rule, explain_refusal, with_file_commands, words_of};
+ghost use Rattle.clap.specs.Words.{found_of, rows_of, rule_of, takes};
+ghost use Rattle.bd_cli_args.specs.CommandLine.{words_of};
+ghost use Rattle.bd_cli_args.specs.FileCommands.{IsBuiltAs};
 ghost use Rattle.bd_cli_args.specs.declared.order.WordsFault.TheVariants.{NoMemory};
-ghost use Rattle.bd_wide_args.specs.CommandLine.{fault_for, line_app, meant, order_app, order_of, ordered_by, paths_rule, texts_in, top_app};
+ghost use Rattle.bd_wide_args.specs.CommandLine.{fault_for, line_app, meant, order_app, order_of, ordered_by, paths_rule, texts_in};
 
-use bd_cli_args::WordsFault;
-use clap::error::ErrorKind;
-use clap::{Arg, ArgAction, ArgMatches, Command, Error};
-use std::alloc::{AllocError, Global};
+use bd_cli_args::{Made, WordsFault, explain_error, of_file, program_command};
+use clap::{Arg, ArgAction, ArgMatches};
+use std::alloc::Global;
 
 /// A line that was taken. The file `-` is the standard input.
 #[derive(Debug, Drop)]
@@ -46,16 +45,6 @@ pub fn parse_words(alloc: Global, words: &[String]) -> Result<Order, WordsFault>
         unreachable!()
     };
     order_named(alloc, name, inner)
-}
-
-fn explain_error(error: &Error) -> WordsFault
-    ensures { result ≡ explain_refusal (kind_of error.now) }
-{
-    match error.kind() {
-        ErrorKind::DisplayHelp => WordsFault::Help,
-        ErrorKind::OutOfMemory => WordsFault::NoMemory,
-        _ => WordsFault::Usage,
-    }
 }
 
 /// The order of the command `name` with these matches.
@@ -109,20 +98,16 @@ fn copied(alloc: Global, texts: &[&str]) -> Result<Vec<String>, WordsFault>
     Ok(all)
 }
 
-/// A command that was put together, unless memory ran out.
-type Made<'a> = Result<Command<'a>, AllocError>;
-
 /// The program's whole line.
 fn line_command<'a>(alloc: Global) -> Made<'a>
-    ensures { IfOk result (λ c. (app_of c ≡ line_app) × ((fields_of c).has_globals ≡ false)) }
+    ensures { IfOk result (IsBuiltAs line_app) }
 {
-    let order = order_command(alloc)?;
-    with_commands(alloc, top_command(alloc), &COMMANDS)?.subcommand(order)
+    program_command(alloc, "bsonwide", &FILE_COMMANDS, order_command(alloc)?)
 }
 
 /// The command that takes paths after its file.
 fn order_command<'a>(alloc: Global) -> Made<'a>
-    ensures { IfOk result (λ c. (app_of c ≡ order_app) × ((fields_of c).has_globals ≡ false)) }
+    ensures { IfOk result (IsBuiltAs order_app) }
 {
     of_file(alloc, "order")?.arg(paths_argument(alloc))
 }
@@ -135,47 +120,5 @@ fn paths_argument<'a>(alloc: Global) -> Arg<'a>
         .action(ArgAction::Append)
 }
 
-/// The program's line without its commands.
-fn top_command<'a>(alloc: Global) -> Command<'a>
-    ensures { (app_of result ≡ top_app) × ((fields_of result).has_globals ≡ false) }
-{
-    Command::new(alloc, "bsonwide")
-        .no_binary_name(true)
-        .subcommand_required(true)
-        .disable_help_subcommand(true)
-}
-
 /// The commands that take a file and nothing else.
-const COMMANDS: [&str; 2] = ["mask", "wrap"];
-
-/// The line with these commands more.
-fn with_commands<'a>(alloc: Global, line: Command<'a>, names: &[&'a str]) -> Made<'a>
-    requires { (fields_of line).has_globals ≡ false }
-    ensures app { IfOk result (λ c. app_of c ≡ with_file_commands (app_of line.entry) (map
-        (λ name. name.now) names.now)) }
-    ensures local { IfOk result (λ c. (fields_of c).has_globals ≡ false) }
-{
-    let mut with = line;
-    for name in names {
-        let command = of_file(alloc, name)?;
-        with = with.subcommand(command)?;
-    }
-    Ok(with)
-}
-
-/// A command that takes a file and nothing else.
-fn of_file<'a>(alloc: Global, name: &'a str) -> Made<'a>
-    ensures { IfOk result (λ c. (app_of c ≡ file_app name.entry.now) ×
-        ((fields_of c).has_globals ≡ false)) }
-{
-    let file = file_argument(alloc);
-    Command::new(alloc, name).arg(file)
-}
-
-fn file_argument<'a>(alloc: Global) -> Arg<'a>
-    ensures { (rule_of result ≡ file_rule) × (result.global ≡ false) }
-{
-    Arg::new(alloc, "file")
-        .required(true)
-        .action(ArgAction::Set)
-}
+const FILE_COMMANDS: [&str; 2] = ["mask", "wrap"];

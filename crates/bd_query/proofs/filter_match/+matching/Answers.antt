@@ -232,21 +232,21 @@ holds-returns-in-Type g t c =
     c.any_of_type.ensures ∙ ap (λ kinds. any_candidate (is_value (is_of_type kinds)) es) c.deref-in-Type.ensures.value
     ∙ sym (ap (λ o. holds o es) (ap operator_tree c.in-Type.is ∙ operator_tree-Type c.in-Type.kinds))
 
-pub reaches_suited-returns : goal.reaches_suited-returns
-reaches_suited-returns g t c =
+pub reaches_match-returns : goal.reaches_match-returns
+reaches_match-returns g t c =
     let n = g.N.Reading.tree c.args.node in
     c.any_end_matches.ensures ∙ ap (λ (x : Names). list_any (is_matching c.args.body.now) (reach n x)) c.components-path.ensures
 
 pub holds-returns-in-ElemMatch : goal.holds-returns-in-ElemMatch
 holds-returns-in-ElemMatch g t c =
     let es = reach (g.N.Reading.tree c.args.node) (names_of c.args.path.now) in
-    c.reaches_suited.ensures
+    c.reaches_match.ensures
     ∙ ap (λ os. list_any (is_value (λ t. list_any (all_accept (operators_from (map operator_tree os))) (elements_in t))) es) c.deref-in-ElemMatch.ensures.value
     ∙ sym (ap (λ o. holds o es) (ap operator_tree c.in-ElemMatch.is ∙ operator_tree-ElemMatch c.in-ElemMatch.operators))
 
 pub holds-returns-in-ElemMatchDocument : goal.holds-returns-in-ElemMatchDocument
 holds-returns-in-ElemMatchDocument g t c =
     let es = reach (g.N.Reading.tree c.args.node) (names_of c.args.path.now) in
-    c.reaches_suited-in-ElemMatchDocument.ensures
+    c.reaches_match-in-ElemMatchDocument.ensures
     ∙ ap (λ fs. list_any (is_value (λ t. list_any (λ x. is_document x && all_match (filters_from (map filter_tree fs)) x) (elements_in t))) es) c.deref-in-ElemMatchDocument.ensures.value
     ∙ sym (ap (λ o. holds o es) (ap operator_tree c.in-ElemMatchDocument.is ∙ operator_tree-ElemMatchDocument c.in-ElemMatchDocument.filters))

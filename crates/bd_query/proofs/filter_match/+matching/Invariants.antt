@@ -24,8 +24,8 @@ decreases-all_hold g l = 5 * (operators_size (operators_from (map operator_tree 
 abbrev pub decreases-holds : goal.decreases-holds
 decreases-holds g l = 5 * (operator_size (operator_tree l.operator.now) + tree_size (g.N.Reading.tree l.node))
 
-abbrev pub decreases-reaches_suited : goal.decreases-reaches_suited
-decreases-reaches_suited g l = 5 * (body_size l.body.now + tree_size (g.N.Reading.tree l.node)) + 4
+abbrev pub decreases-reaches_match : goal.decreases-reaches_match
+decreases-reaches_match g l = 5 * (body_size l.body.now + tree_size (g.N.Reading.tree l.node)) + 4
 
 abbrev pub decreases-any_end_matches : goal.decreases-any_end_matches
 decreases-any_end_matches g l = 5 * (body_size l.path_walk.now.body.now + tree_size (g.N.Reading.tree l.node)) + 3

@@ -1,7 +1,7 @@
 use Rattle.std.proofs.Common.{◌≡◌, false, drop, map}
 use Rattle.clap.specs.{Words.app_of, declared.builder.command.Command.TheViews.out-Command as fields_of}
-use Rattle.bd_cli_args.specs.CommandLine.{with_file_commands}
-use Rattle.bd_cli_args.proofs.command_line.with_file_commands.Given as goal
+use Rattle.bd_cli_args.specs.FileCommands.{with_file_commands}
+use Rattle.bd_cli_args.proofs.file_commands.with_file_commands.Given as goal
 
 -- with the commands that are still to come it is the whole
 abbrev pub invariant-loop-name : goal.invariant-loop-name

@@ -1,7 +1,7 @@
 use Rattle.std.proofs.Common.{rules, ap₂, ◌∙◌}
 use Rattle.std.proofs.lemmas.Result.{IfOk-weaker}
 use Rattle.clap.specs.Simple.{with_rule}
-use Rattle.bd_cli_args.proofs.command_line.of_file.Goals as goal
+use Rattle.bd_cli_args.proofs.file_commands.of_file.Goals as goal
 
 pub returns : goal.returns
 returns c = IfOk-weaker c.arg.result _ _

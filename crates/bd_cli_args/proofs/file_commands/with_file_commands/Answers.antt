@@ -1,8 +1,8 @@
 use Rattle.std.proofs.Common.{ap, ap₂, ◌∙◌, ◌||◌, ◌≡◌, ◌+◌, sym, List, ℕ, Bor, drop, map, get_or, length, ◌<◌}
 use Rattle.std.proofs.lemmas.List.{at_drop_more}
 use Rattle.clap.specs.{Simple.App, Simple.with_subcommand, Walk.Text, Words.app_of}
-use Rattle.bd_cli_args.specs.CommandLine.{file_app, with_file_commands}
-use Rattle.bd_cli_args.proofs.command_line.with_file_commands.Goals as goal
+use Rattle.bd_cli_args.specs.FileCommands.{file_app, with_file_commands}
+use Rattle.bd_cli_args.proofs.file_commands.with_file_commands.Goals as goal
 
 -- one command is added, and the others are still to come
 added : (app more whole : App) (names : List (Bor Text)) (i : ℕ) (name : Bor Text) → i < length names
