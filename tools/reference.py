@@ -212,10 +212,31 @@ def cited() -> set[str]:
     return found
 
 
+def reached() -> set[str]:
+    """Return the paths of the definitions that public contracts cite, or that another crate names, and of what these cite."""
+    known = definitions("specs")
+    found = set(cited()) & set(known)
+    found |= {path for path, crate in users() if path in known and known[path].crate != crate}
+    fresh = list(found)
+    while fresh:
+        more = {it for it in known[fresh.pop()].cites if it in known and it not in found}
+        found |= more
+        fresh += more
+    return found
+
+
+def users() -> Iterator[tuple[str, str]]:
+    """Yield the path of each thing that a file of a crate names, with the crate."""
+    for _, crate in crates():
+        for file in (it for pattern in ("src/**/*.rt", "specs/**/*.antt", "proofs/**/*.antt") for it in files_of(crate, pattern)):
+            text = file.read_text(encoding="utf-8")
+            yield from ((path, crate) for path in cites(text, known_in(text)))
+
+
 def blocks(crate: str) -> Iterator[str]:
     """Yield the parts of the section of a crate: what it is, a list for each file of definitions, a block for each of code."""
     yield sentence(first_comment((files_of(crate, "src/lib.rt") or files_of(crate, "src/main.rt"))[0], "//!"))
-    for file in files_of(crate, "specs/**/*.antt"):
+    for file in (it for it in files_of(crate, "specs/**/*.antt") if "inside" not in it.parts):
         lines = [f"[{file.name}](../{file.relative_to(ROOT)}): {sentence(first_comment(file, '--'))}"]
         for path, it in definitions("specs").items():
             if it.file == file and path in cited():

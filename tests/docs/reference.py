@@ -7,6 +7,8 @@ usage: tests/docs/reference.py     The last line is 'N passed, M failed'. It nee
   and each lemma that more than one other file uses.
 - docs/PROVED.md names each law. What it has in backquotes is the name of a crate, function, type, clause or definition.
 - docs/ARCHITECTURE.md has each crate but those of tests, and no page but the changelog names a crate that does not exist.
+- `specs/inside/` has the definitions that only functions inside a crate cite, and no other. Proofs that a definition needs, such as
+  those in `Unique.antt` and `Sound.antt`, stay beside it.
 - Each link of a page leads to a file, and to a heading of it.
 - The root of each crate names its modules, and each file of specs that it names exists.
 """
@@ -93,6 +95,15 @@ def links() -> Iterator[tuple[bool, str]]:
                 yield leads, f"{page.relative_to(ROOT)}: {link} leads nowhere"
 
 
+def inside() -> Iterator[tuple[bool, str]]:
+    reached = reference.reached()
+    for path, it in reference.definitions("specs").items():
+        name = path.rpartition(".")[2]
+        if not (name.endswith("-prop") or "◌" in name or it.file.stem in ("Unique", "Sound") or name == "LeafFits"):
+            is_inside = "inside" in it.file.parts
+            yield is_inside != (path in reached), f"{path} is {'cited from outside' if is_inside else 'cited inside alone'}"
+
+
 def roots() -> Iterator[tuple[bool, str]]:
     for _, name in reference.crates():
         crate = ROOT / "crates" / name
@@ -107,7 +118,7 @@ def roots() -> Iterator[tuple[bool, str]]:
 def main() -> int:
     passed = failed = 0
     current = text_of(reference.PAGE) == reference.page()
-    for holds, message in ((current, "docs/REFERENCE.md is not current: make reference"), *comments(), *proved(), *crates(), *links(), *roots()):
+    for holds, message in ((current, "docs/REFERENCE.md is not current: make reference"), *comments(), *proved(), *crates(), *links(), *inside(), *roots()):
         if holds:
             passed += 1
         else:

@@ -39,7 +39,7 @@ pub fn run<R: Input, O: Output, E: Output>(
     ensures { FiltersInput filter.now (over R.state input.old input.new)
         (over O.state out.old out.new) (over E.state err.old err.new) result }
 {
-    match filter_documents(alloc, filter, input, out) {
+    match filter_input(alloc, filter, input, out) {
         Ok(kept) => report_kept(kept, err),
         Err(stop) => report_stop(&stop, err),
     }
@@ -55,10 +55,30 @@ const LIMITS: Limits = Limits {
 const BLOCK: usize = 65_536;
 
 /// Filters the documents of an input, and says how many of them stay as they are.
-fn filter_documents<R: Input, O: Output>(
+fn filter_input<R: Input, O: Output>(
     alloc: Global,
     filter: &Filter,
     input: &mut R,
+    out: &mut O,
+) -> Result<u64, Stop>
+    ensures all { IfOk result
+        (FiltersAll filter.now (over R.state input.old input.new) (over O.state out.old out.new)) }
+    ensures partly { IfErr result (FiltersPartly filter.now
+        (over R.state input.old input.new) (over O.state out.old out.new)) }
+{
+    let mut buffer = Vec::new(alloc);
+    let mut path = Vec::new(alloc);
+    let mut written = Vec::new(alloc);
+    filter_documents(filter, input, &mut buffer, &mut path, &mut written, out)
+}
+
+/// The same with memory for a document, for a path in it, and for what is written of it.
+fn filter_documents<R: Input, O: Output>(
+    filter: &Filter,
+    input: &mut R,
+    buffer: &mut Vec<u8>,
+    path: &mut Vec<u8>,
+    written: &mut Vec<u8>,
     out: &mut O,
 ) -> Result<u64, Stop>
     ensures all { IfOk result
@@ -70,20 +90,17 @@ fn filter_documents<R: Input, O: Output>(
     let mut number = 0;
     let mut start = 0;
     let mut kept = 0;
-    let mut buffer = Vec::new(alloc);
-    let mut path = Vec::new(alloc);
-    let mut written = Vec::new(alloc);
     loop {
-        let next = match next_frame(input, &mut remaining, &mut buffer) {
+        let next = match next_frame(input, &mut remaining, buffer) {
             Ok(next) => next,
             Err(fault) => return Err(Stop::Unread(fault)),
         };
         let Next::Document = next else {
-            pass_on(next, &buffer, input, remaining, out)?;
+            pass_on(next, buffer, input, remaining, out)?;
             return Ok(kept);
         };
         let place = Place { number, start };
-        let filtered = write_document(filter, place, &buffer, &mut path, &mut written, out)?;
+        let filtered = write_document(filter, place, buffer, path, written, out)?;
         number += 1;
         start += buffer.len() as u64;
         kept = count_kept(kept, filtered);
