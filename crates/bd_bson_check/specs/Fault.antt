@@ -64,26 +64,6 @@ abbrev pub ReportsFault : ℕ → Option Fault → FaultInMemory → Type 0
 ReportsFault number None e = IsWantOfMemory e
 ReportsFault number (Some f) e = IsWantOfMemory e ⊎ IsFault number f e
 
--- the number of a kind of fault, 1 to 17
-abbrev pub fault_number : FaultKind → ℕ
-fault_number FaultKind.ShortLength = 1
-fault_number FaultKind.BadLength = 2
-fault_number FaultKind.NoTerminator = 3
-fault_number FaultKind.UnknownType = 4
-fault_number FaultKind.Double = 5
-fault_number FaultKind.Decimal128 = 6
-fault_number FaultKind.NameUnended = 7
-fault_number FaultKind.BadUtf8 = 8
-fault_number FaultKind.BadStringLength = 9
-fault_number FaultKind.StringUnended = 10
-fault_number FaultKind.BadBoolean = 11
-fault_number FaultKind.BadBinaryLength = 12
-fault_number FaultKind.BadScopeLength = 13
-fault_number FaultKind.TooDeep = 14
-fault_number FaultKind.ValueShort = 15
-fault_number FaultKind.DumpTooLong = 16
-fault_number FaultKind.NoMemory = 17
-
 -- the message of a kind of fault
 unfoldable pub fault_words : FaultKind → List ℕ
 fault_words FaultKind.ShortLength = codes "length cut short"

@@ -20,7 +20,7 @@ use Rattle.clap.specs.{Lexer.long_of, Lexer.short_of, Values.is_request, Values.
 use Rattle.clap.specs.{Matches.count_text, Takes.is_given, Simple.Shape, Simple.App, Simple.entered, Simple.label_of, Simple.names_of}
 use Rattle.clap.specs.{declared.builder.action.ArgAction.ArgAction, declared.builder.value_parser.Reading.Reading, declared.parser.matches.ValueSource.ValueSource}
 use Rattle.clap.specs.{ValueTests.accepts, declared.builder.value_parser.ValueParser.ValueParser, declared.error.kind.ErrorKind.ErrorKind}
-use Rattle.bd_cli_args.specs.CommandLine.{explain_refusal}
+use Rattle.bd_cli_args.specs.FileCommands.{explain_refusal}
 use Rattle.clap.specs.declared.error.kind.ErrorKind.TheVariants as kind
 
 left_nil : (a b : Kinds) → or_else a b ≡ [] → a ≡ []
