@@ -92,7 +92,7 @@ pub fn element_type(byte: u8) -> Option<ElementType>
 
 /// The kind that the type byte of an element tells.
 #[inline(always)]
-pub fn same_source(byte: u8) -> Kind
+pub fn kept_kind(byte: u8) -> Kind
     requires { (kind : kinds.Kind) × (type_at byte ≡ Some (Kept kind)) }
     ensures { type_at byte ≡ Some (Kept result) }
 {

@@ -14,8 +14,8 @@ name-requires c =
     let n = s.next_of c.args.self.bytes.now c.args.self.at c.args.self.remaining c.if-byte-eq0.false in
     s.name_at n _ c.split_at.ensures.back
 
-pub same_source-requires : goal.same_source-requires
-same_source-requires c =
+pub kept_kind-requires : goal.kept_kind-requires
+kept_kind-requires c =
     let n = s.next_of c.args.self.bytes.now c.args.self.at c.args.self.remaining c.if-byte-eq0.false in
     (kind_of n.tree, s.type_here n)
 
@@ -23,23 +23,23 @@ pub invariant_of-value : goal.invariant_of-value
 invariant_of-value c =
     let n = s.next_of c.args.self.bytes.now c.args.self.at c.args.self.remaining c.if-byte-eq0.false in
     let k = c.name.ensures.size ∙ s.name_ends n _ c.split_at.ensures.back in
-    let kinded = s.kind_here n c.same_source.result c.same_source.ensures in
-    record { short = c.args.self.short; inside = s.value_inside n _ k; sound = s.value_sound n c.same_source.result kinded _ k }
+    let kinded = s.kind_here n c.kept_kind.result c.kept_kind.ensures in
+    record { short = c.args.self.short; inside = s.value_inside n _ k; sound = s.value_sound n c.kept_kind.result kinded _ k }
 
 pub invariant_of-after : goal.invariant_of-after
 invariant_of-after c =
     let n = s.next_of c.args.self.bytes.now c.args.self.at c.args.self.remaining c.if-byte-eq0.false in
     let k = c.name.ensures.size ∙ s.name_ends n _ c.split_at.ensures.back in
-    let kinded = s.kind_here n c.same_source.result c.same_source.ensures in
-    record { short = c.args.self.short; remaining = s.after_sound n c.same_source.result kinded _ c.end.result _ k c.end.ensures }
+    let kinded = s.kind_here n c.kept_kind.result c.kept_kind.ensures in
+    record { short = c.args.self.short; remaining = s.after_sound n c.kept_kind.result kinded _ c.end.result _ k c.end.ensures }
 
 pub returns-clause-some : goal.returns-clause-some
 returns-clause-some c =
     let n = s.next_of c.args.self.bytes.now c.args.self.at c.args.self.remaining c.if-byte-eq0.false in
     let k = c.name.ensures.size ∙ s.name_ends n _ c.split_at.ensures.back in
-    let kinded = s.kind_here n c.same_source.result c.same_source.ensures in
+    let kinded = s.kind_here n c.kept_kind.result c.kept_kind.ensures in
     let named = c.name.ensures.text ∙ s.name_is n _ c.split_at.ensures.back in
-    s.output n c.same_source.result kinded _ c.end.result _ c.args.self.remaining _ _ _ refl k named c.end.ensures
+    s.output n c.kept_kind.result kinded _ c.end.result _ c.args.self.remaining _ _ _ refl k named c.end.ensures
 
 pub returns-clause-short : goal.returns-clause-short
 returns-clause-short c =

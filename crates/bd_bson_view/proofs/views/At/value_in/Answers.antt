@@ -5,11 +5,11 @@ use Rattle.bd_bson_view.specs.Unique.{type_is}
 use Rattle.bd_bson_view.proofs.SoundLemmas.{sound_there, tree_there}
 use Rattle.bd_bson_view.proofs.views.At.value_in.Goals as goal
 
-pub same_source-requires : goal.same_source-requires
-same_source-requires c = (kind_of c.requires.offset.0, sym (ap type_at c.requires.offset.1.1.typed) ∙ type_is (kind_of c.requires.offset.0))
+pub kept_kind-requires : goal.kept_kind-requires
+kept_kind-requires c = (kind_of c.requires.offset.0, sym (ap type_at c.requires.offset.1.1.typed) ∙ type_is (kind_of c.requires.offset.0))
 
 pub invariant_of-result : goal.invariant_of-result
-invariant_of-result c = record { short = c.requires.short; inside = c.requires.offset.1.0; sound = sound_there c.args.bytes.now c.args.self c.same_source.result c.requires.offset c.same_source.ensures }
+invariant_of-result c = record { short = c.requires.short; inside = c.requires.offset.1.0; sound = sound_there c.args.bytes.now c.args.self c.kept_kind.result c.requires.offset c.kept_kind.ensures }
 
 pub returns-clause-value : goal.returns-clause-value
-returns-clause-value c tree h = tree_there c.args.bytes.now c.args.self c.same_source.result _ tree h c.same_source.ensures
+returns-clause-value c tree h = tree_there c.args.bytes.now c.args.self c.kept_kind.result _ tree h c.kept_kind.ensures
