@@ -25,8 +25,8 @@ pub document_elements : (bytes : List ℕ) (start : ℕ) (s : Sound kinds.Doc (d
 document_elements bytes start s g = sym (ap pairs_in ((document_has_elements bytes start kinds.Doc s refl).1 g) ∙ pairs_of-fields_of (elements_remaining g))
 
 -- a document is the pairs in it
-pub document_tree : (bytes : List ℕ) (s : Sound kinds.Doc bytes) → meaning s ≡ doc (fields_of (pairs_in (meaning s)))
-document_tree bytes s = as_pairs (meaning s) (ap kind_of (meaning_is s s) ∙ kind_is kinds.Doc bytes s)
+pub pairs_make_document : (bytes : List ℕ) (s : Sound kinds.Doc bytes) → meaning s ≡ doc (fields_of (pairs_in (meaning s)))
+pairs_make_document bytes s = as_pairs (meaning s) (ap kind_of (meaning_is s s) ∙ kind_is kinds.Doc bytes s)
   where
     as_pairs : (t : Tree) → kind_of t ≡ kinds.Doc → t ≡ doc (fields_of (pairs_in t))
     as_pairs (leaf a) k = absurd (no_holder a kinds.Doc k refl)

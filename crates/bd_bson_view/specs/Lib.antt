@@ -1,4 +1,5 @@
 pub mod Contents
+pub mod Raw
 pub mod Sizes
 pub mod Sound
 pub mod Spelling

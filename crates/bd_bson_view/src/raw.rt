@@ -2,10 +2,10 @@
 
 ghost use Rattle.std.specs.Prelude.{◌≡◌, ◌≤◌, ◌+◌, length, drop, IfSome, IfNone, [], ◌∷◌};
 ghost use Rattle.bd_value.specs.Limits.{longest_input};
-ghost use Rattle.bd_value.specs.Tree.{Doc, doc, fields_of, pairs_in};
+ghost use Rattle.bd_value.specs.Tree.{Doc, doc, fields_of};
 ghost use Rattle.bd_value.specs.declared.node.Kind.TheVariants as kinds;
 ghost use Rattle.bd_bson_view.specs.Spelling.{IsShort, IsDocument};
-ghost use Rattle.bd_bson_view.specs.Sound.{Sound, Sound-prop, Remaining, Remaining-prop, meaning, extent, elements_remaining};
+ghost use Rattle.bd_bson_view.specs.Sound.{Sound, Sound-prop, Remaining, Remaining-prop, meaning, extent};
 
 use crate::raw_parts as parts;
 use bd_value::Kind;
@@ -43,11 +43,13 @@ pub struct Elements<'a> {
 }
 
 impl<'a> RawDoc<'a> {
+    ghost use Rattle.bd_bson_view.specs.Raw.{value_tree, value_source, document_tree, document_pairs, document_source, remaining_pairs, elements_source};
+
     /// All of the bytes, which are known to spell one document.
     pub fn whole(bytes: &'a [u8]) -> RawDoc<'a>
         requires { (d : Doc) × IsDocument d bytes.now }
-        ensures document { IsDocument (pairs_in (meaning result.sound)) bytes.now }
-        ensures same_source { result.bytes.now ≡ bytes.now }
+        ensures document { IsDocument (document_pairs result) bytes.now }
+        ensures same_source { document_source result ≡ bytes.now }
     {
         RawDoc { bytes, start: 0 }
     }
@@ -58,18 +60,17 @@ impl<'a> RawDoc<'a> {
         requires inside { start ≤ length bytes.now }
         requires sound { Sound kinds.Doc (drop start bytes.now) }
         ensures meaning { (sound : Sound kinds.Doc (drop start bytes.now)) →
-            meaning result.sound ≡ meaning sound }
-        ensures same_source { result.bytes.now ≡ bytes.now }
+            document_tree result ≡ meaning sound }
+        ensures same_source { document_source result ≡ bytes.now }
     {
         RawDoc { bytes, start }
     }
 
     /// The document as a value.
     pub fn value(self) -> RawValue<'a>
-        ensures value { meaning result.sound ≡ meaning self.entry.sound }
-        ensures document { meaning result.sound
-            ≡ doc (fields_of (pairs_in (meaning self.entry.sound))) }
-        ensures same_source { result.bytes.now ≡ self.entry.bytes.now }
+        ensures value { value_tree result ≡ document_tree self.entry }
+        ensures document { value_tree result ≡ doc (fields_of (document_pairs self.entry)) }
+        ensures same_source { value_source result ≡ document_source self.entry }
     {
         RawValue {
             bytes: self.bytes,
@@ -80,9 +81,8 @@ impl<'a> RawDoc<'a> {
 
     /// The elements.
     pub fn elements(self) -> Elements<'a>
-        ensures elements { elements_remaining result.remaining
-            ≡ pairs_in (meaning self.entry.sound) }
-        ensures same_source { result.bytes.now ≡ self.entry.bytes.now }
+        ensures elements { remaining_pairs result ≡ document_pairs self.entry }
+        ensures same_source { elements_source result ≡ document_source self.entry }
     {
         Elements {
             bytes: self.bytes,
@@ -103,15 +103,17 @@ impl<'a> RawValue<'a> {
 }
 
 impl<'a> Elements<'a> {
+    ghost use Rattle.bd_bson_view.specs.Raw.{value_tree, value_source, remaining_pairs, elements_source};
+
     /// The name and the value of the next element, and the elements after it; None at the end.
     #[inline(always)]
     pub fn next(self) -> Option<(&'a str, RawValue<'a>, Elements<'a>)>
-        ensures some { IfSome result (λ x. elements_remaining self.entry.remaining
-            ≡ (x.0.now, meaning x.1.sound) ∷ elements_remaining x.2.remaining) }
-        ensures same_source { IfSome result (λ x. (x.1.bytes.now ≡ self.entry.bytes.now)
-            × (x.2.bytes.now ≡ self.entry.bytes.now)) }
+        ensures some { IfSome result (λ x. remaining_pairs self.entry
+            ≡ (x.0.now, value_tree x.1) ∷ remaining_pairs x.2) }
+        ensures same_source { IfSome result (λ x. (value_source x.1 ≡ elements_source self.entry)
+            × (elements_source x.2 ≡ elements_source self.entry)) }
         ensures short { IfSome result (λ x. IsShort x.0.now) }
-        ensures none { IfNone result (elements_remaining self.entry.remaining ≡ []) }
+        ensures none { IfNone result (remaining_pairs self.entry ≡ []) }
     {
         let byte = self.bytes[self.at];
         if byte == 0 {

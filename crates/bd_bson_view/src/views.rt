@@ -2,10 +2,11 @@
 
 ghost use Rattle.std.specs.Prelude.{◌≡◌, ◌<◌, ◌≤◌, ◌↔◌, ℕ, List, [], length, slice_get, Some, option_map, IfOk, IfSome, IfNone, IsTrue};
 ghost use Rattle.bd_value.specs.Limits.{longest_input};
-ghost use Rattle.bd_value.specs.Tree.{Tree, leaf, null, undefined, pairs_in, leaf_of, first_of, AreParts, HasNoParts};
+ghost use Rattle.bd_value.specs.Tree.{Tree, leaf, null, undefined, leaf_of, first_of, AreParts, HasNoParts};
 ghost use Rattle.bd_value.specs.View.{tree_of, pairs, view_of};
 ghost use Rattle.bd_bson_view.specs.Spelling.{IsShort, LeafIsShort};
-ghost use Rattle.bd_bson_view.specs.Sound.{meaning, elements_remaining, IsAt, IsPlace};
+ghost use Rattle.bd_bson_view.specs.Raw.{value_tree, value_source, value_start, document_pairs, document_source, remaining_pairs, elements_source};
+ghost use Rattle.bd_bson_view.specs.Sound.{IsAt, IsPlace};
 ghost use Rattle.bd_bson_view.specs.Contents.{HasContents};
 
 use crate::raw::{Elements, RawDoc, RawValue};
@@ -16,24 +17,24 @@ use std::alloc::Global;
 impl<'a> RawDoc<'a> {
     /// The number of pairs. It scans all of them.
     pub fn len(self) -> usize
-        ensures { result ≡ length (pairs_in (meaning self.entry.sound)) }
+        ensures { result ≡ length (document_pairs self.entry) }
     {
         self.elements().count()
     }
 
     /// Whether it has no pair.
     pub fn is_empty(self) -> bool
-        ensures { IsTrue result ↔ (pairs_in (meaning self.entry.sound) ≡ []) }
+        ensures { IsTrue result ↔ (document_pairs self.entry ≡ []) }
     {
         self.elements().next().is_none()
     }
 
     /// The name and the value of the pair at an index, counted from 0. It scans those before it.
     pub fn pair(self, i: usize) -> (&'a str, RawValue<'a>)
-        requires { i < length (pairs_in (meaning self.sound)) }
-        ensures pair { slice_get (pairs_in (meaning self.entry.sound)) i
-            ≡ Some (result.0.now, meaning result.1.sound) }
-        ensures same_source { result.1.bytes.now ≡ self.entry.bytes.now }
+        requires { i < length (document_pairs self) }
+        ensures pair { slice_get (document_pairs self.entry) i
+            ≡ Some (result.0.now, value_tree result.1) }
+        ensures same_source { value_source result.1 ≡ document_source self.entry }
         ensures short { IsShort result.0.now }
     {
         self.elements().nth(i)
@@ -41,16 +42,16 @@ impl<'a> RawDoc<'a> {
 
     /// The value of the first pair of that name; None if no pair has it.
     pub fn first(self, name: &str) -> Option<RawValue<'a>>
-        ensures first { option_map (λ v. meaning v.sound) result
-            ≡ first_of name.now (pairs_in (meaning self.entry.sound)) }
-        ensures same_source { IfSome result (λ v. v.bytes.now ≡ self.entry.bytes.now) }
+        ensures first { option_map value_tree result
+            ≡ first_of name.now (document_pairs self.entry) }
+        ensures same_source { IfSome result (λ v. value_source v ≡ document_source self.entry) }
     {
         self.elements().find(name)
     }
 
     /// The document in memory. It fails only if memory runs out.
     pub fn to_document(self, alloc: Global) -> Result<Document, NoMemory>
-        ensures { IfOk result (λ d. pairs d ≡ pairs_in (meaning self.entry.sound)) }
+        ensures { IfOk result (λ d. pairs d ≡ document_pairs self.entry) }
     {
         to_document::<RawValue<'a>>(alloc, self.elements())
     }
@@ -59,10 +60,9 @@ impl<'a> RawDoc<'a> {
 impl<'a> RawValue<'a> {
     /// The elements of a document or an array; None for any other value.
     pub fn elements(self) -> Option<Elements<'a>>
-        ensures some { IfSome result (λ x.
-            AreParts (meaning self.entry.sound) (elements_remaining x.remaining)) }
-        ensures same_source { IfSome result (λ x. x.bytes.now ≡ self.entry.bytes.now) }
-        ensures none { IfNone result (HasNoParts (meaning self.entry.sound)) }
+        ensures some { IfSome result (λ x. AreParts (value_tree self.entry) (remaining_pairs x)) }
+        ensures same_source { IfSome result (λ x. elements_source x ≡ value_source self.entry) }
+        ensures none { IfNone result (HasNoParts (value_tree self.entry)) }
     {
         match self.contents() {
             Contents::Document(elements) => Some(elements),
@@ -73,15 +73,15 @@ impl<'a> RawValue<'a> {
 
     /// The value in memory. It fails only if memory runs out.
     pub fn to_value(self, alloc: Global) -> Result<Value, NoMemory>
-        ensures { IfOk result (λ v. tree_of v ≡ meaning self.entry.sound) }
+        ensures { IfOk result (λ v. tree_of v ≡ value_tree self.entry) }
     {
         to_value(alloc, self)
     }
 
     /// Its type and offset in its bytes.
     pub fn at(self) -> At
-        ensures meaning { IsAt self.entry.bytes.now result (meaning self.entry.sound) }
-        ensures start { result.start ≡ self.entry.start }
+        ensures meaning { IsAt (value_source self.entry) result (value_tree self.entry) }
+        ensures start { result.start ≡ value_start self.entry }
     {
         At {
             kind: parts::type_byte(self.kind),
@@ -92,7 +92,7 @@ impl<'a> RawValue<'a> {
     /// Its contents.
     #[inline(always)]
     pub(crate) fn contents(self) -> Contents<'a>
-        ensures { HasContents self.entry.bytes.now (meaning self.entry.sound) result }
+        ensures { HasContents (value_source self.entry) (value_tree self.entry) result }
     {
         let (bytes, at) = (self.bytes, self.start + 4);
         let (_, here) = bytes.split_at(self.start);
@@ -115,13 +115,13 @@ impl<'a> RawValue<'a> {
 impl<'a> Reading for RawValue<'a> {
     type Rest = Elements<'a>;
 
-    ghost tree = { λ s. meaning s.sound };
+    ghost tree = { value_tree };
 
-    ghost source = { λ s. s.bytes.now };
+    ghost source = { value_source };
 
-    ghost remaining = { λ r. elements_remaining r.remaining };
+    ghost remaining = { remaining_pairs };
 
-    ghost rest_source = { λ r. r.bytes.now };
+    ghost rest_source = { elements_source };
 
     #[inline(always)]
     fn kind(self) -> Kind {
@@ -184,7 +184,7 @@ impl<'a> Node<'a> for RawValue<'a> {
     /// document may be.
     #[inline(always)]
     fn scalar(self) -> Option<Scalar<'a>>
-        ensures scalar { option_map view_of result ≡ leaf_of (meaning self.entry.sound) }
+        ensures scalar { option_map view_of result ≡ leaf_of (value_tree self.entry) }
         ensures short { IfSome result (λ s. LeafIsShort (view_of s)) }
     {
         match self.contents() {
@@ -215,7 +215,7 @@ pub enum Contents<'a> {
 impl<'a> Elements<'a> {
     /// How many elements there are from here on. It scans all of them.
     pub fn count(self) -> usize
-        ensures { result ≡ length (elements_remaining self.entry.remaining) }
+        ensures { result ≡ length (remaining_pairs self.entry) }
     {
         let mut rest = self;
         let mut n = 0;
@@ -228,10 +228,10 @@ impl<'a> Elements<'a> {
 
     /// The name and the value of the element at an index, counted from 0. It scans those before it.
     pub fn nth(self, i: usize) -> (&'a str, RawValue<'a>)
-        requires { i < length (elements_remaining self.remaining) }
-        ensures pair { slice_get (elements_remaining self.entry.remaining) i
-            ≡ Some (result.0.now, meaning result.1.sound) }
-        ensures same_source { result.1.bytes.now ≡ self.entry.bytes.now }
+        requires { i < length (remaining_pairs self) }
+        ensures pair { slice_get (remaining_pairs self.entry) i
+            ≡ Some (result.0.now, value_tree result.1) }
+        ensures same_source { value_source result.1 ≡ elements_source self.entry }
         ensures short { IsShort result.0.now }
     {
         let mut rest = self;
@@ -251,9 +251,9 @@ impl<'a> Elements<'a> {
 
     /// The value of the first element of that name; None if no element has it.
     pub fn find(self, name: &str) -> Option<RawValue<'a>>
-        ensures first { option_map (λ v. meaning v.sound) result
-            ≡ first_of name.now (elements_remaining self.entry.remaining) }
-        ensures same_source { IfSome result (λ v. v.bytes.now ≡ self.entry.bytes.now) }
+        ensures first { option_map value_tree result
+            ≡ first_of name.now (remaining_pairs self.entry) }
+        ensures same_source { IfSome result (λ v. value_source v ≡ elements_source self.entry) }
     {
         let mut rest = self;
         while let Some((here, value, after)) = rest.next() {
@@ -299,8 +299,8 @@ impl At {
     pub fn value_in(self, bytes: &[u8]) -> RawValue<'_>
         requires short { length bytes.now ≤ longest_input }
         requires offset { IsPlace bytes.now self }
-        ensures value { (tree : Tree) → IsAt bytes.now self tree → meaning result.sound ≡ tree }
-        ensures same_source { result.bytes.now ≡ bytes.now }
+        ensures value { (tree : Tree) → IsAt bytes.now self tree → value_tree result ≡ tree }
+        ensures same_source { value_source result ≡ bytes.now }
     {
         RawValue {
             bytes,

@@ -36,7 +36,7 @@ pub line_free : is_simple_and_free line_app ≡ true
 line_free = refl
 
 -- what holds of each command
-pub EachShape : (Shape → Type 0) → List Shape → Type 0
+unfoldable pub EachShape : (Shape → Type 0) → List Shape → Type 0
 EachShape P [] = ⊤
 EachShape P (s ∷ rest) = P s × EachShape P rest
 

@@ -1,9 +1,9 @@
 //! Devices that give bytes, with counts of calls and of failures.
-ghost use Rattle.std.specs.Prelude.{◌≡◌, ℕ, List, Option, None, Some, false, IfOk, IsTrue, OnOk, OnErr, length, ◌++◌, ◌<◌, ◌≤◌, ◌≢◌, min, MatchOption, ⊤};
+ghost use Rattle.std.specs.Prelude.{◌≡◌, ℕ, List, Option, None, Some, false, IfOk, IsTrue, OnOk, OnErr, length, ◌<◌, ◌≤◌, min, ⊤};
 ghost use Rattle.std.proofs.Common.{rules};
 ghost use Rattle.std.specs.Io.Buffered.{reader_remaining};
 ghost use Rattle.std.specs.Io.KnownBytes.{Consumes, ReadConsumes};
-ghost use Rattle.bd_io_device.specs.Devices.{Reader, after_more, bytes_given, greatest, reader_of};
+ghost use Rattle.bd_io_device.specs.Devices.{Reader, after_more, bytes_given, greatest};
 
 use std::io::{BufRead, BufReader, Read};
 use thiserror::Error;
@@ -76,7 +76,9 @@ impl<R: Read + Drop> SystemInput<R> {
 }
 
 impl<R: Read + Drop> Input for SystemInput<R> {
-    ghost state = { λ s. reader_of (R.remaining s.reader) s.tally };
+    ghost use Rattle.bd_io_device.specs.Input.{system_reader};
+
+    ghost state = { system_reader R.remaining };
 
     ghost calls_fit = { λ s. Prim.search rules };
 
@@ -109,7 +111,9 @@ impl<R: Read + Drop> BufferedInput<R> {
 }
 
 impl<R: Read + Drop> Input for BufferedInput<R> {
-    ghost state = { λ s. ⟦<SystemInput<BufReader<R>> as Input>⟧.state s.device };
+    ghost use Rattle.bd_io_device.specs.Input.{buffered_reader};
+
+    ghost state = { buffered_reader R.remaining };
 
     ghost calls_fit = { λ s. Prim.search rules };
 
@@ -182,12 +186,11 @@ impl<'a> MemoryInput<'a> {
 }
 
 impl<'a> Input for MemoryInput<'a> {
-    ghost state = { λ s. reader_of (Some s.bytes.now) s.tally };
+    ghost use Rattle.bd_io_device.specs.Input.{MemoryGives, input_bytes, memory_reader};
 
-    ghost read_gives = { λ s answer t. (t.most ≡ s.most) × (t.failing ≡ s.failing)
-        × MatchOption answer (s.failing ≡ Some (after_more s.tally.calls 1)) (λ part.
-        (s.failing ≢ Some (after_more s.tally.calls 1))
-        × (length part ≤ s.most) × (s.bytes.now ≡ part ++ t.bytes.now)) };
+    ghost state = { memory_reader };
+
+    ghost read_gives = { MemoryGives };
 
     ghost calls_fit = { λ s. Prim.search rules };
 
@@ -197,7 +200,7 @@ impl<'a> Input for MemoryInput<'a> {
     fn read(&mut self, buffer: &mut [u8]) -> Result<usize, DeviceFault>
         ensures within { IfOk result (λ n. n ≤ length buffer.new) }
         ensures count { IfOk result (λ n.
-            n ≡ min (min (length self.old.bytes.now) (length buffer.old)) self.old.most) }
+            n ≡ min (min (length (input_bytes self.old)) (length buffer.old)) self.old.most) }
         ensures bytes { ReadConsumes (⟦<MemoryInput<'a> as Input>⟧.state self.old).remaining
             (⟦<MemoryInput<'a> as Input>⟧.state self.new).remaining result buffer.new }
         ensures gives { ⟦<MemoryInput<'a> as Input>⟧.read_gives self.old

@@ -1,9 +1,8 @@
 //! Devices that take bytes, with counts of calls and of failures.
-ghost use Rattle.std.specs.Prelude.{◌≡◌, ◌≢◌, ℕ, List, None, Some, Option, IfOk, OnOk, OnErr, length, take, ◌-◌, ◌<◌, ◌≤◌, MatchOption, min, ⊤, ◌⊎◌, []};
+ghost use Rattle.std.specs.Prelude.{◌≡◌, ◌≢◌, ℕ, List, None, Some, Option, IfOk, OnOk, OnErr, length, ◌<◌, ◌≤◌, ⊤, ◌⊎◌, []};
 ghost use Rattle.std.proofs.Common.{rules};
 ghost use Rattle.std.specs.Io.KnownBytes.{WriteAppends, Appends};
-ghost use Rattle.bd_io_device.specs.Devices.{Writer, AreWrites, WriteFailsWithin, TakesText, after_more, count_taken, greatest, over, writer_of};
-ghost use Rattle.bd_io_device.specs.declared.output.FailingWrite.TheVariants.{Error, Zero};
+ghost use Rattle.bd_io_device.specs.Devices.{Writer, AreWrites, WriteFailsWithin, TakesText, after_more, count_taken, greatest, over};
 
 use crate::input::{DeviceFault, Tally};
 use std::io::Write;
@@ -59,7 +58,9 @@ impl<W: Write + Drop> SystemOutput<W> {
 }
 
 impl<W: Write + Drop> Output for SystemOutput<W> {
-    ghost state = { λ s. writer_of (W.contents s.writer) s.tally };
+    ghost use Rattle.bd_io_device.specs.Output.{system_writer};
+
+    ghost state = { system_writer W.contents };
 
     ghost calls_fit = { λ s. Prim.search rules };
 
@@ -101,6 +102,8 @@ pub struct MemoryOutput<'a> {
 }
 
 impl<'a> MemoryOutput<'a> {
+    ghost use Rattle.bd_io_device.specs.Output.{output_size};
+
     /// The device that fills `buffer` from its start, with at most `most` bytes in a call. A write takes 0 bytes if the
     /// buffer is full. The call that `failing` names takes none. Both counts are at 0.
     pub fn new(buffer: &'a mut [u8], most: usize, failing: Option<FailingWrite>) -> MemoryOutput<'a>
@@ -110,7 +113,7 @@ impl<'a> MemoryOutput<'a> {
           calls = 0;
           failures = 0;
         } }
-        ensures buffer { length result.buffer.now ≡ length buffer.old }
+        ensures buffer { output_size result ≡ length buffer.old }
         ensures most { result.most ≡ most }
         ensures failing { result.failing ≡ failing }
     {
@@ -146,15 +149,11 @@ impl<'a> MemoryOutput<'a> {
 }
 
 impl Output for MemoryOutput<'_> {
-    ghost state = { λ s. writer_of (Some (take s.filled s.buffer.now)) s.tally };
+    ghost use Rattle.bd_io_device.specs.Output.{MemoryTakes, memory_writer};
 
-    ghost write_takes = { λ s bytes answer t. (t.most ≡ s.most)
-        × (t.failing ≡ s.failing) × (length t.buffer.now ≡ length s.buffer.now)
-        × MatchOption answer (s.failing ≡ Some (Error (after_more s.tally.calls 1))) (λ n.
-        (s.failing ≢ Some (Error (after_more s.tally.calls 1)))
-        × (n ≤ s.most) × (s.failing ≡ Some (Zero (after_more s.tally.calls 1)) → n ≡ 0)
-        × (s.failing ≢ Some (Zero (after_more s.tally.calls 1)) →
-        n ≡ min (min (length bytes) (length s.buffer.now - s.filled)) s.most)) };
+    ghost state = { memory_writer };
+
+    ghost write_takes = { MemoryTakes };
 
     ghost calls_fit = { λ s. Prim.search rules };
 

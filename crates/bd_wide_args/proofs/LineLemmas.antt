@@ -96,9 +96,9 @@ refusal_none words is = ap (λ ks. option_map explain_refusal (slice_get ks 0)) 
 pub ruleset readings = (first_value-rows, one_text-rows, raw_values-rows)
 
 -- whatever the command, without a FILE there is no order
-no_order : (o : Option (Text → OrderView)) → option_and_then (λ order. option_map order None) o ≡ None
+no_order : (o : Option (Text → OrderView)) → option_and_then (λ says. option_map says None) o ≡ None
 no_order None = refl
-no_order (Some order) = refl
+no_order (Some says) = refl
 
 -- a command without FILE has no order
 pub no_file : (name : Text) (rows : List Row) → first_of (codes "file") rows ≡ None → ordered_by name rows ≡ None

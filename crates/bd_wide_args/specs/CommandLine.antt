@@ -52,7 +52,7 @@ wide_commands rows = (codes "mask", mask) ∷ (codes "wrap", wrap)
 -- the command that a name and its parsed arguments ask for
 abbrev pub ordered_by : Text → List Row → Option OrderView
 ordered_by name rows =
-    option_and_then (λ order. option_map order (first_of (codes "file") rows)) (lookup (bytes_eq name) (wide_commands rows))
+    option_and_then (λ says. option_map says (first_of (codes "file") rows)) (lookup (bytes_eq name) (wide_commands rows))
 
 -- the command that arguments ask for; None if they are refused
 abbrev pub order_of : List Text → Option OrderView
