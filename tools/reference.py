@@ -215,13 +215,30 @@ def cited() -> set[str]:
 def reached() -> set[str]:
     """Return the paths of the definitions that public contracts cite, or that another crate names, and of what these cite."""
     known = definitions("specs")
-    found = set(cited()) & set(known)
+    found = (cited() | promised()) & set(known)
     found |= {path for path, crate in users() if path in known and known[path].crate != crate}
     fresh = list(found)
     while fresh:
         more = {it for it in known[fresh.pop()].cites if it in known and it not in found}
         found |= more
         fresh += more
+    return found
+
+
+def promised() -> set[str]:
+    """Return the paths that the ghost items of what implements a public trait cite, such as what is the state of a device."""
+    found: set[str] = set()
+    for _, crate in crates():
+        texts = [it.read_text(encoding="utf-8") for it in files_of(crate, "src/**/*.rt")]
+        private = {name for text in texts for name in re.findall(r"^(?:pub\(crate\) )?trait (\w+)", text, re.M)}
+        for text in texts:
+            known = known_in(text)
+            for head in re.finditer(r"^impl(?:<.*?>)? (\w+)\b.* for [^{]*\{", text, re.M):
+                if head[1] in private:
+                    continue
+                body = text[head.end() : end_of(text, head.end())]
+                for ghost in re.finditer(r"^    ghost \w+ = \{", body, re.M):
+                    found |= cites(body[ghost.end() : end_of(body, ghost.end())], known)
     return found
 
 

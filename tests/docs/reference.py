@@ -8,7 +8,7 @@ usage: tests/docs/reference.py     The last line is 'N passed, M failed'. It nee
 - docs/PROVED.md names each law. What it has in backquotes is the name of a crate, function, type, clause or definition.
 - docs/ARCHITECTURE.md has each crate but those of tests, and no page but the changelog names a crate that does not exist.
 - `specs/inside/` has the definitions that only functions inside a crate cite, and no other. Proofs that a definition needs, such as
-  those in `Unique.antt` and `Sound.antt`, stay beside it.
+  those in `Unique.antt` and `Sound.antt`, stay beside it, and so do the definitions of bd_io_stdout, whose methods run over a cell.
 - Each link of a page leads to a file, and to a heading of it.
 - The root of each crate names its modules, and each file of specs that it names exists.
 """
@@ -99,7 +99,7 @@ def inside() -> Iterator[tuple[bool, str]]:
     reached = reference.reached()
     for path, it in reference.definitions("specs").items():
         name = path.rpartition(".")[2]
-        if not (name.endswith("-prop") or "◌" in name or it.file.stem in ("Unique", "Sound") or name == "LeafFits"):
+        if not (name.endswith("-prop") or "◌" in name or it.file.stem in ("Unique", "Sound") or it.crate == "bd_io_stdout" or name == "LeafFits"):
             is_inside = "inside" in it.file.parts
             yield is_inside != (path in reached), f"{path} is {'cited from outside' if is_inside else 'cited inside alone'}"
 

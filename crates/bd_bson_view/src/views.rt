@@ -7,7 +7,7 @@ ghost use Rattle.bd_value.specs.View.{tree_of, pairs, view_of};
 ghost use Rattle.bd_bson_view.specs.Spelling.{IsShort, LeafIsShort};
 ghost use Rattle.bd_bson_view.specs.Raw.{value_tree, value_source, value_start, document_pairs, document_source, remaining_pairs, elements_source};
 ghost use Rattle.bd_bson_view.specs.Sound.{IsAt, IsPlace};
-ghost use Rattle.bd_bson_view.specs.Contents.{HasContents};
+ghost use Rattle.bd_bson_view.specs.inside.Contents.{HasContents};
 
 use crate::raw::{Elements, RawDoc, RawValue};
 use crate::raw_parts as parts;

@@ -7,9 +7,11 @@ use Rattle.std.proofs.lemmas.Bool.{not-false, not_from_true, or_from, or_parts}
 use Rattle.std.proofs.lemmas.List.Elements.{All-nil, All-weaker}
 use Rattle.bd_value.specs.{View.kind_of, Order.equal, Tree.Tree, Tree.array}
 use Rattle.bd_value.specs.declared.node.Kind.TheVariants as kinds
-use Rattle.bd_path.specs.Key.{AddsKeys, AreKeysFrom, gives_new, is_new, stop_keys, distinct, end_keys, indexed_keys, with_key, with_keys}
+use Rattle.bd_path.specs.Key.{distinct, end_keys, indexed_keys, with_key, with_keys}
+use Rattle.bd_path.specs.inside.Key.{AddsKeys, AreKeysFrom, gives_new, is_new, stop_keys}
 use Rattle.bd_path.specs.{Key.AreKeysAt, Key.AreKeysOf, Key.IsKeyAt, Key.key_trees, Reach.Names, declared.key.Key.Key, declared.path_walk.Stop.Stop}
-use Rattle.bd_path.specs.PathWalk.{Stops, stops, TakesStops, TakesOrEnds}
+use Rattle.bd_path.specs.PathWalk.{Stops, stops}
+use Rattle.bd_path.specs.inside.PathWalk.{TakesStops, TakesOrEnds}
 use Rattle.bd_path.proofs.{SortLemmas.distinct_has, SortLemmas.equal_itself, SortLemmas.equal_on, PathWalkLemmas.at_more, PathWalkLemmas.keys_are}
 use Rattle.bd_path.proofs.ReachLemmas.{any_at, any_still as none_passes, found_from}
 

@@ -10,12 +10,14 @@ use Rattle.bd_value.specs.{View.kind_of, Tree.first_of, Tree.elements_in}
 use Rattle.bd_value.specs.Tree as trees
 use Rattle.bd_value.specs.Tree.{Tree, leaf, doc, array, Items, no_items, item, Fields, no_fields, field, items_of, list_of, pairs_in}
 use Rattle.bd_value.specs.declared.node.Kind.TheVariants as kinds
-use Rattle.bd_path.specs.Key.{IsKeyAt, all_keys, is_empty_array, is_no_value, key_collecting, missing_key, or_else, stop_keys}
+use Rattle.bd_path.specs.Key.{IsKeyAt, all_keys, is_empty_array, is_no_value, key_collecting, missing_key, or_else}
+use Rattle.bd_path.specs.inside.Key.{stop_keys}
 use Rattle.bd_path.specs.{Path.component_names, Reach.index_of, Reach.is_document, Reach.reach, declared.component.Component.Component}
 use Rattle.bd_path.specs.{declared.key.Key.Key, declared.key.Key.TheVariants.Node, declared.key.Key.TheVariants.Null, declared.key.Key.TheVariants.Undefined}
 use Rattle.bd_path.specs.{declared.path_walk.Step.TheVariants.Element, declared.path_walk.Step.TheVariants.Field, declared.path_walk.Stop.Stop, declared.path_walk.Visits.Visits}
 use Rattle.bd_path.specs.Reach.{End, Collecting, Names, document_collecting, each_collecting, ends, first_collecting, collecting, collecting_at, bounded_index, index_collecting}
-use Rattle.bd_path.specs.PathWalk.{CollectsNone, IsVisited, KeepsKnown, LedTo, Stops, TakesOrEnds, TakesStops, is_passed, later_stops, or_stop, stop_tree, stopping, stops}
+use Rattle.bd_path.specs.PathWalk.{CollectsNone, IsVisited, LedTo, Stops, or_stop, stopping, stops}
+use Rattle.bd_path.specs.inside.PathWalk.{KeepsKnown, TakesOrEnds, TakesStops, is_passed, later_stops, stop_tree}
 use Rattle.bd_path.specs.declared.path_walk.Stop.TheVariants.{Value, Missing, NoBranch}
 use Rattle.bd_path.proofs.ReachLemmas as down
 use Rattle.bd_path.proofs.ReachLemmas.{any_still}

@@ -8,10 +8,13 @@ use Rattle.bd_value.specs.{View.kind_of, Order.cmp, Order.equal, Tree.elements_i
 use Rattle.bd_value.specs.Tree as trees
 use Rattle.bd_value.specs.declared.node.Kind.TheVariants as kinds
 use Rattle.bd_value.proofs.OrderLemmas.{cmp_total}
-use Rattle.bd_path.specs.Key.{IsKeyAt, IsKeyOf, all_keys, distinct, end_keys, key_tree, keys, or_else, sparse_keys, stop_keys, with_key, with_keys}
+use Rattle.bd_path.specs.Key.{IsKeyAt, IsKeyOf, all_keys, distinct, end_keys, key_tree, keys, or_else, sparse_keys, with_key, with_keys}
+use Rattle.bd_path.specs.inside.Key.{stop_keys}
 use Rattle.bd_path.specs.{Reach.End, Reach.Names, Reach.reach, declared.key.Key.Key, declared.sort.Dir.Dir, declared.path_walk.Stop.Stop, declared.path_walk.Stop.TheVariants.Value}
-use Rattle.bd_path.specs.Sort.{IsEarliestFrom, SortPath, dir_cmp, earlier_key, earliest_key, gives_earlier, is_earlier, sort_cmp, sort_key}
-use Rattle.bd_path.specs.PathWalk.{Stops, TakesOrEnds, TakesStops, or_stop, stops}
+use Rattle.bd_path.specs.Sort.{SortPath, dir_cmp, earlier_key, earliest_key, sort_cmp, sort_key}
+use Rattle.bd_path.specs.inside.Sort.{IsEarliestFrom, gives_earlier, is_earlier}
+use Rattle.bd_path.specs.PathWalk.{Stops, or_stop, stops}
+use Rattle.bd_path.specs.inside.PathWalk.{TakesOrEnds, TakesStops}
 use Rattle.bd_path.specs.declared.sort.Dir.TheVariants.{Up, Down}
 use Rattle.bd_path.proofs.ReachLemmas.{In, any_still, found_from, in_left, in_right, scalar_is_no_array}
 use Rattle.bd_path.proofs.PathWalkLemmas as stop

@@ -1,6 +1,6 @@
 -- The keys of a document on a path: by them it is sorted, and an index has them as entries.
-use Rattle.std.specs.Prelude.{◌≡◌, ℕ, List, [], ◌∷◌, ◌++◌, Bool, true, false, not, map, All, if◌then◌else◌}
-use Rattle.std.specs.List.{flat_map, list_any}
+use Rattle.std.specs.Prelude.{◌≡◌, ℕ, List, [], ◌∷◌, ◌++◌, Bool, true, false, map, All, if◌then◌else◌}
+use Rattle.std.specs.List.{list_any}
 use Rattle.bd_value.specs.Order.{equal}
 use Rattle.bd_value.specs.Tree.{Tree, leaf, null, undefined, array, no_items, list_of}
 use Rattle.bd_path.specs.{Reach.Collecting, Reach.Names, Reach.collecting, PathWalk.Stops, declared.key.Key.Key}
@@ -99,29 +99,3 @@ IsKeyAt sparse ss Undefined = list_any is_empty_array ss ≡ true
 -- Each of the keys comes from one of these stops.
 abbrev pub AreKeysAt : {N : Type 0} → Bool → Stops → List (Key N) → Type 0
 AreKeysAt sparse ss ks = All (IsKeyAt sparse ss) ks
-
--- ---- keys found so far; those that equal an earlier one do not count
-
--- the keys that a stop of a path walk gives
-abbrev pub stop_keys : Bool → Stop Tree → List Tree
-stop_keys sparse (Value t) = end_keys t
-stop_keys sparse _ = missing_key sparse
-
--- The new keys are the old keys and these, of equal ones the first.
-abbrev pub AddsKeys : {N : Type 0} → (N → Tree) → List (Key N) → List (Key N) → List Tree → Type 0
-AddsKeys tree before after more = distinct (key_trees tree after) ≡ distinct (key_trees tree before ++ more)
-
--- whether a key equals none of these keys
-abbrev pub is_new : List Tree → Tree → Bool
-is_new ks k = not (list_any (λ x. equal x k) ks)
-
--- whether a stop gives a key that equals none of those found so far
-abbrev pub gives_new : Bool → List Tree → Stop Tree → Bool
-gives_new sparse ks s = list_any (is_new (distinct ks)) (stop_keys sparse s)
-
--- The keys found are those of these stops, of equal ones the first, and each node is in these bytes.
-pub record AreKeysFrom {N : Type 0} (tree : N → Tree) (source : N → List ℕ) (sparse : Bool) (ks : List (Key N))
-    (bytes : List ℕ) (ss : Stops) : Type 0 where
-  pub listed : distinct (key_trees tree ks) ≡ distinct (flat_map (stop_keys sparse) ss)
-  pub same_source : AreKeysOf source bytes ks
-  pub there : AreKeysAt sparse ss ks

@@ -1,12 +1,12 @@
 -- The sort key of a document, and the order of two documents in a sort (MongoDB manual, "cursor.sort()").
-use Rattle.std.specs.Prelude.{◌≡◌, ℕ, Bool, false, true, List, [], ◌∷◌, map, Option, Some, None, IfSome, option_map}
+use Rattle.std.specs.Prelude.{List, [], ◌∷◌, map, Option, Some, None}
 use Rattle.std.specs.Prelude.{unwrap_or, if◌then◌else◌}
-use Rattle.std.specs.{List.flat_map, List.list_any, Ordering.is_lt, Ordering.ordering_reverse, Ordering.ordering_then}
+use Rattle.std.specs.{Ordering.is_lt, Ordering.ordering_reverse, Ordering.ordering_then}
 use Rattle.std.specs.{declared.cmp.Ordering.Ordering, declared.cmp.Ordering.TheVariants.Equal}
 use Rattle.bd_value.specs.{Order.cmp, Tree.Tree, Tree.leaf, Tree.null}
-use Rattle.bd_path.specs.{Key.IsKeyAt, Key.IsKeyOf, Key.key_tree, Key.keys, Key.stop_keys, PathNames.names_of}
-use Rattle.bd_path.specs.{Reach.Names, PathWalk.Stops, declared.key.Key.Key, declared.path.Path.Path, declared.sort.Dir.Dir}
-use Rattle.bd_path.specs.{declared.sort.Dir.TheVariants.Up, declared.sort.Dir.TheVariants.Down, declared.path_walk.Stop.Stop}
+use Rattle.bd_path.specs.{Key.keys, PathNames.names_of}
+use Rattle.bd_path.specs.{Reach.Names, declared.path.Path.Path, declared.sort.Dir.Dir}
+use Rattle.bd_path.specs.{declared.sort.Dir.TheVariants.Up, declared.sort.Dir.TheVariants.Down}
 
 -- the order of two keys in a direction of a sort: for 1 (Up) the comparison order, for -1 (Down) the reverse
 abbrev pub dir_cmp : Dir → Tree → Tree → Ordering
@@ -45,21 +45,3 @@ sort_cmp (s ∷ ss) a b =
 -- the paths and directions of a sort in memory, in order
 abbrev pub sort_paths : List (Path × Dir) → List SortPath
 sort_paths sort = map (λ s. record { path = names_of s.0; dir = s.1 }) sort
-
--- ---- the earliest of the keys found so far
-
--- whether a key comes before the earliest so far, or is the first one
-abbrev pub is_earlier : Dir → Option Tree → Tree → Bool
-is_earlier dir None k = true
-is_earlier dir (Some e) k = is_lt (dir_cmp dir k e)
-
--- whether a stop gives a key that comes before the earliest so far
-abbrev pub gives_earlier : Dir → Option Tree → Stop Tree → Bool
-gives_earlier dir e s = list_any (is_earlier dir e) (stop_keys false s)
-
--- The key is the earliest of those that these stops give, and if it is a node, that is in these bytes.
-pub record IsEarliestFrom {N : Type 0} (tree : N → Tree) (source : N → List ℕ) (dir : Dir) (key : Option (Key N))
-    (bytes : List ℕ) (ss : Stops) : Type 0 where
-  pub earliest : option_map (key_tree tree) key ≡ earliest_key dir (flat_map (stop_keys false) ss)
-  pub same_source : IfSome key (IsKeyOf source bytes)
-  pub there : IfSome key (IsKeyAt false ss)

@@ -7,10 +7,12 @@ ghost use Rattle.bd_value.specs.Order.{cmp, equal};
 ghost use Rattle.bd_value.specs.Tree.{elements_in};
 ghost use Rattle.bd_value.specs.Tree as trees;
 ghost use Rattle.bd_value.specs.declared.node.Kind.TheVariants as kinds;
-ghost use Rattle.bd_path.specs.Key.{AddsKeys, AreKeysAt, AreKeysFrom, AreKeysOf, IsKeyAt, IsKeyOf, distinct, end_keys, gives_new, indexed_keys};
+ghost use Rattle.bd_path.specs.Key.{AreKeysAt, AreKeysOf, IsKeyAt, IsKeyOf, distinct, end_keys, indexed_keys};
+ghost use Rattle.bd_path.specs.inside.Key.{AddsKeys, AreKeysFrom, gives_new};
 ghost use Rattle.bd_path.specs.Key.{is_empty_array, is_no_value, key_tree, key_trees, keys, missing_key, sparse_keys as sparse_keys_of, with_key};
 ghost use Rattle.bd_path.specs.PathNames.{names_of};
-ghost use Rattle.bd_path.specs.PathWalk.{IsStopOf, Stops, TakesOrEnds, stop_tree, stops};
+ghost use Rattle.bd_path.specs.PathWalk.{Stops, stops};
+ghost use Rattle.bd_path.specs.inside.PathWalk.{IsStopOf, TakesOrEnds, stop_tree};
 
 use crate::path::Path;
 use crate::path_walk::{Collector, Stop, path_walk};

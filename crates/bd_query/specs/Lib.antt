@@ -1,1 +1,1 @@
-pub mod FilterMatch
+pub mod inside

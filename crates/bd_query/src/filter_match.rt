@@ -10,7 +10,7 @@ ghost use Rattle.bd_path.specs.Path.{component_names};
 ghost use Rattle.bd_path.specs.PathNames.{names_of};
 ghost use Rattle.bd_path.specs.Reach.{document_collecting, ends, index_collecting, reach};
 ghost use Rattle.bd_path.specs.PathWalk.{CollectsNone};
-ghost use Rattle.bd_query.specs.FilterMatch.{is_matching, matches_element};
+ghost use Rattle.bd_query.specs.inside.FilterMatch.{is_matching, matches_element};
 ghost use Rattle.bd_query_filter.specs.Filter.{filters_from, operators_from, filter_tree, operator_tree};
 ghost use Rattle.bd_query_filter.specs.FilterMatch.{accepts, all_accept, all_hold, all_match, holds, matches, some_match};
 

@@ -8,7 +8,8 @@ use Rattle.bd_value.specs.Tree.{Tree, leaf, doc, array, code_scope, Doc, Fields,
 use Rattle.bd_value.specs.Tree.{items_of-list_of}
 use Rattle.bd_value.specs.Tree as trees
 use Rattle.bd_value.specs.declared.node.Kind.TheVariants as kinds
-use Rattle.bd_query_filter.specs.Fault.{Refusal, refusal_of, StopsAt, ReportsMisfit, deeper}
+use Rattle.bd_query_filter.specs.Fault.{Refusal, refusal_of, deeper}
+use Rattle.bd_query_filter.specs.inside.Fault.{StopsAt, ReportsMisfit}
 use Rattle.bd_query_filter.specs.{declared.fault.FilterFault.FilterFault, declared.fault.Stop.Stop, declared.filter.Filter.Filter, declared.filter.Filter.TheVariants.And, declared.filter.Operator.Operator}
 use Rattle.bd_query_filter.specs.{declared.filter.Operator.TheVariants.Not, declared.filter.Operator.TheVariants.ElemMatch}
 use Rattle.bd_query_filter.specs.{declared.filter.Operator.TheVariants.ElemMatchDocument}

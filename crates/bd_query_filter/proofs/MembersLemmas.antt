@@ -6,7 +6,7 @@ use Rattle.std.specs.{declared.cmp.Ordering.TheVariants.Less, declared.cmp.Order
 use Rattle.std.proofs.{Math.Bool.Bool-set, Math.Logic.∥∥₁_elim, lemmas.List.Folds.list_any_at, lemmas.List.Folds.list_any_none, lemmas.List.Sorted.list_any-IsPermutation}
 use Rattle.std.proofs.{lemmas.List.Sorted.searchable_from_sorted}
 use Rattle.bd_value.specs.{Tree.Tree, View.tree_of, declared.document.Value.Value}
-use Rattle.bd_query_filter.specs.Indexes.{tree_at}
+use Rattle.bd_query_filter.specs.inside.Indexes.{tree_at}
 
 -- some image passes a test exactly if some member does whose image passes it
 pub any_mapped : {A B : Type 0} (f : B → Bool) (h : A → B) (xs : List A) → list_any f (map h xs) ≡ list_any (λ x. f (h x)) xs

@@ -1,9 +1,8 @@
 -- Why a document is not a filter: which rule a pair or a member breaks,
 -- and its path of names and positions from the top.
-use Rattle.std.specs.Prelude.{◌≡◌, ℕ, List, [], ◌∷◌, Result, Ok, Err, map, string_bytes, codes}
-use Rattle.bd_query_filter.specs.declared.fault.{FilterFault.FilterFault, FilterFaultKind.FilterFaultKind, Stop.Stop}
+use Rattle.std.specs.Prelude.{◌≡◌, ℕ, List, [], ◌∷◌, Result, Err, map, string_bytes, codes}
+use Rattle.bd_query_filter.specs.declared.fault.{FilterFault.FilterFault, FilterFaultKind.FilterFaultKind}
 use Rattle.bd_query_filter.specs.declared.fault.FilterFaultKind.TheVariants as kinds
-use Rattle.bd_query_filter.specs.declared.fault.Stop.TheVariants as stops
 
 -- why a document is not a filter: the rule that is broken,
 -- and the path of names and array positions from the top to the pair or member that breaks it
@@ -46,18 +45,3 @@ refusal_of f = record { kind = f.kind; place = map string_bytes f.place.items }
 -- The fault in memory says that memory ran out, and has the empty path.
 abbrev pub IsOutOfMemory : FilterFault → Type 0
 IsOutOfMemory f = (f.kind ≡ kinds.NoMemory) × (f.place.items ≡ [])
-
--- Reading stopped at this refusal, or memory ran out.
-abbrev pub ReportsMisfit : Stop → Refusal → Type 0
-ReportsMisfit stops.NoMemory r = Unit {0}
-ReportsMisfit (stops.Fault f) r = r ≡ refusal_of f
-
--- This part of a filter is refused, and reading stopped at that refusal; or memory ran out.
-abbrev pub StopsAt : {B : Type 0} → Stop → Result B Refusal → Type 0
-StopsAt stops.NoMemory part = Unit {0}
-StopsAt (stops.Fault f) part = part ≡ Err (refusal_of f)
-
--- This part of a filter is what was read; or it is refused, and reading stopped there, or memory ran out.
-abbrev pub ReadsPart : {A B : Type 0} → (A → B) → Result A Stop → Result B Refusal → Type 0
-ReadsPart view (Ok x) part = part ≡ Ok (view x)
-ReadsPart view (Err stop) part = StopsAt stop part

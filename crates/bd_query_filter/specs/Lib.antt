@@ -3,5 +3,5 @@ pub mod Filter
 pub mod FilterBad
 pub mod FilterMatch
 pub mod FilterOf
-pub mod Indexes
 pub mod NameKind
+pub mod inside

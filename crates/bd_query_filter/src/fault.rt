@@ -1,7 +1,8 @@
 //! Why a document is not a filter, and where.
 
 ghost use Rattle.std.specs.Prelude.{◌≡◌, []};
-ghost use Rattle.bd_query_filter.specs.Fault.{Refusal, ReportsMisfit, deeper, filter_fault_number, filter_fault_words};
+ghost use Rattle.bd_query_filter.specs.Fault.{Refusal, deeper, filter_fault_number, filter_fault_words};
+ghost use Rattle.bd_query_filter.specs.inside.Fault.{ReportsMisfit};
 ghost use Rattle.bd_query_filter.specs.declared.fault.Stop.TheVariants.{NoMemory};
 
 use std::alloc::{AllocError, AllocFailed, Global};

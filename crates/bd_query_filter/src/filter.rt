@@ -4,7 +4,7 @@ ghost use Rattle.std.specs.Prelude.{◌≡◌, IfOk, length};
 ghost use Rattle.std.specs.List.{list_any, range_with_len};
 ghost use Rattle.std.specs.List.Sorted.{IsPermutation, IsSortedByKey};
 ghost use Rattle.bd_value.specs.Order.{cmp, equal};
-ghost use Rattle.bd_query_filter.specs.Indexes.{tree_at};
+ghost use Rattle.bd_query_filter.specs.inside.Indexes.{tree_at};
 
 use bd_path::Path;
 use bd_value::{Kind, NoMemory, Reading, Tree, Value, compare_nodes};

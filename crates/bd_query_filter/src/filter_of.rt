@@ -4,7 +4,8 @@ ghost use Rattle.std.specs.Prelude.{◌≡◌, ◌⊎◌, map, IfOk, IfErr, Ok, 
 ghost use Rattle.bd_value.specs.View.{pairs};
 ghost use Rattle.bd_path.specs.Path.{path_of};
 ghost use Rattle.bd_value.specs.Tree.{Doc, fields_of, items_of, values_of};
-ghost use Rattle.bd_query_filter.specs.Fault.{IsOutOfMemory, ReadsPart, refusal_of};
+ghost use Rattle.bd_query_filter.specs.Fault.{IsOutOfMemory, refusal_of};
+ghost use Rattle.bd_query_filter.specs.inside.Fault.{ReadsPart};
 ghost use Rattle.bd_query_filter.specs.Filter as filters;
 ghost use Rattle.bd_query_filter.specs.Filter.{filter_tree, operator_tree};
 ghost use Rattle.bd_query_filter.specs.FilterBad.{IsBadAt};
@@ -249,7 +250,10 @@ fn is_value_form<N: Reading>(pairs: &N::Rest) -> bool
     let Some((name, _, _)) = N::next(pairs) else {
         return false;
     };
-    !matches!(NameKind::from_name(name), NameKind::Logical(_) | NameKind::Field)
+    !matches!(
+        NameKind::from_name(name),
+        NameKind::Logical(_) | NameKind::Field
+    )
 }
 
 /// The meaning of a name in a filter.
@@ -300,10 +304,22 @@ const OPERATORS: [(&str, NameKind); 17] = [
     ("$nor", NameKind::Logical(LogicalOperator::Nor)),
     ("$eq", NameKind::Plain(PlainOperator::Equal)),
     ("$ne", NameKind::Plain(PlainOperator::NotEqual)),
-    ("$gt", NameKind::Plain(PlainOperator::Order(Relation::Above))),
-    ("$gte", NameKind::Plain(PlainOperator::Order(Relation::AtLeast))),
-    ("$lt", NameKind::Plain(PlainOperator::Order(Relation::Below))),
-    ("$lte", NameKind::Plain(PlainOperator::Order(Relation::AtMost))),
+    (
+        "$gt",
+        NameKind::Plain(PlainOperator::Order(Relation::Above)),
+    ),
+    (
+        "$gte",
+        NameKind::Plain(PlainOperator::Order(Relation::AtLeast)),
+    ),
+    (
+        "$lt",
+        NameKind::Plain(PlainOperator::Order(Relation::Below)),
+    ),
+    (
+        "$lte",
+        NameKind::Plain(PlainOperator::Order(Relation::AtMost)),
+    ),
     ("$in", NameKind::Plain(PlainOperator::In)),
     ("$nin", NameKind::Plain(PlainOperator::NotIn)),
     ("$all", NameKind::Plain(PlainOperator::All)),

@@ -3,7 +3,8 @@
 ghost use Rattle.std.specs.Prelude.{◌≡◌, ◌||◌, ◌++◌, decimal, map, option_map};
 ghost use Rattle.bd_value.specs.View.{kind_of, tree_of};
 ghost use Rattle.bd_value.specs.Tree.{values_of, items_of};
-ghost use Rattle.bd_query_filter.specs.Fault.{ReadsPart, Refusal, ReportsMisfit, deeper};
+ghost use Rattle.bd_query_filter.specs.Fault.{Refusal, deeper};
+ghost use Rattle.bd_query_filter.specs.inside.Fault.{ReadsPart, ReportsMisfit};
 ghost use Rattle.bd_query_filter.specs.Filter.{compares, operator_tree};
 ghost use Rattle.bd_query_filter.specs.FilterMatch.{relates};
 ghost use Rattle.bd_query_filter.specs.FilterOf.{all_kinds, has_operators, is_bound, is_regex, member_value, member_values, members_of, operand_kinds};

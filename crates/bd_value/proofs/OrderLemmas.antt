@@ -8,7 +8,8 @@ use Rattle.std.proofs.lemmas.Cmp.{nat_cmp_total, int_cmp_total, nat_list_cmp_tot
 use Rattle.bd_value.specs.Tree.{Scalar, min_key, Leaf, Tree, leaf, doc, array, code_scope, Items, no_items, item, Fields, no_fields, field, Doc, Pair}
 use Rattle.bd_value.specs.Tree.{fields_of, items_of, pairs_of, list_of, values_of, scope_of, leaf_of, AreParts}
 use Rattle.bd_value.specs.View.{kind_of}
-use Rattle.bd_value.specs.Order.{class_of, class_of_kind, class_rank, bytes_cmp, class_cmp, cmp, fields_cmp, fields_in, items_cmp, items_in, Rank, rank_cmp, rank_in, leaf_rank, same_class_cmp}
+use Rattle.bd_value.specs.Order.{class_of, class_of_kind, class_rank, bytes_cmp, class_cmp, cmp, fields_cmp, fields_in, items_cmp, items_in, Rank, rank_cmp, rank_in, same_class_cmp}
+use Rattle.bd_value.specs.inside.Order.{leaf_rank}
 use Rattle.bd_value.specs.declared.node.Kind.{Kind}
 use Rattle.bd_value.specs.declared.node.Kind.TheVariants as kinds
 use Rattle.bd_value.specs.declared.node.Class.TheVariants as classes

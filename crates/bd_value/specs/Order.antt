@@ -3,13 +3,12 @@ use Rattle.std.specs.Prelude.{ℕ, ℤ, pos, Bool, ◌+◌, ◌==◌, List, [], 
 use Rattle.std.specs.{Cmp.Lexicographic.slice_cmp, declared.cmp.Ordering.Ordering}
 use Rattle.std.specs.declared.cmp.Ordering.TheVariants.{Less, Equal, Greater}
 use Rattle.std.specs.Ordering.{nat_cmp, int_cmp, ordering_then, is_eq}
-use Rattle.bd_value.specs.Tree.{Leaf, scalar_leaf, code_leaf, Scalar, int32, int64, text, symbol, binary, object_id, boolean}
+use Rattle.bd_value.specs.Tree.{Scalar, int32, int64, text, symbol, binary, object_id, boolean}
 use Rattle.bd_value.specs.Tree.{date, timestamp, regex, db_pointer, code, Tree, leaf, doc, array, code_scope, Items}
 use Rattle.bd_value.specs.Tree.{no_items, item, Fields, no_fields, field}
 use Rattle.bd_value.specs.{View.kind_of, declared.node.Kind.Kind, declared.node.Class.Class}
 use Rattle.bd_value.specs.declared.node.Kind.TheVariants as kinds
 use Rattle.bd_value.specs.declared.node.Class.TheVariants as classes
-use Rattle.bd_value.specs.declared.order.Rank as memory
 
 -- the class of a kind in the comparison order: one of seventeen
 abbrev pub class_of_kind : Kind → Class
@@ -97,15 +96,6 @@ scalar_rank (regex pattern options) = by_bytes pattern options
 scalar_rank (db_pointer space id) = by_bytes space id
 scalar_rank (code s) = by_bytes s []
 scalar_rank _ = by_number (pos 0)
-
--- what a scalar, or the code of code with scope, is compared by within its class
-abbrev pub leaf_rank : Leaf → Rank
-leaf_rank (scalar_leaf s) = scalar_rank s
-leaf_rank (code_leaf s) = by_bytes s []
-
--- the rank that a rank in memory means
-abbrev pub rank_view : memory.Rank → Rank
-rank_view r = record { number = r.number; size = r.size; lesser = r.lesser; bytes = r.bytes.now; more = r.more.now }
 
 -- the order of texts, by their UTF-8 bytes, and of bytes: a proper prefix is less
 abbrev pub bytes_cmp : List ℕ → List ℕ → Ordering

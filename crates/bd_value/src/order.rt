@@ -3,7 +3,8 @@
 ghost use Rattle.std.specs.Prelude.{◌≡◌};
 ghost use Rattle.std.specs.declared.cmp.Ordering.TheVariants.{Less, Equal, Greater};
 ghost use Rattle.bd_value.specs.Order.{class_of, class_of_kind, class_cmp, cmp, equal, fields_cmp, items_cmp, pair_cmp, same_class_cmp};
-ghost use Rattle.bd_value.specs.Order.{rank_cmp, rank_in, rank_view, binary_size, by_bytes, by_number, leaf_rank};
+ghost use Rattle.bd_value.specs.Order.{rank_cmp, rank_in, binary_size, by_bytes, by_number};
+ghost use Rattle.bd_value.specs.inside.Order.{rank_view, leaf_rank};
 ghost use Rattle.bd_value.specs.Tree.{fields_of, items_of, values_of, HasNoParts};
 ghost use Rattle.bd_value.specs.View.{tree_of, kind_of, view_of};
 ghost use Rattle.bd_value.specs.declared.node.Kind.TheVariants as kinds;

@@ -10,7 +10,7 @@ use Rattle.bd_wide_number.specs.Value.{nan, infinite, finite, one, least_double,
 use Rattle.bd_wide_number.specs.Decimal128.{five_bits, coefficient_of, biased_exponent}
 use Rattle.bd_wide_number.specs.Code.{bits_of, double_code, double_part, scaled_code, whole_part, within_64}
 use Rattle.bd_wide_number.specs.declared.odd.Odd.{Odd}
-use Rattle.bd_wide_number.specs.Odd.{fives, IsOddOf, IsWide}
+use Rattle.bd_wide_number.specs.inside.Odd.{fives, IsOddOf, IsWide}
 use Rattle.bd_wide_number.proofs.OddLemmas.{products, fives_pos, odd_form, odd_least}
 use Rattle.bd_wide_number.proofs.ValueLemmas.{by_parts, doubled_magnitude, magnitude_form, magnitude_least, small_magnitude}
 

@@ -5,7 +5,7 @@ use Rattle.std.proofs.lemmas.Nat.{mod-pow-add, mul-lt, shr_split}
 use Rattle.std.proofs.lemmas.Nat.Bits.{bit_at-trailing_zeros}
 use Rattle.std.specs.Int.{trailing_zeros, w128}
 use Rattle.bd_wide_number.specs.declared.odd.Odd.{Odd}
-use Rattle.bd_wide_number.specs.Odd.{fives, IsOddOf, IsWide}
+use Rattle.bd_wide_number.specs.inside.Odd.{fives, IsOddOf, IsWide}
 
 -- a fact also holds if there is no value
 pub if_none : {A P : Type 0} (o : Option A) → P → IfNone o P

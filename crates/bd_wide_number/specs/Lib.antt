@@ -1,4 +1,4 @@
 pub mod Code
 pub mod Decimal128
-pub mod Odd
 pub mod Value
+pub mod inside

@@ -13,7 +13,7 @@
 //!
 //! - `number`: what a number of BSON is.
 //! - `decimal128`: the parts of a decimal128.
-//! - `odd`: numbers as an odd number times a power of two (`specs/Odd.antt`).
+//! - `odd`: numbers as an odd number times a power of two (`specs/inside/Odd.antt`).
 //! - `code`: `code_of` for numbers at a path, `whole_of` for all others.
 //! - `laws`: codes are in the order of the numbers.
 #![tactic(auto)]

@@ -2,7 +2,7 @@
 
 ghost use Rattle.std.specs.Prelude.{◌≡◌, ◌≢◌, ◌<◌, ◌≤◌, ℕ, ◌*◌, ◌^◌, IfSome, IfNone};
 ghost use Rattle.std.specs.Option.{SomeIff};
-ghost use Rattle.bd_wide_number.specs.Odd.{IsOddOf, IsWide, fives as fives_unit};
+ghost use Rattle.bd_wide_number.specs.inside.Odd.{IsOddOf, IsWide, fives as fives_unit};
 
 /// An odd number times a power of two.
 #[derive(Clone, Copy)]

@@ -16,7 +16,7 @@ use Rattle.fast_float.proofs.ExactLemmas.{ten_to_pos}
 use Rattle.ryu.specs.Plain.{IsPlain, IsLaidOut, IsLaidOutNumber}
 use Rattle.bd_wide_text.specs.Layout.{Adds}
 use Rattle.bd_wide_text.specs.Double.{IsTextOf, IsDoubleText}
-use Rattle.bd_wide_text.specs.LaidOutAnew.{AreParts, IsLaidOutAnew, IsSized}
+use Rattle.bd_wide_text.specs.inside.LaidOutAnew.{AreParts, IsLaidOutAnew, IsSized}
 
 -- ---- words
 

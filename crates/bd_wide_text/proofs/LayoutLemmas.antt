@@ -19,7 +19,7 @@ use Rattle.fast_float.proofs.Rows.{AllDigits-take, AllDigits-drop, AllDigits-app
 use Rattle.ryu.proofs.Texts.{value_zeros}
 use Rattle.bd_wide_text.specs.Layout.{mantissa, zeros}
 use Rattle.bd_wide_text.specs.Double.{AreSignificant, padded, laid_out, nearest_double}
-use Rattle.bd_wide_text.specs.LaidOutAnew.{AreParts, IsNumberOf, IsLaidOutAnew, AreZerosBefore, AreZerosAfter, small_text, large_text}
+use Rattle.bd_wide_text.specs.inside.LaidOutAnew.{AreParts, IsNumberOf, IsLaidOutAnew, AreZerosBefore, AreZerosAfter, small_text, large_text}
 
 -- ---- equal decimals have one nearest double
 

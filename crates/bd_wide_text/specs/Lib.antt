@@ -1,4 +1,4 @@
 pub mod Decimal128
 pub mod Double
 pub mod Layout
-pub mod LaidOutAnew
+pub mod inside

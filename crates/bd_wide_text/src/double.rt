@@ -6,7 +6,7 @@ ghost use Rattle.std.specs.Float.{binary64};
 ghost use Rattle.std.specs.Float.Ieee.{of_bits};
 ghost use Rattle.fast_float.specs.Text.{scan};
 ghost use Rattle.bd_wide_text.specs.Double.{IsDoubleText, padded};
-ghost use Rattle.bd_wide_text.specs.LaidOutAnew.{AreParts, AreZerosAfter, AreZerosBefore, IsLaidOutAnew, IsSized, large_text, small_text};
+ghost use Rattle.bd_wide_text.specs.inside.LaidOutAnew.{AreParts, AreZerosAfter, AreZerosBefore, IsLaidOutAnew, IsSized, large_text, small_text};
 ghost use Rattle.bd_wide_text.specs.Layout.{Adds, mantissa};
 
 use crate::layout::write_mantissa;

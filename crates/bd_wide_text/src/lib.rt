@@ -10,7 +10,7 @@
 //! assert!(rt; text.as_slice() == b"1.5".as_slice());
 //! ```
 //!
-//! - `double`: `write_double`, by the digits that `ryu` finds (`specs/LaidOutAnew.antt`).
+//! - `double`: `write_double`, by the digits that `ryu` finds (`specs/inside/LaidOutAnew.antt`).
 //! - `decimal128`: `write_decimal128`.
 //! - `layout`: what both write.
 //! - `laws`: that the text of a double reads back as it.

@@ -3,7 +3,7 @@ use Rattle.std.specs.List.{list_any}
 use Rattle.std.proofs.{lemmas.Bool.or_left, lemmas.List.drop_all, lemmas.List.Folds.list_any-append}
 use Rattle.bd_value.specs.{Tree.first_of, Tree.values_of, Tree.elements_in, Tree.Doc, Tree.fields_of, Tree.fields_size, Tree.pairs_in}
 use Rattle.bd_value.proofs.PartsLemmas as parted
-use Rattle.bd_path.specs.{Path.component_names, Reach.document_collecting, Reach.is_document, PathWalk.TakesStops, PathWalk.stopping}
+use Rattle.bd_path.specs.{Path.component_names, Reach.document_collecting, Reach.is_document, inside.PathWalk.TakesStops, PathWalk.stopping}
 use Rattle.bd_path.proofs.ReachLemmas as down
 use Rattle.bd_path.proofs.PathWalkLemmas as visits
 use Rattle.bd_path.proofs.path_walk.+path_walk.Goals.{path_walk_documents-then-is_document+else-not-path_walk_from, path_walk_documents-else-is_document}

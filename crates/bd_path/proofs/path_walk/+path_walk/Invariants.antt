@@ -1,7 +1,7 @@
 use Rattle.std.proofs.Common.{◌≡◌, ◌<◌, ◌+◌, ◌*◌, drop, take}
 use Rattle.std.specs.List.{list_any}
 use Rattle.bd_value.specs.{Tree.fields_of, Tree.fields_size, Tree.items_of, Tree.tree_size, Tree.values_of, Tree.elements_in}
-use Rattle.bd_path.specs.{Path.component_names, Reach.each_collecting, Reach.is_document, PathWalk.stopping, PathWalk.TakesStops}
+use Rattle.bd_path.specs.{Path.component_names, Reach.each_collecting, Reach.is_document, PathWalk.stopping, inside.PathWalk.TakesStops}
 use Rattle.bd_path.proofs.path_walk.+path_walk.Given as goal
 
 abbrev pub decreases-path_walk_from : goal.decreases-path_walk_from

@@ -7,7 +7,7 @@ use Rattle.bd_path.specs.{Reach.Names, Path.component_names, PathNames.names_of,
 use Rattle.bd_path.specs.Reach.{document_collecting, each_collecting, ends, index_collecting, is_document, reach}
 use Rattle.bd_path.proofs.ReachLemmas as down
 use Rattle.bd_path.proofs.PathWalkLemmas as visits
-use Rattle.bd_query.specs.FilterMatch.{is_matching, matches_element}
+use Rattle.bd_query.specs.inside.FilterMatch.{is_matching, matches_element}
 use Rattle.bd_query_filter.specs.Filter.{filters_from, operators_from, filter_tree, operator_tree}
 use Rattle.bd_query_filter.specs.FilterMatch.{all_accept, all_match, any_candidate, holds, is_of_type, is_value}
 use Rattle.bd_query_filter.proofs.FilterOfLemmas.{operator_tree-ElemMatch, operator_tree-ElemMatchDocument, operator_tree-Type}

@@ -2,7 +2,7 @@ use Rattle.std.proofs.Common.{◌≡◌, ◌≤◌, ◌<◌, ◌+◌, ◌*◌, d
 use Rattle.std.specs.List.{list_any}
 use Rattle.bd_value.specs.Tree.{elements_in, values_of, fields_of, fields_size, items_of, tree_size}
 use Rattle.bd_path.specs.{PathNames.names_of, Path.component_names, Reach.each_collecting, Reach.ends, Reach.reach}
-use Rattle.bd_query.specs.FilterMatch.{is_matching, matches_element}
+use Rattle.bd_query.specs.inside.FilterMatch.{is_matching, matches_element}
 use Rattle.bd_query_filter.specs.Filter.{filters_from, operators_from, filter_tree, operator_tree}
 use Rattle.bd_query_filter.specs.FilterMatch.{all_accept, all_hold, all_match, some_match}
 use Rattle.bd_query.proofs.FilterMatchLemmas.{body_size, filter_size, filters_size, operator_size, operators_size}

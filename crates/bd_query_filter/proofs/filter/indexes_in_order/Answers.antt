@@ -1,7 +1,7 @@
 use Rattle.std.proofs.Common.{rules}
 use Rattle.std.proofs.{lemmas.Fn.always_returns_same, lemmas.List.Sorted.ranks_by}
 use Rattle.bd_value.proofs.OrderLemmas.{cmp_total}
-use Rattle.bd_query_filter.specs.Indexes.{tree_at}
+use Rattle.bd_query_filter.specs.inside.Indexes.{tree_at}
 use Rattle.bd_query_filter.proofs.filter.indexes_in_order.Goals as goal
 
 pub returns-clause-ascending : goal.returns-clause-ascending

@@ -2,7 +2,7 @@ use Rattle.std.proofs.Common.{◌≡◌, map, length, length-append, [], ◌∷�
 use Rattle.std.proofs.lemmas.Result.{err_from_is_err_and}
 use Rattle.bd_value.specs.{Tree.values_of, Tree.fields_of, Tree.items_of}
 use Rattle.bd_path.specs.Path.{path_of}
-use Rattle.bd_query_filter.specs.{Fault.ReadsPart, NameKind.name_kind_of}
+use Rattle.bd_query_filter.specs.{inside.Fault.ReadsPart, NameKind.name_kind_of}
 use Rattle.bd_query_filter.specs.Filter.{all_of, filters_from, has_document, has_element, negates, operators_from, filter_tree, operator_tree}
 use Rattle.bd_query_filter.specs.FilterOf.{element_operator, filters_of, member_filter, member_filters, not_operator, operand_filters, operator_of, operators_of, pair_filter}
 use Rattle.bd_query_filter.specs.FilterOf.{path_operators, read_as, read_at}

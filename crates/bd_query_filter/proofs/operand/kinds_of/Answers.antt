@@ -1,7 +1,7 @@
 use Rattle.std.proofs.Common.{sym, ap, subst, ◌∙◌}
 use Rattle.std.proofs.lemmas.Result.{err_from_is_err_and}
 use Rattle.bd_value.specs.{Tree.values_of, Tree.items_of}
-use Rattle.bd_query_filter.specs.{Fault.StopsAt, FilterOf.all_kinds, FilterOf.or_bad_operand}
+use Rattle.bd_query_filter.specs.{inside.Fault.StopsAt, FilterOf.all_kinds, FilterOf.or_bad_operand}
 use Rattle.bd_query_filter.proofs.FilterOfLemmas.{more_kinds, some_types}
 use Rattle.bd_query_filter.proofs.operand.kinds_of.Goals as goal
 

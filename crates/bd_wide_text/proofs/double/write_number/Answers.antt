@@ -4,7 +4,7 @@ use Rattle.std.specs.Float.Ieee.{of_bits}
 use Rattle.std.specs.Float.Parse.{parse_float}
 use Rattle.fast_float.specs.Text.{scan, nearest}
 use Rattle.ryu.specs.Plain.{IsLaidOutNumber}
-use Rattle.bd_wide_text.specs.LaidOutAnew.{AreParts}
+use Rattle.bd_wide_text.specs.inside.LaidOutAnew.{AreParts}
 use Rattle.bd_wide_text.proofs.DoubleLemmas as doubles
 use Rattle.bd_wide_text.proofs.double.write_number.Goals as goal
 

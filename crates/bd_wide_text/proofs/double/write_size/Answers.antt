@@ -2,7 +2,7 @@ use Rattle.std.proofs.Common.{◌≡◌, ◌≢◌, ◌<◌, List, ℕ, [], ◌+
 use Rattle.fast_float.specs.Text.{Parts, scan}
 use Rattle.bd_wide_text.specs.Double.{padded}
 use Rattle.bd_wide_text.specs.Layout.{mantissa}
-use Rattle.bd_wide_text.specs.LaidOutAnew.{AreZerosAfter, AreZerosBefore, large_text, small_text}
+use Rattle.bd_wide_text.specs.inside.LaidOutAnew.{AreZerosAfter, AreZerosBefore, large_text, small_text}
 use Rattle.bd_wide_text.proofs.LayoutLemmas as layouts
 use Rattle.bd_wide_text.proofs.DoubleLemmas as doubles
 use Rattle.bd_wide_text.proofs.double.write_size.Goals as goal

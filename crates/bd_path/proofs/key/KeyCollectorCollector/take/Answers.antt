@@ -1,6 +1,6 @@
 use Rattle.std.proofs.Common.{◌++◌, ◌∷◌, []}
 use Rattle.std.proofs.lemmas.Result.{on_ok_weaker}
-use Rattle.bd_path.specs.{Key.is_empty_array, Key.is_no_value, PathWalk.stop_tree, declared.path_walk.Stop.TheVariants.Value}
+use Rattle.bd_path.specs.{Key.is_empty_array, Key.is_no_value, inside.PathWalk.stop_tree, declared.path_walk.Stop.TheVariants.Value}
 use Rattle.bd_path.proofs.KeyLemmas as added
 use Rattle.bd_path.proofs.PathWalkLemmas as key
 use Rattle.bd_path.proofs.key.KeyCollectorCollector.take.Goals as goal

@@ -1,5 +1,5 @@
 use Rattle.std.proofs.Common.{ℕ, suc, ◌<◌}
-use Rattle.bd_path.specs.{Path.component_names, PathWalk.IsOpen, PathWalk.Leads, PathWalk.LedTo, declared.path_walk.Visits.TheVariants.From}
+use Rattle.bd_path.specs.{Path.component_names, inside.PathWalk.IsOpen, PathWalk.Leads, PathWalk.LedTo, declared.path_walk.Visits.TheVariants.From}
 use Rattle.bd_path.proofs.path_walk.Positions.after.Given as goal
 
 abbrev pub invariant-loop-k : goal.invariant-loop-k

@@ -1,5 +1,5 @@
 use Rattle.std.proofs.Common.{ℕ, ◌<◌, ◌⊎◌}
-use Rattle.bd_path.specs.PathWalk.{IsOpen}
+use Rattle.bd_path.specs.inside.PathWalk.{IsOpen}
 use Rattle.bd_path.proofs.path_walk.Positions.open_before.Given as goal
 
 abbrev pub invariant-loop-k : goal.invariant-loop-k

@@ -3,7 +3,7 @@ use Rattle.std.specs.List.Sorted.{IsBinarySearchResult, IsSearchInRange}
 use Rattle.std.proofs.lemmas.Fn.{always_returns_same}
 use Rattle.bd_value.specs.Order.{cmp, equal}
 use Rattle.bd_value.proofs.OrderLemmas.{cmp_total}
-use Rattle.bd_query_filter.specs.Indexes.{tree_at}
+use Rattle.bd_query_filter.specs.inside.Indexes.{tree_at}
 use Rattle.bd_query_filter.proofs.MembersLemmas.{any_of_indexes, found_as_any}
 use Rattle.bd_query_filter.proofs.filter.Members.contains.Goals as goal
 

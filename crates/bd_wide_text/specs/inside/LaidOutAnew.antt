@@ -1,10 +1,12 @@
 -- The text that `ryu` gives of a double, laid out anew: a means of proof.
-use Rattle.std.specs.Prelude.{◌≡◌, ◌≢◌, ◌<◌, ◌≤◌, ◌⊎◌, ℕ, ◌+◌, ◌-◌, ◌==◌, ◌||◌, Bool, List, [], ◌++◌, length, take, drop, slice_index, nat_le, if◌then◌else◌, codes, decimal, ℤ}
+use Rattle.std.specs.Prelude.{◌≡◌, ◌≢◌, ◌<◌, ◌≤◌, ◌⊎◌, ℕ, ◌+◌, ◌-◌, ◌==◌, ◌||◌, Bool, List, [], ◌++◌, length, take, drop}
+use Rattle.std.specs.Prelude.{slice_index, nat_le, if◌then◌else◌, codes, decimal, ℤ}
 use Rattle.std.specs.Float.Ieee.{Float, nan, inf, fin}
 use Rattle.std.specs.Float.{binary64}
 use Rattle.fast_float.specs.Text.{Parts, digits_of, text_of, nearest}
 use Rattle.ryu.specs.Plain.{IsPlain, IsLaidOut}
-use Rattle.bd_wide_text.specs.{Double.AreSignificant, Double.laid_out, Double.nearest_double, Double.padded, Layout.mantissa, Layout.zeros}
+use Rattle.bd_wide_text.specs.{Double.AreSignificant, Double.laid_out, Double.nearest_double, Double.padded}
+use Rattle.bd_wide_text.specs.{Layout.mantissa, Layout.zeros}
 
 -- The float is a number other than zero.
 abbrev pub IsSized : Float → Type 0
