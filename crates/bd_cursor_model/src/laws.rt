@@ -29,8 +29,8 @@ pub fn batches_are_the_first()
     ensures { (ps sizes : List ℕ) → concat (batches ps sizes) ≡ take (sum sizes) ps }
 {}
 
-/// A position within what remains after a token, or within the whole answer, is all that is needed to resume: exactly the rest follows,
-/// whoever made the token.
+/// A position within what remains after a token, or within the whole answer, is enough to resume: exactly the rest follows, whoever
+/// made the token.
 #[tactic(auto, using(crate::proofs::AnswerLemmas::rest_follows))]
 pub fn rests_follow()
     ensures { (a : Selection) → IsTotalOrder a.by →
