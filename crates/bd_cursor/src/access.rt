@@ -90,7 +90,8 @@ impl<'a> Access<'a> {
     }
 
     /// The places of the documents that match and come after the last one returned, in the order of the sort, at most `most`:
-    /// the same on each access path. Nothing is sorted if the documents are reached in that order. It fails only if memory runs out.
+    /// the same on each access path. If the documents are reached in that order, nothing is sorted. It fails only if memory
+    /// runs out.
     pub fn places(
         &self,
         alloc: Global,

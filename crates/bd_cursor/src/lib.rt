@@ -1,6 +1,6 @@
 //! Cursors over a dump: answers in batches, which tokens resume.
 //!
-//! A session owns a dump and indexes of it. A cursor of it returns the answer of a request in batches of any sizes, and the token of
+//! A session owns a dump and indexes of it. A cursor of it returns the answer of a request in batches of any sizes. The token of
 //! each batch resumes with exactly what was not returned, in this session or another over the same dump. Which documents those are:
 //! `bd_cursor_model`.
 //!

@@ -361,8 +361,8 @@ impl DigestedDump {
     }
 }
 
-/// A request puts the documents of a dump into one order, up to ties, and its limit can be counted. So the laws of sessions hold for
-/// it: a cursor returns the answer of its request in batches, and each token resumes with the rest.
+/// A request puts the documents of a dump into one order, up to ties, and its limit can be counted. So the laws of sessions apply:
+/// a cursor returns the answer of its request in batches, and each token resumes with the rest.
 #[tactic(auto, using(crate::proofs::CursorLemmas::requested_total))]
 pub fn requests_are_fair(dump: &Dump, request: &Request)
     ensures { IsFair (query_of dump.now request.now) }
