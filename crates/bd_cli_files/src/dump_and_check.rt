@@ -135,7 +135,7 @@ impl<O: Output> Visitor<O> for Checker {
     }
 }
 
-/// Reports how many documents were checked, how many of them have a fault, and why no more of the input was read. It takes no memory.
+/// Reports how many documents were checked, how many have a fault, and why no more of the input was read. It takes no memory.
 fn report_findings<E: Output>(
     documents: u32,
     faulty: u32,

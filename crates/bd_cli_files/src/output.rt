@@ -242,7 +242,7 @@ fn push_place(fault: &Fault, text: &mut String) -> Result<(), NoMemory>
     push_number(fault.offset, text)
 }
 
-/// Appends a fault: its document number and offset, the names of its path, and its message. On `NoMemory` a prefix of it may remain.
+/// Appends a fault: its document number and offset, the names of its path, its message. On `NoMemory` a prefix of it may remain.
 pub(crate) fn push_fault(fault: &Fault, text: &mut String) -> Result<(), NoMemory>
     ensures { OnOk result (string_bytes text.new
         ≡ string_bytes text.old ++ fault_text fault.now.document (fault_view fault.now)) }

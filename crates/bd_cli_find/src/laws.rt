@@ -14,10 +14,10 @@ ghost use Rattle.bd_cli_find.specs.Asking.{RequestsInWords, PageRequest};
 ghost use Rattle.bd_cli_files.specs.{Output.Transcript, Output.lines, Pack.PacksLines};
 ghost use Rattle.bd_extjson_pack.specs.Packable.{plain};
 
-/// A collection may be split between documents, and `find` may search each part: without a skip, and without a limit or with a
-/// limit of at least skip plus limit. The lines of the parts, joined and packed, are a dump for which `find` prints the same
-/// lines as for the whole, if the text of each document is read back as that document. Without a batch and a token these
-/// lines are the whole output of `find`.
+/// A collection may be split between documents, and `find` may search each part: without a skip, and either without a limit or
+/// with one that is at least the skip plus the limit of the whole search. The lines of the parts, joined and packed, are a dump
+/// for which `find` prints the same lines as for the whole, if the text of each document is read back as that document. Without
+/// a batch and a token these lines are the whole output of `find`.
 pub fn parts_print_the_whole()
     ensures output { (f : Filter) (ss : List SortPath) (skip limit most : ℕ)
         (parts : List (List Doc)) → IsEnough (document_request f ss skip limit) most →
