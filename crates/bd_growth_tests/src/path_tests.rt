@@ -34,7 +34,7 @@ fn keys_of_an_array(alloc: Global) -> Result<bool, RowFault> {
     Ok(are_keys && matches!(values.as_slice(), [Value::Int32(5), Value::Int32(7)]))
 }
 
-/// A copy of all components has all of them.
+/// A copy of the array has all its elements.
 fn copies(alloc: Global) -> Result<bool, RowFault> {
     let document = read_doc(alloc, b"{\"a\":[5,7,5]}")?;
     let Some(array) = document.first("a") else {
