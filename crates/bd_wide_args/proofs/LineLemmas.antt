@@ -1,4 +1,4 @@
--- The lines that are taken have an order.
+-- Accepted command lines have a command.
 use Rattle.std.proofs.Common.{ap₂, subst, ◌⊎◌, inl, inr, ◌≡◌, ◌∙◌, ◌||◌, Bool, cond, true, false, not, refl, sym, ap, List, [], ◌∷◌, codes, Option, Some, None}
 use Rattle.std.proofs.Common.{Box, find, slice_get, unwrap_or, IfSome, is_some, option_and_then, option_map}
 use Rattle.std.specs.Prelude.{⊤}
@@ -27,7 +27,7 @@ line_simple = refl
 pub line_free : is_simple_and_free line_app ≡ true
 line_free = refl
 
--- what holds of each command
+-- each of the commands has the property
 EachShape : (Shape → Type 0) → List Shape → Type 0
 EachShape P [] = ⊤
 EachShape P (s ∷ rest) = P s × EachShape P rest
@@ -37,7 +37,7 @@ unfolding EachShape
 found_shape P p [] each = tt
 found_shape P p (s ∷ rest) each = elim (p s) as (λ b. IfSome (cond b (Some s) (find p rest)) P) [ true ↦ each.0 | false ↦ found_shape P p rest each.1 ]
 
--- the words of the command have an order where they have no fault
+-- arguments of the command without a fault have an `Order`
 abbrev HasOrders : Shape → Type 0
 HasOrders s = (words : List Text) → level_fault s [] nothing_held words false [] ≡ [] → is_some (ordered_by s.name (rows_after s.rules [] words)) ≡ true
 
@@ -45,7 +45,7 @@ file_given : (given rest : Bool) → check_kinds false false (not given || rest)
 file_given true rest e = refl
 file_given false rest e = absurd (refused MissingRequiredArgument e)
 
--- a command that requires FILE has it
+-- if a command requires FILE, FILE is given
 file_there : (s : Shape) (words : List Text) → is_plain s ≡ true
     → ((rows : List Row) → check_fault s rows false ≡ [] → is_given (codes "file") rows ≡ true)
     → level_fault s [] nothing_held words false [] ≡ [] → is_some (first_of (codes "file") (rows_after s.rules [] words)) ≡ true
@@ -62,7 +62,7 @@ some_mapped f (Some x) e = refl
 abbrev pub shape_in : App → Shape
 shape_in app = built_leaf (inherited (on_top with_leaf_noted (on_top marked_built line_app)).top app.top)
 
--- a command that takes a file alone
+-- a command that takes only a file
 abbrev pub file_shape : Text → Shape
 file_shape name = shape_in (file_app name)
 
@@ -80,7 +80,7 @@ commands_order : EachShape HasOrders (built line_app).subs
 unfolding EachShape
 commands_order = (file_orders (codes "mask") mask (λ rows. refl), (file_orders (codes "wrap") wrap (λ rows. refl), (order_orders, tt)))
 
--- words that have no fault have an order
+-- arguments without a fault have an `Order`
 pub order_there : (words : List Text) → fault_of line_app words ≡ [] → is_some (order_of words) ≡ true
 order_there words e =
     let stop = (walk top.rules names nothing_held words).stopped in
@@ -109,7 +109,7 @@ order_there words e =
     at_stop (Some p) e c = at_shape p (find (λ s. answers_to p.0 (label_of s)) (built line_app).subs)
         (found_shape HasOrders (λ s. answers_to p.0 (label_of s)) (built line_app).subs commands_order) e c
 
--- ---- what a refusal is told as
+-- ---- how a refusal is reported
 
 first_explained : (kinds : Kinds) (k : ErrorKind) → SameExplained kinds → IsAmong k kinds → option_map explain_refusal (slice_get kinds 0) ≡ Some (explain_refusal k)
 first_explained [] k same a = absurd a
@@ -124,7 +124,7 @@ kind_explained words e (inr among) = inr (first_explained (fault_of line_app wor
 pub refusal_none : (words : List Text) → fault_of line_app words ≡ [] → fault_for words ≡ None
 refusal_none words is = ap (λ ks. option_map explain_refusal (slice_get ks 0)) is
 
--- ---- from what the code reads of the matches to the order
+-- ---- from the matches that the code reads to the command
 
 names_read : {Z : Type 0} (s : Option (Box SubCommand Z)) → option_map (λ b. (out-SubCommand (box_value b)).name.now) s ≡ option_map (λ p. p.0) (subcommand_rows s)
 names_read None = refl
@@ -137,18 +137,18 @@ pair_read (Some p) name rows n r =
     let r' : rows ≡ p.1 = ap (λ o. unwrap_or o rows) r in
     ap₂ (λ (a : Text) (b : List Row). Some (a, b)) (sym n') (sym r')
 
--- what the getters read of the matches
+-- what the getters read from the matches
 pub ruleset readings = (first_value-rows, one_text-rows, raw_values-rows)
 
 same_cond : {X : Type 0} (b : Bool) (x : X) → cond b x x ≡ x
 same_cond true x = refl
 same_cond false x = refl
 
--- a command without FILE has no order
+-- without FILE there is no command
 pub no_file : (name : Text) (rows : List Row) → first_of (codes "file") rows ≡ None → ordered_by name rows ≡ None
 no_file name rows e = rw e (simp same_cond)
 
--- ---- the clauses of the parse, at the program's line
+-- ---- the clauses of the parse, for the program's command line
 
 pub refused_as : (a : App) (words : List Text) (e : Error) (f : WordsFault) → a ≡ line_app → (is_simple_and_free a ≡ true → HasKind (fault_of a words) e)
     → f ≡ explain_refusal (kind_of e) → (f ≡ NoMemory) ⊎ (fault_for words ≡ Some f)
@@ -163,7 +163,7 @@ refused_taken a words e is h taken = ap explain_refusal (h (ap (λ (x : App). ta
 pub no_fault : (a : App) (words : List Text) → a ≡ line_app → (is_simple_and_free a ≡ true → fault_of a words ≡ []) → fault_of line_app words ≡ []
 no_fault a words is h = subst (λ (x : App). is_simple_and_free x ≡ true → fault_of x words ≡ []) is h line_free
 
--- the name and the rows that the code reads give the order
+-- the name and the rows that the code reads determine the command
 pub order_read : (a : App) (words : List Text) (m inner : ArgMatches) (name : Text) → a ≡ line_app → HasMatchesOf a words m → Some name ≡ subcommand_name_of m
     → Some (rows_of (found_of inner)) ≡ option_map (λ p. p.1) (subcommand_rows_of m) → order_of words ≡ ordered_by name (rows_of (found_of inner))
 order_read a words m inner name is has named rows =
