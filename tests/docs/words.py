@@ -55,7 +55,7 @@ LABELS = {
     "vain": "visited", "quiet": "no_read", "works": "not_failed", "well": "no_failure", "put": "appended", "there": "in_range",
     "further": "stops_reading", "few": "fits_u32", "kept": "unchanged, same_source, err",
 }
-# What is gone from comments, as whole words in any case, and what to write. A quotation mark, `left to right` and `cut short` stay.
+# What is gone from comments, as whole words in any case, and what to write. A quotation mark and `cut short` stay.
 COMMENTS = {
     r"told|tells?|telling|untold": "reports, returns, message",
     r"handed|hand(?:s|ing)? (?:on|out|in|over)": "passes, writes, returns",
@@ -77,7 +77,6 @@ COMMENTS = {
     r"past": "after, beyond, skips",
     r"(?:goes|go|going|went|gone) on": "continues, resumes",
     r"pass(?:es|ed) over": "skips",
-    r"left(?! to right)": "remaining, rest",
     r"cuts?(?! short)": "split, limit, truncated",
     r"(?:lets?|letting) (?:\w+ )?go": "drops, frees",
     r"wants?|wanted": "needs, expected",

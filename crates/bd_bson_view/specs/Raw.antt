@@ -4,7 +4,7 @@ use Rattle.bd_value.specs.Tree.{Tree, Doc, pairs_in}
 use Rattle.bd_bson_view.specs.{Sound.meaning, Sound.elements_remaining}
 use Rattle.bd_bson_view.specs.declared.{raw.RawDoc.RawDoc, raw.RawValue.RawValue, raw.Elements.Elements}
 
--- the value that a view stands for
+-- the value that a view is of
 abbrev pub value_tree : RawValue → Tree
 value_tree value = meaning value.sound
 
@@ -16,11 +16,11 @@ value_source value = value.bytes.now
 abbrev pub value_start : RawValue → ℕ
 value_start value = value.start
 
--- the document that a view stands for, as a value
+-- the document that a view is of, as a value
 abbrev pub document_tree : RawDoc → Tree
 document_tree document = meaning document.sound
 
--- the pairs of the document that a view stands for
+-- the pairs of the document that a view is of
 abbrev pub document_pairs : RawDoc → Doc
 document_pairs document = pairs_in (document_tree document)
 

@@ -1,4 +1,4 @@
--- What was served in memory is what the machine serves.
+-- What a session in memory replies is what the machine replies.
 use Rattle.std.proofs.Common.{◌≡◌, ◌++◌, ◌≤◌, ◌⊎◌, ℕ, List, Ok, Option, ap, arith, inl, inr, length, refl, subst}
 use Rattle.std.specs.Prelude.{codes}
 use Rattle.bd_value.specs.Limits.{longest_input}
@@ -27,7 +27,7 @@ pub to_the_end : {C : Type 0} (state : C → Reader) (gives : C → Option (List
 to_the_end state gives dump old new out err s t status is_new is_over all same done =
     (service_state t, rw (is_new, is_over) at (served state gives command_limits old new out s t all), same, done)
 
--- each read but the last gives a byte, so the limit of bytes comes first
+-- each read but the last gives at least one byte, so the limit of bytes comes first
 never_too_many : {C : Type 0} (state : C → Reader) (gives : C → Option (List ℕ) → C → Type 0) (old new : C) (out : Over Writer) (s t : Service)
     → StopsServing state gives RepliesTo command_limits old new out s t KeepsState (faults.Unread reads.TooManyTurns) → ⊥
 never_too_many state gives old new out s t u =
@@ -44,9 +44,9 @@ to_a_fault state gives dump old new out err s t fault status is_new is_over stop
     (subst (λ f. StopsServing state gives RepliesTo command_limits old new out s t KeepsState f) is stops) in
     (service_state t, fault, few, rw (is_new, is_over) at (stopped state gives command_limits old new out s t fault stops), reported)
 
--- ---- what is told where nothing is served
+-- ---- what is reported if nothing is served
 
--- an input that is no dump
+-- an input that is not a dump
 pub fault_reported : {C : Type 0} (state : C → Reader) (gives : C → Option (List ℕ) → C → Type 0) (bytes : List ℕ) (fault : declared.Fault) (old : C)
     (out err : Over Writer) (status : Status) → length bytes ≤ longest_input → IsUnread bytes fault → ¬ (fault.kind ≡ kinds.NoMemory) → out.after ≡ out.before
     → ReportsMessage err (error_line (fault_text fault.document (fault_view fault))) Failed status ⊎ ReportsMessage err (error_line no_memory) Failed status

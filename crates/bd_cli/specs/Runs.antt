@@ -23,7 +23,7 @@ use Rattle.bd_io_device.specs.declared.reading.ReadFault.TheVariants as reads
 abbrev pub command_limits : Limits
 command_limits = record { bytes = longest_input; turns = most_reads }
 
--- the message of what ended `serve` before its last command
+-- the message for what ended `serve` before its last command
 abbrev pub serve_words : ServeFault → List ℕ
 serve_words (faults.Unread fault) = read_words fault
 serve_words faults.NoMemory = no_memory
@@ -57,8 +57,8 @@ module _ {C : Type 0} (state : C → Reader) (gives : C → Option (List ℕ) �
   abbrev pub ServesDump : List ℕ → List Doc → Type 0
   ServesDump bytes ds = ServesToTheEnd bytes ds ⊎ ServesToAFault bytes ds
 
-  -- `serve` after its file was read: it was not read whole, or is no dump, or memory ran out,
-  -- and that is reported; or the commands were served.
+  -- `serve` after its file was read: it was not read completely, or is not a dump, or memory ran out,
+  -- which is reported; or the commands were served.
   abbrev pub ServesRead : Result (List ℕ) ReadFault → Type 0
   ServesRead (Err fault) = ServesNothing old new out err status (read_words fault)
   ServesRead (Ok bytes) = ServesNothing old new out err status no_memory
@@ -66,11 +66,11 @@ module _ {C : Type 0} (state : C → Reader) (gives : C → Option (List ℕ) �
       × ServesNothing old new out err status (fault_text (length ds) fault))
       ⊎ ((ds : List Doc) × IsDumpScan ds None bytes × ServesDump bytes ds))
 
-  -- `serve` ran: its file was read whole or not, and then its commands were served or it is reported why not.
+  -- `serve` ran: its file was read, completely or not, and then its commands were served or it is reported why not.
   abbrev pub ServesInput : Over Reader → Type 0
   ServesInput file = (input : Result (List ℕ) ReadFault) × ReadsInput file input × ServesRead input
 
-  -- The command was carried out, on this file.
+  -- The command was executed on this file.
   abbrev pub CarriesOut : Over Reader → Order → Type 0
   CarriesOut file (orders.Dump path) = DumpsInput file out err status
   CarriesOut file (orders.Check path) = ChecksInput file out err status
@@ -78,12 +78,12 @@ module _ {C : Type 0} (state : C → Reader) (gives : C → Option (List ℕ) �
   CarriesOut file (orders.Find path options) = FindsDocuments (find_words_of options) file out err status
   CarriesOut file (orders.Serve path) = ServesInput file
 
--- The command is a `find` whose options are refused, whatever the file holds, so that the file is not read.
+-- The command is a `find` whose options are refused, whatever the file contains, so the file is not read.
 abbrev pub ReadsNoFile : Order → Type 0
 ReadsNoFile (orders.Find path options) = RequestsNothing (find_words_of options)
 ReadsNoFile _ = ⊥
 
--- The command is not `serve`, so that no commands are read.
+-- The command is not `serve`, so no commands are read.
 abbrev pub ReadsNoCommands : Order → Type 0
 ReadsNoCommands (orders.Serve path) = ⊥
 ReadsNoCommands _ = Unit {0}
@@ -98,7 +98,7 @@ DeviceFails file commands out err =
     (file.before.failures < file.after.failures) ⊎ (commands.before.failures < commands.after.failures)
     ⊎ WriteFails out err
 
--- what is shown of arguments that are no command: the usage, for `--help` on standard output
+-- the output for arguments that are not a command: the usage, for `--help` on standard output
 abbrev pub report_output : WordsFault → Transcript
 report_output words.Help = record { out = USAGE.now; err = []; status = Done }
 report_output words.Usage = record { out = []; err = USAGE.now; status = Usage }

@@ -15,10 +15,9 @@ ghost use Rattle.bd_cli_files.specs.Pack.{AreAlike, IsOutputOfPack, PacksLines};
 ghost use Rattle.bd_cli_files.specs.declared.pack.BadLine.{BadLine};
 ghost use Rattle.bd_cli_find.specs.{Asking.ReadsText, Find.IsOutputOfFind};
 
-/// One thing is shown of each input, and of each list of bytes there is something to show; so also for `check`, and for
-/// `find`, of each words. For `pack` and `find` it is one thing but for the kind and the place of the fault of a line, or of a
-/// query or a sort, that is no document. `serve` has one text of replies to each text of commands, but for such a fault of a
-/// command.
+/// Each input has one output, and each list of bytes has an output: so for `dump` and `check`, and for `find` with any options. For
+/// `pack` and `find` there is one output except for the kind and the offset of the fault in a line, or in a query or a sort, that
+/// is no document. `serve` has one text of replies to each text of commands, except for such a fault of a command.
 pub fn prints_one_thing()
     ensures one { (bytes : List ℕ) (fault : Option ReadFault) (output other : Transcript) →
         IsOutputOfDump bytes fault output → IsOutputOfDump bytes fault other → output ≡ other }
@@ -59,15 +58,15 @@ pub fn prints_one_thing()
         AreAlikeTexts (commands_of commands) replies other × (s ≡ t) }
 {}
 
-/// Of each input `check` and `dump` give the same status: there is a document with a fault where there is a first fault.
+/// For each input `check` and `dump` have the same status: there is a document with a fault exactly if there is a first fault.
 pub fn check_has_the_status_of_dump()
     ensures { (bytes : List ℕ) (fault : Option ReadFault) (output other : Transcript) →
         IsOutputOfDump bytes fault output →
         IsOutputOfCheck bytes fault other → output.status ≡ other.status }
 {}
 
-/// What `dump` wrote before a write failed, or before memory ran out, is a front of what is to be shown of the input, whatever
-/// bytes follow those that it read. For `check`, `pack` and `find` the clauses of `run` say so themselves.
+/// What `dump` wrote before a write failed, or before memory ran out, is a prefix of the output for the input, whatever bytes
+/// follow those that it read. For `check`, `pack` and `find` the clauses of `run` say so themselves.
 pub fn dump_prints_a_prefix()
     ensures { (bytes given rest : List ℕ) (output : Transcript)
         (ds : List Doc) (prefix more : List ℕ) → ((i : ℕ) → slice_index bytes i < 256) →

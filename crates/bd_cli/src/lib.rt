@@ -18,9 +18,9 @@
 //! assert!(rt; err.bytes() == b"1 documents, 0 faulty\n".as_slice());
 //! ```
 //!
-//! - `runs`: `run` and `report`, the command `serve`, and laws of what is shown. `bd_cli_files` has `dump`, `check` and `pack`, and
+//! - `runs`: `run` and `report`, and the command `serve`. `bd_cli_files` has `dump`, `check` and `pack`, and
 //!   `bd_cli_find` has `find`.
-//! - `laws`: what the commands share.
+//! - `laws`: what is true of the output of every command.
 #![tactic(auto)]
 
 mod laws;

@@ -1,4 +1,4 @@
-//! A command carried out over devices, and arguments that are no command; and laws of what is shown.
+//! Runs of a command over devices, and the output for arguments that are not a command.
 
 ghost use Rattle.std.specs.Prelude.{◌≡◌, ◌<◌, ◌≤◌, Ok, length};
 ghost use Rattle.bd_value.specs.{Limits.longest_input};
@@ -22,11 +22,11 @@ use bd_io_device::{Input, Output, write_all};
 use bd_io_lines::ServeFault;
 use std::alloc::Global;
 
-/// Carries out an order, and gives the exit status: 0 where all was done, 1 after a fault of the input, of a query, a sort,
+/// Runs a command, and returns the exit status: 0 if all was done, 1 after a fault of the input, of a query, a sort,
 /// the path of an index or a token, or of a device, or if memory runs out.
 ///
-/// The file that the order names is read from `file`, the commands of a session from `commands`, the results go to
-/// `out`, and what is told of the run to `err`. A device that fails is not tried again.
+/// The file that the command names is read from `file`, the commands of a session from `commands`, the results go to
+/// `out`, and messages to `err`. A device that fails is not tried again.
 pub fn run<F: Input, C: Input, O: Output, E: Output>(
     alloc: Global,
     order: &Order,
@@ -40,10 +40,10 @@ pub fn run<F: Input, C: Input, O: Output, E: Output>(
         (over E.state err.old err.new) result (over F.state file.old file.new) order.now }
     // After a failed read, or at the end, the file is read no more.
     ensures stops_reading { ReadsNoFurther F.read_gives file.old file.new }
-    // What is not wanted is not touched.
+    // An input that is not needed is not read.
     ensures file { ReadsNoFile order.now → file.new ≡ file.old }
     ensures commands { ReadsNoCommands order.now → commands.new ≡ commands.old }
-    // A device that failed is told by the status.
+    // A failed device sets the status.
     ensures failed { DeviceFails
         (over F.state file.old file.new) (over C.state commands.old commands.new)
         (over O.state out.old out.new) (over E.state err.old err.new) → result ≡ Status.Failed }
@@ -57,8 +57,8 @@ pub fn run<F: Input, C: Input, O: Output, E: Output>(
     }
 }
 
-/// Reads an input whole, and writes the reply to each command, before a later read of the commands. No command is read where the
-/// input is no dump.
+/// Reads the whole input, and writes the reply to each command, before a later read of the commands. No command is read if the
+/// input is not a dump.
 fn serve<F: Input, C: Input, O: Output, E: Output>(
     alloc: Global,
     file: &mut F,
@@ -121,9 +121,9 @@ fn serve_dump<C: Input, O: Output, E: Output>(
     }
 }
 
-/// Tells why words are no order, and gives the exit status. It takes no memory.
+/// Reports why arguments are not a command, and returns the exit status. It takes no memory.
 ///
-/// A request for help prints the usage on `out`, with status 0; words that are not taken print it on `err`, with
+/// A request for help prints the usage on `out`, with status 0; invalid arguments print it on `err`, with
 /// status 2; out of memory is reported on `err`, with status 1. A device that fails makes the status 1.
 pub fn report<O: Output, E: Output>(fault: &WordsFault, out: &mut O, err: &mut E) -> Status
     ensures output { PrintsOutput (over O.state out.old out.new)

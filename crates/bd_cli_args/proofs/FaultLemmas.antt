@@ -1,4 +1,4 @@
--- What a parse that is refused is told as, and what one without a fault gives: each of its rows has a value. The word `help` names no subcommand.
+-- How a refused parse is reported, and what one without a fault returns: each row has a value. The word `help` names no subcommand.
 use Rattle.std.proofs.Common.{◌≡◌, ◌<◌, ◌+◌, ◌&&◌, ◌||◌, ℕ, Bool, cond, true, false, zero, suc, refl, arith, List, [], ◌∷◌, ◌++◌, length, drop, Option, Some, None, inl}
 use Rattle.std.proofs.Common.{inr, nat_lt, length-append, not, ap, codes, find, fold, is_some, slice_get, encode_utf8, option_and_then, IfSome, min, ◌==◌}
 use Rattle.std.specs.Prelude.{⊤}
@@ -72,9 +72,9 @@ used_as-filled Count id how [] rows some h = with_count-filled id how CommandLin
 used_as-filled Count id how (v ∷ vs) rows some h = with_values-filled id how CommandLine (v ∷ vs) (without id rows) (some refl) (without-filled id rows h)
 used_as-filled _ id how values rows some h = h
 
--- ---- what is told of a refusal
+-- ---- how a refusal is reported
 
--- the kinds are all told as the first
+-- all kinds are reported as the first
 abbrev pub SameExplained : Kinds → Type 0
 SameExplained [] = ⊤
 SameExplained (k ∷ ks) = (x : ErrorKind) → IsAmong x ks → explain_refusal x ≡ explain_refusal k
@@ -134,7 +134,7 @@ same-use again a values rows =
     same-or_else (range_kinds (unwrap_or_range a.range).start_inclusive (most_values a) (length values)) _
     (same-range (unwrap_or_range a.range).start_inclusive (most_values a) (length values)) (same-action (action_of a) again a (values_or_missing a values) rows)
 
--- a use of the argument that has no fault has a value, or adds no row
+-- a use of the argument without a fault has a value, or adds no row
 abbrev fills : Rule → Bool
 fills a = is_request (action_of a) || nat_lt 0 (unwrap_or_range a.range).start_inclusive || nat_lt 0 (length a.missing)
 
@@ -158,7 +158,7 @@ found-passes keeps p (x ∷ xs) all =
       | false ↦ found-passes keeps p xs both.1
     ]
 
--- all that a step may be refused for is told as one fault; and where it is not refused, P holds
+-- all refusals of a step are reported as one fault; if it is not refused, P holds
 pub record Sound (kinds : Kinds) (P : Type 0) : Type 0 where
   pub explained : SameExplained kinds
   pub leaves : kinds ≡ [] → P
@@ -186,7 +186,7 @@ same-stray : (s : Shape) → SameExplained (stray_fault s)
 same-stray s = same-cond s.is_leaf (kind.UnknownArgument ∷ []) (kind.UnknownArgument ∷ kind.InvalidSubcommand ∷ []) (one kind.UnknownArgument)
     (λ x a. elim a [ inl e ↦ ap explain_refusal e | inr none ↦ absurd none ])
 
--- ---- the walk
+-- ---- the scan of the arguments
 
 module _ (c : List Rule) (again : Bool) (fill : list_all fills c ≡ true) where
   by_id-sound : (o : Option Rule) (values : List Text) (rows : List Row) → IfSome o (λ a. fills a ≡ true) → AllFilled rows
@@ -329,7 +329,7 @@ module _ (s : Shape) (names : Names) (no_help : s.disable_help_subcommand ≡ tr
   walk-sound w [] rows = nothing rows
   walk-sound w (word ∷ rest) rows = in_turn (turn_fault s names w word) _ (turn-sound w.stopped w word refl rows) (walk-sound (walked s.rules names w word) rest)
 
--- ---- after the walk
+-- ---- after the scan
 
 default-filled : (id : Text) (how : Reading) (values : List Text) (rows : List Row) → AllFilled rows → AllFilled (default_rows id how values rows)
 default-filled id how [] rows h = h
@@ -364,7 +364,7 @@ same-check s rows has =
     same-checks (not has && (s.arg_required_else_help && not (list_any (λ r. explicit_source r.source) rows))) (not has && s.subcommand_required)
     (not (s.subcommand_negates_reqs && has) && list_any (λ a. a.required && not (is_given a.id rows)) s.rules)
 
--- a level where the word `help` names no subcommand, and each use of an argument has a value
+-- a level at which the word `help` names no subcommand, and each use of an argument has a value
 abbrev pub is_plain : Shape → Bool
 is_plain s = s.disable_help_subcommand && list_all fills s.rules
 
@@ -400,13 +400,13 @@ same-fault a words meets =
     let stop = (walk a.top.rules (names_of a) nothing_held words).stopped in
     (level-sound a.top (names_of a) words (is_some (entered a stop)) (entered_fault a stop) both.0 (same-entered a stop both.1)).explained
 
--- ---- what was given has a value
+-- ---- each given argument has a value
 
 first_value_there : (values : List Text) → 0 < length values → is_some (slice_get values 0) ≡ true
 first_value_there [] lt = absurd (omega arith)
 first_value_there (v ∷ vs) lt = refl
 
--- what was given has a first value
+-- a given argument has a first value
 pub given_first : (id : Text) (rows : List Row) → AllFilled rows → is_given id rows ≡ true → is_some (first_of id rows) ≡ true
 given_first id [] h e = let f : ⊥ = cc in absurd f
 given_first id (r ∷ rs) h e =

@@ -1,4 +1,4 @@
--- The lines that are taken have an order; those of a command that takes a file and nothing else are taken.
+-- Accepted command lines have a command; `dump`, `check`, `pack` and `serve` with one file are accepted.
 use Rattle.std.proofs.Common.{ap₂, subst, ◌⊎◌, inl, inr, ◌≡◌, ◌∙◌, ◌||◌, Bool, cond, true, false, not, refl, sym, ap, List, [], ◌∷◌, codes, Option, Some, None}
 use Rattle.std.proofs.Common.{true≢false, ℕ, Result, Ok, Err, IfOk, IfErr, Box, find, slice_get, unwrap_or, IfSome, is_some, option_and_then, option_map, if◌then◌else◌}
 use Rattle.std.proofs.Common.{◌==◌, ◌<◌, ◌^◌, arith}
@@ -35,7 +35,7 @@ line_simple = refl
 pub line_free : is_simple_and_free line_app ≡ true
 line_free = refl
 
--- what holds of each command
+-- each of the commands has the property
 unfoldable pub EachShape : (Shape → Type 0) → List Shape → Type 0
 EachShape P [] = ⊤
 EachShape P (s ∷ rest) = P s × EachShape P rest
@@ -45,7 +45,7 @@ unfolding EachShape
 found_shape P p [] each = tt
 found_shape P p (s ∷ rest) each = elim (p s) as (λ b. IfSome (cond b (Some s) (find p rest)) P) [ true ↦ each.0 | false ↦ found_shape P p rest each.1 ]
 
--- the words of the command have an order where they have no fault
+-- arguments of the command without a fault have an `Order`
 abbrev HasOrders : Shape → Type 0
 HasOrders s = (words : List Text) → level_fault s [] nothing_held words false [] ≡ [] → is_some (ordered_by s.name (rows_after s.rules [] words)) ≡ true
 
@@ -53,7 +53,7 @@ pub file_given : (given rest : Bool) → check_kinds false false (not given || r
 file_given true rest e = refl
 file_given false rest e = absurd (refused MissingRequiredArgument e)
 
--- a command that requires FILE has it
+-- if a command requires FILE, FILE is given
 pub file_there : (s : Shape) (words : List Text) → is_plain s ≡ true
     → ((rows : List Row) → check_fault s rows false ≡ [] → is_given (codes "file") rows ≡ true)
     → level_fault s [] nothing_held words false [] ≡ [] → is_some (first_of (codes "file") (rows_after s.rules [] words)) ≡ true
@@ -66,7 +66,7 @@ pub some_mapped : {X Y : Type 0} (f : X → Y) (o : Option X) → is_some o ≡ 
 some_mapped f None e = let bad : ⊥ = cc in absurd bad
 some_mapped f (Some x) e = refl
 
--- a command that takes a file alone, as it is built
+-- a command that takes only a file, as it is built
 abbrev pub file_shape : Text → Shape
 file_shape name = built_leaf (inherited (on_top with_leaf_noted (on_top marked_built line_app)).top (file_app name).top)
 
@@ -75,7 +75,7 @@ file_orders name order is words e =
     let rows = rows_after (file_shape name).rules [] words in
     ap is_some (is rows) ∙ some_mapped order (first_of (codes "file") rows) (file_there (file_shape name) words refl (λ rows c. file_given _ _ c) e)
 
--- the command `find`, likewise
+-- the command `find`, as it is built
 abbrev pub find_shape : Shape
 find_shape = built_leaf (inherited (on_top with_leaf_noted (on_top marked_built line_app)).top find_app.top)
 
@@ -95,7 +95,7 @@ commands_order = (
   ),
 )
 
--- words that have no fault have an order
+-- arguments without a fault have an `Order`
 pub order_there : (words : List Text) → fault_of line_app words ≡ [] → is_some (order_of words) ≡ true
 order_there words e =
     let stop = (walk top.rules names nothing_held words).stopped in
@@ -124,7 +124,7 @@ order_there words e =
     at_stop (Some p) e c = at_shape p (find (λ s. answers_to p.0 (label_of s)) (built line_app).subs)
         (found_shape HasOrders (λ s. answers_to p.0 (label_of s)) (built line_app).subs commands_order) e c
 
--- the word `help` is none of them, whatever follows
+-- the word `help` is not a command, whatever follows
 pub help_fault : (rest : List Text) → fault_of line_app (codes "help" ∷ rest) ≡ UnknownArgument ∷ InvalidSubcommand ∷ []
 unfolding clap_on_literals
 help_fault rest = refl
@@ -137,7 +137,7 @@ help_words : (words : List Text) → is_help_line words ≡ true → (rest : Lis
 help_words [] e = let f : ⊥ = cc in absurd f
 help_words (w ∷ rest) e = (rest, ap (λ x. x ∷ rest) ((bytes_eq-Decides w (codes "help")).0 e))
 
--- what a line is told as, by what the parser refuses and by what the words order
+-- how arguments are reported, by the parser's refusal and by whether they are `serve` of standard input
 pub explained_by : (words : List Text) (refusal : Option WordsFault) (is_of_input : Bool) → parser_refusal words ≡ refusal → serves_input words ≡ is_of_input
     → fault_for words ≡ option_or refusal (if is_of_input then Some Usage else None)
 explained_by words refusal is_of_input refused served =
@@ -158,12 +158,12 @@ help_line_refused words e taken =
     let h = help_words words e in
     true≢false (sym taken ∙ (ap (takes line_app) h.1 ∙ help_not_taken h.0))
 
--- ---- the lines in their plainest form
+-- ---- the arguments in their plainest form
 
 abbrev pub IsTaken : List Text → OrderView → Type 0
 IsTaken words order = (fault_of line_app words ≡ []) × (order_of words ≡ Some order)
 
--- ---- what a refusal is told as
+-- ---- how a refusal is reported
 
 pub first_explained : (kinds : Kinds) (k : ErrorKind) → SameExplained kinds → IsAmong k kinds → option_map explain_refusal (slice_get kinds 0) ≡ Some (explain_refusal k)
 first_explained [] k same a = absurd a
@@ -178,14 +178,14 @@ kind_explained words e (inr among) = inr (first_explained (fault_of line_app wor
 pub refusal_none : (words : List Text) → fault_of line_app words ≡ [] → parser_refusal words ≡ None
 refusal_none words is = ap (λ ks. option_map explain_refusal (slice_get ks 0)) is
 
--- words without a fault are refused only if memory runs out
+-- arguments without a fault are refused only if memory runs out
 pub only_memory : (words : List Text) (f : WordsFault) → fault_for words ≡ None → (f ≡ NoMemory) ⊎ (fault_for words ≡ Some f) → f ≡ NoMemory
 only_memory words f is (inl memory) = memory
 only_memory words f is (inr explained) =
     let none : None ≡ Some f = sym is ∙ explained in
     let bad : ⊥ = cc in absurd bad
 
--- ---- from what the code reads of the matches to the order
+-- ---- from the matches that the code reads to the command
 
 pub names_read : {Z : Type 0} (s : Option (Box SubCommand Z)) → option_map (λ b. (out-SubCommand (box_value b)).name.now) s ≡ option_map (λ p. p.0) (subcommand_rows s)
 names_read None = refl
@@ -198,7 +198,7 @@ pair_read (Some p) name rows n r =
     let r' : rows ≡ p.1 = ap (λ o. unwrap_or o rows) r in
     ap₂ (λ (a : Text) (b : List Row). Some (a, b)) (sym n') (sym r')
 
--- what the getters read of the matches
+-- what the getters read from the matches
 pub ruleset readings = (first_value-rows, one_text-rows)
 
 -- whatever the command, without a FILE there is no order
@@ -206,11 +206,11 @@ no_order : (o : Option (Text → OrderView)) → option_and_then (λ order. opti
 no_order None = refl
 no_order (Some order) = refl
 
--- a command without FILE has no order
+-- without FILE there is no command
 pub no_file : (name : Text) (rows : List Row) → first_of (codes "file") rows ≡ None → ordered_by name rows ≡ None
 no_file name rows e = rw e (no_order (lookup (bytes_eq name) (commands rows)))
 
--- ---- the clauses of the parse, at the program's line
+-- ---- the clauses of the parse, for the program's command line
 
 pub refused_as : (a : App) (words : List Text) (e : Error) (f : WordsFault) → a ≡ line_app → (is_simple_and_free a ≡ true → HasKind (fault_of a words) e)
     → f ≡ explain_refusal (kind_of e) → (f ≡ NoMemory) ⊎ (parser_refusal words ≡ Some f)
@@ -225,7 +225,7 @@ refused_taken a words e is h taken = ap explain_refusal (h (ap (λ (x : App). ta
 pub no_fault : (a : App) (words : List Text) → a ≡ line_app → (is_simple_and_free a ≡ true → fault_of a words ≡ []) → fault_of line_app words ≡ []
 no_fault a words is h = subst (λ (x : App). is_simple_and_free x ≡ true → fault_of x words ≡ []) is h line_free
 
--- the name and the rows that the code reads give the order
+-- the name and the rows that the code reads determine the command
 pub order_read : (a : App) (words : List Text) (m inner : ArgMatches) (name : Text) → a ≡ line_app → HasMatchesOf a words m → Some name ≡ subcommand_name_of m
     → Some (rows_of (found_of inner)) ≡ option_map (λ p. p.1) (subcommand_rows_of m) → order_of words ≡ ordered_by name (rows_of (found_of inner))
 order_read a words m inner name is has named rows =
@@ -241,7 +241,7 @@ pub orders_when : (r : Result Order WordsFault) (words : List Text) (order : Ord
 orders_when (Ok o) words order is ok err = same_order words (meant o) order ok is
 orders_when (Err f) words order is ok err = err
 
--- words that are taken are answered by their order, or memory ran out
+-- accepted arguments are answered by their command, or memory ran out
 pub answered : (r : Result Order WordsFault) (words line : List Text) (order : OrderView) → words ≡ line
     → IsTaken line order → is_serve_of_input order ≡ false → IfOk r (λ o. order_of words ≡ Some (meant o))
     → IfErr r (λ f. (f ≡ NoMemory) ⊎ (fault_for words ≡ Some f)) → GivesOrder r order
@@ -250,9 +250,9 @@ answered (Err f) words line order is taken other ok err =
     let refusal = refusal_none words (ap (fault_of line_app) is ∙ taken.0) in
     only_memory words f (explained_by words None false refusal (served_as words order false (ap order_of is ∙ taken.1) other)) err
 
--- ---- lines of a command that takes a file and nothing else
+-- ---- commands that take only a file
 
--- the words of such a command give its file
+-- the arguments of such a command contain its file
 abbrev Takes : Text → List Text → Text → Type 0
 Takes name words file =
     (level_fault (file_shape name) [] nothing_held words false [] ≡ [])
@@ -277,7 +277,7 @@ file_escaped : (name file : Text) → Takes name (codes "--" ∷ file ∷ []) fi
 unfolding clap_on_literals
 file_escaped name file = (refl, refl)
 
--- the words of a line after its first one go to the command
+-- the arguments after the first one belong to the command
 abbrev Enters : Text → (Text → OrderView) → List Text → Type 0
 Enters name order words =
     (fault_of line_app (name ∷ words) ≡ or_else (level_fault (file_shape name) [] nothing_held words false []) [])
@@ -302,9 +302,9 @@ pub file_escaped_taken : (name file : Text) (order : Text → OrderView) → IsF
 file_escaped_taken name file order which =
     taken name file order (codes "--" ∷ file ∷ []) (enters name order which file).1 (file_escaped name file)
 
--- ---- `serve` of the standard input
+-- ---- `serve` of standard input
 
--- what the words are answered with where the parser reads them so
+-- the result for arguments that the parser reads as `serve` of standard input
 abbrev IsOfInput : List Text → Type 0
 IsOfInput words = (serves_input words ≡ true) × (fault_for words ≡ Some Usage)
 
@@ -330,7 +330,7 @@ line_of_input (a ∷ b ∷ c ∷ []) e =
     (taken_of_input (codes "serve" ∷ codes "--" ∷ codes "-" ∷ []) (file_escaped_taken (codes "serve") (codes "-") serve (inr (inr (inr (refl, refl))))))
 line_of_input _ e = let bad : ⊥ = cc in absurd bad
 
--- the text is a number of 32 bits
+-- the text is a number below 2^32
 abbrev pub IsSmall : List ℕ → Type 0
 IsSmall t = IsNumeral 10 (without_leading_plus t) × (digits_value 10 (without_leading_plus t) < 2 ^ 32)
 

@@ -1,5 +1,5 @@
 -- The command lines that `bsonfind` accepts, by the parser's own definition,
--- and the command that each asks for.
+-- and the command that each one means.
 use Rattle.std.specs.Prelude.{◌≡◌, ◌==◌, ◌⊎◌, ◌&&◌, ℕ, List, [], ◌∷◌, Bool, true, false, not, if◌then◌else◌, map}
 use Rattle.std.specs.Prelude.{slice_get, codes, String, string_bytes, Option, Some, None, option_map, option_and_then}
 use Rattle.std.specs.{Prelude.unwrap_or, Prelude.Result, Prelude.MatchResult, Option.option_map_or, Option.option_or}
@@ -14,7 +14,7 @@ use Rattle.bd_cli_args.specs.FileCommands.{explain_refusal, file_app, program_ap
 use Rattle.bd_cli_args.specs.{FindWords.FindWords, FindWords.find_words_of}
 use Rattle.bd_cli_args.specs.declared.order.{Order.Order, WordsFault.WordsFault}
 
--- ---- the lines that are taken, as the parser has them
+-- ---- the command lines that are accepted, as the parser defines them
 
 -- an option `--name` of `find`, with a text, or with a number from 0 to 2,147,483,647
 abbrev pub option_rule : Text → Bool → Rule
@@ -40,7 +40,7 @@ find_app = with_options (file_app (codes "find"))
 abbrev pub line_app : App
 line_app = program_app (codes "bsonfind") (codes "dump" ∷ codes "check" ∷ codes "pack" ∷ codes "serve" ∷ []) find_app
 
--- a command: what the arguments ask for, with texts as their bytes
+-- a command: the meaning of the arguments, with texts as their bytes
 pub data OrderView : Type 0 where
   dump : Text → OrderView
   check : Text → OrderView
@@ -48,12 +48,12 @@ pub data OrderView : Type 0 where
   find : Text → FindWords → OrderView
   serve : Text → OrderView
 
--- The name is that of a command that takes one file and nothing else, and that is what its arguments ask for.
+-- The name is that of a command that takes one file and nothing else, and this is the meaning of its arguments.
 abbrev pub IsFileCommand : Text → (Text → OrderView) → Type 0
 IsFileCommand name order = ((name ≡ codes "dump") × (order ≡ dump)) ⊎ ((name ≡ codes "check") × (order ≡ check))
     ⊎ ((name ≡ codes "pack") × (order ≡ pack)) ⊎ ((name ≡ codes "serve") × (order ≡ serve))
 
--- the command that an `Order` in memory stands for
+-- the command that an `Order` in memory represents
 abbrev pub meant : Order → OrderView
 meant (Order.Dump file) = dump (string_bytes file)
 meant (Order.Check file) = check (string_bytes file)
@@ -65,15 +65,15 @@ meant (Order.Serve file) = serve (string_bytes file)
 abbrev pub words_of : {Z : Type 0} → List (String Z) → List Text
 words_of = map string_bytes
 
--- the number that the text of an option is read as, if it fits 32 bits
+-- the number in the text of an option, if it fits 32 bits
 abbrev pub number_read : Text → Option ℕ
 number_read text = if is_unsigned_in 0 4294967295 text then Some (digits_value 10 (without_leading_plus text)) else None
 
--- the number that an option has, if it is given
+-- the number of an option, if it is given
 abbrev pub option_number : Text → List Row → Option ℕ
 option_number name rows = option_and_then number_read (one_of name rows)
 
--- what the options of `find` say; skip and limit are 0 if they are not given
+-- the options of `find`; skip and limit are 0 if they are not given
 abbrev pub find_words_in : List Row → FindWords
 find_words_in rows = record {
   query = first_of (codes "query") rows;
@@ -91,12 +91,12 @@ commands rows =
     (codes "dump", dump) ∷ (codes "check", check) ∷ (codes "pack", pack) ∷ (codes "serve", serve)
     ∷ (codes "find", λ file. find file (find_words_in rows)) ∷ []
 
--- the command that a name and its parsed arguments ask for
+-- the command that a name and its parsed arguments mean
 abbrev pub ordered_by : Text → List Row → Option OrderView
 ordered_by name rows =
     option_and_then (λ says. option_map says (first_of (codes "file") rows)) (lookup (bytes_eq name) (commands rows))
 
--- the command that arguments ask for; None if they are refused
+-- the command that arguments mean; None if they are refused
 abbrev pub order_of : List Text → Option OrderView
 order_of words = option_and_then (λ p. ordered_by p.0 p.1) (subcommand_of line_app words)
 
@@ -110,16 +110,16 @@ abbrev pub is_serve_of_input : OrderView → Bool
 is_serve_of_input (serve file) = bytes_eq file (codes "-")
 is_serve_of_input _ = false
 
--- whether the arguments, as the parser reads them, ask for `serve` of standard input
+-- whether the arguments, as the parser reads them, mean `serve` of standard input
 abbrev pub serves_input : List Text → Bool
 serves_input words = option_map_or is_serve_of_input (order_of words) false
 
--- how arguments are refused: as the parser refuses them, or since they ask for `serve -`;
+-- how arguments are refused: as the parser refuses them, or because they mean `serve -`;
 -- None if they are accepted
 abbrev pub fault_for : List Text → Option WordsFault
 fault_for words = option_or (parser_refusal words) (if serves_input words then Some WordsFault.Usage else None)
 
--- The answer is this command, or memory ran out.
+-- The result is this command, or memory ran out.
 abbrev pub GivesOrder : Result Order WordsFault → OrderView → Type 0
 GivesOrder answer order = MatchResult answer (λ o. meant o ≡ order) (λ f. f ≡ WordsFault.NoMemory)
 
@@ -135,7 +135,7 @@ is_serve_input_line (command ∷ escape ∷ file ∷ []) =
 is_serve_input_line _ = false
 
 -- whether an argument may be FILE, or follow `--index` or `--after`:
--- of two bytes or more it does not begin with a hyphen
+-- if it has two bytes or more, it does not begin with a hyphen
 abbrev pub is_file_word : Text → Bool
 is_file_word (x ∷ y ∷ rest) = not (x == 45)
 is_file_word _ = true

@@ -1,4 +1,4 @@
--- What the options of `find` say.
+-- The options of `find`.
 use Rattle.std.specs.Prelude.{ℕ, List, Option, option_map, string_bytes}
 use Rattle.bd_cli_args.specs.declared.order.FindOptions.{FindOptions}
 
@@ -13,7 +13,7 @@ pub record FindWords : Type 0 where
   pub index : Option (List ℕ)
   pub after : Option (List ℕ)
 
--- the options that `FindOptions` in memory stand for
+-- the options that `FindOptions` in memory represents
 abbrev pub find_words_of : FindOptions → FindWords
 find_words_of options = record {
   query = option_map string_bytes options.query;

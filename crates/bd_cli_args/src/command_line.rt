@@ -1,4 +1,4 @@
-//! Reads the words of a line, by `clap`: the line that it takes, and the order that a line is.
+//! Parses the command line, by `clap`: which arguments are accepted, and the command that they mean.
 
 ghost use Rattle.std.specs.Prelude.{◌≡◌, ◌⊎◌, [], ◌∷◌, ℕ, List, map, true, false, IfErr, IfOk, IsErrOf, IsSome, IsTrue, None, Some, option_map, codes, string_bytes};
 ghost use Rattle.clap.specs.Words.{app_of, first_of, found_of, rows_of, rule_of, takes};
@@ -15,7 +15,7 @@ use clap::builder::ValueParser;
 use clap::{Arg, ArgAction, ArgMatches, Command};
 use std::alloc::Global;
 
-/// What a request for help and a refused line are answered with.
+/// The answer to a request for help and to invalid arguments.
 pub const USAGE: &str = "usage: bsonfind dump FILE
        bsonfind check FILE
        bsonfind pack FILE
@@ -23,19 +23,19 @@ pub const USAGE: &str = "usage: bsonfind dump FILE
        bsonfind serve FILE
 ";
 
-/// The order of a line: its words without the program's name.
+/// The command that the arguments mean, without the program's name.
 ///
-/// `dump FILE`, `check FILE`, `pack FILE` and `serve FILE` are taken, and
+/// `dump FILE`, `check FILE`, `pack FILE` and `serve FILE` are accepted, and
 /// `find FILE [--query Q] [--sort S] [--skip N] [--limit N] [--batch N] [--index PATH] [--after TOKEN]`, N from 0 to
-/// 2,147,483,647, with the options in any order, each once at most, and FILE before or after them. Without `--skip` and
-/// `--limit` they are 0. A file whose name looks like a flag stands after `--`, as in `dump -- -x`. The file of `serve` is
-/// not `-`, since the commands of a session come from the standard input.
+/// 2,147,483,647, with the options in any order, each at most once, and FILE before or after them. `--skip` and `--limit` are 0
+/// by default. A file whose name looks like a flag comes after `--`, such as `dump -- -x`. The file of `serve` is not `-`, since
+/// the commands of a session come from standard input.
 ///
 /// # Errors
 ///
-/// - `Help` where the words ask for help by a flag, as `--help` and `dump -h` do.
-/// - `Usage` where they are not taken otherwise. The word `help` in the first place is no command.
-/// - `NoMemory` where memory ran out. The word `help` in the first place, `serve -` and `serve -- -` need none.
+/// - `Help` if the arguments request help by a flag, such as `--help` and `dump -h`.
+/// - `Usage` if they are invalid otherwise. The word `help` as first argument is no command.
+/// - `NoMemory` if memory runs out. The word `help` as first argument, `serve -` and `serve -- -` need none.
 #[tactic(auto, using(crate::proofs::LineLemmas::help_line_explained, crate::proofs::LineLemmas::help_line_refused, crate::proofs::LineLemmas::line_of_input))]
 pub fn parse_words(alloc: Global, words: &[String]) -> Result<Order, WordsFault>
     ensures order { IfOk result (λ o. order_of (words_of words.now) ≡ Some (meant o)) }
@@ -44,7 +44,7 @@ pub fn parse_words(alloc: Global, words: &[String]) -> Result<Order, WordsFault>
     ensures fault { IfErr result (λ f. (f ≡ NoMemory) ⊎ (fault_for (words_of words.now) ≡ Some f)) }
     ensures taken { takes line_app (words_of words.now) ≡ true →
         serves_input (words_of words.now) ≡ false → IfErr result (λ f. f ≡ NoMemory) }
-    // A command that takes a file and nothing else: its file as it stands, or after `--`.
+    // A command that takes only a file: the file as it is, or after `--`.
     ensures file { (name file : List ℕ) (order : List ℕ → OrderView) → IsFileCommand name order →
         IsTrue (is_file_word file) → is_serve_of_input (order file) ≡ false →
         words_of words.now ≡ name ∷ file ∷ [] → GivesOrder result (order file) }
@@ -71,7 +71,7 @@ fn begins_with_help(words: &[String]) -> bool
     words.first().is_some_and(|word| word.as_str() == "help")
 }
 
-/// Whether the words are `serve -` or `serve -- -`.
+/// Whether the arguments are `serve -` or `serve -- -`.
 fn is_plain_serve_of_input(words: &[String]) -> bool
     ensures { result ≡ is_serve_input_line (words_of words.now) }
 {
@@ -84,7 +84,7 @@ fn is_plain_serve_of_input(words: &[String]) -> bool
     }
 }
 
-/// The order of words that are taken: in whatever form the parser reads `serve` of the standard input, it is refused.
+/// The command of other arguments: `serve` of standard input is refused in whatever form the parser reads it.
 fn order_taken(alloc: Global, words: &[String]) -> Result<Order, WordsFault>
     ensures order { IfOk result (λ o. order_of (words_of words.now) ≡ Some (meant o)) }
     ensures only_taken { IfOk result (λ _. fault_for (words_of words.now) ≡ None) }
@@ -106,7 +106,7 @@ fn orders_serve_of_input(order: &Order) -> bool
     matches!(order, Order::Serve { file } if file.as_str() == "-")
 }
 
-/// The order of words as the parser reads them, `serve` of the standard input among them.
+/// The command of arguments as the parser reads them, including `serve` of standard input.
 fn order_in(alloc: Global, words: &[String]) -> Result<Order, WordsFault>
     ensures order { IfOk result (λ o. order_of (words_of words.now) ≡ Some (meant o)) }
     ensures only_taken { IfOk result (λ _. parser_refusal (words_of words.now) ≡ None) }
@@ -125,7 +125,7 @@ fn order_in(alloc: Global, words: &[String]) -> Result<Order, WordsFault>
     order_named(alloc, name, inner)
 }
 
-/// The order of the command `name` with these matches.
+/// The command `name` with these matches.
 #[tactic(auto, using(crate::proofs::LineLemmas::no_file, crate::proofs::LineLemmas::readings))]
 fn order_named(alloc: Global, name: &str, matches: &ArgMatches<'_>) -> Result<Order, WordsFault>
     requires { IsSome (ordered_by name.now (rows_of (found_of matches.now))) }
@@ -150,7 +150,7 @@ fn order_named(alloc: Global, name: &str, matches: &ArgMatches<'_>) -> Result<Or
     }
 }
 
-/// What the options say in these matches.
+/// The options in these matches.
 fn options_of(alloc: Global, matches: &ArgMatches<'_>) -> Result<FindOptions, WordsFault>
     ensures words { IfOk result (λ o.
         find_words_of o ≡ find_words_in (rows_of (found_of matches.now))) }
@@ -171,7 +171,7 @@ fn options_of(alloc: Global, matches: &ArgMatches<'_>) -> Result<FindOptions, Wo
     })
 }
 
-/// The text of an option, where it is given.
+/// The text of an option, if it is given.
 #[tactic(auto, using(crate::proofs::LineLemmas::readings))]
 fn text_of(alloc: Global, found: &ArgMatches<'_>, name: &str) -> Result<Option<String>, WordsFault>
     ensures text { IfOk result (λ o.
@@ -184,24 +184,24 @@ fn text_of(alloc: Global, found: &ArgMatches<'_>, name: &str) -> Result<Option<S
     }
 }
 
-/// The number of an option, where it is given.
+/// The number of an option, if it is given.
 fn number_of(matches: &ArgMatches<'_>, name: &str) -> Option<u32>
     ensures { result ≡ option_number name.now (rows_of (found_of matches.now)) }
 {
     matches.get_one::<u32>(name)
 }
 
-/// The program's whole line.
+/// The program's whole command line.
 fn line_command<'a>(alloc: Global) -> Made<'a>
     ensures { IfOk result (IsBuiltAs line_app) }
 {
     program_command(alloc, "bsonfind", &FILE_COMMANDS, find_command(alloc)?)
 }
 
-/// The commands that take a file and nothing else.
+/// The commands that take only a file.
 const FILE_COMMANDS: [&str; 4] = ["dump", "check", "pack", "serve"];
 
-/// The options of `find`, and whether each takes a number and not a text.
+/// The options of `find`, and whether each takes a number instead of a text.
 const OPTIONS: [(&str, bool); 7] = [
     ("query", false),
     ("sort", false),
@@ -219,7 +219,7 @@ fn find_command<'a>(alloc: Global) -> Made<'a>
     with_options(alloc, of_file(alloc, "find")?, &OPTIONS)
 }
 
-/// A command with these options more, and whether each takes a number.
+/// A command with these options added, and whether each takes a number.
 fn with_options<'a>(alloc: Global, command: Command<'a>, options: &[(&'a str, bool)]) -> Made<'a>
     requires { (fields_of command).has_globals ≡ false }
     ensures app { IfOk result (λ c.

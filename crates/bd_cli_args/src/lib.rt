@@ -1,6 +1,6 @@
-//! The words of the command line, and the order that they are.
+//! The arguments of the command line, and the command that they mean.
 //!
-//! Which words are taken, and what they order: `specs/CommandLine.antt`; what the options of `find` say:
+//! Which arguments are accepted, and what they mean: `specs/CommandLine.antt`; the options of `find`:
 //! `specs/FindWords.antt`.
 //!
 //! An example, which `bd_cli_tests` proves and runs as `examples::command_line`:
@@ -14,7 +14,7 @@
 //! assert!(rt; matches!(order, Ok(Order::Dump { .. })));
 //! ```
 //!
-//! - `order`: what a line orders, or why it does not.
+//! - `order`: `Order`, the command, and `WordsFault`, why there is none.
 //! - `command_line`: `parse_words`, by `clap`.
 //! - `file_commands`: what the command line of `bsonwide` shares: `specs/FileCommands.antt`.
 #![tactic(auto)]

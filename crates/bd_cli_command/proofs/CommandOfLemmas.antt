@@ -11,7 +11,7 @@ use Rattle.bd_cli_command.specs.CommandOf.{FieldsKeepRules, FirstBreak, IsComman
 use Rattle.bd_cli_command.specs.CommandOf.{first_command, missing_fault, pair_fault, pairs_fault}
 use Rattle.bd_value.proofs.ViewLemmas as lookup
 
--- a pair of the front
+-- a pair of a prefix
 pub at_prefix : (d : Doc) (i n : ℕ) (p : Pair) → i < n → slice_get d i ≡ Some p → slice_get (take n d) i ≡ Some p
 at_prefix [] i n p lt is = absurd cc
 at_prefix (q ∷ d) zero zero p lt is = let f : ⊥ = omega (arith, lt) in absurd f
@@ -19,7 +19,7 @@ at_prefix (q ∷ d) (suc i) zero p lt is = let f : ⊥ = omega (arith, lt) in ab
 at_prefix (q ∷ d) zero (suc n) p lt is = is
 at_prefix (q ∷ d) (suc i) (suc n) p lt is = at_prefix d i n p (omega (arith, lt)) is
 
--- the front, with the next pair
+-- a prefix, with the next pair
 pub prefix_with : (d : Doc) (i : ℕ) (p : Pair) → slice_get d i ≡ Some p → take (i + 1) d ≡ take i d ++ p ∷ []
 prefix_with [] i p is = absurd cc
 prefix_with (q ∷ d) zero p is = cc
@@ -27,7 +27,7 @@ prefix_with (q ∷ d) (suc i) p is =
     let e : take (i + 1) d ≡ take (suc i) d = rw add-one refl in
     rw add-one (ap (λ (ps : Doc). q ∷ ps) (sym e ∙ prefix_with d i p is))
 
--- ---- whether a name stands before a position
+-- ---- whether a name is before a position
 
 module _ (name : List ℕ) (d : Doc) (i n : ℕ) (p : Pair) (lt : i < n) (at : slice_get d i ≡ Some p)
     (so_far : first_of name (drop i (take n d)) ≡ first_of name (take n d)) where
@@ -66,12 +66,12 @@ pub fault_of_all : (command : CommandName) (d : Doc) (i : ℕ) (total : Option C
 fault_of_all command d i total le so_far =
     sym (ap₂ (pairs_fault command) (take_all i d le) (drop_all i d le)) ∙ so_far
 
--- the pair at a position is one
+-- there is only one pair at a position
 here_alone : (command : CommandName) (d : Doc) (i : ℕ) (p : Pair) → slice_get d i ≡ Some p → (q : Pair) → slice_get d i ≡ Some q
     → pair_fault command (take i d) p ≡ pair_fault command (take i d) q
 here_alone command d i p at q also = let same : p ≡ q = cc in ap (pair_fault command (take i d)) same
 
--- no document is refused for want of memory
+-- no rule of fields refuses a document as out of memory
 abbrev value_fault : Option FieldKind → Tree → Option CommandFault
 value_fault kind t = option_map_or (λ kind. if fits_field kind t then None else Some CommandFault.BadField) kind (Some CommandFault.UnknownField)
 
@@ -115,7 +115,7 @@ module _ (command : CommandName) (d : Doc) where
           let at_i : slice_get d i ≡ Some q = ap (slice_get d) (sym same) ∙ is in
           ap (λ k. pair_fault command (take k d) q) same ∙ here_alone command d i q at_i p at ∙ keeps
 
-  -- the next field, where the fields before it have none
+  -- the next field, if the fields before it have no fault
   step : (i : ℕ) (total : Option CommandFault) → i < length d → FieldsKeepRules command d i → pairs_fault command (take i d) (drop i d) ≡ total
       → (FieldsKeepRules command d (i + 1) × (pairs_fault command (take (i + 1) d) (drop (i + 1) d) ≡ total))
       ⊎ ((f : CommandFault) × (Some f ≡ total) × FirstBreak command d f)
@@ -140,7 +140,7 @@ module _ (command : CommandName) (d : Doc) where
   abbrev FieldsBreak : CommandFault → Type 0
   FieldsBreak f = FirstBreak command d f ⊎ (FieldsKeepRules command d (length d) × (missing_fault command d ≡ Some f))
 
-  -- all fields keep the rules, and what is missing is the fault, or the first that breaks one is
+  -- all fields are valid, and the fault is that of what is missing; or it is the first fault of a field
   abbrev Ends : Option CommandFault → Type 0
   Ends total = (FieldsKeepRules command d (length d) × (missing_fault command d ≡ total)) ⊎ ((f : CommandFault) × (Some f ≡ total) × FirstBreak command d f)
 
@@ -157,7 +157,7 @@ module _ (command : CommandName) (d : Doc) where
   ends_so : (total : Option CommandFault) → pairs_fault command [] d ≡ total → Ends total
   ends_so total is = found (length d) 0 total (omega arith) (λ i p lt at. let f : ⊥ = omega (arith, lt) in absurd f) is
 
-  -- fields that keep the rules are passed over
+  -- fields without a fault are skipped
   kept_passed : (i : ℕ) → i ≤ length d → FieldsKeepRules command d i → pairs_fault command (take i d) (drop i d) ≡ pairs_fault command [] d
   kept_passed zero le good = refl
   kept_passed (suc i) le good =

@@ -10,6 +10,6 @@ pub document_is : (v : Value) (d : Document) → v ≡ values.Doc d → Some (pa
 document_is v d is =
     sym (ap document_field (ap tree_of is ∙ tree_of-Doc d) ∙ ap (λ (ps : Doc). Some ps) (pairs_of-fields_of (pairs d)))
 
--- the pairs of a document in hand
+-- a document of these pairs
 pub parts_are : (d ps : Doc) → AreParts (doc (fields_of d)) ps → ps ≡ d
 parts_are d ps are = are ∙ pairs_of-fields_of d

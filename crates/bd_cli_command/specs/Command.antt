@@ -1,17 +1,17 @@
--- What a command asks for, with texts as their bytes and documents as their pairs; and why a document is no command.
+-- What a command means, with texts as their bytes and documents as their pairs; and why a document is no command.
 use Rattle.std.specs.Prelude.{ℕ, Bool, List, string_bytes, codes}
 use Rattle.bd_value.specs.{Tree.Doc, View.pairs}
 use Rattle.bd_cli_command.specs.declared.command.{Command.Command as CommandInMemory, FindCommand.FindCommand as FindInMemory}
 use Rattle.bd_cli_command.specs.declared.{command.Hint.Hint as HintInMemory, field.HintForm.HintForm}
 use Rattle.bd_cli_command.specs.declared.command.{CommandFault.CommandFault}
 
--- how documents are to be found (`use`): by any index that serves, by a scan, or by the index on a path
+-- how documents are searched (`use`): by any index that serves, by a scan, or by the index on a path
 pub data Hint : Type 0 where
   any_way : Hint
   by_scan : Hint
   by_index : List ℕ → Hint
 
--- what is to be found: filter, sort, skip, limit, and by which index
+-- a search: filter, sort, skip, limit, and by which index
 pub record FindCommand : Type 0 where
   pub filter : Doc
   pub sort : Doc
@@ -30,19 +30,19 @@ pub data Command : Type 0 where
   kills_cursor : ℕ → Command
   explains : FindCommand → Command
 
--- what the field `use` in memory asks for
+-- the meaning of the field `use` in memory
 abbrev pub hint_tree : HintInMemory → Hint
 hint_tree HintInMemory.Auto = any_way
 hint_tree HintInMemory.Scan = by_scan
 hint_tree (HintInMemory.Index path) = by_index (string_bytes path)
 
--- what the field `use` asks for, with a path that is borrowed
+-- the meaning of the field `use`, with a borrowed path
 abbrev pub hint_read : HintForm → Hint
 hint_read HintForm.Auto = any_way
 hint_read HintForm.Scan = by_scan
 hint_read (HintForm.Index path) = by_index path.now
 
--- what is to be found, by a command in memory
+-- the search of a command in memory
 abbrev pub find_tree : FindInMemory → FindCommand
 find_tree f = record {
   filter = pairs f.filter;
@@ -52,7 +52,7 @@ find_tree f = record {
   hint = hint_tree f.hint;
 }
 
--- the command that one in memory stands for
+-- the command that a `Command` in memory represents
 abbrev pub command_tree : CommandInMemory → Command
 command_tree (CommandInMemory.CreateIndex path sparse) = creates_index (string_bytes path) sparse
 command_tree (CommandInMemory.DropIndex path) = drops_index (string_bytes path)
@@ -62,7 +62,7 @@ command_tree (CommandInMemory.GetMore id batch) = gets_more id batch
 command_tree (CommandInMemory.KillCursor id) = kills_cursor id
 command_tree (CommandInMemory.Explain find) = explains (find_tree find)
 
--- the number of a command fault in a reply; out of memory is no reply
+-- the number of a command fault in a reply; no reply reports out of memory
 abbrev pub command_fault_number : CommandFault → ℕ
 command_fault_number CommandFault.UnknownCommand = 1
 command_fault_number CommandFault.MissingField = 2

@@ -1,4 +1,4 @@
--- Which command a document is, the first fault of one that is none, and the rules that its fields keep.
+-- Which command a document is, the first fault if it is none, and the rules for its fields.
 use Rattle.std.specs.Prelude.{◌≡◌, ◌<◌, ◌⊎◌, ℕ, false, List, [], ◌∷◌, ◌++◌, length, take, slice_get, codes, Option}
 use Rattle.std.specs.Prelude.{Some, None, Result, Ok, Err, if◌then◌else◌, is_some, option_and_then, unwrap_or}
 use Rattle.std.specs.{Option.option_map_or, Option.option_or, List.list_all}
@@ -14,7 +14,7 @@ abbrev pub first_command : Doc → Option Name
 first_command [] = None
 first_command (p ∷ ps) = entry_of p.0 command_names
 
--- the fault of a field, if it has one: it was there before, the command has no such field,
+-- the fault of a field, if any: the field occurred before, the command has no such field,
 -- or its value is of another kind
 abbrev pub pair_fault : Name → Doc → Pair → Option Fault
 pair_fault command before p = if is_some (first_of p.0 before) then Some Fault.RepeatedField
@@ -26,17 +26,17 @@ abbrev pub missing_fault : Name → Doc → Option Fault
 missing_fault command d =
     if list_all (λ name. is_some (first_of name d)) (required_fields command) then None else Some Fault.MissingField
 
--- the first fault of fields, after those in `before`; a field that is missing comes last
+-- the first fault of fields, after those in `before`; a missing field comes last
 abbrev pub pairs_fault : Name → Doc → Doc → Option Fault
 pairs_fault command before [] = missing_fault command before
 pairs_fault command before (p ∷ ps) =
     option_or (pair_fault command before p) (pairs_fault command (before ++ p ∷ []) ps)
 
--- the value of the first field of that name; `otherwise` without one
+-- the value of the first field of that name; `otherwise` if there is none
 abbrev pub field_value : {A : Type 0} → (Tree → Option A) → A → List ℕ → Doc → A
 field_value read otherwise name d = unwrap_or (option_and_then read (first_of name d)) otherwise
 
--- what the fields of a command ask to find; `filter` is the name of the field with the filter
+-- the search in the fields of a command; `filter` is the name of the field with the filter
 abbrev pub find_in : List ℕ → Doc → FindCommand
 find_in filter d = record {
   filter = field_value document_field [] filter d;
@@ -46,7 +46,7 @@ find_in filter d = record {
   hint = field_value hint_field any_way (codes "use") d;
 }
 
--- the command that fields ask for that have no fault
+-- the command in fields that have no fault
 abbrev pub command_in : Name → Doc → Command
 command_in Name.CreateIndex d =
     creates_index (field_value text_field [] (codes "createIndex") d) (field_value truth_field false (codes "sparse") d)
@@ -65,7 +65,7 @@ command_of d = option_map_or (λ name. option_map_or Err (pairs_fault name [] d)
 
 -- ---- the same by positions
 
--- No field before position `end` has a fault: each is there once, belongs to the command,
+-- No field before position `end` has a fault: each occurs once, belongs to the command,
 -- and has a value of its kind.
 abbrev pub FieldsKeepRules : Name → Doc → ℕ → Type 0
 FieldsKeepRules command d end =
@@ -76,7 +76,7 @@ abbrev pub FirstBreak : Name → Doc → Fault → Type 0
 FirstBreak command d fault = (i : ℕ) × (p : Pair) × (slice_get d i ≡ Some p) × FieldsKeepRules command d i
     × (pair_fault command (take i d) p ≡ Some fault)
 
--- The first name is no command; or this is the first fault of its fields, of which a missing one comes last.
+-- The first name is no command; or this is the first fault of its fields, of which a missing field comes last.
 abbrev pub IsFaultOf : Doc → Fault → Type 0
 IsFaultOf d fault = ((first_command d ≡ None) × (fault ≡ Fault.UnknownCommand))
     ⊎ ((command : Name) × (first_command d ≡ Some command) × (FirstBreak command d fault

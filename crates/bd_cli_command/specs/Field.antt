@@ -1,4 +1,4 @@
--- The fields of commands, and what the value of a field has to be.
+-- The fields of commands, and which values a field may have.
 use Rattle.std.specs.Prelude.{ℕ, pos, Bool, List, [], ◌∷◌, Option, Some, None, codes, if◌then◌else◌, is_some}
 use Rattle.std.specs.{Prelude.option_map, Str.bytes_eq}
 use Rattle.bd_value.specs.Tree.{Doc, Scalar, Tree, leaf, doc, pairs_of}
@@ -7,7 +7,7 @@ use Rattle.bd_cli_command.specs.Command.{Hint, any_way, by_scan, by_index}
 
 -- ---- the fields that a command may have, its first one included
 
--- what a table has for a name, if it has the name
+-- the value of a name in a table, if any
 abbrev pub entry_of : {A : Type 0} → List ℕ → List (List ℕ × A) → Option A
 entry_of name [] = None
 entry_of name (e ∷ es) = if bytes_eq name e.0 then Some e.1 else entry_of name es
@@ -24,7 +24,7 @@ abbrev pub find_fields : List (List ℕ × Kind)
 find_fields = (codes "sort", Kind.Document) ∷ (codes "skip", Kind.Count) ∷ (codes "limit", Kind.Count)
     ∷ (codes "use", Kind.Hint) ∷ []
 
--- the fields of a command, its first one too, each with the kind of its value
+-- the fields of a command, its first one included, each with the kind of its value
 abbrev pub command_fields : Name → List (List ℕ × Kind)
 command_fields Name.CreateIndex = (codes "createIndex", Kind.Text) ∷ (codes "sparse", Kind.Truth) ∷ []
 command_fields Name.DropIndex = (codes "dropIndex", Kind.Text) ∷ []
@@ -41,17 +41,17 @@ required_fields _ = []
 
 -- ---- the values of fields
 
--- a string; no symbol stands for one here
+-- a string; a symbol is not accepted
 abbrev pub text_field : Tree → Option (List ℕ)
 text_field (leaf (Scalar.text s)) = Some s
 text_field t = None
 
--- a boolean; no number stands for one here
+-- a boolean; a number is not accepted
 abbrev pub truth_field : Tree → Option Bool
 truth_field (leaf (Scalar.boolean b)) = Some b
 truth_field t = None
 
--- the fields of a document; an array is none
+-- the fields of a document; an array has none
 abbrev pub document_field : Tree → Option Doc
 document_field (doc fs) = Some (pairs_of fs)
 document_field t = None

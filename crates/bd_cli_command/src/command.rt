@@ -1,4 +1,4 @@
-//! What a command asks for.
+//! The commands of a session.
 
 ghost use Rattle.std.specs.Prelude.{◌≡◌};
 ghost use Rattle.bd_cli_command.specs.Command.{command_fault_number, command_fault_words};
@@ -14,25 +14,25 @@ pub enum Command {
     /// `createIndex`: an index on a path.
     CreateIndex {
         path: String,
-        /// Whether documents that give the path no value are left out.
+        /// Whether documents in which the path is missing are left out.
         sparse: bool,
     },
-    /// `dropIndex`: no index on a path any more.
+    /// `dropIndex`: drops the index on a path.
     DropIndex {
         path: String,
     },
-    /// `find`: a cursor over what is found.
+    /// `find`: a cursor over the documents found.
     Find(FindCommand),
-    /// `resume`: a cursor over what is left after a token.
+    /// `resume`: a cursor over what remains after a token.
     Resume {
         token: String,
-        /// What the token was given for.
+        /// The search that the token belongs to.
         find: FindCommand,
     },
     /// `getMore`: the next documents of a cursor.
     GetMore {
         id: u64,
-        /// How many at most.
+        /// How many are returned at most.
         batch: u64,
     },
     /// `killCursor`: the end of a cursor.
@@ -43,27 +43,27 @@ pub enum Command {
     Explain(FindCommand),
 }
 
-/// What is to be found, and how.
+/// A search: which documents, and how they are found.
 #[derive(Drop)]
 pub struct FindCommand {
     /// The filter; `{}` without one.
     pub filter: Document,
     /// The sort; `{}` without one.
     pub sort: Document,
-    /// How many documents are passed over; 0 without one.
+    /// How many documents are skipped; 0 by default.
     pub skip: u64,
-    /// How many are given at most, where 0 is no limit; 0 without one.
+    /// How many are returned at most, 0 for no limit; 0 by default.
     pub limit: u64,
-    /// What the field `use` says; `Auto` without one.
+    /// The field `use`; `Auto` by default.
     pub hint: Hint,
 }
 
-/// By what documents are to be found.
+/// How documents are to be found.
 #[derive(Drop)]
 pub enum Hint {
-    /// `"auto"`: by an index that serves, where there is one.
+    /// `"auto"`: by an index that serves, if any.
     Auto,
-    /// `"scan"`: each document is looked at.
+    /// `"scan"`: each document is examined.
     Scan,
     /// `{"index":path}`: by the index on that path.
     Index(String),
@@ -73,21 +73,21 @@ pub enum Hint {
 #[derive(Clone, Copy, Debug, Drop, PartialEq, Eq, Error)]
 #[error("{}", self.words())]
 pub enum CommandFault {
-    /// The first name is that of no command, or there is none.
+    /// The first name is no command, or there is none.
     UnknownCommand = 1,
-    /// A field that the command must have is not there.
+    /// A required field is missing.
     MissingField = 2,
-    /// A field that the command has not.
+    /// A field that the command does not have.
     UnknownField = 3,
-    /// A field that stands already, the first one included.
+    /// A field that occurred already, the first one included.
     RepeatedField = 4,
     /// A value of another kind, a number below 0, or a `use` of another form.
     BadField = 5,
-    /// No memory was given.
+    /// Memory ran out.
     NoMemory = 6,
 }
 
-/// What went wrong, in words: by number, from 1 on.
+/// The messages by number, from 1 on.
 const WORDS: [&str; 6] = [
     "unknown command",
     "missing field",
@@ -98,7 +98,7 @@ const WORDS: [&str; 6] = [
 ];
 
 impl CommandFault {
-    /// What is wrong, in words.
+    /// The message.
     #[tactic(auto, unfolding(crate::specs::Command::command_fault_words))]
     pub fn words(self) -> &'static str
         ensures { result.now ≡ command_fault_words self }
@@ -106,7 +106,7 @@ impl CommandFault {
         WORDS[self as usize - 1]
     }
 
-    /// The number by which a reply tells it, 1 to 5; 6 for out of memory.
+    /// The number in a reply, 1 to 5; 6 for out of memory.
     pub fn number(self) -> u32
         ensures { result ≡ command_fault_number self }
     {

@@ -1,4 +1,4 @@
-//! Documents read as commands: the command that a document is, or its first fault.
+//! Reads a document as a command, or finds its first fault.
 
 ghost use Rattle.std.specs.Prelude.{◌≡◌, ◌<◌, ◌⊎◌, [], codes, false, take, IfErr, IfOk, IsErrOf, Some, Ok, Err, is_some, length, slice_get, string_bytes};
 ghost use Rattle.std.specs.Result.{result_err};
@@ -15,19 +15,19 @@ use crate::field::{CommandName, HintForm, count_in, document_in, hint_in, text_i
 use bd_value::{Document, NoMemory, Reading, Tree, to_document};
 use std::alloc::Global;
 
-/// The command that a document is.
+/// The command that a document means.
 ///
 /// Its first name is the command. The further fields come in any order.
 ///
 /// # Errors
 ///
-/// The first fault, in this order: the first name, its value, the further fields as they stand, and then what is missing. Each
-/// further field is tried for `RepeatedField`, `UnknownField` and `BadField`, in this order. `NoMemory` where no memory was given
+/// The first fault, in this order: the first name, its value, the further fields in their order, and then what is missing. Each
+/// further field is checked for `RepeatedField`, `UnknownField` and `BadField`, in this order. `NoMemory` if memory runs out
 /// for a document that is a command.
 pub fn read_command(alloc: Global, document: &Document) -> Result<Command, CommandFault>
     ensures command { IfOk result (λ c. command_of (pairs document.now) ≡ Ok (command_tree c)) }
     ensures fault { IfErr result (λ f. (f ≡ NoMemory) ⊎ (command_of (pairs document.now) ≡ Err f)) }
-    // Want of memory hides no fault.
+    // Out of memory hides no fault.
     ensures out_of_memory { IsErrOf result CommandFault.NoMemory →
         IsCommandDocument (pairs document.now) }
 {
@@ -38,7 +38,7 @@ pub fn read_command(alloc: Global, document: &Document) -> Result<Command, Comma
     Ok(take_command(alloc, name, document)?)
 }
 
-/// The command that the first name is.
+/// The command with the first name.
 fn first_command(document: &Document) -> Option<CommandName>
     ensures { result ≡ first_command (pairs document.now) }
 {
@@ -76,7 +76,7 @@ fn check_field(command: CommandName, document: &Document, i: usize) -> Result<()
     }
 }
 
-/// Whether a field stands before an index.
+/// Whether a field occurs before an index.
 fn is_before_field(document: &Document, end: usize, field: &str) -> bool
     requires { end < length (pairs document.now) }
     ensures { result ≡ is_some (first_of field.now (take end (pairs document.now))) }
@@ -90,7 +90,7 @@ fn is_before_field(document: &Document, end: usize, field: &str) -> bool
     false
 }
 
-/// Fails where a field is missing.
+/// Fails if a required field is missing.
 fn check_required(command: CommandName, document: &Document) -> Result<(), CommandFault>
     ensures { result_err result ≡ missing_fault command (pairs document.now) }
 {
@@ -130,7 +130,7 @@ fn take_command(alloc: Global, name: CommandName, document: &Document) -> Result
     })
 }
 
-/// What is to be found, with the filter in a field.
+/// The search, with the filter in the named field.
 fn take_find(alloc: Global, filter: &str, document: &Document) -> Result<FindCommand, NoMemory>
     ensures { IfOk result (λ f. find_tree f ≡ find_in filter.now (pairs document.now)) }
 {
@@ -143,7 +143,7 @@ fn take_find(alloc: Global, filter: &str, document: &Document) -> Result<FindCom
     })
 }
 
-/// The text of a field; empty without one.
+/// The text of a field; empty if it is missing.
 fn text_at(alloc: Global, document: &Document, field: &str) -> Result<String, NoMemory>
     ensures { IfOk result (λ s.
         string_bytes s ≡ field_value text_field [] field.now (pairs document.now)) }
@@ -154,14 +154,14 @@ fn text_at(alloc: Global, document: &Document, field: &str) -> Result<String, No
     }
 }
 
-/// The boolean of a field; false without one.
+/// The boolean of a field; false if it is missing.
 fn truth_at(document: &Document, field: &str) -> bool
     ensures { result ≡ field_value truth_field false field.now (pairs document.now) }
 {
     document.first(field).and_then(truth_in).unwrap_or(false)
 }
 
-/// A copy of the document of a field; `{}` without one.
+/// A copy of the document of a field; `{}` if it is missing.
 fn document_at(alloc: Global, document: &Document, field: &str) -> Result<Document, NoMemory>
     ensures { IfOk result (λ d.
         pairs d ≡ field_value document_field [] field.now (pairs document.now)) }
@@ -172,14 +172,14 @@ fn document_at(alloc: Global, document: &Document, field: &str) -> Result<Docume
     }
 }
 
-/// The number of a field; 0 without one.
+/// The number of a field; 0 if it is missing.
 fn count_at(document: &Document, field: &str) -> u64
     ensures { result ≡ field_value count_field 0 field.now (pairs document.now) }
 {
     document.first(field).and_then(count_in).unwrap_or(0)
 }
 
-/// What `use` says; `Auto` without one.
+/// The field `use`; `Auto` if it is missing.
 fn hint_at(alloc: Global, document: &Document) -> Result<Hint, NoMemory>
     ensures { IfOk result (λ h.
         hint_tree h ≡ field_value hint_field any_way (codes "use") (pairs document.now)) }

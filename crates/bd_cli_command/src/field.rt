@@ -1,4 +1,4 @@
-//! The names of commands, their fields, and what the value of a field has to be.
+//! The names of commands, their fields, and which values a field may have.
 
 ghost use Rattle.std.specs.Prelude.{◌≡◌, option_map};
 ghost use Rattle.bd_value.specs.View.{pairs, tree_of};
@@ -8,7 +8,7 @@ ghost use Rattle.bd_cli_command.specs.Field.{hint_field, index_field, text_field
 
 use bd_value::{Document, Scalar, Value};
 
-/// Which command it is.
+/// The name of a command.
 #[derive(Clone, Copy, Debug, PartialEq, Eq)]
 pub enum CommandName {
     CreateIndex,
@@ -37,7 +37,7 @@ impl CommandName {
         }
     }
 
-    /// What the value of a field has to be, the first one included; none where the command has no such field.
+    /// Which values a field may have, the first one included; None if the command has no such field.
     pub(crate) fn field_kind(self, field: &str) -> Option<FieldKind>
         ensures { result ≡ entry_of field.now (command_fields self) }
     {
@@ -59,7 +59,7 @@ impl CommandName {
     }
 }
 
-/// What the value of a field has to be that all commands have that find.
+/// Which values a field may have that all searching commands share.
 fn find_field_kind(field: &str) -> Option<FieldKind>
     ensures { result ≡ entry_of field.now find_fields }
 {
@@ -71,7 +71,7 @@ fn find_field_kind(field: &str) -> Option<FieldKind>
     }
 }
 
-/// What the value of a field has to be.
+/// Which values a field may have.
 #[derive(Clone, Copy, Debug, PartialEq, Eq)]
 pub enum FieldKind {
     /// A text.

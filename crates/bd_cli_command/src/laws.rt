@@ -6,7 +6,7 @@ ghost use Rattle.bd_cli_command.specs.Command.{Command as CommandTree};
 ghost use Rattle.bd_cli_command.specs.CommandOf.{IsCommandDocument, IsFaultOf, command_of};
 ghost use Rattle.bd_cli_command.specs.declared.command.CommandFault.{CommandFault as Fault};
 
-/// A document is a command exactly where its fields keep the rules, and is refused exactly for the first rule that it breaks.
+/// A document is a command exactly if its fields follow the rules, and is refused exactly for the first rule that it breaks.
 pub fn faulty_documents_alone_are_no_commands()
     ensures commands { (d : Doc) →
         ((c : CommandTree) × (command_of d ≡ Ok c)) ↔ IsCommandDocument d }

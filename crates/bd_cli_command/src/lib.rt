@@ -1,7 +1,7 @@
 //! The commands of `serve`, each an Extended JSON document.
 //!
-//! The first name of a document is the command, and its value and the further fields say what is wanted. Filters, sorts, paths and
-//! tokens are not looked into here.
+//! The first name of a document is the command, and its value and the further fields are its arguments. Filters, sorts, paths and
+//! tokens are not checked here.
 //!
 //! An example, which `bd_cli_service_tests` proves and runs as `examples::a_page`:
 //!
@@ -15,9 +15,9 @@
 //! );
 //! ```
 //!
-//! - `command`: `Command`, to match on, and `CommandFault`, why a document is none: `specs/Command.antt`.
-//! - `command_of`: `read_command`, the command that a document is, or its first fault: `specs/CommandOf.antt`.
-//! - `field`: the names of commands, their fields, and what the value of a field has to be: `specs/Field.antt`.
+//! - `command`: `Command`, to match on, and `CommandFault`, why a document is no command: `specs/Command.antt`.
+//! - `command_of`: `read_command`, the command that a document means, or its first fault: `specs/CommandOf.antt`.
+//! - `field`: the names of commands, their fields, and which values a field may have: `specs/Field.antt`.
 //! - `laws`: which documents are no commands.
 #![tactic(auto)]
 

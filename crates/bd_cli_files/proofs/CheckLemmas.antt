@@ -1,4 +1,4 @@
--- What `check` shows is determined, and its status is that of `dump`.
+-- The output of `check` is determined, and its status is that of `dump`.
 use Rattle.std.proofs.Common.{◌≡◌, ◌≤◌, ℕ, suc, ◌+◌, List, [], ◌∷◌, ◌++◌, length, Option, Some, None, Err, refl, sym, ap, ap₂, ◌∙◌, subst, inl, inr, append_assoc}
 use Rattle.std.proofs.Common.{append-nil, arith, length-append, map}
 use Rattle.std.proofs.lemmas.List.{take_at, drop_at}
@@ -66,7 +66,7 @@ same_status bytes None s t p q =
     ap status_of p.3 ∙ scan_checked p.0 p.1 (check_results bytes) (as_scan p.0 p.1 bytes p.2) ∙ ap (λ (vs : List (Option Fault)). check_status None (faulty_count vs)) (sym q.1) ∙ sym (ap status_of q.2)
 same_status bytes (Some fault) s t p q = ap status_of p.6 ∙ sym (ap status_of q.2)
 
--- the verdicts, as contracts see them
+-- the result of a check, as contracts see it
 abbrev CheckResult : Type 0
 CheckResult = Option Fault
 
@@ -77,27 +77,27 @@ lines_append number (u ∷ us) vs =
     ap (λ x. check_result_line number u ++ x) (lines_append (suc number) us vs ∙ ap (λ n. check_result_lines (suc number) us ++ check_result_lines n vs) next)
     ∙ sym (append_assoc (check_result_line number u) (check_result_lines (suc number) us) (check_result_lines (number + length (u ∷ us)) vs))
 
--- the lines after some verdicts are those of the next ones
+-- the lines for joined results are those for the first, then those for the next ones
 lines_after : (us vs : List CheckResult) → check_result_lines 0 (us ++ vs) ≡ check_result_lines 0 us ++ check_result_lines (length us) vs
 lines_after us vs = let number : 0 + length us ≡ length us = omega arith in lines_append 0 us vs ∙ ap (λ n. check_result_lines 0 us ++ check_result_lines n vs) number
 
 lines_more : (us : List CheckResult) (v : CheckResult) → check_result_lines 0 (us ++ v ∷ []) ≡ check_result_lines 0 us ++ check_result_line (length us) v
 lines_more us v = lines_after us (v ∷ []) ∙ ap (λ x. check_result_lines 0 us ++ x) (append-nil (check_result_line (length us) v))
 
--- the verdict on a document by its length, and those on what follows it
+-- the result for a document with a length, and then those for what follows it
 turn_on : (offset : ℕ) (frame rest : List ℕ) (v : CheckResult) → IsFrame frame → first_fault offset frame ≡ v → check_results_at offset (frame ++ rest) ≡ v ∷ check_results_at (offset + length frame) rest
 turn_on offset frame rest v is first =
     turn_at offset (length frame) (frame ++ rest) (frame_on frame rest is)
     ∙ ap₂ (λ (x y : List ℕ). first_fault offset x ∷ check_results_at (offset + length frame) y) (take_at frame rest (length frame) refl) (drop_at frame rest (length frame) refl)
     ∙ ap (λ (x : CheckResult). x ∷ check_results_at (offset + length frame) rest) first
 
--- what was written of a document is the line of its verdict
+-- what was written for a document is the line of its result
 line_of : (number offset : ℕ) (frame : List ℕ) (v : CheckResult) (piece : List ℕ) → IsTextOf check_texts number offset frame v piece
     → (first_fault offset frame ≡ v) × (piece ≡ check_result_line number v)
 line_of number offset frame None piece (d, spelled, line) = (document_faultless offset frame d spelled, line)
 line_of number offset frame (Some f) piece (first, line) = (first, cc)
 
--- what was written of documents are the lines of their verdicts, and these begin all verdicts
+-- what was written for documents is the lines of their results, and these begin all results
 checked : (vs : List CheckResult) (given text : List ℕ) → AreVisited check_texts vs given text
     → (text ≡ check_result_lines 0 vs) × ((rest : List ℕ) → check_results (given ++ rest) ≡ vs ++ check_results_at (length given) rest)
 checked vs given text none_visited = (refl, λ rest. refl)
@@ -112,19 +112,19 @@ checked vs given text (more_visited us prefix before v frame piece visited is pr
           ∙ sym (append_assoc us (v ∷ []) (check_results_at (length (prefix ++ frame)) rest)),
     )
 
--- the one verdict on bytes whose length is bad
+-- the single result for bytes with a bad length
 check_result_on : (offset : ℕ) (bytes all : List ℕ) (f : reported.Fault) → frame_length bytes ≡ Err f.kind → frame_length all ≡ Err f.kind
     → framed_fault offset all (frame_length all) ≡ Some (fault_view f) → check_results_at offset bytes ≡ Some (fault_view f) ∷ []
 check_result_on offset bytes all f is long fails =
     last_at offset bytes f.kind is ∙ ap (λ (v : CheckResult). v ∷ []) (sym (ap (framed_fault offset all) long) ∙ fails)
 
--- a text that was taken whole and a front of the next are a front of both and more
+-- a text that was written completely and a prefix of the next one are a prefix of both and more
 within_both : (old new : Writer) (whole piece more all : List ℕ) → WriteFailsAfter (between old new) whole piece → all ≡ whole ++ (piece ++ more) → WriteFailsWithin (between old new) all
 within_both old new whole piece more all (prefix, rest, splits, some, took, failed) parts =
     let both = parts ∙ ap (λ x. whole ++ (x ++ more)) splits ∙ ap (λ x. whole ++ x) (append_assoc prefix rest more) ∙ sym (append_assoc whole prefix (rest ++ more)) in
     (whole ++ prefix, rest ++ more, both, λ none. some (prefix_none rest more none), took, failed)
 
--- standard output broke in the lines of all bytes of an input, and after these verdicts
+-- a write failed within the lines for all bytes of an input, after these results
 abbrev WriteFails : Reader → Reader → Writer → Writer → Type 0
 WriteFails old new out_old out = (bytes : List ℕ) × StreamsInput (between old new) bytes None
     × WriteFailsWithin (between out_old out) (check_result_lines 0 (check_results bytes)) × WriteFailsAtCheckResult (between old new) (between out_old out)
@@ -136,7 +136,7 @@ module _ {vs : List CheckResult} {given text : List ℕ} (visited : AreVisited c
       ap (check_result_lines 0) (j.1 bytes) ∙ lines_after vs (check_results_at (length given) bytes)
       ∙ ap (λ x. x ++ check_result_lines (length vs) (check_results_at (length given) bytes)) (sym j.0)
 
-  -- all of the bytes are documents that were judged
+  -- all of the bytes are documents that were checked
   all_checked : vs ≡ check_results given
   all_checked =
       let all = (checked vs given text visited).1 [] in
@@ -149,7 +149,7 @@ module _ {vs : List CheckResult} {given text : List ℕ} (visited : AreVisited c
         let known = known_whole old.remaining new.remaining (given ++ part) at.0 in
         (subst (λ (x : List ℕ). IfSome old.remaining (λ xs. x ≡ xs)) (append_assoc given part (rest_of new.remaining)) known, (frames.0, given, frames.1, (part, at)), no_failure)
 
-    -- the line of the next document, of which this part was read, is a front of what is left to write
+    -- the line of the next document, of which this part was read, is a prefix of what remains to be written
     write_fails : (out : Writer) (part bytes : List ℕ) (f : Fault) (more : List CheckResult) → StreamsInput (between old new) (given ++ bytes) None → StopsInside given part (between old new)
         → check_results_at (length given) part ≡ Some f ∷ [] → check_results_at (length given) bytes ≡ Some f ∷ more
         → WriteFailsAfter (between out_old out) text (check_result_line (length vs) (Some f)) → WriteFails old new out_old out
@@ -173,7 +173,7 @@ module _ (old new : Reader) (out_old out_new : Writer) (err_old err_new : Writer
   abbrev Scanned : ℕ → ℕ → Ending → Type 0
   Scanned documents bad ending = ScansDocuments check_texts (between old new) (between out_old out_new) (record { count = documents; bad = bad; ending = ending })
 
-  -- all were judged: their lines were taken, and counted they are so many
+  -- all documents were checked: their lines were written, and these are their counts
   prints : (bytes : List ℕ) (unread : Option ReadFault) (vs : List CheckResult) (documents faulty : ℕ) → StreamsInput (between old new) bytes unread
       → ChecksWithinLimit bytes unread → AreCheckResults bytes unread vs → documents ≡ length vs → faulty ≡ faulty_count vs
       → TakesText (between out_old out_new) (check_result_lines 0 vs) → Reported documents faulty unread → Prints

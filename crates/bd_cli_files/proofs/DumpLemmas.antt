@@ -18,7 +18,7 @@ use Rattle.bd_cli_files.proofs.OutputLemmas.{lines-append}
 use Rattle.bd_bson_check.specs.declared.fault.Fault as reported
 use Rattle.bd_cli_files.specs.declared.dump_and_check.Ending.TheVariants as endings
 
--- the documents that were gone over, and their lines
+-- the documents that were scanned, and their lines
 printed : (vs : List (Option Fault)) (given text : List ℕ) → AreVisited dump_texts vs given text
     → (ds : List Doc) × AreJoined ds given × (length ds ≡ length vs) × (text ≡ lines ds)
 printed vs given text none_visited = ([], refl, refl, refl)
@@ -37,14 +37,14 @@ none_at_end number (endings.Faulty f) = refl
 none_at_end number (endings.Unread f) = refl
 
 module _ (old new : Reader) (out_old out_new : Writer) (err_old err_new : Writer) (status : Status) where
-  -- `dump` was carried out
+  -- `dump` ran as its contract says
   abbrev pub Prints : Type 0
   Prints = DumpsInput (between old new) (between out_old out_new) (between err_old err_new) status
 
   abbrev Reports : List ℕ → Status → Type 0
   Reports text wanted = ReportsMessage (between err_old err_new) text wanted status
 
-  -- what comes after so many documents was told, or memory ran out for it
+  -- the end after n documents was reported, or memory ran out for the report
   abbrev ReportsEnding : ℕ → Ending → Type 0
   ReportsEnding count ending =
       Reports (wrong_line (ending_words ending) ++ (decimal count ++ objects_found)) (wrong_status (ending_words ending))
@@ -99,7 +99,7 @@ pub refused : (out : Writer) (err_old err_new : Writer) (words : List ℕ) (stat
     → ReportsMessage (between err_old err_new) (error_line words) Failed status → PrintsOutput (between out out) (between err_old err_new) (refusal_output words) status
 refused out err_old err_new words status reported = inl (takes_none out, reported)
 
--- ---- what is shown is determined
+-- ---- the output is determined
 
 pub output_once : (bytes : List ℕ) (fault : Option ReadFault) (s t : Transcript) → IsOutputOfDump bytes fault s → IsOutputOfDump bytes fault t → s ≡ t
 output_once bytes None s t (ds, end, is, prints) (es, other, was, showed) =
@@ -115,7 +115,7 @@ output_some bytes fits = let w = scan_on [] [] bytes fits refl in (dump_output w
 bytes_after : (given rest : List ℕ) → IsBytes (given ++ rest) → IsBytes rest
 bytes_after given rest h i = subst (λ n. n < 256) (get_or-append-add given rest i 0) (h (length given + i))
 
--- what stands in front of the bytes stands in front of what is shown
+-- the output for a prefix of the bytes is a prefix of the output for all of them
 pub prints_prefix : (bytes given rest : List ℕ) (output : Transcript) (ds : List Doc) (prefix more : List ℕ) → IsBytes bytes → bytes ≡ given ++ rest → IsOutputOfDump bytes None output
     → AreJoined ds given → lines ds ≡ prefix ++ more → (after : List ℕ) × (output.out ≡ prefix ++ after)
 prints_prefix bytes given rest output ds prefix more fits splits (es, end, scan, prints) joined is =

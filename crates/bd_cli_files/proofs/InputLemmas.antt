@@ -10,7 +10,7 @@ use Rattle.bd_cli_files.specs.Input.{ReadsInput, ReadsNoFurther}
 use Rattle.bd_io_device.specs.declared.reading.ReadFault.TheVariants as reads
 
 module _ {V R : Type 0} (bytes : V → List ℕ) (size : V → ℕ) (sized : (v : V) → size v ≡ length (bytes v)) (gives : R → Option (List ℕ) → R → Type 0) (old new : R) where
-  -- as many reads as an input may take give one byte more than it may have
+  -- as many reads as an input may take return one byte more than it may have
   abbrev Exhausts : Type 0
   Exhausts = (given : List ℕ) × (length given ≤ longest_input) × AreReads gives most_reads old given new
 

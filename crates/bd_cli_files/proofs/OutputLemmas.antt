@@ -30,7 +30,7 @@ pub on_err_map : {A E : Type 0} (r : Result A E) (P Q : Type 0) → OnErr r P �
 on_err_map (Ok x) P Q h f = _
 on_err_map (Err e) P Q h f = f h
 
--- an answer to the writing of the second of two texts
+-- the result of writing the second of two texts
 pub second_err : {A E : Type 0} (r : Result A E) (old mid new : Writer) (first second : List ℕ) → TakesText (between old mid) first
     → OnErr r (WriteFailsWithin (between mid new) second) → OnErr r (WriteFailsWithin (between old new) (first ++ second))
 second_err (Ok x) old mid new first second a h = _
@@ -43,21 +43,21 @@ second_ok (Err e) old mid new first second a h = _
 
 pub ruleset taking = (takes_both, write_fails_first, write_fails_second)
 
--- ---- a text of which a front was taken
+-- ---- a text of which a prefix was written
 
--- a writer that took a prefix of a text took a prefix
+-- if a writer took a prefix of a text, the whole text has that prefix
 pub prefix_taken : (old new : Writer) (prefix rest all : List ℕ) → TakesText (between old new) prefix → all ≡ prefix ++ rest → TakesPrefix (between old new) all
 prefix_taken old new prefix rest all took splits = (prefix, rest, splits, took)
 
--- a write failed in the piece after what was taken
+-- a write failed in the piece after what was written
 pub write_fails_piece : (old mid new : Writer) (prefix piece rest all : List ℕ) → TakesText (between old mid) prefix → WriteFailsWithin (between mid new) piece
     → all ≡ prefix ++ (piece ++ rest) → WriteFailsWithin (between old new) all
 write_fails_piece old mid new prefix piece rest all took failed_write splits =
     let whole = write_fails_first old new (prefix ++ piece) rest (write_fails_second old mid new prefix piece took failed_write) in
     subst (λ (x : List ℕ). WriteFailsWithin (between old new) x) (append_assoc prefix piece rest ∙ sym splits) whole
 
--- if standard output has all and standard error the message, or that memory ran out,
--- the run printed what it is to show
+-- if standard output has everything and standard error the message, or that memory ran out,
+-- the run printed its output
 pub all_output : (out_old out_new err_old err_new : Writer) (status : Status) (output : Transcript) → TakesText (between out_old out_new) output.out
     → ReportsMessage (between err_old err_new) output.err output.status status ⊎ ReportsMessage (between err_old err_new) (error_line no_memory) Failed status
     → PrintsOrRunsOut (between out_old out_new) (between err_old err_new) output status

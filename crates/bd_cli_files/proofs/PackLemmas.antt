@@ -1,4 +1,4 @@
--- What `pack` shows is determined, but for the kind and the place of a fault.
+-- The output of `pack` is determined, except for the kind and the offset of a fault.
 use Rattle.std.proofs.Common.{◌≡◌, ◌≤◌, ◌<◌, ℕ, suc, ◌+◌, List, [], ◌∷◌, ◌++◌, length, take, drop, get_or, Bool, true, false, Option, Some, None, refl, sym, ap, ◌∙◌, subst, append_assoc, append-nil}
 use Rattle.std.proofs.Common.{arith, inl, inr, decimal, Ok, length-append, length-take-le, rules, add-one, Result, Err, ap₂, true≢false}
 use Rattle.std.proofs.{lemmas.Bool.cases_lt, lemmas.Bool.Decides.nat_tests, lemmas.Str.utf8_valid_len_le, lemmas.List.Splits.slice_split_at, lemmas.List.Splits.slice_split_none, lemmas.Grind.flat_map-append, Math.Seq.drop-cons}
@@ -27,7 +27,7 @@ use Rattle.bd_extjson_pack.specs.declared.line.LineFault.TheVariants as faults
 read_once : (line : List ℕ) (d e : Doc) → ReadsAs line d → ReadsAs line e → d ≡ e
 read_once line d e p q = cc
 
--- and is no bad line then
+-- and it is not a bad line
 good_or_bad : (line : List ℕ) (d : Doc) (fault : LineFault) → IsPackable line d → IsBad line fault → ⊥
 good_or_bad line d (faults.Unread f) good bad = bad.1 d good.0
 good_or_bad line d faults.TooLong good (e, is, long) =
@@ -76,9 +76,9 @@ packed_alike (Ok text) s t (ds, bad, packs, prints) (es, other, packed, showed) 
     (out, ap (λ (x : Transcript). x.status) prints ∙ same_status bad other same.1 ∙ ap (λ (x : Transcript). x.status) (sym showed))
 packed_alike (Err fault) s t p q = (ap (λ (x : Transcript). x.out) (p ∙ sym q), ap (λ (x : Transcript). x.status) (p ∙ sym q))
 
--- ---- any lines are packed in some way
+-- ---- all lines are packed in some way
 
--- lines, the first of which has that number, are packed in some way
+-- lines whose numbers begin at `number` are packed in some way
 abbrev HasPacking : ℕ → List (List ℕ) → Type 0
 HasPacking number lines = (ds : List Doc) × (bad : Option BadLine) × PacksLines number lines ds bad
 
@@ -106,14 +106,14 @@ packs_some number (line ∷ lines) = by_blank (is_empty_line line) refl (packs_s
 -- ---- the ends of a run
 
 module _ (text : List ℕ) (out_old out_new : Writer) (err_old err_new : Writer) (status : Status) where
-  -- something was shown that is to be shown of the text
+  -- the run printed an output of `pack` for the text
   abbrev pub Prints : Type 0
   Prints = (output : Transcript) × IsOutputOfPack (Ok text) output × PrintsOrRunsOut (between out_old out_new) (between err_old err_new) output status
 
   abbrev Reports : List ℕ → Status → Type 0
   Reports reported wanted = ReportsMessage (between err_old err_new) reported wanted status ⊎ ReportsMessage (between err_old err_new) (error_line no_memory) Failed status
 
-  -- the bad line, where there is one, and this count
+  -- the bad line, if any, and this count
   abbrev pub ReportsPacking : ℕ → Option BadLine → Type 0
   ReportsPacking count bad = Reports (wrong_line (option_map bad_line_text bad) ++ (decimal count ++ objects_packed)) (wrong_status (option_map bad_line_text bad))
 
@@ -126,9 +126,9 @@ module _ (text : List ℕ) (out_old out_new : Writer) (err_old err_new : Writer)
   prints_stop stopped (ds, bad, packs, stops) reported =
       (pack_output ds bad, (ds, bad, packs, refl), stop_output out_old out_new err_old err_new status (pack_output ds bad) stopped stops reported)
 
--- ---- lines cut off a text
+-- ---- a text split at newlines
 
--- a byte is a newline or none
+-- a byte is a newline or not
 newline : (b : ℕ) → (b == 10) ≡ true → b ≡ 10
 newline b e = search (rules, nat_tests)
 
@@ -156,7 +156,7 @@ split_none text none =
 
 -- ---- the loop over the lines
 
--- what the loop keeps: the documents that were packed, whose bytes were taken
+-- the invariant of the loop: the documents that were packed, whose bytes were written
 pub record SoFar (text : List ℕ) (old new : Writer) (remaining : Option (List ℕ)) (number count : ℕ) : Type 0 where
   pub done : List Doc
   pub goes : (es : List Doc) (bad : Option BadLine) → PacksLines (suc number) (lines_remaining remaining) es bad → PacksLines 1 (text_lines text) (done ++ es) bad
@@ -176,7 +176,7 @@ module _ {text : List ℕ} {old new : Writer} {rest : List ℕ} {number count : 
   with_one : (d : Doc) (es : List Doc) → flat_map plain (s.done ++ d ∷ es) ≡ flat_map plain s.done ++ (plain d ++ flat_map plain es)
   with_one d es = flat_map-append plain s.done (d ∷ es)
 
-  -- a line with a document, whose bytes were taken
+  -- a line with a document, whose bytes were written
   pub packed : (end : Writer) (d : Doc) → remaining_size after ≤ length rest → is_empty_line line ≡ false → IsPackable line d → TakesText (between new end) (plain d)
       → SoFar text old end after (number + 1) (count + 1)
   packed end d smaller full is wrote = record {
@@ -192,7 +192,7 @@ module _ {text : List ℕ} {old new : Writer} {rest : List ℕ} {number count : 
         (takes_both old new end (flat_map plain s.done) (plain d) s.wrote wrote);
   }
 
-  -- standard output broke in its bytes
+  -- a write failed within its bytes
   pub write_fails : (end : Writer) (d : Doc) → is_empty_line line ≡ false → IsPackable line d → WriteFailsWithin (between new end) (plain d) → StopsPacking text (between old end) Unwritten
   write_fails end d full is failed_write =
       let w = packs_some (suc (suc number)) (lines_remaining after) in
@@ -200,7 +200,7 @@ module _ {text : List ℕ} {old new : Writer} {rest : List ℕ} {number count : 
       let prefix = write_fails_piece old new end (flat_map plain s.done) (plain d) (flat_map plain w.0) all s.wrote failed_write (with_one d w.0) in
       (s.done ++ d ∷ w.0, w.1, go_on (d ∷ w.0) w.1 (inr (inl (full, (d, w.0, is, refl, w.2)))), prefix)
 
-  -- a bad line: the documents before it are all
+  -- a bad line: the documents before it are all there are
   pub ends_bad : (fault : LineFault) → is_empty_line line ≡ false → IsBad line fault
       → IsPacking text (between old new) (record { count = count; bad = Some (record { number = number + 1; fault = fault }) })
   ends_bad fault full is =

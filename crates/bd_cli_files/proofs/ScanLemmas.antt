@@ -1,4 +1,4 @@
--- A walk over the documents of an input, step by step.
+-- A scan of the documents of an input, step by step.
 use Rattle.std.proofs.Common.{inl, inr, ◌≡◌, ◌≤◌, ◌<◌, ℕ, ◌+◌, ◌-◌, List, [], ◌∷◌, ◌++◌, length, length-take-le, map, append-nil, append_assoc, Option, Some, None, Result, Ok, Err, Bool, true, false, refl, sym, ap, ap₂, ◌∙◌, subst}
 use Rattle.std.proofs.Common.{arith, length-append}
 use Rattle.std.proofs.{lemmas.List.take_at, lemmas.List.Sums.sum_by-append}
@@ -34,20 +34,20 @@ one_bad : (v : Option Fault) → faulty_count (v ∷ []) ≤ 1
 one_bad None = omega arith
 one_bad (Some f) = omega arith
 
--- a fault that was answered, and is no want of memory
+-- a reported fault that is not out of memory
 pub found : (number : ℕ) (first : Option Fault) (f : reported.Fault) → ReportsFault number first f → ¬ (f.kind ≡ kinds.NoMemory) → (first ≡ Some (fault_view f)) × (f.document ≡ number)
 found number None f want other = absurd (other want.kind)
 found number (Some g) f (inl want) other = absurd (other want.kind)
 found number (Some g) f (inr is) other = (ap (λ (x : Fault). Some x) is.same, is.document)
 
--- documents that were gone over are documents by their lengths
+-- scanned documents are documents with lengths
 pub visited_frames : {texts : Texts} (vs : List (Option Fault)) (given text : List ℕ) → AreVisited texts vs given text → (frames : List (List ℕ)) × AreFrames frames given
 visited_frames {texts} vs given text none_visited = ([], refl)
 visited_frames {texts} vs given text (more_visited us prefix before v frame piece visited is prints) =
     let h = visited_frames us prefix before visited in
     (h.0 ++ frame ∷ [], frames_more h.0 prefix frame h.1 is)
 
--- ---- what is left, where it is known
+-- ---- what remains, if it is known
 
 abbrev pub rest_of : Option (List ℕ) → List ℕ
 rest_of None = []
@@ -75,21 +75,21 @@ framed_rest None new part f gave none is = ([], _, rw append-nil is)
 framed_rest (Some xs) None part f gave none is = absurd gave
 framed_rest (Some xs) (Some ys) part f gave none is = (ys, sym gave, subst (λ (x : List ℕ). frame_length x ≡ Err f.kind) (none.1 ∙ gave) none.2)
 
--- the fault that is in a document of which all bytes were given
+-- the fault in a document of which all bytes are there
 fault_inside : (offset : ℕ) (frame rest : List ℕ) (f : Fault) → IsFrame frame → first_fault offset frame ≡ Some f → frame_fault offset (frame ++ rest) ≡ Some f
 fault_inside offset frame rest f is first =
     ap (framed_fault offset (frame ++ rest)) (frame_on frame rest is) ∙ ap (first_fault offset) (take_at frame rest (length frame) refl) ∙ first
 
 -- ---- one step
 
--- the reader gave this part of the next document, no byte past its end, and no read failed
+-- the reader gave this part of the next document, no byte after its end, and no read failed
 pub record Gives (old new : Reader) (buffer : ℕ) (part : List ℕ) : Type 0 where
   pub gave : Consumes old.remaining new.remaining part
   pub short : length part ≤ buffer
   pub within : IsWithinOne part
   pub no_failure : new.failures ≡ old.failures
 
--- the next document was read, of which the buffer shows these bytes
+-- the next document was read, and the buffer contains these bytes
 pub record Read (old new : Reader) (before after : DocBuffer) (bytes : List ℕ) : Type 0 where
   pub frame : IsFrame bytes
   pub gives : Gives old new before.remaining.bytes bytes
@@ -115,9 +115,9 @@ document_read {R} {state} {gives} {before} {after} {old} {new} {bytes} read outp
       many = rw output (reads_at_least (before.remaining.turns - after.remaining.turns) old new (buffered_bytes after) read.reads);
     }
 
--- ---- the reads of a walk
+-- ---- the reads of a scan
 
--- reads that gave a byte each led from one device to the other
+-- reads that gave at least one byte each lead from the old device to the new one
 abbrev pub IsRead : {R : Type 0} → (R → Option (List ℕ) → R → Type 0) → R → R → Type 0
 IsRead gives old new = (n : ℕ) × (given : List ℕ) × AreReads gives n old given new
 
@@ -153,7 +153,7 @@ module _ {R : Type 0} {state : R → Reader} {gives : R → Option (List ℕ) �
       by_reason (faults.Read reads.NoMemory) given reason = all_read read reason.4.0 given reason.4.1
       by_reason faults.Failed given reason = absurd reason
 
--- ---- what the loop keeps: the verdicts so far, the bytes of their documents, and what was written of them
+-- ---- the invariant of the loop: the results so far, the bytes of their documents, and what was written for them
 
 pub record SoFar (texts : Texts) (old new : Reader) (out_old out_new : Writer) (buffer : DocBuffer) (bad : ℕ) : Type 0 where
   pub done : List (Option Fault)
@@ -196,7 +196,7 @@ module _ {texts : Texts} {old mid : Reader} {out_old out_mid : Writer} {buffer :
   next_of frame v piece is =
       subst (λ n. IsTextOf texts n (length s.given) frame v piece) s.counted (subst (λ p. IsTextOf texts buffer.number p frame v piece) s.located is)
 
-  -- a document was gone over
+  -- a document was scanned
   pub goes_on : {new : Reader} {after : DocBuffer} {frame : List ℕ} (out_new : Writer) (v : Option Fault) (piece : List ℕ) (worse : ℕ) → Read mid new buffer after frame
       → IsTextOf texts buffer.number buffer.offset frame v piece → worse ≡ bad + faulty_count (v ∷ []) → TakesText (between out_mid out_new) piece
       → SoFar texts old new out_old out_new after worse
@@ -234,7 +234,7 @@ module _ {texts : Texts} {old mid : Reader} {out_old out_mid : Writer} {buffer :
       let all = sym (append-nil s.text) ∙ ap (λ x. s.text ++ x) (sym none) in
       ends new out_mid ending end (subst (λ (x : List ℕ). TakesText (between out_old out_mid) x) all s.wrote)
 
-  -- the walk stands after its documents and a part of the next one
+  -- the scan is after its documents and a part of the next one
   module _ {new : Reader} {part : List ℕ} (g : Gives mid new buffer.remaining.bytes part) where
     at : StopsInside s.given part (between old new)
     at = (Consumes-trans old.remaining mid.remaining new.remaining s.given part s.gave g.gave, within part g.short, g.within)
@@ -246,7 +246,7 @@ module _ {texts : Texts} {old mid : Reader} {out_old out_mid : Writer} {buffer :
     pub runs_out : StopsScan texts (between old new) (between out_old out_mid) NoMemory
     runs_out = (s.done, s.given, s.text, s.visited, (part, at), g.no_failure ∙ s.no_failure, s.wrote)
 
-    -- what is to be written of the next document was not written
+    -- the text for the next document was not written
     pub stops_by : (out_new : Writer) (v : Option Fault) (piece : List ℕ) (stopped : OutputFault) → IsFrame part → IsTextOf texts buffer.number buffer.offset part v piece
         → StopsWriting piece (between out_mid out_new) stopped → StopsScan texts (between old new) (between out_old out_new) stopped
     stops_by out_new v piece NoMemory is prints same = rw same runs_out
@@ -260,7 +260,7 @@ module _ {texts : Texts} {old mid : Reader} {out_old out_mid : Writer} {buffer :
         let all = subst (λ (x : List ℕ). Consumes old.remaining new.remaining x) (ap (λ x. s.given ++ x) none ∙ append-nil s.given) at.0 in
         ends_so new endings.Whole (streams s.given (known_end old.remaining new.remaining s.given all end), (part, at)) refl
 
-    -- the walk ends at the fault, or the length of its document is bad
+    -- the scan ends at the fault, or the length of its document is bad
     abbrev IsLast : ℕ → List ℕ → reported.Fault → Type 0
     IsLast number bytes f = (texts.bad number (fault_view f) ≡ None) ⊎ ((frame_length part ≡ Err f.kind) × (frame_length bytes ≡ Err f.kind))
 
@@ -301,7 +301,7 @@ module _ {texts : Texts} {R : Type 0} {state : R → Reader} {gives : R → Opti
         let g : Gives (state m) (state n) buffer.remaining.bytes fails.given = record { gave = fails.gave; short = reason.4; within = reason.6; no_failure = reason.5 } in
         ends_framed s g f (rw same.0 reason.2) (rw same.0 reason.3) (same.2 ∙ reason.0) (same.1 ∙ reason.1) path
 
-    -- what is written of it was written, or not
+    -- its text was written, or not
     abbrev Meets : Writer → Result Bool OutputFault → Type 0
     Meets out met = MeetsFault (texts.bad f.document (fault_view f)) (between out_mid out) met
 

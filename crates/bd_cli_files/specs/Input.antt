@@ -1,5 +1,5 @@
 -- What a run read of its input: at most 4,294,967,295 bytes.
--- Each read but the last gives a byte, so there are never too many.
+-- Each read but the last gives at least one byte, so there are never too many.
 use Rattle.std.specs.Prelude.{◌≡◌, ◌≤◌, ◌<◌, ◌⊎◌, ◌+◌, ℕ, List, ◌++◌, length, Option, Some, None, IfSome, Result, Ok}
 use Rattle.std.specs.Prelude.{Err}
 use Rattle.std.specs.Io.KnownBytes.{Consumes, IsAtEnd}
@@ -9,9 +9,9 @@ use Rattle.bd_io_device.specs.Devices.{AreReads, Over, Reader, TakesAtMost}
 use Rattle.bd_bson_stream.specs.Stream.{AreFrames, EndsWithinOne, IsWithinOne}
 use Rattle.bd_io_device.specs.declared.reading.ReadFault.TheVariants as reads
 
--- ---- whole
+-- ---- the whole input
 
--- The input was read whole, and is these bytes; or it was not, for this reason.
+-- The input was read completely, and is these bytes; or it was not, for this reason.
 abbrev pub ReadsInput : Over Reader → Result (List ℕ) ReadFault → Type 0
 ReadsInput file (Ok bytes) =
     IfSome file.before.remaining (λ xs. bytes ≡ xs) × IsAtEnd file.after.remaining × (length bytes ≤ longest_input)
@@ -30,20 +30,20 @@ ReadsNoFurther {R} gives old new = (n : ℕ) × (given : List ℕ) × (last : R)
 
 -- ---- document by document
 
--- The reader gave these bytes and then this part of a document, no byte past that document,
+-- The reader gave these bytes and then this part of a document, no byte after that document,
 -- and no more than the limit in all.
 abbrev pub StopsInside : List ℕ → List ℕ → Over Reader → Type 0
 StopsInside prefix part file =
     Consumes file.before.remaining file.after.remaining (prefix ++ part)
     × (length (prefix ++ part) ≤ longest_input) × IsWithinOne part
 
--- The reader gave these bytes, and of a document after them no byte past its end.
+-- The reader gave these bytes, and no byte after the end of the next document.
 abbrev pub StopsWithinOne : List ℕ → Over Reader → Type 0
 StopsWithinOne prefix file = (part : List ℕ) × StopsInside prefix part file
 
--- All bytes of the reader are these, and it gave documents by their lengths and of one more no byte past its
--- end (if there is more, that one has a bad length); or it gave these bytes, and no more were read for this
--- reason: a read that passed the limit gave no more than was missing of its document.
+-- All bytes of the reader are these, and it gave documents with lengths and no byte after the end of the next one
+-- (if there is more, that one has a bad length); or it gave these bytes, and no more were read for this
+-- reason: a read that exceeded the limit gave no more than was missing of its document.
 abbrev pub StreamsInput : Over Reader → List ℕ → Option ReadFault → Type 0
 StreamsInput file bytes None = IfSome file.before.remaining (λ xs. bytes ≡ xs)
     × ((frames : List (List ℕ)) × (prefix : List ℕ) × AreFrames frames prefix × StopsWithinOne prefix file)

@@ -12,7 +12,7 @@ use Rattle.bd_cli_files.specs.{declared.output.OutputFault.TheVariants.NoMemory}
 use Rattle.bd_cli_files.specs.{declared.output.OutputFault.TheVariants.Unwritten, declared.output.Status.TheVariants.Done}
 use Rattle.bd_cli_files.specs.{declared.output.Status.TheVariants.Failed}
 
--- what a run shows: the text on standard output, the text on standard error, and the exit status
+-- the output of a run: the text on standard output, the text on standard error, and the exit status
 pub record Transcript : Type 0 where
   pub out : List ℕ
   pub err : List ℕ
@@ -53,9 +53,9 @@ abbrev pub stop_words : OutputFault → List ℕ
 stop_words NoMemory = no_memory
 stop_words Unwritten = cannot_write
 
--- ---- what is shown
+-- ---- the output
 
--- what is shown if there is nothing but an error
+-- the output if there is only an error
 abbrev pub refusal_output : List ℕ → Transcript
 refusal_output message = record { out = []; err = error_line message; status = Failed }
 
@@ -64,24 +64,24 @@ abbrev pub wrong_line : Option (List ℕ) → List ℕ
 wrong_line None = []
 wrong_line (Some message) = error_line message
 
--- the exit status: done if nothing is wrong, else failed (1)
+-- the exit status: done if nothing is wrong, otherwise failed (1)
 abbrev pub wrong_status : Option (List ℕ) → Status
 wrong_status None = Done
 wrong_status (Some message) = Failed
 
--- what is shown up to the end of an input, or up to what is wrong in it:
--- the output, the error if there is one, and the counts
+-- the output up to the end of an input, or up to what is wrong in it:
+-- the text, the error if any, and the counts
 abbrev pub output_before : List ℕ → Option (List ℕ) → List ℕ → Transcript
 output_before out wrong counts = record { out = out; err = wrong_line wrong ++ counts; status = wrong_status wrong }
 
--- the bytes of a borrowed text, if there is one
+-- the bytes of a borrowed text, if any
 abbrev pub reported_bytes : Option (Bor (List ℕ)) → Option (List ℕ)
 reported_bytes None = None
 reported_bytes (Some text) = Some text.now
 
 -- ---- what was written
 
--- The writer took the message, and the status is the one expected; or a write failed, and the status is 1.
+-- The writer took the message, and the status is the expected one; or a write failed, and the status is 1.
 abbrev pub ReportsMessage : Over Writer → List ℕ → Status → Status → Type 0
 ReportsMessage err message wanted status =
     (TakesText err message × (status ≡ wanted)) ⊎ (WriteFailsWithin err message × (status ≡ Failed))
@@ -93,17 +93,17 @@ ReportsEnd Whole WriteFailed OutOfMemory err output status = (Whole × ReportsMe
     ⊎ (WriteFailed × ReportsMessage err (error_line cannot_write) Failed status)
     ⊎ (OutOfMemory × ReportsMessage err (error_line no_memory) Failed status)
 
--- Standard output has all that is to be shown; or a prefix of it, and a write failed.
+-- Standard output has the whole text; or a prefix of it, and a write failed.
 abbrev pub PrintsOutput : Over Writer → Over Writer → Transcript → Status → Type 0
 PrintsOutput out err output status = ReportsEnd (TakesText out output.out) (WriteFailsWithin out output.out) ⊥ err output status
 
--- Standard output has all that is to be shown; or a prefix of it, and a write failed or memory ran out.
+-- Standard output has the whole text; or a prefix of it, and a write failed or memory ran out.
 abbrev pub PrintsOrRunsOut : Over Writer → Over Writer → Transcript → Status → Type 0
 PrintsOrRunsOut out err output status =
     ReportsEnd (TakesText out output.out) (WriteFailsWithin out output.out) (TakesPrefix out output.out) err output status
 
--- The run printed what is to be shown of an input;
--- if that was not read whole, memory cannot have run out as well.
+-- The run printed the output for an input;
+-- if the input was not read completely, memory cannot have run out as well.
 abbrev pub PrintsInput : Result (List ℕ) ReadFault → Over Writer → Over Writer → Transcript → Status → Type 0
 PrintsInput (Ok bytes) out err output status = PrintsOrRunsOut out err output status
 PrintsInput (Err fault) out err output status = PrintsOutput out err output status
@@ -113,7 +113,7 @@ abbrev pub StopsWithin : Over Writer → List ℕ → OutputFault → Type 0
 StopsWithin out text NoMemory = TakesPrefix out text
 StopsWithin out text Unwritten = WriteFailsWithin out text
 
--- Nothing of the text was written, since memory ran out; or a write failed after a prefix of it.
+-- Nothing of the text was written, because memory ran out; or a write failed after a prefix of it.
 abbrev pub StopsWriting : List ℕ → Over Writer → OutputFault → Type 0
 StopsWriting text out NoMemory = out.after ≡ out.before
 StopsWriting text out Unwritten = WriteFailsWithin out text

@@ -1,4 +1,4 @@
--- What `pack` prints of an input, and what a run of it did.
+-- What `pack` prints for an input, and what a run of it did.
 use Rattle.std.specs.Prelude.{◌≡◌, ◌⊎◌, ◌↔◌, ℕ, suc, List, [], ◌∷◌, ◌++◌, length, codes, decimal, IsTrue, IsFalse}
 use Rattle.std.specs.Prelude.{Option, Some, None, Result, Ok, Err, option_map}
 use Rattle.std.specs.List.{flat_map}
@@ -16,7 +16,7 @@ use Rattle.bd_extjson_fault.specs.declared.json_fault.JsonFaultKind.TheVariants 
 use Rattle.bd_extjson_pack.specs.declared.line.LineFault.TheVariants as faults
 
 -- From lines whose numbers begin at `number`: the documents before the first bad line, and that line,
--- if there is one. Lines of white space are skipped.
+-- if any. Lines of white space are skipped.
 abbrev pub PacksLines : ℕ → List (List ℕ) → List Doc → Option BadLine → Type 0
 PacksLines number [] ds bad = (ds ≡ []) × (bad ≡ None)
 PacksLines number (line ∷ lines) ds bad = (IsTrue (is_empty_line line) × PacksLines (suc number) lines ds bad)
@@ -25,7 +25,7 @@ PacksLines number (line ∷ lines) ds bad = (IsTrue (is_empty_line line) × Pack
     ⊎ (IsFalse (is_empty_line line)
     × ((fault : LineFault) × IsBad line fault × (ds ≡ []) × (bad ≡ Some (record { number = number; fault = fault }))))
 
--- the byte offset of a fault in a line, after these words; none if the line as a whole is no document
+-- the byte offset of a fault in a line, after this text; empty if the line as a whole is no document
 abbrev pub byte_text : List ℕ → JsonFaultKind → ℕ → List ℕ
 byte_text words kinds.NotADocument at = []
 byte_text words _ at = words ++ decimal at
@@ -43,26 +43,26 @@ bad_line_text bad = codes "line " ++ (decimal bad.number ++ line_fault_text bad.
 abbrev pub objects_packed : List ℕ
 objects_packed = codes " objects packed" ++ 10 ∷ []
 
--- what `pack` shows: the BSON of the documents before the first bad line, the message of that line,
+-- the output of `pack`: the BSON of the documents before the first bad line, the message of that line,
 -- and how many were packed
 abbrev pub pack_output : List Doc → Option BadLine → Transcript
 pack_output ds bad = output_before (flat_map plain ds) (option_map bad_line_text bad)
     (decimal (length ds) ++ objects_packed)
 
--- This is what `pack` shows of a text, or of an input that was not read whole.
+-- This is the output of `pack` for a text, or for an input that was not read completely.
 abbrev pub IsOutputOfPack : Result (List ℕ) ReadFault → Transcript → Type 0
 IsOutputOfPack (Ok text) output =
     (ds : List Doc) × (bad : Option BadLine) × PacksLines 1 (text_lines text) ds bad × (output ≡ pack_output ds bad)
 IsOutputOfPack (Err fault) output = output ≡ refusal_output (read_words fault)
 
--- Both are the same bad line, or none. Of a line that is no document,
+-- Both are the same bad line, or None. If the line is no document,
 -- the kind and the offset of the fault may differ.
 abbrev pub AreAlike : Option BadLine → Option BadLine → Type 0
 AreAlike None None = Unit {0}
 AreAlike (Some a) (Some b) = (a.number ≡ b.number) × ((a.fault ≡ faults.TooLong) ↔ (b.fault ≡ faults.TooLong))
 AreAlike _ _ = ⊥
 
--- `pack` ran: its input was read whole or not, and what is to be shown of it was printed.
+-- `pack` ran: its input was read, completely or not, and its output was printed.
 abbrev pub PacksInput : Over Reader → Over Writer → Over Writer → Status → Type 0
 PacksInput file out err status =
     (input : Result (List ℕ) ReadFault) × (output : Transcript) × ReadsInput file input × IsOutputOfPack input output

@@ -1,4 +1,4 @@
-//! `dump`, the documents of an input, one a line; and `check`, a line for each document that has a fault. Both go over the
+//! `dump`, the documents of an input, one per line; and `check`, a line for each document that has a fault. Both scan the
 //! documents one after the other.
 
 ghost use Rattle.std.specs.Prelude.{◌≡◌, ◌<◌, ◌≤◌, ◌⊎◌, ◌++◌, [], ◌∷◌, None, Some, decimal, IfErr, IfOk, OnErr, OnOk};
@@ -25,14 +25,14 @@ use bd_extjson_text::TextBuffer;
 use bd_io_device::{DeviceFault, Input, Output, ReadFault, write_all};
 use std::alloc::Global;
 
-/// After the number of documents, of all or of those that have a fault.
+/// After the number of documents, or of those that have a fault.
 const OBJECTS_FOUND: &str = " objects found\n";
 
 const DOCUMENTS: &str = " documents, ";
 
 const FAULTY: &str = " faulty\n";
 
-/// Reads an input document by document, and shows each before the next is read.
+/// Reads an input document by document, and prints each before the next is read.
 pub fn dump<R: Input, O: Output, E: Output>(
     alloc: Global,
     input: &mut R,
@@ -53,7 +53,7 @@ pub fn dump<R: Input, O: Output, E: Output>(
 /// Writes the line of each document, up to the first fault.
 #[derive(Debug, Drop)]
 struct Printer {
-    /// What their lines share.
+    /// The buffer for their lines.
     buffer: TextBuffer,
 }
 
@@ -70,7 +70,7 @@ impl<O: Output> Visitor<O> for Printer {
     }
 }
 
-/// Shows a walk on standard error, after its lines on standard output. Memory is taken only for the path of a fault.
+/// Reports the end of a scan on standard error, after its lines on standard output. Memory is taken only for the path of a fault.
 fn report_scan<E: Output>(alloc: Global, scan: &DumpScan, err: &mut E) -> Status
     ensures { ReportsMessage (over E.state err.old err.new)
         (wrong_line (ending_words scan.now.ending) ++ (decimal scan.now.count ++ objects_found))
@@ -89,7 +89,7 @@ fn report_scan<E: Output>(alloc: Global, scan: &DumpScan, err: &mut E) -> Status
     }
 }
 
-/// Reads an input document by document, and shows which of them have a fault. No tree is built.
+/// Reads an input document by document, and prints the fault of each document that has one. No tree is built.
 pub fn check<R: Input, O: Output, E: Output>(
     alloc: Global,
     input: &mut R,
@@ -104,7 +104,7 @@ pub fn check<R: Input, O: Output, E: Output>(
     match scan_documents(alloc, input, &mut Checker { line }, out) {
         Ok(scan) => match scan.ending {
             Ending::Whole => report_findings(scan.count, scan.bad, None, err),
-            // A bad length: no document after it is looked for.
+            // A bad length: the scan cannot find the next document.
             Ending::Faulty(_) => report_findings(scan.count + 1, scan.bad + 1, None, err),
             Ending::Unread(fault) => report_findings(scan.count, scan.bad, Some(fault), err),
         },
@@ -115,7 +115,7 @@ pub fn check<R: Input, O: Output, E: Output>(
 /// Writes a line for each document that has a fault.
 #[derive(Debug, Drop)]
 struct Checker {
-    /// Room that their lines share.
+    /// The buffer for their lines.
     line: String,
 }
 
@@ -135,7 +135,7 @@ impl<O: Output> Visitor<O> for Checker {
     }
 }
 
-/// Tells how many documents were judged, how many of them have a fault, and why no more of the input was read. It takes no memory.
+/// Reports how many documents were checked, how many have a fault, and why no more of the input was read. It takes no memory.
 fn report_findings<E: Output>(
     documents: u32,
     faulty: u32,
@@ -152,7 +152,7 @@ fn report_findings<E: Output>(
     status_of(write_findings(documents, faulty, unread, err), wanted)
 }
 
-/// Writes what standard error is to tell.
+/// Writes the text for standard error.
 #[tactic(auto, using(crate::proofs::OutputLemmas::taking))]
 fn write_findings<E: Output>(
     documents: u32,
@@ -169,23 +169,23 @@ fn write_findings<E: Output>(
     write_count(u64::from(faulty), FAULTY, err)
 }
 
-/// Who is shown the documents of an input, each before the next is read.
+/// Receives the documents of an input, each before the next is read.
 pub(crate) trait Visitor<O: Output> {
-    /// What is written of them.
+    /// What is written for them.
     ghost texts: { Texts };
 
-    /// Takes a document without a fault.
+    /// Receives a document without a fault.
     fn visit(&mut self, document: RawDoc<'_>, out: &mut O) -> Result<(), OutputFault>
         ensures { Writes (texts.good (pairs_in (meaning document.entry.sound)))
             (over O.state out.old out.new) result };
 
-    /// Takes the fault of a document, and says whether the walk goes on.
+    /// Receives the fault of a document, and says whether the scan continues.
     fn meet(&mut self, fault: &Fault, out: &mut O) -> Result<bool, OutputFault>
         ensures { MeetsFault (texts.bad fault.now.document (fault_view fault.now))
             (over O.state out.old out.new) result };
 }
 
-/// Goes over the documents of an input.
+/// Scans the documents of an input.
 pub(crate) fn scan_documents<R: Input, O: Output, V: Visitor<O>>(
     alloc: Global,
     input: &mut R,
@@ -224,7 +224,7 @@ pub(crate) fn scan_documents<R: Input, O: Output, V: Visitor<O>>(
             }
             Err(DocFault::Frame(fault)) => {
                 let fault = fault.to_fault(alloc);
-                // A bad length: no document after it is looked for, whatever the visitor says.
+                // A bad length: the scan cannot find the next document, whatever the visitor says.
                 let _goes_on = visitor.meet(&fault, out)?;
                 let ending = Ending::Faulty(fault);
                 return Ok(DumpScan { count, bad, ending });
@@ -239,7 +239,7 @@ pub(crate) fn scan_documents<R: Input, O: Output, V: Visitor<O>>(
     }
 }
 
-/// The documents of an input that were gone over.
+/// The documents of an input that were scanned.
 #[derive(Debug, Drop)]
 pub struct DumpScan {
     /// How many there are.
@@ -250,7 +250,7 @@ pub struct DumpScan {
     pub ending: Ending,
 }
 
-/// What comes after the documents of an input.
+/// What comes after the scanned documents of an input.
 #[derive(Debug, Drop)]
 pub enum Ending {
     /// Nothing.

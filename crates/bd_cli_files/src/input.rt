@@ -1,4 +1,4 @@
-//! An input that is read whole, and how much of an input is read.
+//! An input that is read completely, and how much of an input is read.
 
 ghost use Rattle.std.specs.Prelude.{MatchResult, Ok, Err};
 ghost use Rattle.bd_io_device.specs.Devices.{over};
@@ -8,7 +8,7 @@ use bd_io_device::{Input, Limits, ReadFault, read_all};
 use bd_value::{LONGEST_INPUT, MOST_READS};
 use std::alloc::Global;
 
-/// An input has at most 4,294,967,295 bytes, and takes at most 4,294,967,296 reads: one a byte, and the one that finds the end.
+/// An input has at most 4,294,967,295 bytes, and takes at most 4,294,967,296 reads: one per byte, and the one that finds the end.
 pub const LIMITS: Limits = Limits {
     bytes: LONGEST_INPUT,
     turns: MOST_READS,
@@ -18,7 +18,7 @@ pub const LIMITS: Limits = Limits {
 ///
 /// # Errors
 ///
-/// `Device` after a failed read, and no read is made after it; `TooLong` if there is one byte more; `NoMemory`.
+/// `Device` after a failed read, and no read is made after it; `TooLong` if there is one more byte; `NoMemory`.
 pub fn read_input<R: Input>(alloc: Global, input: &mut R) -> Result<Vec<u8>, ReadFault>
     ensures input { MatchResult result (λ bytes.
         ReadsInput (over R.state input.old input.new) (Ok bytes.items)) (λ fault.

@@ -1,4 +1,4 @@
-//! Commands that go over a file once, `dump`, `check` and `pack`, over any devices; and what every command prints of itself.
+//! The commands that read a file once, `dump`, `check` and `pack`, over any devices; and the messages of every command.
 //!
 //! An example, which `bd_cli_tests` proves and runs as `examples::check_a_dump`:
 //!
@@ -12,10 +12,10 @@
 //! assert!(rt; err.bytes() == b"1 documents, 0 faulty\n".as_slice());
 //! ```
 //!
-//! - `dump_and_check`: `dump` and `check`, which go over a file document by document.
-//! - `pack`: `pack`, which holds its file whole.
-//! - `input`: a file that is read whole, and how much of a file is read.
-//! - `output`: what a run writes of itself, and its exit status.
+//! - `dump_and_check`: `dump` and `check`, which scan a file document by document.
+//! - `pack`: `pack`, which reads its whole file into memory.
+//! - `input`: a file that is read completely, and how much of a file is read.
+//! - `output`: the messages of a run, and its exit status.
 #![tactic(auto)]
 
 mod dump_and_check;

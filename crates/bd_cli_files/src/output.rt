@@ -1,4 +1,4 @@
-//! What a run writes of itself, and how it ends. But for the path of a fault it takes no memory.
+//! The messages of a run, and how it ends. Only the path of a fault takes memory.
 
 ghost use Rattle.std.specs.Prelude.{◌≡◌, ◌++◌, ◌↔◌, ◌⊎◌, IfOk, IsTrue, OnErr, OnOk, decimal, map, option_map, string_bytes};
 ghost use Rattle.std.specs.List.{join_with_byte};
@@ -24,11 +24,11 @@ pub enum Status {
     Done = 0,
     /// A fault of the input, of a query, a sort, the path of an index or a token, or of a device, or out of memory.
     Failed = 1,
-    /// The arguments were refused.
+    /// The arguments are invalid.
     Usage = 2,
 }
 
-/// Why a text was not written to its end.
+/// Why a text was not written completely.
 #[derive(Debug, Clone, Copy, PartialEq, Eq)]
 pub enum OutputFault {
     /// Memory ran out.
@@ -53,13 +53,13 @@ impl From<DeviceFault> for OutputFault {
     }
 }
 
-/// Why a run ends where memory ran out.
+/// The message if memory runs out.
 pub const NO_MEMORY: &str = "no memory";
 
-/// Why a run ends where standard output failed.
+/// The message if standard output fails.
 pub const CANNOT_WRITE: &str = "cannot write";
 
-/// Whether a fault is that memory ran out, which is no fault of the input.
+/// Whether a fault is out of memory, which is no fault of the input.
 pub fn is_want_of_memory(fault: &Fault) -> bool
     ensures { IsTrue result ↔ (fault.now.kind ≡ kinds.NoMemory) }
 {
@@ -78,7 +78,7 @@ pub fn write_error<E: Output>(message: &str, err: &mut E) -> Result<(), DeviceFa
     write_all(err, b"\n")
 }
 
-/// Writes a number and the words after it.
+/// Writes a number and the text after it.
 #[tactic(auto, using(crate::proofs::OutputLemmas::taking))]
 pub fn write_count<E: Output>(count: u64, words: &str, err: &mut E) -> Result<(), DeviceFault>
     ensures ok { OnOk result
@@ -91,7 +91,7 @@ pub fn write_count<E: Output>(count: u64, words: &str, err: &mut E) -> Result<()
     write_all(err, words.as_bytes())
 }
 
-/// The words of a read fault, where there is one.
+/// The message of a read fault, if any.
 pub(crate) fn words_of(unread: Option<ReadFault>) -> Option<&'static str>
     ensures { reported_bytes result ≡ option_map read_words unread }
 {
@@ -101,7 +101,7 @@ pub(crate) fn words_of(unread: Option<ReadFault>) -> Option<&'static str>
     }
 }
 
-/// Writes what is wrong, where something is, and then a number and the words after it.
+/// Writes what is wrong, if anything is, and then a number and the text after it.
 #[tactic(auto, using(crate::proofs::OutputLemmas::taking))]
 pub(crate) fn write_end<E: Output>(
     wrong: Option<&str>,
@@ -123,7 +123,7 @@ pub(crate) fn write_end<E: Output>(
     }
 }
 
-/// The status that is wanted where a message was written, and 1 where it was not.
+/// The given status if a message was written, and 1 if it was not.
 pub fn status_of(written: Result<(), DeviceFault>, wanted: Status) -> Status
     ensures ok { OnOk written (result ≡ wanted) }
     ensures err { OnErr written (result ≡ Failed) }
@@ -134,7 +134,7 @@ pub fn status_of(written: Result<(), DeviceFault>, wanted: Status) -> Status
     }
 }
 
-/// Tells what is wrong, where something is, and a count. It takes no memory.
+/// Reports what is wrong, if anything is, and a count. It takes no memory.
 pub(crate) fn report_end<E: Output>(
     wrong: Option<&str>,
     count: u64,
@@ -151,21 +151,21 @@ pub(crate) fn report_end<E: Output>(
     status_of(write_end(wrong, count, words, err), wanted)
 }
 
-/// Tells an error. It takes no memory.
+/// Reports an error. It takes no memory.
 pub fn report_error<E: Output>(message: &str, err: &mut E) -> Status
     ensures { ReportsMessage (over E.state err.old err.new) (error_line message.now) Failed result }
 {
     status_of(write_error(message, err), Status::Failed)
 }
 
-/// Tells that memory ran out. It takes none itself.
+/// Reports that memory ran out. It takes no memory itself.
 pub fn report_no_memory<E: Output>(err: &mut E) -> Status
     ensures { ReportsMessage (over E.state err.old err.new) (error_line no_memory) Failed result }
 {
     report_error(NO_MEMORY, err)
 }
 
-/// Tells that standard output failed.
+/// Reports that standard output failed.
 pub fn report_unwritten<E: Output>(err: &mut E) -> Status
     ensures { ReportsMessage
         (over E.state err.old err.new) (error_line cannot_write) Failed result }
@@ -173,7 +173,7 @@ pub fn report_unwritten<E: Output>(err: &mut E) -> Status
     report_error(CANNOT_WRITE, err)
 }
 
-/// Tells why standard output has not all that is to be shown.
+/// Reports why standard output is incomplete.
 pub fn report_stop<E: Output>(fault: OutputFault, err: &mut E) -> Status
     ensures { ReportsMessage
         (over E.state err.old err.new) (error_line (stop_words fault)) Failed result }
@@ -184,7 +184,7 @@ pub fn report_stop<E: Output>(fault: OutputFault, err: &mut E) -> Status
     }
 }
 
-/// Tells why an input was not read whole. It takes no memory.
+/// Reports why an input was not read completely. It takes no memory.
 pub fn report_read_fault<E: Output>(fault: ReadFault, err: &mut E) -> Status
     ensures { ReportsMessage
         (over E.state err.old err.new) (error_line (read_words fault)) Failed result }
@@ -192,7 +192,7 @@ pub fn report_read_fault<E: Output>(fault: ReadFault, err: &mut E) -> Status
     report_error(fault.words(), err)
 }
 
-/// Tells why an input is no dump.
+/// Reports why an input is not a dump.
 pub fn report_dump_fault<E: Output>(alloc: Global, fault: &Fault, err: &mut E) -> Status
     ensures { ReportsMessage (over E.state err.old err.new)
         (error_line (fault_text fault.now.document (fault_view fault.now))) Failed result
@@ -206,7 +206,7 @@ pub fn report_dump_fault<E: Output>(alloc: Global, fault: &Fault, err: &mut E) -
 
 /// Appends a number in decimal.
 ///
-/// `NoMemory` leaves `text` as it was.
+/// On `NoMemory`, `text` is unchanged.
 pub fn push_number(number: u64, text: &mut String) -> Result<(), NoMemory>
     ensures ok { OnOk result (string_bytes text.new ≡ string_bytes text.old ++ decimal number) }
     ensures err { OnErr result (string_bytes text.new ≡ string_bytes text.old) }
@@ -217,7 +217,7 @@ pub fn push_number(number: u64, text: &mut String) -> Result<(), NoMemory>
 
 /// Appends the names of a path, joined by dots, as one JSON string.
 ///
-/// `NoMemory` leaves `text` as it was.
+/// On `NoMemory`, `text` is unchanged.
 pub fn push_path(path: &[String], text: &mut String) -> Result<(), NoMemory>
     ensures ok { OnOk result (string_bytes text.new
         ≡ string_bytes text.old ++ quoted (join_with_byte 46 (map string_bytes path.now))) }
@@ -231,7 +231,7 @@ pub fn push_path(path: &[String], text: &mut String) -> Result<(), NoMemory>
     }
 }
 
-/// Appends where a fault stands. `NoMemory` may leave a front of it.
+/// Appends the document number and the offset of a fault. On `NoMemory` a prefix of it may remain.
 fn push_location(fault: &Fault, text: &mut String) -> Result<(), NoMemory>
     ensures { OnOk result (string_bytes text.new
         ≡ string_bytes text.old ++ location_text fault.now.document fault.now.offset) }
@@ -242,7 +242,7 @@ fn push_location(fault: &Fault, text: &mut String) -> Result<(), NoMemory>
     push_number(fault.offset, text)
 }
 
-/// Appends a fault: where it stands, the names of its path, and what it is. `NoMemory` may leave a front of it.
+/// Appends a fault: its document number and offset, the names of its path, its message. On `NoMemory` a prefix of it may remain.
 pub(crate) fn push_fault(fault: &Fault, text: &mut String) -> Result<(), NoMemory>
     ensures { OnOk result (string_bytes text.new
         ≡ string_bytes text.old ++ fault_text fault.now.document (fault_view fault.now)) }

@@ -1,4 +1,4 @@
-//! `pack`: the documents of lines of text, as bytes.
+//! `pack`: the documents in lines of text, as BSON.
 
 ghost use Rattle.std.specs.Prelude.{◌≡◌, ◌++◌, ◌∷◌, ◌≤◌, ◌⊎◌, IfErr, IfOk, OnOk, Ok, length, decimal, option_map, string_bytes};
 ghost use Rattle.bd_value.specs.Limits.{longest_input};
@@ -24,7 +24,7 @@ use std::alloc::Global;
 /// After the number of documents.
 const OBJECTS_PACKED: &str = " objects packed\n";
 
-/// Reads an input whole, and shows the bytes of its lines' documents, up to the first line that is none.
+/// Reads the whole input, and writes the BSON of its lines' documents, up to the first line that is no document.
 pub fn pack<R: Input, O: Output, E: Output>(
     alloc: Global,
     input: &mut R,
@@ -41,7 +41,7 @@ pub fn pack<R: Input, O: Output, E: Output>(
     }
 }
 
-/// Shows what a text is packed as.
+/// Packs a text and writes the result.
 fn pack_text<O: Output, E: Output>(alloc: Global, text: &[u8], out: &mut O, err: &mut E) -> Status
     requires { length text.now ≤ longest_input }
     ensures { (output : Transcript) × IsOutputOfPack (Ok text.now) output × PrintsOrRunsOut
@@ -56,7 +56,7 @@ fn pack_text<O: Output, E: Output>(alloc: Global, text: &[u8], out: &mut O, err:
 /// The lines of a text that were packed.
 #[derive(Debug, Drop)]
 pub struct Packing {
-    /// How many documents they are.
+    /// How many documents there are.
     pub count: u64,
     /// The line after them.
     pub bad: Option<BadLine>,
@@ -71,8 +71,8 @@ pub struct BadLine {
     pub fault: LineFault,
 }
 
-/// Writes the documents of the lines before the first bad one, each as soon as it is packed into the buffer. Where memory runs
-/// out, what was written is a front of their bytes.
+/// Writes the documents of the lines before the first bad one, each as soon as it is packed into the buffer. If memory runs
+/// out, what was written is a prefix of their bytes.
 fn write_lines<O: Output>(
     text: &[u8],
     packer: &mut Packer,
@@ -104,7 +104,7 @@ fn write_lines<O: Output>(
     Ok(Packing { count, bad: None })
 }
 
-/// The first line of a text, and what is after its newline, where there is one.
+/// The first line of a text, and what is after its newline, if there is one.
 fn split_line(text: &[u8]) -> (&[u8], Option<&[u8]>)
     ensures line { text_lines text.now ≡ result.0.now ∷ lines_remaining (reported_bytes result.1) }
     ensures shorter { remaining_size (reported_bytes result.1) ≤ length text.now }
@@ -115,7 +115,7 @@ fn split_line(text: &[u8]) -> (&[u8], Option<&[u8]>)
     }
 }
 
-/// Tells how lines were packed, after the bytes on standard output.
+/// Reports how lines were packed, after the bytes on standard output.
 fn report_packing<E: Output>(alloc: Global, packing: &Packing, err: &mut E) -> Status
     ensures { ReportsMessage (over E.state err.old err.new)
         (wrong_line (option_map bad_line_text packing.now.bad) ++ (decimal packing.now.count
@@ -150,7 +150,7 @@ fn push_line_fault(fault: &LineFault, text: &mut String) -> Result<(), NoMemory>
     match fault {
         LineFault::Unread(fault) => {
             match fault.kind {
-                // It is the whole line that is none.
+                // The line as a whole is no document.
                 JsonFaultKind::NotADocument => {}
                 _ => {
                     text.push_str(", byte ")?;

@@ -1,4 +1,4 @@
--- What the words of `find` ask for.
+-- What the options of `find` request.
 use Rattle.std.proofs.Common.{◌≡◌, ◌≢◌, ◌⊎◌, ◌++◌, ℕ, List, Result, Ok, codes, refl, inl, inr, subst}
 use Rattle.std.specs.Prelude.{string_bytes}
 use Rattle.bd_value.specs.Tree.{Doc}
@@ -12,7 +12,7 @@ use Rattle.bd_cli_find.specs.declared.asking.AskingFault.{AskingFault}
 use Rattle.bd_cli_find.specs.declared.asking.AskingFault.TheVariants as faults
 use Rattle.bd_cursor_request.specs.declared.results.Refused.TheVariants as reasons
 
--- a part that is refused for a reason tells it
+-- if a part is refused for a reason, the reason is reported
 pub reason_reported : {Given : Type 0} (part : Result Given Reason) (refused : Refused) → refused ≢ reasons.NoMemory → IsRefusedPart part refused
     → ReportsReason part (faults.Refused refused)
 reason_reported part refused other (inl out_of_memory) = absurd (other out_of_memory)
@@ -28,7 +28,7 @@ pub plain_reported : (err : Over Writer) (refused : Refused) (status : Status) �
 plain_reported err (reasons.BadFilter fault) status other reported = absurd (other fault refl)
 plain_reported err refused status other reported = reported
 
--- the line of a refusal is written, or that memory ran out
+-- the line of a refusal is written, or that of out of memory
 pub explain_refusal : (err : Over Writer) (reason : Reason) (status : Status) → ReportsRefusal err reason status
     → ReportsMessage err (error_line (refused_text reason)) Failed status ⊎ ReportsMessage err (error_line no_memory) Failed status
 explain_refusal err (plain refused) status reported = inl reported

@@ -1,4 +1,4 @@
--- The places that are asked for, and the batch that a session gives of them.
+-- The requested places, and their batch from a session.
 use Rattle.std.proofs.Common.{◌≡◌, ◌≤◌, ◌<◌, ◌+◌, ◌-◌, ◌*◌, ℕ, Bool, true, false, cond, List, [], ◌∷◌, ◌++◌, length, get_or, take, drop, Option, Some, None, Result, Ok, Err, filter, refl, sym, ap}
 use Rattle.std.proofs.Common.{◌∙◌, subst, arith, inl, inr, ◌==◌}
 use Rattle.std.proofs.{lemmas.Bool.leb-true, lemmas.Bool.le-ltb, lemmas.List.Sums.count_by-le-length, lemmas.List.Sums.length-filter, lemmas.List.FromFn.length-range_with_len}
@@ -43,7 +43,7 @@ insert_all_length : (lt : ℕ → ℕ → Bool) (kept ps : List ℕ) → length 
 insert_all_length lt kept [] = omega arith
 insert_all_length lt kept (p ∷ ps) = omega (arith, insert_all_length lt (insert lt p kept) ps, insert_length lt p kept)
 
--- the places that are asked for are places of documents, and no more than these
+-- the requested places are places of documents, and there are at most that many
 abbrev pub AreFew : ℕ → List ℕ → Type 0
 AreFew n ps = All (λ p. p < n) ps × (length ps ≤ n)
 
@@ -90,7 +90,7 @@ led_few q (Some t) ps e = go (bytes_eq t.digest q.digest) (nat_lt t.last q.selec
     go true false e = absurd cc
     go false place e = absurd cc
 
--- ---- the cursor that is opened first
+-- ---- opening the first cursor
 
 only_memory : (id : ℕ) (why : Refused) → IsRefusedCall (opened id) why → why ≡ reasons.NoMemory
 only_memory id reasons.NoMemory h = refl
@@ -105,7 +105,7 @@ only_place reasons.TokenPlace h = refl
 only_place why h = absurd (let f : ⊥ = first_of (cc, assumption) in f)
 
 module _ (q : Query) (hint : Option (List ℕ)) (old new : Session) (first : AwaitsFirst (state_of old) hint) where
-  -- the machine's reply, which it gives in the first state too
+  -- the machine's reply, which is the same in the first state
   first_reply : (call : Call) (r : Reply) → reply (before_first first.index_keys) call ≡ r → reply (state_of old) call ≡ r
   first_reply call r is = ap (λ s. reply s call) first.is_unopened ∙ is
 
@@ -143,7 +143,7 @@ module _ (q : Query) (hint : Option (List ℕ)) (old new : Session) (first : Awa
       go true e false f = turned_away token_place reasons.TokenPlace only_place (λ id k. let g : ⊥ = cc in g) (rw (e, f) refl) (first_reply call token_place (rw (e, f) refl))
       go false e place f = turned_away foreign_token reasons.ForeignToken only_foreign (λ id k. let g : ⊥ = cc in g) (rw e refl) (first_reply call foreign_token (rw e refl))
 
--- it is ready to give a batch
+-- the cursor is ready to return a batch
 pub opened_ready : (q : Query) (token : Option Token) (s : State) (id : ℕ) → q.selection.count ≤ greatest_count → IsOpenedOn q token s (Ok id) → IsReady s id q.selection.count
 opened_ready q token s id le (ps, led, there) =
     let few = led_few q token ps led in
@@ -181,7 +181,7 @@ given_is s id n c size b most fits there r =
 pub taken_inside : (count n : ℕ) (ps xs : List ℕ) → All (λ p. p < count) ps → xs ≡ take n ps → All (λ p. p < count) xs
 taken_inside count n ps xs inside same = subst (All (λ p. p < count)) (sym same) (All-take (λ p. p < count) n ps inside)
 
--- what a session gives is the first batch of the cursor
+-- what a session returns is the first batch of the cursor
 pub record IsBatchOf (size : Option ℕ) (c : OpenCursor) (b : GivenBatch) : Type 0 where
   pub places : b.places ≡ at_most size c.remaining
   pub ends : b.ends ≡ is_empty (remaining_over size c.remaining)

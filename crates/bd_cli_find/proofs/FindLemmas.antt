@@ -49,13 +49,13 @@ module _ (out_old out_new : Writer) (err_old err_new : Writer) (status : Status)
       → PrintsOrRunsOut (between out_old out_old) (between err_old err_new) output status
   nothing_output output reported = inr (inr (([], output.out, refl, takes_none out_old), reported))
 
-  -- the line of a fault alone, or memory ran out
+  -- the line of a fault alone, or of out of memory
   pub refusal_is_output : (words : List ℕ) → ReportsMessage (between err_old err_new) (error_line words) Failed status ⊎ ReportsMessage (between err_old err_new) (error_line no_memory) Failed status
       → PrintsOrRunsOut (between out_old out_old) (between err_old err_new) (refusal_output words) status
   refusal_is_output words (inl reported) = inl (takes_none out_old, reported)
   refusal_is_output words (inr reported) = nothing_output (refusal_output words) reported
 
-  -- what is shown of a dump with a fault
+  -- the output for a dump with a fault
   pub fault_is_output : (w : PageRequest) (bytes : List ℕ) (fault : declared.Fault) → length bytes ≤ longest_input → IsUnread bytes fault → ¬ (fault.kind ≡ kinds.NoMemory)
       → ReportsMessage (between err_old err_new) (error_line (fault_text fault.document (fault_view fault))) Failed status
       ⊎ ReportsMessage (between err_old err_new) (error_line no_memory) Failed status
@@ -70,7 +70,7 @@ module _ (out_old out_new : Writer) (err_old err_new : Writer) (status : Status)
         refusal_is_output words (subst (λ t. ReportsMessage (between err_old err_new) t Failed status ⊎ ReportsMessage (between err_old err_new) (error_line no_memory) Failed status) line reported),
       )
 
-  -- what is shown where no cursor was opened
+  -- the output if no cursor was opened
   pub refused_output : (bytes : List ℕ) (ds : List Doc) (w : PageRequest) (refused : Refused) → IsRefusedPart (places_from (query_to bytes ds w.request) w.token) refused
       → ReportsMessage (between err_old err_new) (error_line (refused_text (reason_of refused))) Failed status ⊎ ReportsMessage (between err_old err_new) (error_line no_memory) Failed status
       → PrintsOrRunsOut (between out_old out_old) (between err_old err_new) (output_of_dump bytes ds w) status

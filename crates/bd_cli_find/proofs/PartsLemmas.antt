@@ -1,4 +1,4 @@
--- Parts of a collection that are asked by themselves.
+-- Parts of a collection that are searched separately.
 use Rattle.std.proofs.Common.{◌≡◌, ℕ, suc, List, [], ◌∷◌, ◌++◌, slice_get, Some, None, refl, sym, ap, ap₂, ◌∙◌, subst, inl, inr}
 use Rattle.std.proofs.{lemmas.Cmp.on_total, lemmas.List.Elements.All-head, lemmas.List.Elements.All-tail, lemmas.List.Splits.slice_split_none, lemmas.Option.get_or_from_slice_get}
 use Rattle.std.specs.{List.All, List.flat_map, Cmp.IsTotalOrder}
@@ -24,7 +24,7 @@ use Rattle.bd_cli_files.specs.{Pack.PacksLines, Output.lines}
 use Rattle.bd_cli_files.proofs.OutputLemmas.{lines-append}
 use Rattle.bd_cli_find.specs.Find.{IsReadBack, document_request, documents_output}
 
--- ---- the documents shown are those that answer the request
+-- ---- the printed documents are those that answer the request
 
 at_place : (ds : List Doc) (i : ℕ) (d : Doc) → slice_get ds i ≡ Some d → document_at ds i ≡ doc (fields_of d)
 at_place ds i d is = ap (λ (x : Doc). doc (fields_of x)) (get_or_from_slice_get ds i d [] is)
@@ -70,7 +70,7 @@ parts_joined f ss most (ds ∷ parts) =
     ap (λ x. lines (documents_output f ss 0 most ds) ++ x) (parts_joined f ss most parts)
     ∙ sym (lines-append (documents_output f ss 0 most ds) (flat_map (documents_output f ss 0 most) parts))
 
--- ---- their lines are packed
+-- ---- their lines, packed
 
 lines_of : (d : Doc) (ds : List Doc) → IsReadBack d → text_lines (lines (d ∷ ds)) ≡ text (doc (fields_of d)) ∷ text_lines (lines ds)
 lines_of d ds back =

@@ -1,4 +1,4 @@
--- One thing is shown of the words of `find` and an input.
+-- The options of `find` and an input have one output.
 use Rattle.std.proofs.Common.{◌≡◌, ℕ, List, [], Option, Some, None, Result, Ok, Err, codes, refl, sym, ap, ap₂, ◌∙◌, subst, inl, inr, ◌⊎◌, length}
 use Rattle.std.proofs.lemmas.Str.{utf8_valid_len_le}
 use Rattle.std.specs.Str.Lossy.{utf8_valid_len}
@@ -16,7 +16,7 @@ use Rattle.bd_cli_find.specs.Find.{IsOutputOfFind, IsOutputOf, IsOutputOfBytes, 
 use Rattle.bd_cli_files.specs.Output.{Transcript, lines, refusal_output}
 use Rattle.bd_extjson_fault.specs.declared.json_fault.JsonFaultKind.TheVariants as kinds
 
--- ---- what the words ask for
+-- ---- what the options request
 
 text_once : (name : List ℕ) (text : Option (List ℕ)) (d e : Doc) → ReadsText name text (Ok d) → ReadsText name text (Ok e) → d ≡ e
 text_once name None d e p q = p ∙ sym q
@@ -26,7 +26,7 @@ no_fault : (name : List ℕ) (text : Option (List ℕ)) (d : Doc) (message : Lis
 no_fault name None d message p q = q
 no_fault name (Some text) d message p q = let none = sym p ∙ q.0 in cc
 
--- of a query and a sort that are documents one thing is asked for
+-- a query and a sort that are documents make one request
 requested_once : (words : FindWords) (query sort : Doc) → ReadsText (codes "query") words.query (Ok query) → ReadsText (codes "sort") words.sort (Ok sort)
     → (a : Result PageRequest (List ℕ)) → RequestsInWords words a → page_of words query sort ≡ a
 requested_once words query sort is are a (inl (m, p, e)) = absurd (no_fault (codes "query") words.query query m is p)
@@ -34,7 +34,7 @@ requested_once words query sort is are a (inr (x, p, inl (m, r, e))) = absurd (n
 requested_once words query sort is are a (inr (x, p, inr (v, r, e))) =
     ap₂ (page_of words) (text_once (codes "query") words.query query x is p) (text_once (codes "sort") words.sort sort v are r) ∙ e
 
--- two answers are one, or both are refusals
+-- two results are the same, or both are refusals
 abbrev AreAlike : Result PageRequest (List ℕ) → Result PageRequest (List ℕ) → Type 0
 AreAlike a b = (a ≡ b) ⊎ ((m : List ℕ) × (o : List ℕ) × (a ≡ Err m) × (b ≡ Err o))
 
@@ -46,7 +46,7 @@ requested_alike words a b (inl (m, p, e)) (inr (y, q, inl (o, s, f))) = inr (m, 
 requested_alike words a b (inr (x, p, inl (m, r, e))) (inl (o, q, f)) = inr (m, o, e, f)
 requested_alike words a b (inr (x, p, inl (m, r, e))) (inr (y, q, inl (o, s, f))) = inr (m, o, e, f)
 
--- ---- one thing is shown
+-- ---- there is one output
 
 prints_once : (requested : Result PageRequest (List ℕ)) (input : Result (List ℕ) ReadFault) (s t : Transcript) → IsOutputOf requested input s → IsOutputOf requested input t → s ≡ t
 prints_once (Err m) input s t p q = p ∙ sym q
@@ -63,7 +63,7 @@ pub found_once : (words : FindWords) (query sort : Doc) (input : Result (List �
 found_once words query sort input s t is are (a, p, e) (b, q, f) =
     prints_same a b input s t (sym (requested_once words query sort is are a p) ∙ requested_once words query sort is are b q) e f
 
--- of a text that is no document, the fault told is any
+-- for a text that is no document, any fault may be reported
 abbrev LooksAlike : Transcript → Transcript → Type 0
 LooksAlike s t = (s.out ≡ t.out) × (s.status ≡ t.status)
 
@@ -77,9 +77,9 @@ found_alike words input s t (a, p, e) (b, q, f) = go (requested_alike words a b 
         let second : t ≡ refusal_output o = prints_same b (Err o) input t (refusal_output o) are f refl in
         rw (first, second) (refl, refl)
 
--- ---- without a batch and a token all that answers is printed
+-- ---- without a batch and a token the whole answer is printed
 
--- what is asked for has the size and the token of the words
+-- the request has the size and the token in the options
 page_parts : (words : FindWords) (query sort : Doc) (w : PageRequest) → page_of words query sort ≡ Ok w
     → (w.batch ≡ words.batch) × (after_part words.after ≡ Ok w.token)
 page_parts words query sort w =
@@ -120,9 +120,9 @@ whole_printed words w ds bytes output size after requests scan (a, p, e) =
     go (inl same) = prints_once (Ok w) (Ok bytes) output (output_of_dump bytes ds w) (subst (λ (x : Result PageRequest (List ℕ)). IsOutputOf x (Ok bytes) output) (sym same) e) (ds, None, scan, refl)
     go (inr (m, o, is, are)) = absurd (let f : ⊥ = cc in f)
 
--- ---- something is shown
+-- ---- there is an output
 
--- a fault that may be reported of a text
+-- a fault that may be reported for a text
 abbrev some_fault : List ℕ → JsonFault
 some_fault text = record { kind = kinds.Syntax; at = utf8_valid_len text }
 

@@ -1,4 +1,4 @@
--- What the options of `find` ask for, or why they are refused.
+-- What the options of `find` request, or why they are refused.
 use Rattle.std.specs.Prelude.{◌≡◌, ◌≢◌, ◌⊎◌, ℕ, nat_le, Bool, true, List, [], ◌++◌, length, codes, Option, Some, None}
 use Rattle.std.specs.Prelude.{Result, Ok, Err, if◌then◌else◌, string_bytes}
 use Rattle.std.specs.List.{join_with_byte}
@@ -21,7 +21,7 @@ use Rattle.bd_extjson_fault.specs.declared.json_fault.JsonFaultKind.TheVariants 
 use Rattle.bd_cursor_request.specs.declared.results.Refused.TheVariants as reasons
 use Rattle.bd_cli_find.specs.declared.asking.AskingFault.TheVariants as faults
 
--- what the options of `find` ask for: a request, the size of the batch, and the token that it resumes after
+-- what the options of `find` request: a request, the size of the batch, and the token that it resumes after
 pub record PageRequest : Type 0 where
   pub request : Request
   pub batch : Option ℕ
@@ -29,21 +29,21 @@ pub record PageRequest : Type 0 where
 
 -- ---- the texts of faults
 
--- the message of a query or a sort that is no Extended JSON document, after the name of the option
+-- the message for a query or a sort that is no Extended JSON document, after the name of the option
 abbrev pub json_fault_text : List ℕ → JsonFault → List ℕ
 json_fault_text name f = name ++ (byte_text (codes ": byte ") f.kind f.at ++ (codes ": " ++ json_fault_words f.kind))
 
--- the message of a filter that is refused: the path to the pair or member, joined by dots,
+-- the message for a filter that is refused: the path to the pair or member, joined by dots,
 -- and which rule it breaks
 abbrev pub refusal_text : Refusal → List ℕ
 refusal_text r = codes "query: place "
     ++ (quoted (join_with_byte 46 r.place) ++ (codes ": " ++ filter_fault_words r.kind))
 
--- the message of an option `--index` that is no path
+-- the message for an option `--index` that is not a path
 abbrev pub index_fault_text : PathFault → List ℕ
 index_fault_text fault = codes "index: " ++ path_fault_words fault
 
--- the name of the option that a refusal is of, if it is of one
+-- the name of the refused option, if it is an option that is refused
 abbrev pub refused_option : Refused → List ℕ
 refused_option reasons.BadSort = codes "sort: "
 refused_option reasons.BadToken = codes "token: "
@@ -51,13 +51,13 @@ refused_option reasons.ForeignToken = codes "token: "
 refused_option reasons.TokenPlace = codes "token: "
 refused_option _ = []
 
--- the message of a refusal, after the name of its option
+-- the message for a refusal, after the name of its option
 abbrev pub refused_text : Reason → List ℕ
 refused_text (bad_filter r) = refusal_text r
 refused_text (plain refused) = refused_option refused ++ refused_words refused
 
--- The text of a query or a sort is this document, or it is none, and this is the message of a fault;
--- without a text it is `{}`. That the fault is that of the text, no definition says.
+-- The text of a query or a sort is this document, or it is not a document, and this is the message of a fault;
+-- without a text it is `{}`. No definition says that the fault is that of the text.
 abbrev pub ReadsText : List ℕ → Option (List ℕ) → Result Doc (List ℕ) → Type 0
 ReadsText name None (Ok d) = d ≡ []
 ReadsText name None (Err message) = ⊥
@@ -75,12 +75,12 @@ fits_batch (Some n) = nat_le n greatest_count
 abbrev pub batch_part : Option ℕ → Result (Unit {0}) Reason
 batch_part size = if fits_batch size then Ok tt else Err (plain reasons.Range)
 
--- the token of the option `--after`, if it is given; a text that is no token is refused
+-- the token of the option `--after`, if it is given; a text that is not a token is refused
 abbrev pub after_part : Option (List ℕ) → Result (Option Token) Reason
 after_part None = Ok None
 after_part (Some text) = then_part (token_part text) (λ t. Ok (Some t))
 
--- What a query, a sort and the other options ask for, or the message of the first refusal:
+-- What a query, a sort and the other options request, or the message of the first refusal:
 -- of the request, the batch size, the path of the index, the token.
 abbrev pub page_of : FindWords → Doc → Doc → Result PageRequest (List ℕ)
 page_of words query sort =
@@ -96,32 +96,32 @@ abbrev pub IsRefusedOr : {Given : Type 0} → (List ℕ → Type 0) →
 IsRefusedOr {Given} IsRefused IsPart IsRest = ((message : List ℕ) × IsPart (Err message) × IsRefused message)
     ⊎ ((given : Given) × IsPart (Ok given) × IsRest given)
 
--- What the options of `find` ask for, or the message of the first refusal:
+-- What the options of `find` request, or the message of the first refusal:
 -- of the query's text, the sort's text, then the rest.
 abbrev pub RequestsInWords : FindWords → Result PageRequest (List ℕ) → Type 0
 RequestsInWords words requested = IsRefusedOr (λ message. requested ≡ Err message) (ReadsText (codes "query") words.query) (λ query.
     IsRefusedOr (λ message. requested ≡ Err message) (ReadsText (codes "sort") words.sort) (λ sort.
     page_of words query sort ≡ requested))
 
--- The options of `find` are refused, whatever the file holds.
+-- The options of `find` are refused, whatever the file contains.
 abbrev pub RequestsNothing : FindWords → Type 0
 RequestsNothing words = (w : PageRequest) → ¬ (RequestsInWords words (Ok w))
 
--- what is asked for by an `Asking` in memory
+-- the request of an `Asking` in memory
 abbrev pub page_request_of : Asking → PageRequest
 page_request_of a = record { request = request_view a.request; batch = a.size; token = a.token }
 
--- The fault reports the message that the part is refused with, or that memory ran out.
+-- The fault reports the message with which the part is refused, or that memory ran out.
 abbrev pub ReportsAskingFault : {Given : Type 0} → (Result Given (List ℕ) → Type 0) → AskingFault → Type 0
 ReportsAskingFault IsPart faults.NoMemory = Unit {0}
 ReportsAskingFault IsPart (faults.Refused refused) = IsPart (Err (refused_text (reason_of refused)))
 ReportsAskingFault IsPart (faults.Message message) = IsPart (Err (string_bytes message))
 
--- The fault reports the reason that the part is refused for, or that memory ran out.
+-- The fault reports the reason for which the part is refused, or that memory ran out.
 abbrev pub ReportsReason : {Given : Type 0} → Result Given Reason → AskingFault → Type 0
 ReportsReason part fault = ReportsAskingFault (λ reported. error_as refused_text part ≡ reported) fault
 
--- The line of the refusal was written; instead of that of a filter it may say that memory ran out.
+-- The line of the refusal was written; for a filter it may say instead that memory ran out.
 abbrev pub ReportsRefusal : Over Writer → Reason → Status → Type 0
 ReportsRefusal err (plain refused) status = ReportsMessage err (error_line (refused_text (plain refused))) Failed status
 ReportsRefusal err (bad_filter r) status = ReportsMessage err (error_line (refusal_text r)) Failed status

@@ -25,15 +25,15 @@ use Rattle.bd_query_filter.specs.{Filter.Filter, FilterMatch.matches}
 use Rattle.bd_extjson_pack.specs.Packable.{IsPackable}
 use Rattle.bd_cursor_request.specs.declared.results.Refused.TheVariants as reasons
 
--- the document numbers that are asked for: the whole answer, or what follows a token,
--- of which the digest is looked at first, then the document number
+-- the requested document numbers: the whole answer, or what follows a token,
+-- whose digest is checked first, then its document number
 abbrev pub places_from : Query → Option Token → Result (List ℕ) Reason
 places_from q None = Ok (answer q.selection)
 places_from q (Some t) = if bytes_eq t.digest q.digest
     then (if nat_lt t.last q.selection.count then Ok (rest q.selection (position_of t)) else Err (plain reasons.TokenPlace))
     else Err (plain reasons.ForeignToken)
 
--- an open cursor with these document numbers left
+-- an open cursor with these document numbers remaining
 abbrev pub cursor_for : ℕ → Query → Option Token → List ℕ → OpenCursor
 cursor_for id q token ps = record { id = id; digest = q.digest; token = option_map positioned_token token; remaining = ps }
 
@@ -41,24 +41,24 @@ cursor_for id q token ps = record { id = id; digest = q.digest; token = option_m
 abbrev pub before_first : List IndexKey → State
 before_first indexes = record { indexes = indexes; next_id = 1; cursors = [] }
 
--- by the index that is named; without one by a scan
+-- by the named index; without one by a scan
 abbrev pub index_way : Option (List ℕ) → Way
 index_way None = by_none
 index_way (Some path) = by_one path
 
--- No cursor was opened yet, and the index that is named is there.
+-- No cursor was opened yet, and the named index exists.
 pub record AwaitsFirst (s : State) (hint : Option (List ℕ)) : Type 0 where
   pub index_keys : List IndexKey
   pub is_unopened : s ≡ before_first index_keys
   pub is_there : has_index index_keys hint ≡ true
 
--- A cursor was opened that has left what is asked for; or it is refused, or memory ran out.
+-- A cursor was opened whose remaining documents are those requested; or it is refused, or memory ran out.
 abbrev pub IsOpenedOn : Query → Option Token → State → Result ℕ Refused → Type 0
 IsOpenedOn q token s (Ok id) =
     (ps : List ℕ) × (places_from q token ≡ Ok ps) × (cursor_of id s.cursors ≡ Some (cursor_for id q token ps))
 IsOpenedOn q token s (Err refused) = IsRefusedPart (places_from q token) refused
 
--- The cursor is open, and what it has left are numbers of documents of the dump,
+-- The cursor is open, and its remaining numbers are those of documents of the dump,
 -- no more than one batch may have.
 pub record IsReady (s : State) (id : ℕ) (count : ℕ) : Type 0 where
   pub cursor : OpenCursor
@@ -66,7 +66,7 @@ pub record IsReady (s : State) (id : ℕ) (count : ℕ) : Type 0 where
   pub inside : All (λ p. p < count) cursor.remaining
   pub few : length cursor.remaining ≤ greatest_count
 
--- what remains after the first batch; without a size nothing
+-- what remains after the first batch; nothing without a size
 abbrev pub remaining_over : Option ℕ → List ℕ → List ℕ
 remaining_over None ps = []
 remaining_over (Some n) ps = drop n ps
@@ -80,11 +80,11 @@ token_words (Some t) = codes ", token " ++ positioned_text t
 abbrev pub end_words : Bool → List ℕ
 end_words ends = if ends then codes " documents, end" else codes " documents, more"
 
--- the line of counts after a batch: how many documents, `end` or `more`, and the token if there is one
+-- the line of counts after a batch: how many documents, `end` or `more`, and the token if any
 abbrev pub find_count_line : ℕ → Bool → Option PositionedToken → List ℕ
 find_count_line count ends token = decimal count ++ (end_words ends ++ (token_words token ++ 10 ∷ []))
 
--- what `find` shows of a cursor: the documents of its first batch, and the line of counts with the token
+-- the output of `find` for a cursor: the documents of its first batch, and the line of counts with the token
 abbrev pub batch_output : Option ℕ → List Doc → OpenCursor → Transcript
 batch_output size ds c = let ps = at_most size c.remaining in record {
   out = lines (documents_at ds ps);
@@ -92,37 +92,37 @@ batch_output size ds c = let ps = at_most size c.remaining in record {
   status = Done;
 }
 
--- what `find` shows of a dump: the first batch of what is asked for, or why the token is refused
+-- the output of `find` for a dump: the first batch of the requested documents, or why the token is refused
 abbrev pub output_places : List ℕ → List Doc → PageRequest → Result (List ℕ) Reason → Transcript
 output_places bytes ds w (Ok ps) = batch_output w.batch ds (cursor_for 1 (query_to bytes ds w.request) w.token ps)
 output_places bytes ds w (Err why) = refusal_output (refused_text why)
 
--- what `find` shows of a well-formed dump: the first batch, or why the token is refused
+-- the output of `find` for a well-formed dump: the first batch, or why the token is refused
 abbrev pub output_of_dump : List ℕ → List Doc → PageRequest → Transcript
 output_of_dump bytes ds w = output_places bytes ds w (places_from (query_to bytes ds w.request) w.token)
 
--- what `find` shows of bytes that are these documents; if one has a fault, that alone
+-- the output of `find` for bytes that are these documents; if one has a fault, only that
 abbrev pub output_of_scan : List ℕ → List Doc → Option Fault → PageRequest → Transcript
 output_of_scan bytes ds None w = output_of_dump bytes ds w
 output_of_scan bytes ds (Some fault) w = refusal_output (fault_text (length ds) fault)
 
--- This is what `find` shows of the bytes of its input.
+-- This is the output of `find` for the bytes of its input.
 abbrev pub IsOutputOfBytes : PageRequest → List ℕ → Transcript → Type 0
 IsOutputOfBytes w bytes output =
     (ds : List Doc) × (end : Option Fault) × IsDumpScan ds end bytes × (output ≡ output_of_scan bytes ds end w)
 
--- This is what `find` shows of what is asked for and of an input: the first error alone, or the first batch.
+-- This is the output of `find` for a request and an input: the first error alone, or the first batch.
 abbrev pub IsOutputOf : Result PageRequest (List ℕ) → Result (List ℕ) ReadFault → Transcript → Type 0
 IsOutputOf (Err message) input output = output ≡ refusal_output message
 IsOutputOf (Ok w) (Err fault) output = output ≡ refusal_output (read_words fault)
 IsOutputOf (Ok w) (Ok bytes) output = IsOutputOfBytes w bytes output
 
--- This is what `find` shows of its options and of an input.
+-- This is the output of `find` for its options and an input.
 abbrev pub IsOutputOfFind : FindWords → Result (List ℕ) ReadFault → Transcript → Type 0
 IsOutputOfFind words input output =
     (requested : Result PageRequest (List ℕ)) × RequestsInWords words requested × IsOutputOf requested input output
 
--- `find` ran: its input was read unless an option is refused, and what is to be shown was printed;
+-- `find` ran: its input was read unless an option is refused, and its output was printed;
 -- or memory ran out before, and nothing was read.
 abbrev pub FindsDocuments : FindWords → Over Reader → Over Writer → Over Writer → Status → Type 0
 FindsDocuments words file out err status =
@@ -141,7 +141,7 @@ document_request f ss skip limit = record {
   limit = limit;
 }
 
--- the documents that `find` shows of these documents, for a filter, a sort, a skip and a limit
+-- the documents that `find` prints from these documents, for a filter, a sort, a skip and a limit
 abbrev pub documents_output : Filter → List SortPath → ℕ → ℕ → List Doc → List Doc
 documents_output f ss skip limit ds = documents_at ds (answer (selection_for ds f ss skip limit))
 

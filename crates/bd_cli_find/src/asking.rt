@@ -1,4 +1,4 @@
-//! What the arguments of `find` ask for, and the messages where they are refused.
+//! What the arguments of `find` request, and the messages if they are refused.
 
 ghost use Rattle.std.specs.Prelude.{◌≡◌, ◌≢◌, ◌++◌, IfErr, IfOk, Ok, OnErr, OnOk, option_map, string_bytes, true};
 ghost use Rattle.bd_value.specs.View.{pairs};
@@ -24,27 +24,27 @@ use bd_query_filter::FilterFault;
 use bd_value::{Document, GREATEST_COUNT, NoMemory};
 use std::alloc::{AllocError, Global};
 
-/// What is asked for.
+/// A request, with its page.
 #[derive(Drop)]
 pub struct Asking {
     /// Which documents, in which order.
     pub request: Request,
-    /// How many of them are shown at most; without a size all.
+    /// The batch size; without one all of them are printed.
     pub size: Option<u32>,
-    /// The path of the index that they are found by; without one each document is looked at.
+    /// The path of the index for the search; without one each document is examined.
     pub index: Option<Path>,
-    /// After which token the answer goes on.
+    /// The token after which the answer resumes.
     pub token: Option<Token>,
 }
 
-/// Why nothing is asked for.
+/// Why there is no request.
 #[derive(Debug, Drop)]
 pub enum AskingFault {
     /// Memory ran out.
     NoMemory,
     /// A filter, a sort, a number or a token is refused.
     Refused(Refused),
-    /// What is wrong with a text, and where.
+    /// The message for a text: what is wrong, and where.
     Message(String),
 }
 
@@ -56,7 +56,7 @@ impl From<AllocError> for AskingFault {
     }
 }
 
-/// What the options of `find` ask for. Without a query it is each document, without a sort the order of the dump.
+/// What the options of `find` request. Without a query all documents match; without a sort they are in file order.
 pub(crate) fn read_asking(alloc: Global, options: &FindOptions) -> Result<Asking, AskingFault>
     ensures asking { IfOk result (λ a.
         RequestsInWords (find_words_of options.now) (Ok (page_request_of a))) }
@@ -71,7 +71,7 @@ pub(crate) fn read_asking(alloc: Global, options: &FindOptions) -> Result<Asking
     read_page(alloc, query, sort, options)
 }
 
-/// What a query and a sort ask for, with the other options.
+/// What a query and a sort request, with the other options.
 fn read_page(
     alloc: Global,
     query: Document,
@@ -98,7 +98,7 @@ fn read_page(
     })
 }
 
-/// The document of a query or a sort, as the name tells; without a text it has no pairs.
+/// The document of a query or a sort, named by `name`; without a text it has no pairs.
 fn read_text(alloc: Global, name: &str, text: &Option<String>) -> Result<Document, AskingFault>
     ensures document { IfOk result (λ d.
         ReadsText name.now (option_map string_bytes text.now) (Ok (pairs d))) }
@@ -117,13 +117,13 @@ fn read_text(alloc: Global, name: &str, text: &Option<String>) -> Result<Documen
     }
 }
 
-/// The message of a text that is no document.
+/// The message for a text that is no document.
 fn json_message(alloc: Global, name: &str, fault: JsonFault) -> Result<String, NoMemory>
     ensures { IfOk result (λ s. string_bytes s ≡ json_fault_text name.now fault) }
 {
     let mut message = String::from_str(alloc, name)?;
     match fault.kind {
-        // It is the whole text that is none.
+        // The text as a whole is no document.
         JsonFaultKind::NotADocument => {}
         _ => {
             message.push_str(": byte ")?;
@@ -155,7 +155,7 @@ fn read_request(
     }
 }
 
-/// Refuses a batch that may not have that size. It takes no memory.
+/// Refuses a batch size that is too great. It takes no memory.
 fn check_batch(size: Option<u32>) -> Result<(), AskingFault>
     ensures fits { OnOk result (fits_batch size ≡ true) }
     ensures fault { IfErr result (ReportsReason (batch_part size)) }
@@ -167,7 +167,7 @@ fn check_batch(size: Option<u32>) -> Result<(), AskingFault>
     }
 }
 
-/// The path of an index's text, where there is one.
+/// The path in the text of an index, if there is one.
 fn read_index(alloc: Global, text: &Option<String>) -> Result<Option<Path>, AskingFault>
     ensures path { OnOk result (named_index (option_map string_bytes text.now) ≡ Ok tt) }
     ensures text { IfOk result (λ index.
@@ -185,7 +185,7 @@ fn read_index(alloc: Global, text: &Option<String>) -> Result<Option<Path>, Aski
     }
 }
 
-/// The token of a text, where there is one. It takes no memory.
+/// The token in a text, if there is one. It takes no memory.
 fn read_token(text: &Option<String>) -> Result<Option<Token>, AskingFault>
     ensures token { IfOk result (λ token.
         after_part (option_map string_bytes text.now) ≡ Ok token) }
@@ -210,7 +210,7 @@ fn option_message(alloc: Global, option: &str, words: &str) -> Result<String, No
     Ok(message)
 }
 
-/// The message of a document that is no filter.
+/// The message for a document that is not a filter.
 fn filter_message(alloc: Global, fault: &FilterFault) -> Result<String, NoMemory>
     ensures { IfOk result (λ s. string_bytes s ≡ refusal_text (refusal_of fault.now)) }
 {
@@ -221,7 +221,7 @@ fn filter_message(alloc: Global, fault: &FilterFault) -> Result<String, NoMemory
     Ok(message)
 }
 
-/// Tells why a filter, a sort, a number or a token is refused. Only for the place of a filter's fault it takes memory.
+/// Reports why a filter, a sort, a number or a token is refused. It takes memory only for the path of a filter's fault.
 pub(crate) fn report_refused<E: Output>(alloc: Global, refused: &Refused, err: &mut E) -> Status
     ensures { ReportsRefusal (over E.state err.old err.new) (reason_of refused.now) result }
 {
@@ -258,7 +258,7 @@ fn write_words<E: Output>(first: &str, second: &str, err: &mut E) -> Result<(), 
     write_all(err, second.as_bytes())
 }
 
-/// The name of the option that is refused, where it has one.
+/// The name of the refused option, if it is an option that is refused.
 fn refused_option(refused: &Refused) -> &'static str
     ensures { result.now ≡ refused_option refused.now }
 {

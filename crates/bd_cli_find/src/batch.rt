@@ -1,4 +1,4 @@
-//! The first batch of what is asked for, shown.
+//! The first batch of a request, and its output.
 
 ghost use Rattle.std.specs.Prelude.{◌≡◌, ◌++◌, ◌<◌, ◌≤◌, ◌⊎◌, IfErr, IfOk, MatchOption, OnOk, Some, if◌then◌else◌, length, option_map, string_bytes, true};
 ghost use Rattle.std.specs.List.{All};
@@ -27,16 +27,16 @@ use bd_path::Path;
 use bd_value::{GREATEST_COUNT, NoMemory};
 use std::alloc::Global;
 
-/// After the number of documents, where nothing is left.
+/// After the number of documents, if nothing remains.
 const DOCUMENTS_END: &str = " documents, end";
 
-/// After the number of documents, where more are left.
+/// After the number of documents, if more remain.
 const DOCUMENTS_MORE: &str = " documents, more";
 
 /// Before a token.
 const TOKEN: &str = ", token ";
 
-/// Shows the first batch of what is asked for of a dump.
+/// Prints the first batch of a request to a dump.
 pub(crate) fn print_found<O: Output, E: Output>(
     alloc: Global,
     dump: Dump,
@@ -71,7 +71,7 @@ fn open_first(alloc: Global, session: &mut Session, asking: Asking) -> Result<u6
     }
 }
 
-/// How the documents are looked for: by the index on that path, which is made, or without one each is looked at. It fails only
+/// How the documents are searched: by the index on that path, which is created, or without one by a scan. It fails only
 /// if memory runs out.
 fn choose(alloc: Global, session: &mut Session, index: Option<Path>) -> Result<Choice, Refused>
     requires { state_of session.now ≡ new_state }
@@ -89,7 +89,7 @@ fn choose(alloc: Global, session: &mut Session, index: Option<Path>) -> Result<C
     Ok(Choice::Index(copy))
 }
 
-/// Shows the first batch of a cursor.
+/// Prints the first batch of a cursor.
 fn print_batch<O: Output, E: Output>(
     alloc: Global,
     session: &mut Session,
@@ -113,7 +113,7 @@ fn print_batch<O: Output, E: Output>(
     }
 }
 
-/// How many documents a size asks for; without one, as many as a batch may have.
+/// How many documents a batch size requests; without one, as many as a batch may have.
 fn most_of(size: Option<u32>) -> u64
     ensures { MatchOption size (result ≡ greatest_count) (λ n. result ≡ n) }
 {
@@ -123,7 +123,7 @@ fn most_of(size: Option<u32>) -> u64
     }
 }
 
-/// Writes the documents with these numbers, one a line. Where memory runs out, what was written is a front of the lines.
+/// Writes the documents with these numbers, one per line. If memory runs out, what was written is a prefix of the lines.
 fn write_documents<O: Output>(
     alloc: Global,
     dump: &Dump,
@@ -144,7 +144,7 @@ fn write_documents<O: Output>(
     Ok(())
 }
 
-/// Tells how many documents a batch has, whether nothing is left, and the token that leads on.
+/// Reports how many documents a batch has, whether nothing remains, and the token after it.
 fn report_batch<E: Output>(alloc: Global, batch: &Batch, err: &mut E) -> Status
     ensures { ReportsMessage (over E.state err.old err.new)
         (find_count_line (length batch.now.places.items) batch.now.end
@@ -170,14 +170,14 @@ fn count_line(alloc: Global, batch: &Batch) -> Result<String, NoMemory>
     Ok(line)
 }
 
-/// What stands after the number of documents.
+/// The text after the number of documents.
 fn words_of_end(end: bool) -> &'static str
     ensures { result.now ≡ end_words end }
 {
     if end { DOCUMENTS_END } else { DOCUMENTS_MORE }
 }
 
-/// Appends a token, where there is one.
+/// Appends a token, if there is one.
 fn push_token(alloc: Global, token: Option<Token>, line: &mut String) -> Result<(), NoMemory>
     ensures { OnOk result (string_bytes line.new
         ≡ string_bytes line.old ++ token_words (option_map positioned_token token)) }

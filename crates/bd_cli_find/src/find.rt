@@ -1,5 +1,5 @@
-//! `find`: the documents of an input that are asked for, in their order, one a line. An index changes how they are looked for, and
-//! nothing that is shown.
+//! `find`: the requested documents of an input, in their order, one per line. An index changes how they are searched, but
+//! not the output.
 
 ghost use Rattle.std.specs.Prelude.{◌≡◌, ◌≤◌, Ok, length, true};
 ghost use Rattle.bd_value.specs.{Limits.longest_input};
@@ -21,8 +21,8 @@ use bd_cli_files::{Status, read_input};
 use bd_io_device::{Input, Output};
 use std::alloc::Global;
 
-/// Reads an input whole, where the words ask for something, and shows the first batch of the documents that are asked for;
-/// without a size, all of them. Nothing is written to standard output where the input is no dump.
+/// Reads the whole input unless an option is refused, and prints the first batch of the requested documents;
+/// without a size, all of them. Nothing is written to standard output if the input is not a dump.
 pub fn find<R: Input, O: Output, E: Output>(
     alloc: Global,
     options: &FindOptions,
@@ -47,7 +47,7 @@ pub fn find<R: Input, O: Output, E: Output>(
     }
 }
 
-/// Shows what is asked for of the bytes of an input.
+/// Prints the result of a request to the bytes of an input.
 fn find_in<O: Output, E: Output>(
     alloc: Global,
     bytes: Vec<u8>,
@@ -73,7 +73,7 @@ fn find_in<O: Output, E: Output>(
     }
 }
 
-/// Of any bytes there is something to be shown, whatever is asked for. It does nothing.
+/// For all bytes and each request there is an output. It does nothing.
 fn something_is_output(bytes: &[u8])
     ensures { (w : PageRequest) → (output : Transcript) × IsOutputOfBytes w bytes.now output }
 {}

@@ -1,4 +1,4 @@
-//! A law of a collection that is cut into parts. Its body is empty: its contract is the law.
+//! A law of a collection that is split into parts. Its body is empty: its contract is the law.
 
 ghost use Rattle.std.specs.Prelude.{◌≡◌, ℕ, List, None, Ok};
 ghost use Rattle.std.specs.List.{All, flat_map};
@@ -14,10 +14,10 @@ ghost use Rattle.bd_cli_find.specs.Asking.{RequestsInWords, PageRequest};
 ghost use Rattle.bd_cli_files.specs.{Output.Transcript, Output.lines, Pack.PacksLines};
 ghost use Rattle.bd_extjson_pack.specs.Packable.{plain};
 
-/// A collection may be cut between documents, and `find` asked of each part: without a skip, and without a limit or with one of at
-/// least the skip and the limit together. The lines of the parts, joined and packed, are a dump of which `find` shows the same
-/// lines as of the whole, wherever the text of each document is read back as that document. Without a batch and a token these
-/// lines are what `find` prints.
+/// A collection may be split between documents, and `find` may search each part: without a skip, and either without a limit or
+/// with one that is at least the skip plus the limit of the whole search. The lines of the parts, joined and packed, are a dump
+/// for which `find` prints the same lines as for the whole, if the text of each document is read back as that document. Without
+/// a batch and a token these lines are the whole output of `find`.
 pub fn parts_print_the_whole()
     ensures output { (f : Filter) (ss : List SortPath) (skip limit most : ℕ)
         (parts : List (List Doc)) → IsEnough (document_request f ss skip limit) most →

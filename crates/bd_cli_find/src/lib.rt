@@ -1,6 +1,6 @@
-//! The command `find` over any devices: the first batch of the documents that are asked for.
+//! The command `find` over any devices: the first batch of the requested documents.
 //!
-//! What is shown of each command line and each input: `specs/Find.antt`.
+//! The output for each command line and each input: `specs/Find.antt`.
 //!
 //! An example, which `bd_cli_tests` proves and runs as `examples::find_in_a_dump`:
 //!
@@ -23,10 +23,10 @@
 //! assert!(rt; err.bytes() == b"0 documents, end\n".as_slice());
 //! ```
 //!
-//! - `find`: the command, and a collection that is asked in parts.
-//! - `asking`: what its arguments ask for: `specs/Asking.antt`.
-//! - `batch`: the first batch of a dump, shown.
-//! - `laws`: parts show the whole.
+//! - `find`: the command, and searches of the parts of a collection.
+//! - `asking`: what its arguments request: `specs/Asking.antt`.
+//! - `batch`: the first batch of a dump, and its output.
+//! - `laws`: the parts have the output of the whole.
 #![tactic(auto)]
 
 mod asking;

@@ -1,4 +1,4 @@
--- The reply to a line is that to the call that it is, or why it is none.
+-- The reply to a line is that to its call, or says why it is no call.
 use Rattle.std.proofs.Common.{◌≡◌, ℕ, List, Result, Ok, Err, refl, inr}
 use Rattle.std.specs.{Prelude.IfOk, Prelude.OnErr, declared.alloc.AllocError.AllocError}
 use Rattle.bd_io_lines.specs.Serving.{RunsOutAt}
@@ -20,7 +20,7 @@ pub turned_away : (s : Session) (line : List ℕ) (why : LineRefusal)
     → Answers (bytes_of (dump_of s)) (documents (dump_of s)) (state_of s) line (refuses (reported_refusal why)) (state_of s)
 turned_away s line why reads = record { part = Err (reported_refusal why); reads = reads; reports = refl; moves = refl }
 
--- the reply to a call that was made was not written
+-- if no text was written, the call was made without its reply
 pub remaining_by_call : {A : Type 0} (old new : Service) (line : List ℕ) (r : Reply) (result : Result A AllocError)
     → Answers (bytes_of (service_dump old)) (documents (service_dump old)) (service_state old) line (line_reply (documents (service_dump old)) r) (service_state new)
     → service_dump new ≡ service_dump old → OnErr result (RunsOutAt KeepsState RepliesTo old line new)

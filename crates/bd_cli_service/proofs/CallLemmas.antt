@@ -1,4 +1,4 @@
--- A command read as a call, and a line read as one.
+-- A command read as a call, and a line read as a call.
 use Rattle.std.proofs.Common.{◌≡◌, ℕ, List, Result, Ok, Err, refl, sym, inl, Option, Some, None}
 use Rattle.std.specs.Prelude.{IfErr, IfOk}
 use Rattle.bd_value.specs.Tree.{Doc}

@@ -1,4 +1,4 @@
--- What a line asks for has a total order and a limit that can be counted.
+-- The request in a line has a total order and a limit that can be counted.
 use Rattle.std.proofs.Common.{◌≡◌, ◌≤◌, ℕ, Bool, true, cond, List, Option, Some, None, Result, Ok, Err, refl, subst, arith}
 use Rattle.std.proofs.{lemmas.Bool.leb-true, lemmas.Cmp.on_total}
 use Rattle.std.specs.Prelude.{◌&&◌, IfOk, nat_le, option_and_then}
@@ -20,7 +20,7 @@ use Rattle.bd_cursor.specs.{Explanation.explanation_for, SessionView.make_of, Se
 use Rattle.bd_cli_service.specs.Talk.{call_of, document_call, hint_path, search_of, way_by}
 use Rattle.bd_cursor_request.specs.declared.results.Refused.TheVariants as reasons
 
--- a call that asks for documents asks fairly
+-- a call that searches has a fair request
 abbrev pub RequestsFairly : Call → Type 0
 RequestsFairly (find_call q hint) = IsFair q
 RequestsFairly (resume_call q hint t) = IsFair q
@@ -29,12 +29,12 @@ RequestsFairly _ = Unit {0}
 abbrev IsFairPart : Result Call ReportedRefusal → Type 0
 IsFairPart part = IfOk part RequestsFairly
 
--- whatever a part is, the part after it is fair
+-- whatever the first part is, the whole is fair if the next part is
 after_any : {A : Type 0} (part : Result A ReportedRefusal) (next : A → Result Call ReportedRefusal) → ((x : A) → IsFairPart (next x)) → IsFairPart (then_part part next)
 after_any (Ok x) next fair = fair x
 after_any (Err why) next fair = tt
 
--- what asks fairly with a limit that can be counted asks fairly for what is to be found
+-- a call that is fair for each request with such a limit is fair for the request of a search
 after_search : (f : FindCommand) (call : Request → Call) → ((r : Request) → r.limit ≤ most_given → RequestsFairly (call r))
     → IsFairPart (then_part (search_of f) (λ r. Ok (call r)))
 after_search f call fair =

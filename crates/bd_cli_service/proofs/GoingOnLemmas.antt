@@ -1,4 +1,4 @@
--- Each line may have a reply, so a talk can go on.
+-- Each line may have a reply, so a talk can always continue.
 use Rattle.std.proofs.Common.{◌≡◌, ℕ, List, [], ◌∷◌, ◌++◌, Option, Some, None, Err, length, refl, inl, inr}
 use Rattle.std.proofs.lemmas.Str.{utf8_valid_len_le}
 use Rattle.std.specs.Str.Lossy.{utf8_valid_len}

@@ -1,4 +1,4 @@
--- The texts of the values of a reply, and of the pairs that they stand in.
+-- The texts of the values of a reply, and of its pairs.
 use Rattle.std.proofs.Common.{◌≡◌, ◌^◌, ◌<◌, ◌≤◌, ℕ, Bool, true, false, List, [], ◌∷◌, ◌++◌, get_or, length, map, Option, Some, None, decimal, refl, sym, ap, ◌∙◌, append_assoc}
 use Rattle.std.proofs.{lemmas.Fmt.decimal_is_IsNumeral, lemmas.Option.slice_get-get_or, lemmas.Option.slice_get_past}
 use Rattle.std.specs.Prelude.{codes, pos, slice_get}
@@ -36,7 +36,7 @@ number_text n = refl
 abbrev pub texts_at : List Doc → List ℕ → List (List ℕ)
 texts_at ds ps = items_text (items_of (map (λ d. doc (fields_of d)) (documents_at ds ps)))
 
--- what is still to come of an array of them
+-- the remaining text of an array of documents
 abbrev pub rest_of_array : List Doc → Bool → List ℕ → List ℕ
 rest_of_array ds later ps = to_come later 44 (texts_at ds ps) ++ 93 ∷ []
 
@@ -54,7 +54,7 @@ array_goes_on ds p rest ps later out new total splits inside written so_far =
     rw written (ap (λ (x : List ℕ). x ++ rest_of_array ds true rest) (sym (append_assoc out (before later 44) (text (document_at ds p))))
     ∙ piece_step later 44 (text (document_at ds p)) (texts_at ds ps) (texts_at ds rest) out (93 ∷ []) total texts so_far)
 
--- a place has no document
+-- a place without a document adds nothing
 pub array_stays : (ds : List Doc) (p : ℕ) (rest ps : List ℕ) (later : Bool) (out total : List ℕ) → ps ≡ p ∷ rest → length ds ≤ p
     → out ++ rest_of_array ds later ps ≡ total → out ++ rest_of_array ds later rest ≡ total
 array_stays ds p rest ps later out total splits outside so_far =
@@ -66,11 +66,11 @@ array_stays ds p rest ps later out total splits outside so_far =
 
 -- ---- pairs
 
--- what is still to come of an object after some of its members
+-- the remaining text of an object after some of its members
 abbrev pub rest_of_object : Doc → List ℕ
 rest_of_object ps = to_come true 44 (fields_text (fields_of ps)) ++ 125 ∷ []
 
--- whether there is a result is written
+-- the field `ok` is written
 pub object_begins : (ok : Bool) (ps : Doc) (old begun out : List ℕ) → begun ≡ old ++ codes "{\"ok\":" → out ≡ begun ++ text (leaf (boolean ok))
     → out ++ rest_of_object ps ≡ old ++ text (doc (fields_of ((codes "ok", leaf (boolean ok)) ∷ ps)))
 unfolding quoted escape_byte

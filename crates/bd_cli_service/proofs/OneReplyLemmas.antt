@@ -1,4 +1,4 @@
--- A line has one reply, but for the fault that is reported of a text that is no document.
+-- A line has one reply, except for the fault that is reported for a text that is no document.
 use Rattle.std.proofs.Common.{◌≡◌, ℕ, Bool, true, false, List, [], ◌∷◌, ◌++◌, None, Result, refl, sym, ap, ap₂, ◌∙◌, subst, inl, inr, true≢false}
 use Rattle.std.proofs.lemmas.Str.{IsUtf8-from_is_utf8, is_utf8-from_IsUtf8}
 use Rattle.std.proofs.lemmas.List.Elements.{All-head, All-tail}
@@ -13,11 +13,11 @@ use Rattle.bd_cli_service.specs.Talk.{Answers, AreAlike, AreAlikeTexts, IsCallIn
 
 -- ---- one line
 
--- the reply of a fault
+-- the reply that reports a fault
 abbrev fault_reply : JsonFaultKind → ℕ → LineReply
 fault_reply kind at = refuses (json_refusal (record { kind = kind; at = at }))
 
--- of a text that is not UTF-8 one fault is reported
+-- for a text that is not UTF-8 one fault is reported
 faults_alike : (line : List ℕ) (f g : JsonFault) (r s : LineReply) → reading line ≡ None → ReportsBadUtf8 line f → ReportsBadUtf8 line g
     → r ≡ refuses (json_refusal f) → s ≡ refuses (json_refusal g) → AreAlike line r s
 faults_alike line f g r s none p q is was = go (is_utf8 line) refl
@@ -39,7 +39,7 @@ module _ (bytes : List ℕ) (ds : List Doc) where
   unread : {A : Type 0} (line : List ℕ) (d : Doc) → ReadsAs line d → reading line ≡ None → A
   unread line d reads none = absurd (let both = sym reads ∙ none in let f : ⊥ = cc in f)
 
-  -- what a line asks for is one thing, but for such a fault
+  -- a line is one call or one refusal, except for such a fault
   parts_alike : (s : State) (line : List ℕ) (p q : Result Call ReportedRefusal) → IsCallIn bytes ds line p → IsCallIn bytes ds line q
       → AreAlike line (reply_to ds s p) (reply_to ds s q) × (state_then s p ≡ state_then s q)
   parts_alike s line p q (inl (d, reads, is)) (inl (e, read, was)) =
@@ -72,7 +72,7 @@ module _ (bytes : List ℕ) (ds : List Doc) where
       let other_is : other ≡ reply_text o ++ 10 ∷ later = was ∙ ap (λ x. x ++ 10 ∷ later) wrote in
       ((r, o, rest, later, first.0, next.0, text_is, other_is), next.1)
 
--- where each line that is UTF-8 is a document, the texts are one
+-- if each line that is UTF-8 is a document, there is one text
 same_reply : (line : List ℕ) (r s : LineReply) → IsReadLine line → AreAlike line r s → r ≡ s
 same_reply line r s read (inl same) = same
 same_reply line r s read (inr (utf8, none, f, g, is, was)) = unread [] [] line (read utf8).0 (read utf8).1 none

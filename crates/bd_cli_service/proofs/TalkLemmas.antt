@@ -30,7 +30,7 @@ abbrev state_at : State → Option Call → State
 state_at s None = s
 state_at s (Some call) = state_after s call
 
--- the batch that a call's reply gives to a cursor
+-- the batch that the reply to a call has for a cursor
 abbrev given_by_call : ℕ → State → Option Call → List GivenBatch
 given_by_call id s None = []
 given_by_call id s (Some call) = batch_to id call (machine.reply s call)
@@ -73,7 +73,7 @@ state_all : (s : State) (o : Option Call) (cs : List Call) → state_after_all s
 state_all s None cs = refl
 state_all s (Some call) cs = refl
 
--- the state after lines is that after the calls among them
+-- the state after lines is the state after their calls
 pub state_after_talk : (bytes : List ℕ) (ds : List Doc) (s : State) (lines : List (List ℕ)) (rs : List LineReply) (t : State)
     → Talks bytes ds s lines rs t → t ≡ state_after_all s (calls_in bytes ds lines)
 state_after_talk bytes ds s [] [] t e = e
@@ -86,7 +86,7 @@ state_after_talk bytes ds s (line ∷ lines) (r ∷ rs) t (mid, a, talks) =
     let mid_is : mid ≡ state_at s o = a.moves ∙ moved s a.part ∙ ap (λ (x : Option Call). state_at s x) (sym call) in
     state_after_talk bytes ds mid lines rs t talks ∙ ap (λ (x : State). state_after_all x cs) mid_is ∙ sym (state_all s o cs)
 
--- the batches that lines show are those of the calls among them
+-- the batches in replies to lines are those of their calls
 pub batches_of_talk : (bytes : List ℕ) (ds : List Doc) (id : ℕ) (s : State) (lines : List (List ℕ)) (rs : List LineReply) (t : State)
     → Talks bytes ds s lines rs t
     → batches_output bytes ds id lines rs ≡ map (batch_reply_output ds) (batches_to id (calls_in bytes ds lines) (replies s (calls_in bytes ds lines)))
@@ -113,7 +113,7 @@ abbrev opened_id : LineReply → ℕ
 opened_id (opens id) = id
 opened_id _ = 0
 
--- a reply of an opened cursor is the machine's
+-- a reply with an opened cursor is the machine's
 opens_only : (ds : List Doc) (r : machine.Reply) (id : ℕ) → opens id ≡ reply_output ds r → r ≡ opened id
 opens_only ds (machine.opened i) id e = ap (λ (r : LineReply). opened (opened_id r)) (sym e)
 opens_only ds r id e = absurd (let h : ⊥ = cc in h)
@@ -122,7 +122,7 @@ ok_of : (part : Result Call ReportedRefusal) (call : Call) → result_ok part �
 ok_of (Ok c) call e = ap (λ (o : Option Call). Ok (unwrap_or o c)) e
 ok_of (Err why) call e = absurd (let h : ⊥ = cc in h)
 
--- the line that opens the cursor, as a call on the state after the earlier ones
+-- the line that opens the cursor, as a call in the state after the earlier ones
 pub record Opening (bytes : List ℕ) (ds : List Doc) (call : Call) (id : ℕ) (lines : List (List ℕ)) (rs : List LineReply) : Type 0 where
   pub earlier : List Call
   pub opens_it : machine.reply (state_after_all new_state earlier) call ≡ opened id

@@ -1,4 +1,4 @@
--- The replies of a session, and the document that each is printed as.
+-- The replies of a session, and the document that is printed for each.
 use Rattle.std.specs.Prelude.{ℕ, pos, Bool, true, false, List, [], ◌∷◌, Option, codes, map, option_map, string_bytes}
 use Rattle.std.specs.{Borrow.Bor, List.join_with_byte}
 use Rattle.bd_value.specs.Tree.{Doc, Pair, Tree, array, doc, fields_of, items_of, leaf}
@@ -22,7 +22,7 @@ use Rattle.bd_cli_service.specs.declared.member.Field.TheVariants as fields
 use Rattle.bd_cli_service.specs.declared.reply.LineRefusal.TheVariants as refusals
 use Rattle.bd_cli_service.specs.declared.reply.Reply.TheVariants as replies
 
--- a refusal as a reply has it: the layer that refuses, the number and the message of the reason,
+-- a refusal in a reply: the layer that refuses, the number and the message of the reason,
 -- and the field that says where, if any
 pub record ReportedRefusal : Type 0 where
   pub layer : List ℕ
@@ -71,7 +71,7 @@ reply_document r = (codes "ok", leaf (trees.boolean (is_result r))) ∷ reply_pa
 abbrev pub reply_text : LineReply → List ℕ
 reply_text r = text (doc (fields_of (reply_document r)))
 
--- ---- why there is none
+-- ---- refusals
 
 -- the field `at` of a refusal: the byte offset in the line, or null if the line as a whole is no document
 abbrev pub json_fault_byte : JsonFaultKind → ℕ → Tree
@@ -116,20 +116,20 @@ session_refusal (bad_filter r) = filter_refusal r
 session_refusal (plain r) =
     record { layer = codes "session"; number = refused_number r; words = refused_words r; place = [] }
 
--- ---- one in memory
+-- ---- replies in memory
 
--- the refusal that one in memory reports
+-- the refusal that a `LineRefusal` in memory reports
 abbrev pub reported_refusal : LineRefusal → ReportedRefusal
 reported_refusal (refusals.Json fault) = json_refusal fault
 reported_refusal (refusals.Command fault) = command_refusal fault
 reported_refusal (refusals.Path fault) = path_refusal fault
 reported_refusal (refusals.Session refused) = session_refusal (reason_of refused)
 
--- the reply that gives a batch in memory, with its documents
+-- the reply with a batch in memory, with its documents
 abbrev pub given_reply : List Doc → Batch → LineReply
 given_reply ds batch = gives (documents_at ds batch.places.items) batch.end (option_map token_text batch.token)
 
--- the reply that one in memory stands for, over these documents
+-- the reply that a `Reply` in memory represents, over these documents
 abbrev pub line_reply : List Doc → Reply → LineReply
 line_reply ds replies.Done = done
 line_reply ds (replies.Opened id) = opens id
@@ -138,7 +138,7 @@ line_reply ds (replies.Made m) = makes (made_counts m)
 line_reply ds (replies.Explained e) = explains (explain_doc e)
 line_reply ds (replies.Refused refusal) = refuses (reported_refusal refusal)
 
--- the value that a field of a reply in memory stands for
+-- the value that a field of a reply in memory represents
 abbrev pub reply_value : Field → Tree
 reply_value fields.Null = leaf trees.null
 reply_value (fields.Truth b) = leaf (trees.boolean b)

@@ -1,4 +1,4 @@
--- What a session in memory does with a call, and with a line.
+-- How a call, and a line, changes a session in memory.
 use Rattle.std.specs.Prelude.{◌≡◌, List, ℕ, Result, Ok, Err, string_bytes}
 use Rattle.std.specs.declared.alloc.AllocError.{AllocError}
 use Rattle.bd_cursor_model.specs.Session.{State, state_after, drop_call, find_call, kill_call, next_call, resume_call}
@@ -35,11 +35,11 @@ abbrev pub IsPerformed : machine.Call → Session → Result Reply AllocError �
 IsPerformed call old (Ok r) new = Performs call old r new
 IsPerformed call old (Err e) new = IsRefused reasons.NoMemory call old new
 
--- the state of the machine that the session of a service is in
+-- the state of the machine that the session of a service represents
 abbrev pub service_state : Service → State
 service_state s = state_of s.session
 
--- the dump whose documents a service gives
+-- the dump whose documents a service returns
 abbrev pub service_dump : Service → Dump
 service_dump s = dump_of s.session
 
@@ -55,7 +55,7 @@ pub record RepliesTo (old : Service) (line text : List ℕ) (new : Service) : Ty
 abbrev pub KeepsState : Service → Service → Type 0
 KeepsState old new = service_state new ≡ service_state old
 
--- the call to a session over this dump that one in memory stands for
+-- the call to a session over this dump that a `Call` in memory represents
 abbrev pub session_call : Dump → Call → machine.Call
 session_call dump (calls.CreateIndex path sparse) = make_index sparse dump path
 session_call dump (calls.DropIndex path) = drop_call (string_bytes path.text)
@@ -71,7 +71,7 @@ abbrev pub RefusesPart : {A : Type 0} → Result A ReportedRefusal → CallFault
 RefusesPart part faults.NoMemory = Unit {0}
 RefusesPart part (faults.Refused why) = part ≡ Err (reported_refusal why)
 
--- Reading the command may need memory: not if it has numbers alone, nor if its token is refused.
+-- Reading the command may need memory: not if it has only numbers, nor if its token is refused.
 abbrev pub MayRunOut : Command → Type 0
 MayRunOut (gets_more id batch) = ⊥
 MayRunOut (kills_cursor id) = ⊥

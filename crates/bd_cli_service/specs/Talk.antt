@@ -1,4 +1,4 @@
--- A session over lines: the call in a line, the replies to lines, and what always holds of them.
+-- A session over lines: the call in a line, the replies to lines, and the laws about them.
 use Rattle.std.specs.Prelude.{◌≡◌, ◌≢◌, ◌⊎◌, ◌==◌, ℕ, List, [], ◌∷◌, ◌++◌, length, map, if◌then◌else◌, Option, Some}
 use Rattle.std.specs.Prelude.{None, option_and_then, option_map, Result, Ok, Err}
 use Rattle.std.specs.{List.filter_map, List.flat_map, List.zip, Result.result_ok, Str.IsUtf8}
@@ -26,7 +26,7 @@ use Rattle.bd_cursor_model.specs.Session as machine
 use Rattle.bd_cli_command.specs.Command as commands
 use Rattle.bd_cursor_request.specs.declared.results.Refused.TheVariants as reasons
 
--- which index the field `use` asks for
+-- which index the field `use` requests
 abbrev pub way_by : Hint → Way
 way_by any_way = by_any
 way_by by_scan = by_none
@@ -36,14 +36,14 @@ way_by (by_index path) = by_one path
 abbrev pub hint_path : Hint → Option (List ℕ)
 hint_path hint = path_named (way_by hint)
 
--- the request that a command makes, or its first refusal: of the request, then of the path of its index
+-- the request of a search, or its first refusal: of the request, then of the path of its index
 abbrev pub search_of : FindCommand → Result Request ReportedRefusal
 search_of f =
     then_part (error_as session_refusal (request_of f.filter f.sort f.skip f.limit)) (λ request.
     then_part (error_as path_refusal (named_index (hint_path f.hint))) (λ _. Ok request))
 
 -- Over a dump of these bytes, which are these documents:
--- the call that a command asks for, or its first refusal; of `resume` the token is looked at first.
+-- the call that a command means, or its first refusal; for `resume` the token is checked first.
 abbrev pub call_of : List ℕ → List Doc → Command → Result Call ReportedRefusal
 call_of bytes ds (creates_index path sparse) =
     then_part (error_as path_refusal (path_of path)) (λ _. Ok (make_of ds (record { path = path; is_sparse = sparse })))
@@ -57,11 +57,11 @@ call_of bytes ds (kills_cursor id) = Ok (kill_call id)
 call_of bytes ds (commands.explains f) =
     then_part (search_of f) (λ r. Ok (explain_call (hint_path f.hint) (explanation_for ds r (way_by f.hint))))
 
--- the call that a document describes, or its first refusal
+-- the call that a document means, or its first refusal
 abbrev pub document_call : List ℕ → List Doc → Doc → Result Call ReportedRefusal
 document_call bytes ds d = then_part (error_as command_refusal (command_of d)) (call_of bytes ds)
 
--- the reply to a line, made of the session's reply: with the documents of a batch instead of their numbers
+-- the reply to a line, made from the session's reply: with the documents of a batch instead of their numbers
 abbrev pub reply_output : List Doc → machine.Reply → LineReply
 reply_output ds (machine.opened id) = opens id
 reply_output ds (machine.gave b) = gives (documents_at ds b.places) b.ends (option_map positioned_text b.token)
@@ -78,8 +78,8 @@ reply_output ds machine.foreign_token = refuses (session_refusal (plain reasons.
 reply_output ds machine.token_place = refuses (session_refusal (plain reasons.TokenPlace))
 reply_output ds machine.out_of_range = refuses (session_refusal (plain reasons.Range))
 
--- The call in a line, or why there is none. Of a line that is no document a fault is reported;
--- which one of a line that is UTF-8, no definition says.
+-- The call in a line, or why there is none. If a line is no document, a fault is reported;
+-- if it is UTF-8, no definition says which one.
 abbrev pub IsCallIn : List ℕ → List Doc → List ℕ → Result Call ReportedRefusal → Type 0
 IsCallIn bytes ds line part = ((d : Doc) × ReadsAs line d × (part ≡ document_call bytes ds d)) ⊎ ((reading line ≡ None)
     × ((f : JsonFault) × IsPlaced (length line) f × ReportsBadUtf8 line f × (f.kind ≢ json.NoMemory)
@@ -121,13 +121,13 @@ Talks bytes ds s (line ∷ lines) [] t = ⊥
 Talks bytes ds s (line ∷ lines) (r ∷ rs) t =
     (mid : State) × Answers bytes ds s line r mid × Talks bytes ds mid lines rs t
 
--- Two replies to a line are the same; or the line is UTF-8 and no document, and each reports a fault of it.
+-- Two replies to a line are the same; or the line is UTF-8 and not a document, and each reports a fault of it.
 abbrev pub AreAlike : List ℕ → LineReply → LineReply → Type 0
 AreAlike line r s = (r ≡ s) ⊎ (IsUtf8 line × (reading line ≡ None)
     × (f : JsonFault) × (g : JsonFault) × (r ≡ refuses (json_refusal f)) × (s ≡ refuses (json_refusal g)))
 
 -- Two texts of replies to these lines are alike:
--- they differ at most in the faults of lines that are no document.
+-- they differ at most in the faults of lines that are not documents.
 abbrev pub AreAlikeTexts : List (List ℕ) → List ℕ → List ℕ → Type 0
 AreAlikeTexts [] text other = (text ≡ []) × (other ≡ [])
 AreAlikeTexts (line ∷ lines) text other =
@@ -138,12 +138,12 @@ AreAlikeTexts (line ∷ lines) text other =
 abbrev pub IsReadLine : List ℕ → Type 0
 IsReadLine line = IsUtf8 line → (d : Doc) × ReadsAs line d
 
--- replies as a text, each on a line of its own
+-- replies as a text, each on its own line
 abbrev pub reply_lines : List LineReply → List ℕ
 reply_lines [] = []
 reply_lines (r ∷ rs) = reply_text r ++ 10 ∷ reply_lines rs
 
--- the call in a line, if there is one
+-- the call in a line, if any
 abbrev pub line_call : List ℕ → List Doc → List ℕ → Option Call
 line_call bytes ds line = option_and_then (λ d. result_ok (document_call bytes ds d)) (reading line)
 
@@ -151,12 +151,12 @@ line_call bytes ds line = option_and_then (λ d. result_ok (document_call bytes 
 abbrev pub calls_in : List ℕ → List Doc → List (List ℕ) → List Call
 calls_in bytes ds lines = filter_map (line_call bytes ds) lines
 
--- the reply, if it gives a batch
+-- the reply, if it has a batch
 abbrev pub given_in : LineReply → List LineReply
 given_in (gives ds ends token) = gives ds ends token ∷ []
 given_in _ = []
 
--- the reply to a call, if it asks the cursor of this number for a batch and gets one
+-- the reply to a call, if it requests a batch of the cursor of this number and gets one
 abbrev pub batch_is_output : ℕ → Option Call → LineReply → List LineReply
 batch_is_output id (Some (next_call i n)) r = if i == id then given_in r else []
 batch_is_output id _ r = []
@@ -165,7 +165,7 @@ batch_is_output id _ r = []
 abbrev pub batches_output : List ℕ → List Doc → ℕ → List (List ℕ) → List LineReply → List LineReply
 batches_output bytes ds id lines rs = flat_map (λ p. batch_is_output id (line_call bytes ds p.0) p.1) (zip lines rs)
 
--- The replies show these documents in batches of the sizes that the lines ask for, with tokens that lead on.
+-- The replies have these documents in batches of the requested sizes, with tokens that resume after them.
 pub record PrintsInTurn (bytes : List ℕ) (ds : List Doc) (q : Query) (id : ℕ) (ps : List ℕ)
     (lines : List (List ℕ)) (rs : List LineReply)
     : Type 0 where

@@ -1,4 +1,4 @@
-//! The call of a session that a command is.
+//! The session call that a command means.
 
 ghost use Rattle.std.specs.Prelude.{◌≡◌, ◌≢◌, IfErr, IfOk, Ok, OnOk, string_bytes};
 ghost use Rattle.bd_bson_dump.specs.Collection.{bytes_of, documents};
@@ -33,7 +33,7 @@ pub enum Call {
     Resume(Request, Choice, Token),
     GetMore {
         id: u64,
-        /// How many documents at most.
+        /// How many documents are returned at most.
         batch: u64,
     },
     KillCursor(u64),
@@ -43,13 +43,13 @@ pub enum Call {
 /// Why a line is no call.
 #[derive(Drop)]
 pub enum CallFault {
-    /// No memory was given.
+    /// Memory ran out.
     NoMemory,
     /// It is refused.
     Refused(LineRefusal),
 }
 
-/// The call that a command is. Of `resume` the token is looked at first, then the filter, the sort, the numbers, and the path of
+/// The call that a command means. For `resume` the token is checked first, then the filter, the sort, the numbers, and the path of
 /// an index.
 pub(crate) fn call_of(alloc: Global, command: Command) -> Result<Call, CallFault>
     ensures call { (dump : Dump) →
@@ -83,7 +83,7 @@ pub(crate) fn call_of(alloc: Global, command: Command) -> Result<Call, CallFault
     }
 }
 
-/// The request of what is to be found, and how.
+/// The request of a search, and how documents are found.
 fn read_search(alloc: Global, find: FindCommand) -> Result<(Request, Choice), CallFault>
     ensures search { IfOk result (λ found. search_of (find_tree find) ≡ Ok (request_view found.0)) }
     ensures way { IfOk result (λ found. way_of found.1 ≡ way_by (hint_tree find.hint)) }
@@ -125,7 +125,7 @@ fn read_path(alloc: Global, text: &str) -> Result<Path, CallFault>
     }
 }
 
-/// The token of a text. It takes no memory.
+/// The token in a text. It takes no memory.
 fn read_token(text: &str) -> Result<Token, CallFault>
     ensures token { IfOk result (λ t. token_part text.now ≡ Ok t) }
     ensures fault { IfErr result (RefusesPart (error_as session_refusal (token_part text.now))) }

@@ -8,8 +8,8 @@ ghost use Rattle.bd_io_lines.specs.Serving.{RepliesInTurn};
 ghost use Rattle.bd_cli_service.specs.Reply.{LineReply};
 ghost use Rattle.bd_cli_service.specs.Talk.{OpensInTalk, RepliesInText, PrintsInTurn, Talks, reply_lines};
 
-/// After a line that finds, a cursor gives its answer in batches, as many documents as the lines ask for, and each token leads on
-/// to exactly the rest. So does one that resumes, with the rest after its token.
+/// After a line with `find`, a cursor returns its answer in batches of the sizes in the lines, and each token resumes with exactly
+/// the rest. After a line with `resume` it returns the rest after the token.
 pub fn talks_keep_to_the_answer()
     ensures answer { (bytes : List ℕ) (ds : List Doc) (q : Query)
         (hint : Option (List ℕ)) (id : ℕ) (lines : List (List ℕ)) (rs : List LineReply) →
@@ -21,15 +21,15 @@ pub fn talks_keep_to_the_answer()
         PrintsInTurn bytes ds q id (rest q.selection t.position) lines rs }
 {}
 
-/// What is written in reply to lines is a talk, a line a reply.
+/// The text written in reply to lines is a talk, one line per reply.
 pub fn texts_are_talks()
     ensures { (bytes : List ℕ) (ds : List Doc) (s : State) (lines : List (List ℕ))
         (text : List ℕ) (t : State) → RepliesInTurn (RepliesInText bytes ds) s lines text t →
         (rs : List LineReply) × Talks bytes ds s lines rs t × (text ≡ reply_lines rs) }
 {}
 
-/// Each line may have a reply, in each state. So what was replied to some lines is a front of what may be replied to all of them:
-/// replies that were cut short are a front of a whole text.
+/// Each line may have a reply, in each state. So the replies to some lines are a prefix of replies to all of them: replies that end
+/// early are a prefix of a complete text.
 pub fn replies_go_on()
     ensures { (bytes : List ℕ)
         (ds : List Doc) (s : State) (lines later : List (List ℕ)) (text : List ℕ) (t : State) →

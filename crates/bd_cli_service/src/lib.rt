@@ -1,6 +1,6 @@
-//! A session over a dump that lines are sent to, each of which has a reply.
+//! A session over a dump, which replies to each line that it receives.
 //!
-//! A line is a command as an Extended JSON document. What is replied to it, and what it changes: `specs/Talk.antt`.
+//! A line is a command as an Extended JSON document. Its reply, and what it changes: `specs/Talk.antt`.
 //!
 //! An example, which `bd_cli_service_tests` proves and runs as `examples::a_talk`:
 //!
@@ -11,8 +11,8 @@
 //! assert!(rt; text.as_slice() == b"{\"ok\":true,\"cursor\":{\"$numberLong\":\"1\"}}".as_slice());
 //! ```
 //!
-//! A reply is a document in canonical Extended JSON. It tells a result, or why there is none: the layer that refuses, the number
-//! and the words of the reason, and where. This is proved and run as `examples::refused`:
+//! A reply is a document in canonical Extended JSON. It has a result, or says why there is none: the layer that refuses, the number
+//! and the message of the reason, and where. This is proved and run as `examples::refused`:
 //!
 //! ```
 //! let reply = Reply::Refused(LineRefusal::Command(CommandFault::MissingField));
@@ -24,11 +24,11 @@
 //! );
 //! ```
 //!
-//! - `service`: `Service`, which replies to a line: `specs/ServiceView.antt`; and what always holds of a talk.
-//! - `call`: the call of a session that a command is.
+//! - `service`: `Service`, which replies to a line: `specs/ServiceView.antt`.
+//! - `call`: the session call that a command means.
 //! - `reply`: `Reply` and `LineRefusal`, to match on; `write_reply`, the text of a reply: `specs/Reply.antt`.
 //! - `member`: the pairs of a reply.
-//! - `laws`: a talk keeps to the answer.
+//! - `laws`: what is true of every talk.
 #![tactic(auto)]
 
 mod call;

@@ -1,4 +1,4 @@
-//! The values of a reply, and the pairs that they stand in.
+//! The values of a reply, and its pairs.
 
 ghost use Rattle.std.specs.Prelude.{◌≡◌, ◌<◌, ◌++◌, ◌∷◌, [], OnErr, OnOk, codes, decimal, if◌then◌else◌, length, map};
 ghost use Rattle.std.specs.Io.{StartsWith};
@@ -27,7 +27,7 @@ pub(crate) enum Field<'a, 'b, 'c> {
     Documents(&'b Dump, &'c [u32]),
 }
 
-/// Appends the document of whether there is a result, and these pairs.
+/// Appends a document: whether there is a result, and these pairs.
 #[tactic(auto, using(bd_value::proofs::PrefixLemmas::prefixes))]
 pub(crate) fn write_members(
     ok: bool,
@@ -90,7 +90,7 @@ fn write_truth(truth: bool, out: &mut Vec<u8>) -> Result<(), NoMemory>
     }
 }
 
-/// Appends what leads to a number, and the number as a string.
+/// Appends `lead` and the number as a string.
 #[tactic(auto, using(bd_value::proofs::PrefixLemmas::prefixes))]
 fn write_wrapped(lead: &[u8], number: u64, out: &mut Vec<u8>) -> Result<(), NoMemory>
     ensures ok { OnOk result (out.new.items
@@ -123,7 +123,7 @@ fn write_documents(dump: &Dump, places: &[u32], out: &mut Vec<u8>) -> Result<(),
     Ok(())
 }
 
-/// Appends a document, and a comma before it where it is a later one.
+/// Appends a document, after a comma unless it is the first.
 #[tactic(auto, using(bd_value::proofs::PrefixLemmas::prefixes))]
 fn write_document(dump: &Dump, place: u32, later: bool, out: &mut Vec<u8>) -> Result<(), NoMemory>
     requires { place < length (documents dump.now) }

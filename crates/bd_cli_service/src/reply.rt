@@ -24,13 +24,13 @@ use std::alloc::Global;
 /// The reply to a line.
 #[derive(Drop)]
 pub enum Reply {
-    /// What was asked for is done: an index is dropped, or a cursor killed.
+    /// The request is done: an index is dropped, or a cursor killed.
     Done,
     /// A cursor was opened, and this is its number.
     Opened(u64),
     /// The next documents of a cursor.
     Gave(Batch),
-    /// An index was made.
+    /// An index was created.
     Made(Made),
     /// How documents are found.
     Explained(Explain),
@@ -41,19 +41,19 @@ pub enum Reply {
 /// Why a line has no result, by the layer that refuses it.
 #[derive(Drop)]
 pub enum LineRefusal {
-    /// It is no document.
+    /// It is not a document.
     Json(JsonFault),
-    /// The document is no command.
+    /// The document is not a command.
     Command(CommandFault),
-    /// The text of an index is no path.
+    /// The text for an index is not a path.
     Path(PathFault),
-    /// A request, a token or a call of the session is refused. A document that is no filter is told by its own fault.
+    /// A request, a token or a call of the session is refused. A document that is not a filter is reported with its own fault.
     Session(Refused),
 }
 
 /// Appends the text of a reply of a session over a dump: canonical Extended JSON v2, without white space.
 ///
-/// `NoMemory` leaves `out` as it was.
+/// On `NoMemory`, `out` is unchanged.
 pub fn write_reply(
     alloc: Global,
     dump: &Dump,
@@ -72,7 +72,7 @@ pub fn write_reply(
     answer
 }
 
-/// The same, but at an error a part may stand.
+/// The same, but after an error a part may remain.
 fn append_reply(
     alloc: Global,
     dump: &Dump,
@@ -93,7 +93,7 @@ fn append_reply(
     }
 }
 
-/// Appends the reply of an index that was made.
+/// Appends the reply with the counts of a new index.
 #[tactic(auto, using(bd_value::proofs::PrefixLemmas::prefixes))]
 fn append_made(made: Made, out: &mut Vec<u8>) -> Result<(), NoMemory>
     ensures ok { OnOk result (out.new.items
@@ -128,7 +128,7 @@ fn append_batch(
     write_members(true, &members, out)
 }
 
-/// The text of a token, where there is one.
+/// The text of a token, if any.
 fn token_text(alloc: Global, token: Option<Token>) -> Result<Option<String>, NoMemory>
     ensures { IfOk result (λ text. option_map string_bytes text ≡ option_map token_text token) }
 {
@@ -138,7 +138,7 @@ fn token_text(alloc: Global, token: Option<Token>) -> Result<Option<String>, NoM
     }
 }
 
-/// A text, or null where there is none.
+/// A text, or null if there is none.
 fn text_or_null<'a>(text: Option<&'a str>) -> Field<'a, 'static, 'static>
     ensures { reply_value result ≡ text_or_null (option_map (λ t. t.now) text.entry) }
 {
@@ -148,7 +148,7 @@ fn text_or_null<'a>(text: Option<&'a str>) -> Field<'a, 'static, 'static>
     }
 }
 
-/// Appends the reply that tells how documents are found.
+/// Appends the reply that says how documents are found.
 #[tactic(auto, using(bd_value::proofs::PrefixLemmas::prefixes))]
 fn append_explanation(explanation: &Explain, out: &mut Vec<u8>) -> Result<(), NoMemory>
     ensures ok { OnOk result (out.new.items
@@ -192,7 +192,7 @@ fn append_refusal(refusal: &LineRefusal, out: &mut Vec<u8>) -> Result<(), NoMemo
     }
 }
 
-/// Appends the reply of a refusal that has no place.
+/// Appends the reply of a refusal that has no position.
 #[tactic(auto, using(bd_value::proofs::PrefixLemmas::prefixes))]
 fn append_reason(
     layer: &'static str,
@@ -212,7 +212,7 @@ fn append_reason(
     write_members(false, &members, out)
 }
 
-/// Appends the reply of a text that is no document.
+/// Appends the reply for a text that is not a document.
 #[tactic(auto, using(bd_value::proofs::PrefixLemmas::prefixes))]
 fn append_json_fault(fault: JsonFault, out: &mut Vec<u8>) -> Result<(), NoMemory>
     ensures ok { OnOk result (out.new.items
@@ -228,7 +228,7 @@ fn append_json_fault(fault: JsonFault, out: &mut Vec<u8>) -> Result<(), NoMemory
     write_members(false, &members, out)
 }
 
-/// The byte of a text where a fault is; a text as a whole has none.
+/// The byte of a fault in a text; a text as a whole has none.
 fn json_byte(fault: JsonFault) -> Field<'static, 'static, 'static>
     ensures { reply_value result ≡ json_fault_byte fault.kind fault.at }
 {
@@ -238,7 +238,7 @@ fn json_byte(fault: JsonFault) -> Field<'static, 'static, 'static>
     }
 }
 
-/// Appends the reply of a document that is no filter.
+/// Appends the reply for a document that is not a filter.
 #[tactic(auto, using(bd_value::proofs::PrefixLemmas::prefixes))]
 fn append_filter_fault(fault: &FilterFault, out: &mut Vec<u8>) -> Result<(), NoMemory>
     ensures ok { OnOk result (out.new.items

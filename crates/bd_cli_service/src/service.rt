@@ -1,4 +1,4 @@
-//! A session that lines are sent to, and what always holds of a talk with it.
+//! A session that replies to lines.
 
 ghost use Rattle.std.specs.Prelude.{◌≡◌, ◌++◌, IfErr, IfOk, OnErr, OnOk, List, ℕ};
 ghost use Rattle.bd_value.specs.{View.pairs};
@@ -46,7 +46,7 @@ impl Service {
         }
     }
 
-    /// The reply to a line. It fails only if memory runs out, and then the session is as it was.
+    /// The reply to a line. It fails only if memory runs out, and then the session is unchanged.
     fn answer(&mut self, line: &[u8]) -> Result<Reply, NoMemory>
         ensures answers { IfOk result (λ r. Answers (bytes_of (service_dump self.old))
             (documents (service_dump self.old)) (service_state self.old) line.now
@@ -67,12 +67,12 @@ impl Replier for Service {
 
     ghost stays = { KeepsState };
 
-    /// Appends the reply to a line. The session goes on as the call in the line leaves it.
+    /// Appends the reply to a line. The session is then in the state after the call in the line.
     fn reply(&mut self, command: &[u8], text: &mut Vec<u8>) -> Result<(), AllocError>
         ensures replies { OnOk result ((reply : List ℕ) × (text.new.items ≡ text.old.items ++ reply)
             × RepliesTo self.old command.now reply self.new) }
         ensures err { OnErr result (text.new.items ≡ text.old.items) }
-        // Where memory ran out the session is as it was, or as the call left it whose reply was not made.
+        // If memory runs out, the session is unchanged, or is in the state after the call whose reply could not be made.
         ensures out_of_memory { OnErr result
             (RunsOutAt KeepsState RepliesTo self.old command.now self.new) }
         ensures dump { service_dump self.new ≡ service_dump self.old }
@@ -82,7 +82,7 @@ impl Replier for Service {
     }
 }
 
-/// The call that a line is.
+/// The call in a line.
 fn read_call(alloc: Global, line: &[u8]) -> Result<Call, CallFault>
     ensures call { (dump : Dump) → IfOk result (λ c.
         IsCallIn (bytes_of dump) (documents dump) line.now (Ok (session_call dump c))) }
@@ -93,7 +93,7 @@ fn read_call(alloc: Global, line: &[u8]) -> Result<Call, CallFault>
     call_of(alloc, command)
 }
 
-/// The document that a line is.
+/// The document in a line.
 fn read_line(alloc: Global, line: &[u8]) -> Result<Document, CallFault>
     ensures document { IfOk result (λ d. ReadsAs line.now (pairs d)) }
     ensures fault { (dump : Dump) → IfErr result (RefusesLine dump line.now) }
@@ -107,7 +107,7 @@ fn read_line(alloc: Global, line: &[u8]) -> Result<Document, CallFault>
     }
 }
 
-/// The command that a document is.
+/// The command that a document means.
 fn command_in(alloc: Global, document: &Document) -> Result<Command, CallFault>
     ensures command { IfOk result (λ c. command_of (pairs document.now) ≡ Ok (command_tree c)) }
     ensures fault { IfErr result
@@ -120,7 +120,7 @@ fn command_in(alloc: Global, document: &Document) -> Result<Command, CallFault>
     }
 }
 
-/// Makes a call. It fails only if memory runs out, and then the session is as it was.
+/// Makes a call. It fails only if memory runs out, and then the session is unchanged.
 fn perform(session: &mut Session, call: Call) -> Result<Reply, NoMemory>
     ensures performs { IsPerformed
         (session_call (dump_of session.old) call) session.old result session.new }

@@ -1,9 +1,9 @@
-//! What no reply shows of a command.
+//! What no reply says of a command.
 use bd_cli_command::{Command, CommandFault, Hint, read_command};
 use bd_extjson::read_doc;
 use std::test::Fail;
 
-/// Whether documents are looked for by a scan, and how many are passed over.
+/// Whether documents are searched by a scan, and how many are skipped.
 #[test]
 fn scans_and_skips(rt: HostRuntime) -> Result<(), Fail> {
     let alloc = rt.alloc();
@@ -41,7 +41,7 @@ fn scans_and_skips(rt: HostRuntime) -> Result<(), Fail> {
     Ok(())
 }
 
-/// No test sees it come.
+/// No test can make it happen.
 #[test]
 fn has_words_for_want_of_memory(rt: HostRuntime) {
     assert!(rt; CommandFault::NoMemory.words() == "no memory");

@@ -1,11 +1,11 @@
-//! What no command shows.
+//! What no command can request.
 use crate::samples::{read_documents, read_request};
 use bd_cursor::{Choice, Session};
 use bd_cursor_request::{Refused, Request, Token};
 use bd_extjson::read_doc;
 use std::test::Fail;
 
-/// A size that no command says: the cursor stays as it is.
+/// A size that no command can have: the cursor is unchanged.
 #[test]
 fn the_greatest_size(rt: HostRuntime) -> Result<(), Fail> {
     let alloc = rt.alloc();
@@ -22,7 +22,7 @@ fn the_greatest_size(rt: HostRuntime) -> Result<(), Fail> {
     Ok(())
 }
 
-/// A reply tells the number of the fault of a filter, and not that of the refusal.
+/// A reply has the number of the fault of a filter, and not that of the refusal.
 #[test]
 fn the_number_of_a_bad_filter(rt: HostRuntime) -> Result<(), Fail> {
     let alloc = rt.alloc();

@@ -1,4 +1,4 @@
-//! How many documents are read, which no contract tells.
+//! How many documents are read, which no contract says.
 use crate::samples::{read_documents, read_request};
 use bd_cursor::{Choice, Session};
 use bd_path::Path;
@@ -29,7 +29,7 @@ fn reads_of_seven(alloc: Global, session: &mut Session, choice: Choice) -> Resul
     Ok(session.dump().reads().saturating_sub(before))
 }
 
-/// Under an index the others are not read.
+/// With an index the others are not read.
 #[test]
 fn fewer_documents_by_an_index(rt: HostRuntime) -> Result<(), Fail> {
     let alloc = rt.alloc();
@@ -45,7 +45,7 @@ fn fewer_documents_by_an_index(rt: HostRuntime) -> Result<(), Fail> {
 /// The request of the documents with 7, 8 and 9, without the first of them.
 const TWO_OF_THREE: &str = "{\"a\":{\"$gte\":7,\"$lt\":10}} {} 1 0";
 
-/// Nor are they where some are skipped, or where an answer is resumed.
+/// Nor are they if some are skipped, or if an answer is resumed.
 #[test]
 fn fewer_documents_after_a_skip_and_a_token(rt: HostRuntime) -> Result<(), Fail> {
     let alloc = rt.alloc();

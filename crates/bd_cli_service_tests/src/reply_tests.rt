@@ -1,4 +1,4 @@
-//! Replies made by hand, which no talk shows.
+//! Replies made by hand, which no talk has.
 use crate::samples::three;
 use bd_cli_service::{Reply, write_reply};
 use bd_cursor::{Explain, Plan};
@@ -6,7 +6,7 @@ use bd_cursor_request::{Batch, Made};
 use std::alloc::Global;
 use std::test::Fail;
 
-/// Whether a reply has this text, after what stood before it.
+/// Whether a reply has this text, after the bytes before it.
 fn is_reported(alloc: Global, reply: &Reply, wanted: &str) -> Result<bool, Fail> {
     let dump = three(alloc)?;
     let mut text = Vec::from_slice(alloc, b"x")?;

@@ -1,8 +1,8 @@
-//! Lines whose answers no run shows: the path of an index, and a size that is greater than a limit.
+//! Command lines whose results no run prints: the path of an index, and a size above a limit.
 use bd_cli_args::parse_words;
 use std::test::Fail;
 
-/// The words of a line, each after a comma, and after an arrow the answer, as it is printed for debugging.
+/// The arguments, each after a comma, and after an arrow the result, as it is printed for debugging.
 const ANSWERS: &str =
     r#",find,F,--query,q,--sort,s,--skip,1,--limit,2,--batch,3,--after,t -> Ok(Find { file: "F", options: FindOptions { query: Some("q"), sort: Some("s"), skip: 1, limit: 2, batch: Some(3), index: None, after: Some("t") } })
 ,find,F,--index,p -> Ok(Find { file: "F", options: FindOptions { query: None, sort: None, skip: 0, limit: 0, batch: None, index: Some("p"), after: None } })

@@ -10,7 +10,7 @@ pub(crate) const ONE: &[u8] = b"\x0c\0\0\0\x10a\0\x01\0\0\0\0";
 
 pub(crate) const ONE_LINE: &[u8] = b"{\"a\":{\"$numberInt\":\"1\"}}\n";
 
-/// A document whose field `s` is a string of length 0, which has no room for its zero, and {"a":1}.
+/// A document whose field `s` is a string of length 0, too short for its zero, and {"a":1}.
 pub(crate) const BAD_AND_ONE: &[u8] = b"\x0c\0\0\0\x02s\0\0\0\0\0\0\x0c\0\0\0\x10a\0\x01\0\0\0\0";
 
 #[derive(Clone, Copy)]
@@ -22,7 +22,7 @@ pub(crate) enum Command {
     Serve,
 }
 
-/// The order of a command; `find` by an index where one is named.
+/// The `Order` of a command; `find` by an index if one is named.
 pub(crate) fn order_of(alloc: Global, command: Command, index: Option<String>) -> Order {
     let file = String::new(alloc);
     match command {
@@ -48,10 +48,10 @@ pub(crate) fn order_of(alloc: Global, command: Command, index: Option<String>) -
 #[derive(Clone, Copy)]
 pub(crate) struct Devices<'a> {
     pub input: &'a [u8],
-    /// How many bytes a call gives or takes at most.
+    /// How many bytes a call returns or takes at most.
     pub size: usize,
     pub failing_err: Option<FailingWrite>,
-    /// How many bytes standard output has room for.
+    /// How many bytes standard output can take.
     pub buffer: usize,
 }
 
@@ -63,7 +63,7 @@ pub(crate) const AMPLE: Devices<'static> = Devices {
     buffer: 400,
 };
 
-/// How many reads a run makes, and how it ends; none where it shows anything else than this, or reads a command.
+/// How many reads a run makes, and how it ends; None if it prints anything else than this, or reads a command.
 pub(crate) fn reads(
     alloc: Global,
     order: &Order,

@@ -1,5 +1,5 @@
 //! Tests of `bd_cli_args`, `bd_cli_files`, `bd_cli_find` and `bd_cli`, over their public calls: those that need devices in memory.
-//! What the program shows, and each read and write of it that fails, is tested over the program itself.
+//! The output of the program, and each of its reads and writes that fails, is tested with the program itself.
 #![tactic(auto)]
 
 #[cfg(test)]

@@ -6,7 +6,7 @@ use std::test::Fail;
 
 const UNWRITTEN: &str = "bsonfind: cannot write\n";
 
-/// How many reads are made where none fails.
+/// How many reads are made if none fails.
 #[test]
 fn reads_no_more_than_it_wants(rt: HostRuntime) -> Result<(), Fail> {
     let alloc = rt.alloc();
@@ -18,7 +18,7 @@ fn reads_no_more_than_it_wants(rt: HostRuntime) -> Result<(), Fail> {
         (ONE, 1, 400, ONE_LINE, "1 objects found\n", 13, Done),
         // A device that is full.
         (ONE, 100, 3, b"{\"a", UNWRITTEN, 2, Failed),
-        // Of a hundred documents, as of any number, five bytes of each of two are read before the second line does not fit.
+        // For a hundred documents, as for any number, five bytes of each of two are read before the second line does not fit.
         (&many, 1, 3, b"{}\n", UNWRITTEN, 10, Failed),
     ];
     for (input, size, buffer, out, err, calls, status) in rows {
@@ -38,12 +38,12 @@ fn reads_no_more_than_it_wants(rt: HostRuntime) -> Result<(), Fail> {
 fn refuses_a_path_and_leaves_a_count(rt: HostRuntime) -> Result<(), Fail> {
     let alloc = rt.alloc();
     let mut devices = AMPLE;
-    // Of a path that is none nothing is read.
+    // If the path is invalid, nothing is read.
     let find = order_of(alloc, Command::Find, Some(String::from_str(alloc, "a..b")?));
     devices.input = ONE;
     let refusal = "bsonfind: index: empty component\n";
     assert!(rt; reads(alloc, &find, devices, b"", refusal) == Some((0, Failed)));
-    // Standard error fails in the midst of a count, whose number and words are written apart.
+    // Standard error fails within a line of counts, whose number and text are written separately.
     let pack = order_of(alloc, Command::Pack, None);
     devices.input = b"\n";
     devices.size = 9;

@@ -4,7 +4,7 @@ use bd_cli::run;
 use bd_cli_files::Status;
 use bd_io_device::{MemoryInput, MemoryOutput};
 
-/// Lines of 12, 3, 1, 25 and 23 bytes, with their newlines. The last has none.
+/// Lines of 12, 3, 1, 25 and 23 bytes, with their newlines. The last has no newline.
 const COMMANDS: &[u8] =
     b"{\"find\":{}}\n \r\n\n{\"getMore\":1,\"batch\":1}\r\n{\"getMore\":1,\"batch\":1}";
 
@@ -16,7 +16,7 @@ const REPLIES: &[u8] = br#"{"ok":true,"cursor":{"$numberLong":"1"}}
 
 const UNSERVED: &str = "bsonfind: document 0, byte 7, path \"s\": bad string length\n";
 
-/// How many bytes of the replies are there at the end, and how many reads of commands were made. A reply is written before the
+/// How many bytes of the replies are written at the end, and how many reads of commands were made. A reply is written before the
 /// next line is read.
 #[test]
 fn serves_commands_in_pieces(rt: HostRuntime) {
@@ -27,7 +27,7 @@ fn serves_commands_in_pieces(rt: HostRuntime) {
         (ONE, 12, 7, 257, "", 7),
         (ONE, 41, 41, 257, "", 3),
         (ONE, 100, 100, 257, "", 2),
-        // Where there is no dump none is read.
+        // If there is no dump, no command is read.
         (BAD_AND_ONE, 1, 200, 0, UNSERVED, 0),
     ] {
         assert!(rt; most > 0 && size > 0);

@@ -1,4 +1,4 @@
-//! What is shown of words that are no order.
+//! The output for arguments that are not a command.
 use bd_cli::report;
 use bd_cli_args::{USAGE, WordsFault};
 use bd_cli_files::Status;

@@ -1,4 +1,4 @@
--- Which index is taken, that it leads to the documents that match, and what is read on an access path.
+-- Which index is used, that it leads to the documents that match, and what is read on an access path.
 use Rattle.std.proofs.Common.{◌≡◌, ◌≢◌, ◌+◌, ◌<◌, ℕ, zero, suc, Bool, true, false, cond, List, [], ◌∷◌, length, get_or, Option, Some, None, refl, sym, ap, ap₂, ◌∙◌, subst, arith, eq-eqb}
 use Rattle.std.proofs.Common.{filter, map}
 use Rattle.std.proofs.lemmas.Bool.{and_parts, and_right, eqb-true, le-ltb, lt-ltb, ltb-true, ne_eqb, or_parts, true≢false, not-true}
@@ -32,7 +32,7 @@ use Rattle.bd_cursor.specs.Explanation.{entries_within, index_counts, places_wit
 use Rattle.bd_cursor_model.proofs.{OrderLemmas.filter_all, AnswerLemmas.in_contains, SourceLemmas.batch_in_order, SourceLemmas.all_places, SourceLemmas.unsorted_ordered}
 use Rattle.bd_value.specs.Tree as trees
 
--- ---- places that ascend
+-- ---- ascending places
 
 pub range_increases : (a n : ℕ) → IsStrictlyIncreasing (range_with_len a n)
 range_increases a n k lt =
@@ -65,7 +65,7 @@ early sparse path test (d ∷ ds) s p lt =
 next_lt : (n m : ℕ) → nat_lt n m ≡ nat_lt (suc n) (suc m)
 next_lt n m = grind arith
 
--- a document has an entry that passes where one of its keys does
+-- a document has an entry that passes if one of its keys does
 from_place : (sparse : Bool) (path : Names) (test : Tree → Bool) (ds : List Doc) (s k p : ℕ) → s + k ≡ p
     → list_any (λ (e : KeyAt). test e.0 && (e.1 == p)) (entries_from sparse path s ds) ≡ (nat_lt k (length ds) && list_any test (indexed_keys sparse (document_at ds k) path))
 from_place sparse path test [] s k p e = ap (λ (b : Bool). b && list_any test (indexed_keys sparse (document_at [] k) path)) (sym (le-ltb k 0 (omega arith)))
@@ -122,14 +122,14 @@ contained ps q h = let a = Any-from_list_any (λ m. m == q) ps h in (a.0, a.2, s
 abbrev pub has_key_at : Bool → Names → List Doc → KeyBounds → ℕ → Bool
 has_key_at sparse path ds b p = list_any (is_among b) (indexed_keys sparse (document_at ds p) path)
 
--- a test, and no order
+-- a test without an order
 abbrev plainly : List Doc → (ℕ → Bool) → Selection
 plainly ds matches_at = record { count = length ds; matches_at = matches_at; by = order_of_keys ds []; skip = 0; limit = 0 }
 
 plain_total : (ds : List Doc) → IsTotalOrder (order_of_keys ds [])
 plain_total ds = on_total (document_at ds) (sort_total [])
 
--- what passes of a source that ascends is what passes of all
+-- the matches in an ascending source are all matches
 source_passes : (ds : List Doc) (matches_at : ℕ → Bool) (ps : List ℕ) → IsSource (length ds) matches_at ps → IsStrictlyIncreasing ps → filter matches_at ps ≡ filter matches_at (range_with_len 0 (length ds))
 source_passes ds matches_at ps s up =
     let a = plainly ds matches_at in
@@ -150,7 +150,7 @@ module _ {sparse : Bool} {path : Names} {ds : List Doc} {b : KeyBounds} {ps : Li
       and_parts (nat_lt (get_or ps k d) (length ds)) (has_key_at sparse path ds b (get_or ps k d))
       (sym (among_places (get_or ps k d)) ∙ list_any_at (λ m. m == get_or ps k d) ps k d lt (eq-eqb (get_or ps k d) (get_or ps k d) refl))
 
-  -- they are a source for each test that is passed only with a key inside
+  -- they are a source for each test that is passed only if a key is inside
   within_source : (matches_at : ℕ → Bool) → ((p : ℕ) → p < length ds → matches_at p ≡ true → has_key_at sparse path ds b p ≡ true) → IsSource (length ds) matches_at ps
   within_source matches_at inside = record {
     below = λ k d lt. ltb-true (get_or ps k d) (length ds) (places_inside k d lt).0;
@@ -165,7 +165,7 @@ module _ {sparse : Bool} {path : Names} {ds : List Doc} {b : KeyBounds} {ps : Li
       sym (filter_all test ps (λ x i. let r = in_contains ps x i in subst (λ z. test z ≡ true) r.2 (places_inside r.0 x r.1).1))
       ∙ source_passes ds test ps (within_source test (λ p lt hit. hit)) w.ascend
 
--- ---- bounds of an index in hand
+-- ---- bounds of an index in memory
 
 -- the documents with an entry inside the bounds of an index are a source: each match is among them, once
 pub index_source : {dump : Dump} {r : Request} {i : Index} {b : KeyBounds} {ps : List ℕ} {entries : ℕ} → HasMatchesWithin dump r i b
@@ -175,7 +175,7 @@ index_source {dump} {r} {i} {b} h w =
     within_source w (matches_at_of (documents dump) f) (λ p lt hit. has_key f (names_of i.path) i.multikey i.sparse b (document_at (documents dump) p)
     h.serves (fits (names_of i.path) (documents dump) p i.multikey lt h.of_dump.many) hit)
 
--- ---- what a call was given
+-- ---- the arguments of a call
 
 pub not_sorted : (sort : List (Path × Dir)) → length sort ≡ 0 → sort_paths sort ≡ []
 not_sorted [] h = refl
@@ -185,7 +185,7 @@ lent_as : (r : Option (Bor Bounds)) → lent_bounds r ≡ bounds_view (option_co
 lent_as None = refl
 lent_as (Some b) = refl
 
--- what is within bounds that are borrowed is within the same bounds that are not
+-- what is within borrowed bounds is within the bounds themselves
 pub lent_within : {sparse : Bool} {path : Names} {ds : List Doc} {b : Option Bounds} {ps : List ℕ} {entries : ℕ} (r : Option (Bor Bounds)) → option_copied r ≡ b
     → AreWithin sparse path ds (lent_bounds r) ps entries → AreWithin sparse path ds (bounds_view b) ps entries
 lent_within {sparse} {path} {ds} {b} {ps} {entries} r e w = subst (λ k. AreWithin sparse path ds k ps entries) (lent_as r ∙ ap bounds_view e) w
@@ -216,7 +216,7 @@ entries_walked i ds n h = h ∙ ap (λ (p : Names). length (entries_of i.sparse 
 names_equal : (a b : Names) → Decides (pointwise bytes_eq a b) (a ≡ b)
 names_equal a b = slice_eq-Decides bytes_eq-Decides a b (pointwise bytes_eq a b) refl
 
--- a text is told by its names
+-- two texts with the same names are equal
 text_is : (a b : List ℕ) → components_of a ≡ components_of b → a ≡ b
 text_is a b h = sym (join_with_byte-slice_split 46 a) ∙ ap (join_with_byte 46) h ∙ join_with_byte-slice_split 46 b
 
@@ -256,9 +256,9 @@ walk_is i (s ∷ []) dir e =
     (not-true i.sparse both.0, ap₂ (λ (n : Names) (d : Dir). record { path = n; dir = d } ∷ []) ((names_equal s.path components).0 both.1 ∙ sym i.path.split_path) one.1)
 walk_is i _ dir e = absurd (let z : Some dir ≡ None = e in cc)
 
--- ---- the index that is named, and the first in order
+-- ---- the named index, and the first in order
 
--- an index that serves a sort in a direction has the order of the sort in it
+-- an index that serves a sort by a walk in a direction has the order of the sort
 pub walk_leads : (dump : Dump) (r : Request) (i : Index) (dir : Dir) → IsIndexOf dump i → Some dir ≡ walk_dir (index_key i) (sort_paths r.sort.items) → HasSortOrder dump r i dir
 walk_leads dump r i dir h e = let w = walk_is i (sort_paths r.sort.items) dir e in record { of_dump = h; whole = w.0; order = w.1 }
 
@@ -266,13 +266,13 @@ pub named_other : (ds : List Doc) (f : Filter) (ss : List SortPath) (m : IndexKe
     → named_access ds f ss m ≡ cond m.is_sparse scanned (walk_or m (walk_dir m ss) (bounded m None))
 named_other ds f ss m h = ap (λ b. bounded_or m b (cond m.is_sparse scanned (walk_or m (walk_dir m ss) (bounded m None)))) (sym h)
 
--- its bounds are those of the filter, and it has what matches
+-- its bounds are those of the filter
 bounds_of_index : (dump : Dump) (i : Index) (f : Filter) → IsIndexOf dump i → index_key_bounds (documents dump) f (index_key i) ≡ bounds f (names_of i.path) i.multikey
 bounds_of_index dump i f h =
     let names : index_key_names (index_key i) ≡ names_of i.path = sym i.path.split_path in
     ap (λ (n : Names). bounds f n (is_multikey n (documents dump))) names ∙ ap (bounds f (names_of i.path)) (sym h.many)
 
--- an index whose bounds serve a filter has each match within them
+-- if the bounds of an index serve a filter, each match is within them
 pub bounds_lead : (dump : Dump) (r : Request) (i : Index) (keys : Tree → Bool) → IsIndexOf dump i
     → Some keys ≡ serving_bounds (index_key i) (index_key_bounds (documents dump) (filter_tree r.filter) (index_key i)) → HasMatchesWithin dump r i (Some keys)
 bounds_lead dump r i keys h e =

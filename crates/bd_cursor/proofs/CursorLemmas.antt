@@ -1,4 +1,4 @@
--- The places that a cursor has left: one without a sort, which goes on where it stands, and one with the list of its places.
+-- The places that remain for a cursor: for one without a sort, which resumes at its position, and for one with a list of places.
 use Rattle.std.proofs.Common.{◌≡◌, ◌+◌, ◌-◌, ◌<◌, ◌≤◌, ℕ, Bool, true, false, cond, List, [], ◌∷◌, ◌++◌, length, drop, refl, ap, ◌∙◌, filter, arith, zero, suc, Option, Some, None, sym, take}
 use Rattle.std.proofs.Common.{inl, inr, ◌⊎◌, min, eqb}
 use Rattle.std.proofs.lemmas.List.{drop-take, take_all, length-drop, length-take, append-nil, drop_all}
@@ -14,7 +14,7 @@ use Rattle.bd_bson_dump.specs.Collection.{document_at}
 use Rattle.bd_cursor_sort.specs.Selection.{selection_of, matches_at_of}
 use Rattle.bd_cursor_request.specs.declared.request.Request.{Request}
 
--- the matches among the documents that were not looked at
+-- the matches among the documents that were not examined yet
 abbrev pub unseen : ℕ → (ℕ → Bool) → ℕ → List ℕ
 unseen count matches_at next = filter matches_at (range_with_len next (count - next))
 
@@ -48,7 +48,7 @@ at_most_none (Some (suc n)) = refl
 pub drop_beyond : (n : ℕ) (xs ys : List ℕ) → length xs ≤ n → ys ≡ [] → drop n (xs ++ ys) ≡ []
 drop_beyond n xs ys l e = ap (λ zs. drop n (xs ++ zs)) e ∙ ap (drop n) (append-nil xs) ∙ drop_all n xs l
 
--- ---- when it is opened without a sort
+-- ---- a cursor without a sort
 
 pub requested_total : (ds : List Doc) (r : Request) → IsTotalOrder (selection_of ds r).by
 requested_total ds r = on_total (document_at ds) (sort_total (sort_paths r.sort.items))
@@ -79,7 +79,7 @@ module _ (ds : List Doc) (r : Request) (none : r.sort.items ≡ []) where
       ap (limited limit m.given) (rest_in_order m.last)
       ∙ ap (λ n. limited n m.given (filter (before (selection_of ds r).by m.last) (ordered (selection_of ds r)))) (sym l)
 
--- ---- with a sort
+-- ---- a cursor with a sort
 
 next_eq : (n m : ℕ) → eqb n m ≡ eqb (suc n) (suc m)
 next_eq n m = grind arith
@@ -90,7 +90,7 @@ empty_drop zero (x ∷ xs) h = ne_eqb 0 (length (x ∷ xs)) (λ e. absurd (omega
 empty_drop (suc n) [] h = absurd (omega arith)
 empty_drop (suc n) (x ∷ xs) h = sym (next_eq n (length xs)) ∙ empty_drop n xs (omega arith)
 
--- the first places that an answer needs are enough, as long as they are fewer than can be counted
+-- the first places that an answer needs are enough, if there are fewer than the greatest count
 pub enough : (skip limit most greatest : ℕ) (ps : List ℕ) → (limit ≡ 0 → ⊥) → most ≡ min greatest (skip + limit) → length (take most ps) < greatest
     → drop skip (take most ps) ≡ limited limit 0 (drop skip ps)
 enough skip limit most greatest ps some m few = rw (ne_eqb limit 0 some) (go (cases_lt (skip + limit) greatest))

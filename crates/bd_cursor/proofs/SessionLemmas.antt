@@ -1,4 +1,4 @@
--- The cursors of a session: how one is opened, found by its number, changed and taken out; its indexes.
+-- The cursors of a session: how one is opened, found by its number, changed and removed; its indexes.
 use Rattle.std.proofs.Common.{◌≡◌, ℕ, Bool, true, false, cond, List, [], ◌∷◌, Result, Ok, Err, map, refl, sym, ap, ◌∙◌, subst, filter, ◌-◌, ◌<◌, ◌≤◌, ◌==◌, length, get_or, arith, zero, suc}
 use Rattle.std.proofs.Common.{Some, None, slice_get, slice_set}
 use Rattle.std.proofs.{lemmas.Bool.eq-eqb, lemmas.Bool.ne_eqb, lemmas.Bool.le-ltb, lemmas.Bool.cond_both, lemmas.Option.slice_get-map, lemmas.Option.slice_get_read}
@@ -13,7 +13,7 @@ use Rattle.std.specs.Prelude.{option_map}
 pub with_index_keys : (s : State) (is js : List IndexKey) → is ≡ js → record s { indexes = is } ≡ record s { indexes = js }
 with_index_keys s is js e = ap (λ (xs : List IndexKey). (let t : State = record s { indexes = xs } in t)) e
 
--- what is seen of those that are kept
+-- the images of the members that pass
 pub map_kept : {A B : Type 0} (f : A → B) (test : B → Bool) (xs : List A) → map f (filter (λ x. test (f x)) xs) ≡ filter test (map f xs)
 map_kept f test [] = refl
 map_kept f test (x ∷ xs) =
@@ -23,7 +23,7 @@ map_kept f test (x ∷ xs) =
       | false ↦ map_kept f test xs
     ]
 
--- a step from one session is one from another, over the same dump in the same state
+-- a step of one session is a step of another over the same dump in the same state
 pub steps_from : {A : Type 0} (as_reply : A → Reply) (call : Call) (a b : Session) (result : Result A Refused) (new : Session) → state_of a ≡ state_of b → dump_of a ≡ dump_of b
     → Steps as_reply call a result new → Steps as_reply call b result new
 steps_from as_reply call a b (Ok v) new same dump step = record {

@@ -1,5 +1,5 @@
 -- The access path of a request: how its documents are reached, by which index or without one;
--- and that an access path in memory leads to them.
+-- and that an access path in memory leads to all matches.
 use Rattle.std.specs.Prelude.{ℕ, Bool, false, ◌&&◌, not, List, [], ◌∷◌, Option, Some, None, if◌then◌else◌}
 use Rattle.std.specs.Prelude.{◌≡◌}
 use Rattle.std.specs.{Str.bytes_eq, Cmp.Lexicographic.pointwise}
@@ -23,24 +23,24 @@ pub data Way : Type 0 where
   by_none : Way
   by_one : List ℕ → Way
 
--- which index a `Choice` asks for: any, none, or the one on its path
+-- which index a `Choice` requests: any, none, or the one on its path
 abbrev pub way_of : Choice → Way
 way_of choices.Scan = by_none
 way_of choices.Auto = by_any
 way_of (choices.Index path) = by_one (path_text path)
 
--- how documents are reached: all in turn, or those with an entry inside the bounds of an index,
+-- how documents are reached: all one after the other, or those with an entry inside the bounds of an index,
 -- or all in the order of an index
 pub data AccessPath : Type 0 where
   scanned : AccessPath
   bounded : IndexKey → KeyBounds → AccessPath
   walked : IndexKey → Dir → AccessPath
 
--- the path of an index in memory, and whether it is sparse
+-- the path of an index in memory, and whether the index is sparse
 abbrev pub index_key : Index → IndexKey
 index_key i = record { path = path_text i.path; is_sparse = i.sparse }
 
--- the names of the path that an index is on
+-- the names in the path of an index
 abbrev pub index_key_names : IndexKey → Names
 index_key_names i = components_of i.path
 
@@ -49,40 +49,40 @@ abbrev pub index_key_bounds : List Doc → Filter → IndexKey → KeyBounds
 index_key_bounds ds f i = bounds f (index_key_names i) (is_multikey (index_key_names i) ds)
 
 -- the bounds by which an index serves a filter;
--- a sparse one, which has no entry for a missing field, only if null is outside
+-- a sparse index, which has no entry for a missing field, serves only if null is outside
 abbrev pub serving_bounds : IndexKey → KeyBounds → KeyBounds
 serving_bounds i None = None
 serving_bounds i (Some keys) = if i.is_sparse && keys (leaf trees.null) then None else Some keys
 
 -- the direction in which an index has the order of a sort:
--- if that is by its path alone, and the index is not sparse
+-- if the sort is by this one path, and the index is not sparse
 abbrev pub walk_dir : IndexKey → List SortPath → Option Dir
 walk_dir i [] = None
 walk_dir i (s ∷ []) = if not i.is_sparse && pointwise bytes_eq s.path (index_key_names i) then Some s.dir else None
 walk_dir i (s ∷ t ∷ ss) = None
 
--- by the bounds of an index, or without bounds another way
+-- by the bounds of an index; without bounds in another way
 abbrev pub bounded_or : IndexKey → KeyBounds → AccessPath → AccessPath
 bounded_or i None other = other
 bounded_or i (Some keys) other = bounded i (Some keys)
 
--- by a walk of an index, if it has the order of the sort in some direction, else another way
+-- by a walk of an index, if it has the order of the sort in some direction; otherwise in another way
 abbrev pub walk_or : IndexKey → Option Dir → AccessPath → AccessPath
 walk_or i None other = other
 walk_or i (Some dir) other = walked i dir
 
--- the first index, in the order in which they were made, that serves by its bounds; without one another way
+-- the first index, in the order of creation, that serves by its bounds; without one another way
 abbrev pub first_bounded : List Doc → Filter → List IndexKey → AccessPath → AccessPath
 first_bounded ds f [] other = other
 first_bounded ds f (i ∷ is) other = bounded_or i (serving_bounds i (index_key_bounds ds f i)) (first_bounded ds f is other)
 
--- the first index, in the order in which they were made, that has the order of the sort;
+-- the first index, in the order of creation, that has the order of the sort;
 -- without one another way
 abbrev pub first_walked : List SortPath → List IndexKey → AccessPath → AccessPath
 first_walked ss [] other = other
 first_walked ss (i ∷ is) other = walk_or i (walk_dir i ss) (first_walked ss is other)
 
--- the access path by a named index: by its bounds, else in its order, else by all of its entries;
+-- the access path by a named index: by its bounds, otherwise in its order, otherwise by all of its entries;
 -- by a scan if it is sparse and its bounds do not serve
 abbrev pub named_access : List Doc → Filter → List SortPath → IndexKey → AccessPath
 named_access ds f ss i = bounded_or i (serving_bounds i (index_key_bounds ds f i))
@@ -93,15 +93,15 @@ abbrev pub access_on : List Doc → Filter → List SortPath → List ℕ → Li
 access_on ds f ss path [] = scanned
 access_on ds f ss path (i ∷ is) = if is_on path i then named_access ds f ss i else access_on ds f ss path is
 
--- the access path for what is asked for; indexes are tried in the order in which they were made
+-- the access path for a choice; indexes are tried in the order of their creation
 abbrev pub access_of : List Doc → Filter → List SortPath → Way → List IndexKey → AccessPath
 access_of ds f ss by_none is = scanned
 access_of ds f ss by_any is = first_bounded ds f is (first_walked ss is scanned)
 access_of ds f ss (by_one path) is = access_on ds f ss path is
 
--- ---- one in hand
+-- ---- an access path in memory
 
--- the access path that an `Access` in memory stands for
+-- the access path that an `Access` in memory represents
 abbrev pub access_path : Access → AccessPath
 access_path ways.Scan = scanned
 access_path (ways.Bounded index bounds) = bounded (index_key index.now) (bounds_view bounds)

@@ -1,4 +1,4 @@
--- What `explain` replies of how the documents of a request are found.
+-- The reply of `explain`: how the documents of a request are found.
 use Rattle.std.specs.Prelude.{ℕ, List, [], ◌∷◌, codes, count_by, length, option_map, string_bytes, Option, Some, None}
 use Rattle.std.specs.List.{filter, list_any, range_with_len}
 use Rattle.bd_value.specs.Tree.{Doc, leaf}
@@ -37,7 +37,7 @@ plan_name plans.Scan = codes "scan"
 plan_name plans.Index = codes "index"
 plan_name plans.Walk = codes "walk"
 
--- what `explain` replies, as fields: the plan, the path of the index or null, and how many entries are read,
+-- the reply of `explain`, as fields: the plan, the path of the index or null, and how many entries are read,
 -- documents examined and matches found
 abbrev pub explanation : Plan → Option (List ℕ) → ℕ → ℕ → ℕ → Doc
 explanation plan index entries documents matches =
@@ -45,23 +45,23 @@ explanation plan index entries documents matches =
     ∷ (codes "entries", count_value entries)
     ∷ (codes "documents", count_value documents) ∷ (codes "matches", count_value matches) ∷ []
 
--- the fields that an `Explain` in memory stands for
+-- the fields of an `Explain` in memory
 abbrev pub explain_doc : Explain → Doc
 explain_doc e = explanation e.plan (option_map string_bytes e.index) e.entries e.documents e.matches
 
--- what `explain` replies for an access path on which n documents match
+-- the reply of `explain` for an access path on which n documents match
 abbrev pub explained_access : List Doc → ℕ → AccessPath → Doc
 explained_access ds n scanned = explanation plans.Scan None 0 (length ds) n
 explained_access ds n (bounded i b) =
     explanation plans.Index (Some i.path) (entries_within ds i b) (length (places_within ds i b)) n
 explained_access ds n (walked i dir) = explanation plans.Walk (Some i.path) (index_counts ds i).entries (length ds) n
 
--- what `explain` replies for a request to these documents, with these indexes
+-- the reply of `explain` for a request to these documents, with these indexes
 abbrev pub explanation_for : List Doc → Request → Way → List IndexKey → Doc
 explanation_for ds r way indexes =
     explained_access ds (length (matching (selection_for ds r.filter r.sorts r.skip r.limit)))
     (access_of ds r.filter r.sorts way indexes)
 
--- what `explain` reports of a request in memory to these documents, with these indexes
+-- the reply of `explain` for a request in memory to these documents, with these indexes
 abbrev pub explanation_of : List Doc → declared.Request → Choice → List IndexKey → Doc
 explanation_of ds r choice = explanation_for ds (request_view r) (way_of choice)

@@ -25,26 +25,26 @@ use Rattle.bd_cursor_request.specs.declared.results.Refused.TheVariants as reaso
 abbrev pub position_of : Token → Position
 position_of t = record { given = t.given; last = t.last }
 
--- the token that one in memory stands for
+-- the token that a `Token` in memory represents
 abbrev pub positioned_token : Token → PositionedToken
 positioned_token t = record { position = position_of t; digest = t.digest }
 
--- what a scanning cursor has left: the match that it found,
--- and after those to be skipped the matches among the documents that it did not look at
+-- what remains for a scanning cursor: the match that it found,
+-- and then the matches among the documents that it did not examine, without those to be skipped
 abbrev pub scan_remaining : ℕ → (ℕ → Bool) → ScanPosition → List ℕ
 scan_remaining count matches_at a =
     at_most a.most (cons_option a.found (drop a.skip (filter matches_at (range_with_len a.next (count - a.next)))))
 
--- the matches of a filter in a dump that a scanning cursor has yet to give
+-- the matches of a filter in a dump that a scanning cursor has yet to return
 abbrev pub scan_remaining_in : Dump → Filter → ScanPosition → List ℕ
 scan_remaining_in dump filter a = scan_remaining (length (documents dump)) (matches_at_of (documents dump) (filter_tree filter)) a
 
--- the document numbers that a cursor in memory has left
+-- the document numbers that remain for a cursor in memory
 abbrev pub places_remaining : Selection → Remainder → List ℕ
 places_remaining a (remainders.Scanned position) = scan_remaining a.count a.matches_at position
 places_remaining a (remainders.Listed ps) = ps
 
--- the cursor of the machine that one in memory stands for
+-- the cursor of the machine that a `Cursor` in memory represents
 abbrev pub open_cursor : Dump → Cursor → OpenCursor
 open_cursor dump c = record {
   id = c.id;
@@ -53,7 +53,7 @@ open_cursor dump c = record {
   remaining = places_remaining (query_of dump c.request).selection c.remaining;
 }
 
--- the state of the machine that a session in memory is in
+-- the state of the machine that a session in memory represents
 abbrev pub state_of : Session → State
 state_of s = record {
   indexes = map index_key s.indexes.items;
@@ -63,12 +63,12 @@ state_of s = record {
 
 -- ---- calls
 
--- the path of the index that is asked for, if one is
+-- the path of the requested index, if any
 abbrev pub path_named : Way → Option (List ℕ)
 path_named (by_one path) = Some path
 path_named _ = None
 
--- the path of the index that a `Choice` names, if it names one
+-- the path of the index that a `Choice` names, if any
 abbrev pub hint_of : Choice → Option (List ℕ)
 hint_of choice = path_named (way_of choice)
 
@@ -76,11 +76,11 @@ hint_of choice = path_named (way_of choice)
 abbrev pub path_index_key : Bool → Path → IndexKey
 path_index_key sparse path = record { path = path_text path; is_sparse = sparse }
 
--- the call that makes this index of these documents
+-- the call that creates this index of these documents
 abbrev pub make_of : List Doc → IndexKey → Call
 make_of ds i = make_call i (index_counts ds i)
 
--- the call that makes an index of a dump on this path, sparse or not
+-- the call that creates an index of a dump on this path, sparse or not
 abbrev pub make_index : Bool → Dump → Path → Call
 make_index sparse dump path = make_of (documents dump) (path_index_key sparse path)
 
@@ -88,7 +88,7 @@ make_index sparse dump path = make_of (documents dump) (path_index_key sparse pa
 abbrev pub explain_request : Dump → Request → Choice → Call
 explain_request dump r choice = explain_call (hint_of choice) (explanation_of (documents dump) r choice)
 
--- The reply grants a call that takes memory.
+-- The reply grants a call that needs memory.
 abbrev pub TakesMemory : Reply → Type 0
 TakesMemory (opened id) = Unit {0}
 TakesMemory (gave batch) = Unit {0}
@@ -96,7 +96,7 @@ TakesMemory (made counts) = Unit {0}
 TakesMemory (explained e) = Unit {0}
 TakesMemory reply = ⊥
 
--- The call is refused for the reason of this reply; or memory ran out for one that it grants.
+-- The call is refused for the reason of this reply; or memory ran out for a call that the reply grants.
 abbrev pub IsRefusedCall : Reply → Refused → Type 0
 IsRefusedCall reply reasons.NoIndex = reply ≡ no_index
 IsRefusedCall reply reasons.IndexThere = reply ≡ index_there
@@ -109,17 +109,17 @@ IsRefusedCall reply reasons.Range = reply ≡ out_of_range
 IsRefusedCall reply reasons.NoMemory = TakesMemory reply
 IsRefusedCall reply _ = ⊥
 
--- the batch that one in memory stands for
+-- the batch that a `Batch` in memory represents
 abbrev pub given_batch : Batch → GivenBatch
 given_batch b = record { places = b.places.items; token = option_map positioned_token b.token; ends = b.end }
 
--- the dump that a session answers from
+-- the dump of a session
 abbrev pub dump_of : Session → Dump
 dump_of s = s.documents.dump
 
 -- ---- steps
 
--- The call moved the session as the machine moves, with this reply; the dump is unchanged.
+-- The call moved the session as it moves the machine, with this reply; the dump is unchanged.
 pub record IsStep (r : Reply) (call : Call) (old new : Session) : Type 0 where
   pub replies : reply (state_of old) call ≡ r
   pub moves : state_of new ≡ state_after (state_of old) call
@@ -131,18 +131,18 @@ pub record IsRefused (why : Refused) (call : Call) (old new : Session) : Type 0 
   pub stays : state_of new ≡ state_of old
   pub dump : dump_of new ≡ dump_of old
 
--- A call on a session: if it has a value, it is a step of the machine with that reply;
+-- A call on a session: if it succeeds, it is a step of the machine with that reply;
 -- if it is refused, nothing changed.
 abbrev pub Steps : {A : Type 0} → (A → Reply) → Call → Session → Result A Refused → Session → Type 0
 Steps as_reply call old (Ok v) new = IsStep (as_reply v) call old new
 Steps as_reply call old (Err why) new = IsRefused why call old new
 
--- The machine grants that this index is made.
+-- The machine allows this index to be created.
 abbrev pub IsGranted : Session → IndexKey → Type 0
 IsGranted s i = reply (state_of s) (make_of (documents (dump_of s)) i) ≡ made (index_counts (documents (dump_of s)) i)
 
--- The call opens a cursor on what a request has left after a token,
--- if the index that it names is there and one more cursor may be open.
+-- The call opens a cursor on what remains of a request after a token,
+-- if the index that it names exists and one more cursor may be open.
 pub record IsOpening (call : Call) (s : State) (q : Query) (hint : Option (List ℕ))
     (t : Option PositionedToken) : Type 0 where
   pub replies : reply s call ≡ open_reply s hint

@@ -27,21 +27,21 @@ use bd_value::NoMemory;
 use std::alloc::Global;
 use std::marker::Model;
 
-/// How the documents of an answer are looked for. It never changes an answer.
+/// How the documents of an answer are searched. It never changes an answer.
 #[derive(Drop)]
 pub enum Choice {
-    /// Each document is looked at.
+    /// Each document is examined.
     Scan,
-    /// By the index on that path, which has to be there.
+    /// By the index on that path, which must exist.
     Index(Path),
-    /// By an index that serves, where there is one.
+    /// By an index that serves, if any.
     Auto,
 }
 
 /// How the documents of an answer are reached: its access path.
 #[derive(Drop)]
 pub enum Access<'a> {
-    /// Each is looked at.
+    /// Each is examined.
     Scan,
     /// Those with an entry inside bounds of an index; without bounds those with an entry.
     Bounded {
@@ -56,8 +56,8 @@ pub enum Access<'a> {
 }
 
 impl<'a> Access<'a> {
-    /// The access path of a request to the dump that the indexes are of, as it was chosen: each document is looked at; or by the
-    /// index that is named, in the way in which it serves; or by the first index whose bounds serve, else by the first that has
+    /// The access path of a request to the dump of these indexes, by a choice: each document is examined; or by the named
+    /// index, in the way in which it serves; or by the first index whose bounds serve, otherwise by the first that has
     /// the order of the sort. It reads no document, and fails only if memory runs out.
     pub fn of(
         alloc: Global,
@@ -82,16 +82,16 @@ impl<'a> Access<'a> {
         }
     }
 
-    /// Whether each document is looked at. It takes no memory.
+    /// Whether each document is examined. It takes no memory.
     pub fn is_scan(&self) -> bool
         ensures { IsTrue result ↔ (access_path self.now ≡ scanned) }
     {
         matches!(self, Access::Scan)
     }
 
-    /// The places of the documents that match and come after the last one given, in the order of the sort, at most so many:
-    /// the same on each access path. Nothing is sorted where the documents are reached in that order. It fails for want of
-    /// memory alone.
+    /// The places of the documents that match and come after the last one returned, in the order of the sort, at most `most`:
+    /// the same on each access path. If the documents are reached in that order, nothing is sorted. It fails only if memory
+    /// runs out.
     pub fn places(
         &self,
         alloc: Global,
@@ -124,7 +124,7 @@ impl<'a> Access<'a> {
     }
 }
 
-/// The access path by an index that is named.
+/// The access path by a named index.
 #[tactic(auto, using(crate::proofs::AccessLemmas::named_other, crate::proofs::AccessLemmas::walk_leads))]
 fn named_access<'a>(
     alloc: Global,
@@ -149,7 +149,7 @@ fn named_access<'a>(
     Ok(Access::Bounded { index, bounds })
 }
 
-/// By the bounds of the first index that serves by them, else in the order of the first one that has that of the sort.
+/// By the bounds of the first index that serves by them, otherwise in the order of the first one that has the order of the sort.
 fn serving_access<'a>(
     alloc: Global,
     indexes: &'a [Index],
@@ -170,7 +170,7 @@ fn serving_access<'a>(
     Ok(walk_or_scan(indexes, request))
 }
 
-/// In the order of the first index that has that of the sort, or without one.
+/// In the order of the first index that has that of the sort, otherwise by a scan.
 fn walk_or_scan<'a>(indexes: &'a [Index], request: &Request) -> Access<'a>
     ensures { (dump : Dump) → AreIndexesOf dump indexes.now → Reaches dump request.now (first_walked
         (sort_paths request.now.sort.items) (map index_key indexes.now) scanned) result }
@@ -183,7 +183,7 @@ fn walk_or_scan<'a>(indexes: &'a [Index], request: &Request) -> Access<'a>
     Access::Scan
 }
 
-/// Which index is on a path: the first of them, where there is one. It takes no memory.
+/// The first index on a path, if any, as its position in the list. It takes no memory.
 pub(crate) fn index_on(indexes: &[Index], path: &Path) -> Option<usize>
     ensures found { result
         ≡ position (is_on (path_text path.now)) (map index_key indexes.now) }
@@ -195,7 +195,7 @@ pub(crate) fn index_on(indexes: &[Index], path: &Path) -> Option<usize>
         .position(|index| path.as_str() == index.path().as_str())
 }
 
-/// The bounds that a filter gives to an index, where it serves by them. It fails only if memory runs out.
+/// The bounds that a filter gives to an index, if the index serves by them. It fails only if memory runs out.
 fn serving_bounds<'a>(
     alloc: Global,
     index: &Index,
@@ -214,7 +214,7 @@ fn serving_bounds<'a>(
     Ok(Some(bounds))
 }
 
-/// The direction in which an index has the order of a sort, where it has. It takes no memory.
+/// The direction in which an index has the order of a sort, if any. It takes no memory.
 fn walk_dir(index: &Index, sort: &[(Path, Dir)]) -> Option<Dir>
     ensures { result ≡ walk_dir (index_key index.now) (sort_paths sort.now) }
 {
@@ -226,7 +226,7 @@ fn walk_dir(index: &Index, sort: &[(Path, Dir)]) -> Option<Dir>
     }
 }
 
-/// The places that a source gives which hands them out ascending: without a sort, they have its order.
+/// The places from a source that returns them ascending: without a sort, this is their order.
 fn ascending_places<P: PlaceSource + Drop>(
     alloc: Global,
     dump: &Dump,
@@ -249,7 +249,7 @@ fn ascending_places<P: PlaceSource + Drop>(
     }
 }
 
-/// Places in order, of which those from an index on are left.
+/// Places in order, of which those from a position on remain.
 #[derive(Drop)]
 pub(crate) struct PlaceList {
     places: Vec<u32>,
@@ -265,7 +265,7 @@ impl Model for PlaceList {
 }
 
 impl PlaceList {
-    /// All but the first so many.
+    /// All but the first n.
     #[tactic(auto, using(std::proofs::lemmas::List::drop_min))]
     pub(crate) fn new(places: Vec<u32>, skip: u64) -> PlaceList
         ensures { result ≡ drop skip places.items }
@@ -274,7 +274,7 @@ impl PlaceList {
         PlaceList { places, at }
     }
 
-    /// Takes the next places, as many as the number, as long as there are any left.
+    /// Takes the next n places, or all that remain if there are fewer.
     pub(crate) fn take(&mut self, alloc: Global, n: u64) -> Result<Vec<u32>, NoMemory>
         ensures given { IfOk result (λ given. given.items ≡ take n self.old) }
         ensures remaining { IfOk result (λ given. self.new ≡ drop n self.old) }
@@ -286,7 +286,7 @@ impl PlaceList {
         Ok(given)
     }
 
-    /// Whether nothing is left.
+    /// Whether nothing remains.
     #[tactic(auto, using(crate::proofs::CursorLemmas::empty_drop))]
     pub(crate) fn is_empty(&self) -> bool
         ensures { result ≡ is_empty self.now }

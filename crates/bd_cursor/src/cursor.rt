@@ -1,4 +1,4 @@
-//! An open cursor, the batches that it gives, and the places that it has left.
+//! An open cursor, its batches, and the places that remain.
 
 ghost use Rattle.std.specs.Prelude.{◌≡◌, ◌<◌, ℕ, IfNone, IfOk, IfSome, List, None, OnErr, OnOk, Some, [], drop, if◌then◌else◌, length, map, option_map, slice_get, slice_set, take};
 ghost use Rattle.bd_cursor_model.specs.Answer.{at_most, limited, is_empty};
@@ -27,13 +27,13 @@ use std::alloc::Global;
 pub(crate) struct Cursor {
     pub id: u64,
     pub request: Request,
-    /// After what it gave last, or the one that it was opened with.
+    /// The token after what it returned last, or the one that it was opened with.
     pub token: Option<Token>,
     pub remaining: Remainder,
 }
 
 impl Cursor {
-    /// Gives the next documents, as many as the number, as long as there are any left.
+    /// Returns the next n documents, or all that remain if there are fewer.
     pub(crate) fn next(
         &mut self,
         alloc: Global,
@@ -79,8 +79,8 @@ fn token_after(
     })
 }
 
-/// How many documents were given up to a token, and the digest of those after it: its own, and for the first one that of the dump
-/// and the request.
+/// How many documents were returned up to a token, and the digest of the next token: that of the last one, or for the first token
+/// that of the dump and the request.
 fn given_before(
     documents: &mut DigestedDump,
     request: &Request,
@@ -104,7 +104,7 @@ fn given_before(
     }
 }
 
-/// The index of a cursor among those that are open.
+/// The position of a cursor among the open ones.
 #[tactic(auto, using(crate::proofs::SessionLemmas::cursor_at, crate::proofs::SessionLemmas::moved_at, crate::proofs::SessionLemmas::none_before))]
 pub(crate) fn place_of(cursors: &[Cursor], id: u64) -> Option<usize>
     ensures none { (dump : Dump) →
@@ -126,7 +126,7 @@ pub(crate) fn place_of(cursors: &[Cursor], id: u64) -> Option<usize>
     None
 }
 
-/// Takes a cursor out.
+/// Removes a cursor.
 pub(crate) fn close(cursors: &mut Vec<Cursor>, id: u64)
     ensures { (dump : Dump) → map (open_cursor dump) cursors.new.items
         ≡ without id (map (open_cursor dump) cursors.old.items) }
@@ -134,7 +134,7 @@ pub(crate) fn close(cursors: &mut Vec<Cursor>, id: u64)
     cursors.retain(|cursor| cursor.id != id);
 }
 
-/// Takes a cursor out that is at its end.
+/// Removes a cursor that is at its end.
 pub(crate) fn close_at_end(cursors: &mut Vec<Cursor>, id: u64, end: bool)
     ensures { (dump : Dump) → map (open_cursor dump) cursors.new.items ≡ (if end then without id
         (map (open_cursor dump) cursors.old.items) else map (open_cursor dump) cursors.old.items) }
@@ -144,17 +144,17 @@ pub(crate) fn close_at_end(cursors: &mut Vec<Cursor>, id: u64, end: bool)
     }
 }
 
-/// The places that a cursor has left.
+/// The places that remain for a cursor.
 #[derive(Drop)]
 pub(crate) enum Remainder {
-    /// Where each document is looked at and there is no sort, they are looked for as they are asked for.
+    /// If each document is examined and there is no sort, they are searched when they are requested.
     Scanned(ScanPosition),
-    /// Else all of them are known.
+    /// Otherwise all of them are known.
     Listed(PlaceList),
 }
 
 impl Remainder {
-    /// What a request has left: its answer, or the rest of it after a token.
+    /// What remains of a request: its answer, or the rest of it after a token.
     #[tactic(auto, using(bd_bson_dump::proofs::CollectionLemmas::documents_length))]
     pub(crate) fn of(
         alloc: Global,
@@ -184,7 +184,7 @@ impl Remainder {
         Ok(Remainder::Listed(PlaceList::new(places, request.skip)))
     }
 
-    /// Takes the next places, as many as the number, as long as there are any left, and tells whether nothing is left then.
+    /// Takes the next n places, or all that remain if there are fewer, and says whether nothing remains then.
     pub(crate) fn take(
         &mut self,
         alloc: Global,
@@ -216,7 +216,7 @@ impl Remainder {
     }
 }
 
-/// How many places may still be given where so many were; without a limit all.
+/// How many places may still be returned after `given`; all without a limit.
 fn most_remaining(limit: u64, given: u64) -> Option<u64>
     ensures { (ps : List ℕ) → at_most result ps ≡ limited limit given ps }
 {
@@ -227,7 +227,7 @@ fn most_remaining(limit: u64, given: u64) -> Option<u64>
     }
 }
 
-/// How many of the first places an answer needs, with those that it passes over; without a limit all.
+/// How many of the first places an answer needs, those to be skipped included; all without a limit.
 fn most_needed(request: &Request) -> Option<u64>
     ensures { let skip = request.now.skip in (ps : List ℕ) →
         length (at_most result ps) < 18446744073709551615 →
@@ -240,21 +240,21 @@ fn most_needed(request: &Request) -> Option<u64>
     }
 }
 
-/// Where a cursor without a sort stands: it goes on from there, and looks at no document twice.
+/// The position of a cursor without a sort: it resumes there, and examines no document twice.
 #[derive(Clone, Copy)]
 pub(crate) struct ScanPosition {
-    /// The match that was found and not given yet.
+    /// The match that was found and not returned yet.
     pub found: Option<u32>,
-    /// The first document that was not looked at.
+    /// The first document that was not examined.
     pub next: u32,
-    /// How many matches are still to be passed over.
+    /// How many matches are still to be skipped.
     pub skip: u64,
-    /// How many may still be given; without it all.
+    /// How many may still be returned; all if None.
     pub most: Option<u64>,
 }
 
 impl ScanPosition {
-    /// What a request without a sort has left: its answer, or the rest of it after a token.
+    /// What remains of a request without a sort: its answer, or the rest of it after a token.
     fn of(request: &Request, token: Option<Token>) -> ScanPosition
         requires { IfSome token (λ t. t.last < 4294967295) }
         ensures { (ds : List Doc) → request.now.sort.items ≡ [] →
@@ -273,8 +273,7 @@ impl ScanPosition {
         }
     }
 
-    /// Takes the next places, as many as the number, as long as there are any left. Where memory runs out, where it stands
-    /// says nothing.
+    /// Takes the next n places, or all that remain if there are fewer. If memory runs out, its position is meaningless.
     #[tactic(auto, using(std::proofs::lemmas::List::drop_at, crate::proofs::CursorLemmas::drop_beyond))]
     fn take(
         &mut self,
@@ -298,7 +297,7 @@ impl ScanPosition {
         Ok(places)
     }
 
-    /// Whether nothing is left.
+    /// Whether nothing remains.
     fn is_empty(&mut self, dump: &Dump, filter: &Filter) -> bool
         ensures empty { result ≡ is_empty (scan_remaining_in dump.now filter.now self.old) }
         ensures remaining { scan_remaining_in dump.now filter.now self.new
@@ -311,7 +310,7 @@ impl ScanPosition {
         self.found.is_none()
     }
 
-    /// Gives the next place, where one is left.
+    /// Returns the next place, if any.
     fn next_match(&mut self, dump: &Dump, filter: &Filter) -> Option<u32>
         ensures { HandsOut result (scan_remaining_in dump.now filter.now self.old)
             (scan_remaining_in dump.now filter.now self.new) }
@@ -326,7 +325,7 @@ impl ScanPosition {
         Some(place)
     }
 
-    /// Looks for the next match, unless one was found.
+    /// Searches the next match, unless one was found.
     fn look(&mut self, dump: &Dump, filter: &Filter)
         ensures remaining { scan_remaining_in dump.now filter.now self.new
             ≡ scan_remaining_in dump.now filter.now self.old }

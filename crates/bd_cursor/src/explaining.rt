@@ -22,7 +22,7 @@ use std::alloc::Global;
 /// How documents are found.
 #[derive(Clone, Copy, Debug)]
 pub enum Plan {
-    /// Each document is looked at.
+    /// Each document is examined.
     Scan,
     /// Those with an entry inside the bounds of an index.
     Index,
@@ -34,17 +34,17 @@ pub enum Plan {
 #[derive(Debug, Drop)]
 pub struct Explain {
     pub plan: Plan,
-    /// The path of the index; none for a scan.
+    /// The path of the index; None for a scan.
     pub index: Option<String>,
     /// How many entries of the index are read.
     pub entries: u64,
-    /// How many documents are looked at.
+    /// How many documents are examined.
     pub documents: u64,
-    /// How many match, before any is passed over and whatever the limit is.
+    /// How many match, before skip and limit.
     pub matches: u64,
 }
 
-/// Which plan a request has, and what is read by it. It fails only if memory runs out.
+/// The plan of a request, and how much it reads. It fails only if memory runs out.
 pub(crate) fn explanation_of(
     alloc: Global,
     dump: &Dump,

@@ -68,12 +68,12 @@ impl Session {
         &self.documents.dump
     }
 
-    /// Makes an index on a path, with an entry for each key of each document, and tells how many entries it has.
+    /// Creates an index on a path, with an entry for each key of each document, and returns how many entries it has.
     ///
     /// # Errors
     ///
-    /// In this order: `IndexThere` where the path has an index, sparse or not, `TooManyIndexes` where there are 16. `NoMemory`
-    /// where no memory was given.
+    /// In this order: `IndexThere` if the path has an index, sparse or not, `TooManyIndexes` if there are 16. `NoMemory`
+    /// if memory runs out.
     pub fn create_index(&mut self, path: Path) -> Result<Made, Refused>
         ensures steps { Steps (λ m. made (made_counts m))
             (make_index false (dump_of self.old) path) self.old result self.new }
@@ -81,8 +81,8 @@ impl Session {
         self.make(path, false)
     }
 
-    /// Makes a sparse index on a path: without an entry for a field that is missing. It tells how many entries it has, and
-    /// whether some document has two keys, those for missing fields among them.
+    /// Creates a sparse index on a path: without an entry for a missing field. It returns how many entries the index has, and
+    /// whether some document has two keys, those for missing fields included.
     ///
     /// # Errors
     ///
@@ -94,11 +94,11 @@ impl Session {
         self.make(path, true)
     }
 
-    /// Drops the index on a path. Each cursor goes on as before. It takes no memory.
+    /// Drops the index on a path. Each cursor continues as before. It takes no memory.
     ///
     /// # Errors
     ///
-    /// `NoIndex` where the path has none.
+    /// `NoIndex` if the path has none.
     pub fn drop_index(&mut self, path: &Path) -> Result<(), Refused>
         ensures steps { Steps (λ _.
             dropped) (drop_call (path_text path.now)) self.old result self.new }
@@ -115,7 +115,7 @@ impl Session {
     ///
     /// # Errors
     ///
-    /// `NoIndex` where an index is asked for that is not there. `NoMemory` where no memory was given.
+    /// `NoIndex` if the requested index does not exist. `NoMemory` if memory runs out.
     pub fn explain(&self, request: &Request, choice: &Choice) -> Result<Explain, Refused>
         ensures steps { Steps (λ e. explained (explain_doc e))
             (explain_request (dump_of self.now) request.now choice.now) self.now result self.now }
@@ -126,13 +126,13 @@ impl Session {
         Ok(explanation)
     }
 
-    /// Opens a cursor on the answer of a request, and gives its number: 1 for the first cursor of a session, and one more each
+    /// Opens a cursor on the answer of a request, and returns its number: 1 for the first cursor of a session, and one more each
     /// time.
     ///
     /// # Errors
     ///
-    /// In this order: `NoIndex` where an index is asked for that is not there, `TooManyCursors` where 64 are open. `NoMemory`
-    /// where no memory was given.
+    /// In this order: `NoIndex` if the requested index does not exist, `TooManyCursors` if 64 are open. `NoMemory`
+    /// if memory runs out.
     pub fn find(&mut self, request: Request, choice: Choice) -> Result<u64, Refused>
         ensures steps { Steps opened (find_call
             (query_of (dump_of self.old) request) (hint_of choice)) self.old result self.new }
@@ -140,12 +140,12 @@ impl Session {
         self.open(request, &choice, None)
     }
 
-    /// Opens a cursor on what follows a token in the answer of its request, and gives its number.
+    /// Opens a cursor on what follows a token in the answer of its request, and returns its number.
     ///
     /// # Errors
     ///
-    /// In this order: `ForeignToken` where the token is of another dump or request, `TokenPlace` where its document is after the
-    /// last one, `NoIndex`, `TooManyCursors`. `NoMemory` where no memory was given.
+    /// In this order: `ForeignToken` if the token is of another dump or request, `TokenPlace` if its document number is after the
+    /// last one, `NoIndex`, `TooManyCursors`. `NoMemory` if memory runs out.
     #[tactic(auto, using(crate::proofs::SessionLemmas::steps_from))]
     pub fn resume(
         &mut self,
@@ -164,13 +164,13 @@ impl Session {
         self.open(request, &choice, Some(token))
     }
 
-    /// The next documents of a cursor, as many as the number, 0 to 2,147,483,647, as long as there are any left. Where nothing is
-    /// left after them, the cursor is closed.
+    /// The next n documents of a cursor, or all that remain if there are fewer; n is 0 to 2,147,483,647. If nothing remains
+    /// after them, the cursor is closed.
     ///
     /// # Errors
     ///
-    /// In this order: `NoCursor` where none has the number, `Range` where `n` is above 2,147,483,647. `NoMemory` where no memory
-    /// was given.
+    /// In this order: `NoCursor` if no cursor has the number, `Range` if `n` is above 2,147,483,647. `NoMemory` if memory
+    /// runs out.
     pub fn next(&mut self, id: u64, n: u64) -> Result<Batch, Refused>
         ensures steps { Steps (λ batch.
             gave (given_batch batch)) (next_call id n) self.old result self.new }
@@ -188,11 +188,11 @@ impl Session {
         Ok(batch)
     }
 
-    /// Closes a cursor. Its number is not given again. It takes no memory.
+    /// Closes a cursor. Its number is not used again. It takes no memory.
     ///
     /// # Errors
     ///
-    /// `NoCursor` where none has the number.
+    /// `NoCursor` if no cursor has the number.
     pub fn kill(&mut self, id: u64) -> Result<(), Refused>
         ensures steps { Steps (λ _. killed) (kill_call id) self.old result self.new }
     {
@@ -203,7 +203,7 @@ impl Session {
         Ok(())
     }
 
-    /// Whether the index that is asked for is there.
+    /// Whether the requested index exists.
     fn has_choice(&self, choice: &Choice) -> Result<(), Refused>
         ensures has_index { OnOk result
             (IsTrue (has_index (state_of self.now).indexes (hint_of choice.now))) }
@@ -219,7 +219,7 @@ impl Session {
         }
     }
 
-    /// Makes an index, sparse or not.
+    /// Creates an index, sparse or not.
     fn make(&mut self, path: Path, sparse: bool) -> Result<Made, Refused>
         ensures steps { Steps (λ m. made (made_counts m))
             (make_index sparse (dump_of self.old) path) self.old result self.new }
@@ -241,7 +241,7 @@ impl Session {
         }
     }
 
-    /// Whether an index may be made, and why not.
+    /// Whether an index may be created, and why not.
     fn may_make(&self, path: &Path, sparse: bool) -> Result<(), Refused>
         ensures granted { OnOk result (IsGranted self.now (path_index_key sparse path.now)) }
         ensures refused { IfErr result (IsRefusedCall
@@ -256,7 +256,7 @@ impl Session {
         Ok(())
     }
 
-    /// Puts in an index of the dump that may be made, and tells what it has.
+    /// Adds an index of the dump that may be created, and returns its counts.
     fn add(&mut self, index: Index) -> Result<Made, Refused>
         requires index { IsIndexOf (dump_of self.old) index }
         requires granted { IsGranted self.old (index_key index) }
@@ -269,7 +269,7 @@ impl Session {
         Ok(Made { entries, multikey })
     }
 
-    /// Whether a token is one of the request to this dump, and its document is there.
+    /// Whether a token is of the request to this dump, and its document number exists.
     fn may_resume(&mut self, request: &Request, token: Token) -> Result<(), Refused>
         ensures in_range { OnOk result (token.last < length (documents (dump_of self.new))) }
         ensures opens { OnOk result ((hint : Option (List ℕ)) →
@@ -308,7 +308,7 @@ impl Session {
         Ok(())
     }
 
-    /// Opens a cursor on what a request has left.
+    /// Opens a cursor on what remains of a request.
     fn open(&mut self, request: Request, by: &Choice, token: Option<Token>) -> Result<u64, Refused>
         requires { IfSome token (λ t. t.last < length (documents (dump_of self.old))) }
         ensures steps { (call : Call) →
@@ -331,7 +331,7 @@ impl Session {
     }
 }
 
-/// A dump, and the digest of its bytes once it was asked for.
+/// A dump, and the digest of its bytes once it was needed.
 #[derive(Drop)]
 pub(crate) struct DigestedDump {
     pub dump: Dump,
@@ -340,7 +340,7 @@ pub(crate) struct DigestedDump {
 }
 
 impl DigestedDump {
-    /// A dump whose digest was not asked for.
+    /// A dump whose digest was not needed yet.
     pub(crate) fn new(dump: Dump) -> DigestedDump
         ensures { result.dump ≡ dump }
     {
@@ -361,8 +361,8 @@ impl DigestedDump {
     }
 }
 
-/// A request puts the documents of a dump into one order, up to ties, and its limit can be counted. So the laws of sessions hold of
-/// it: a cursor gives the answer of its request in batches, and each token leads on to the rest.
+/// A request puts the documents of a dump into one order, up to ties, and its limit can be counted. So the laws of sessions apply:
+/// a cursor returns the answer of its request in batches, and each token resumes with the rest.
 #[tactic(auto, using(crate::proofs::CursorLemmas::requested_total))]
 pub fn requests_are_fair(dump: &Dump, request: &Request)
     ensures { IsFair (query_of dump.now request.now) }

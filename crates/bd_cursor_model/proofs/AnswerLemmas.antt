@@ -1,4 +1,4 @@
--- The order of places, and the answer in it.
+-- The order of places, and the answer in that order.
 use Rattle.std.proofs.Common.{◌≡◌, ◌==◌, ◌-◌, ◌<◌, ◌≤◌, ℕ, Bool, true, false, List, [], ◌∷◌, get_or, take, drop, inl, inr, refl, sym, ap, subst, arith, zero, suc, Ordering, nat_cmp, ◌+◌}
 use Rattle.std.proofs.Common.{cond, ◌++◌, length, filter, ◌∙◌, min, sum, Option, Some, None}
 use Rattle.std.proofs.lemmas.List.{drop-drop, drop-take, take_all, append-nil, get_or-drop, get_or-take, length-take, length-drop}
@@ -44,7 +44,7 @@ matching_in a p h =
     let s = range_in 0 a.count p r.0 in
     (omega arith, r.1)
 
--- each document that matches is among the ordered ones
+-- each document that matches is among the ordered documents
 pub in_ordered : (a : Selection) (p : ℕ) → p < a.count → a.matches_at p ≡ true → In p (ordered a)
 in_ordered a p h e = in_insert_all (before a.by) [] (matching a) p (inr (in_matching a p h e))
 
@@ -56,7 +56,7 @@ ordered_in a p h = elim (insert_all_in (before a.by) [] (matching a) p h) [ inl 
 pub ordered_rises : (a : Selection) → IsTotalOrder a.by → Rises (before a.by) (ordered a)
 ordered_rises a o = insert_all_rises (before_strict a.by o) [] (matching a) (filter_apart a.matches_at (range_with_len 0 a.count) (range_apart 0 a.count)) (λ x h g. h) tt
 
--- by places in a list
+-- membership by index
 pub contains_in : (xs : List ℕ) (x : ℕ) → Contains xs x → In x xs
 contains_in xs x h = subst (λ y. In y xs) h.2 (in_at xs h.0 x h.1)
 
@@ -112,7 +112,7 @@ batches_joined ps (n ∷ ns) = rw (sum-cons n ns) (cond_both (is_empty (drop n p
     (λ e. let h = nothing_remaining n ps e in append-nil (take n ps) ∙ take_all n ps (omega arith) ∙ sym (take_all (n + sum ns) ps (omega arith)))
     (λ e. ap (λ zs. take n ps ++ zs) (batches_joined (drop n ps) ns) ∙ sym (take-add n (sum ns) ps)))
 
--- a limit that passes over what was given
+-- a limit, applied after some documents were returned
 pub limited_length : (limit old : ℕ) (xs : List ℕ) (k : ℕ) → k ≤ length (limited limit old xs) → k ≤ length xs
 limited_length limit old xs k h = cond_both (limit == 0) xs (take (limit - old) xs) (λ ys. k ≤ length ys → k ≤ length xs)
     (λ e h. h) (λ e h. omega (arith, length-take (limit - old) xs)) h
@@ -132,15 +132,15 @@ limited_drop limit most old k xs l h = go (limit == 0) refl h
         let m : limit - old ≡ k + (limit - min most (old + k)) = omega arith in
         sym (ap (λ n. drop k (take n xs)) m ∙ drop-take k (limit - min most (old + k)) xs)
 
--- ---- the rest that follows from a mark
+-- ---- the rest that follows from a position
 
--- after the i-th member of what was dropped
+-- what comes after the i-th member of a list without its first n
 after_dropped : {lt : ℕ → ℕ → Bool} → IsStrictOrder lt → (xs : List ℕ) → Rises lt xs → (n i d : ℕ) → i < length (drop n xs) → filter (lt (get_or (drop n xs) i d)) xs ≡ drop (i + 1) (drop n xs)
 after_dropped {lt = lt} o xs up n i d l =
     let h : n + i < length xs = omega (arith, length-drop n xs) in
     ap (λ x. filter (lt x) xs) (get_or-drop n xs i d) ∙ after_member o xs up (n + i) d h ∙ ap (λ k. drop k xs) (let e : suc (n + i) ≡ n + (i + 1) = omega arith in e) ∙ sym (drop-drop (i + 1) n xs)
 
--- after the i-th member of what follows a place
+-- what comes after the i-th member of those that follow a place
 after_filtered : {lt : ℕ → ℕ → Bool} → IsStrictOrder lt → (xs : List ℕ) → Rises lt xs → (p i d : ℕ) → i < length (filter (lt p) xs)
     → filter (lt (get_or (filter (lt p) xs) i d)) xs ≡ drop (i + 1) (filter (lt p) xs)
 after_filtered {lt = lt} o xs up p i d l =
@@ -149,7 +149,7 @@ after_filtered {lt = lt} o xs up p i d l =
     let later : lt p q ≡ true = (filter_in (lt p) xs q (in_at ys i d l)).1 in
     sym (filter_twice (lt p) (lt q) xs (λ x h. o.transitive p q x later h)) ∙ after_member o ys (filter_rises lt (lt p) xs up) i d l ∙ ap (λ k. drop k ys) (let e : suc i ≡ i + 1 = omega arith in e)
 
--- a list that goes on, seen from a mark in it
+-- the rest of a list, from a position in it
 from_position : (a : Selection) → (xs : List ℕ) → ((i d : ℕ) → i < length xs → filter (before a.by (get_or xs i d)) (ordered a) ≡ drop (i + 1) xs)
     → (most old k : ℕ) (t : Position) → a.limit ≤ most → IsPositionAfter most old k (limited a.limit old xs) t → rest a t ≡ drop k (limited a.limit old xs)
 from_position a xs after most old k t l m =
@@ -161,7 +161,7 @@ from_position a xs after most old k t l m =
     let on : filter (before a.by t.last) (ordered a) ≡ drop k xs = ap (λ p. filter (before a.by p) (ordered a)) last ∙ after (k - 1) 0 inside ∙ ap (λ n. drop n xs) one in
     ap (λ n. limited a.limit n (filter (before a.by t.last) (ordered a))) m.2 ∙ ap (λ ys. limited a.limit (min most (old + k)) ys) on ∙ limited_drop a.limit most old k xs l few
 
--- the rest after a mark is what remains after the documents up to it
+-- the rest after a position is what remains after the documents up to it
 pub rest_follows : (a : Selection) → IsTotalOrder a.by → (most : ℕ) → a.limit ≤ most → (t : Option PositionedToken) (k : ℕ) (m : Position)
     → IsPositionAfter most (given_by t) k (remaining_after a t) m → rest a m ≡ drop k (remaining_after a t)
 rest_follows a o most l None k m =

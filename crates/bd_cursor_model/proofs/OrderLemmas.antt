@@ -1,4 +1,4 @@
--- Lists kept by a strict order.
+-- Lists ordered by a strict order.
 use Rattle.std.proofs.Common.{◌≡◌, ◌+◌, ◌<◌, ◌≤◌, ℕ, Bool, true, false, cond, List, [], ◌∷◌, length, get_or, drop, inl, inr, refl, sym, ap, ◌∙◌, subst, ◌⊎◌, filter, arith, zero, suc}
 use Rattle.std.proofs.lemmas.Bool.{cases_lt, cond_both, false_from_ne_true, true_from_ne_false, true≢false}
 use Rattle.std.specs.List.{range_with_len}
@@ -26,33 +26,33 @@ in_filter test (y ∷ ys) x (inl a) e = rw (ap test (sym a) ∙ e) (inl a)
 in_filter test (y ∷ ys) x (inr a) e =
     let rest = in_filter test ys x a e in cond_both (test y) (y ∷ filter test ys) (filter test ys) (In x) (λ f. inr rest) (λ f. rest)
 
--- what a filter keeps of a list is in it, and passes
+-- what passes a filter is in the list, and passes the test
 pub filter_in : (test : ℕ → Bool) (xs : List ℕ) (x : ℕ) → In x (filter test xs) → In x xs × (test x ≡ true)
 filter_in test [] x h = absurd h
 filter_in test (y ∷ ys) x h = cond_both (test y) (y ∷ filter test ys) (filter test ys) (λ zs. In x zs → In x (y ∷ ys) × (test x ≡ true))
     (λ f h. elim h [ inl a ↦ (inl a, ap test a ∙ f) | inr a ↦ (let r = filter_in test ys x a in (inr r.0, r.1)) ])
     (λ f h. let r = filter_in test ys x h in (inr r.0, r.1)) h
 
--- what a filter keeps of a list without repeats has none
+-- a list without repeats has none after a filter
 pub filter_apart : (test : ℕ → Bool) (xs : List ℕ) → Apart xs → Apart (filter test xs)
 filter_apart test [] h = tt
 filter_apart test (y ∷ ys) h =
     let rest = filter_apart test ys h.1 in
     cond_both (test y) (y ∷ filter test ys) (filter test ys) Apart (λ f. (λ e. h.0 (filter_in test ys y e).0, rest)) (λ f. rest)
 
--- what a filter keeps of an ascending list is ascending
+-- an ascending list is ascending after a filter
 pub filter_rises : (lt : ℕ → ℕ → Bool) (test : ℕ → Bool) (xs : List ℕ) → Rises lt xs → Rises lt (filter test xs)
 filter_rises lt test [] h = tt
 filter_rises lt test (y ∷ ys) h =
     let rest = filter_rises lt test ys h.1 in
     cond_both (test y) (y ∷ filter test ys) (filter test ys) (Rises lt) (λ f. (λ z e. h.0 z (filter_in test ys z e).0, rest)) (λ f. rest)
 
--- a filter that each member passes keeps the whole list
+-- a filter that each member passes leaves the whole list
 pub filter_all : (test : ℕ → Bool) (xs : List ℕ) → ((x : ℕ) → In x xs → test x ≡ true) → filter test xs ≡ xs
 filter_all test [] h = refl
 filter_all test (x ∷ xs) h = rw (h x (inl refl)) (ap (λ ys. x ∷ ys) (filter_all test xs (λ y e. h y (inr e))))
 
--- a second test that says more
+-- a second test that implies the first
 pub filter_twice : (p q : ℕ → Bool) (xs : List ℕ) → ((x : ℕ) → q x ≡ true → p x ≡ true) → filter q (filter p xs) ≡ filter q xs
 filter_twice p q [] h = refl
 filter_twice p q (x ∷ xs) h = cond_both (p x) (x ∷ filter p xs) (filter p xs) (λ ys. filter q ys ≡ filter q (x ∷ xs))
@@ -85,11 +85,11 @@ insert_in lt p [] x h = h
 insert_in lt p (q ∷ qs) x h = cond_both (lt p q) (p ∷ q ∷ qs) (q ∷ insert lt p qs) (λ zs. In x zs → (x ≡ p) ⊎ In x (q ∷ qs)) (λ e h. h)
     (λ e h. elim h [ inl a ↦ inr (inl a) | inr a ↦ elim (insert_in lt p qs x a) [ inl b ↦ inl b | inr b ↦ inr (inr b) ] ]) h
 
--- of two that differ the one is before the other
+-- of two different numbers, one is before the other
 pub other_way : {lt : ℕ → ℕ → Bool} → IsStrictOrder lt → (p q : ℕ) → (p ≡ q → ⊥) → lt p q ≡ false → lt q p ≡ true
 other_way {lt = lt} o p q ne e = true_from_ne_false (lt q p) (λ f. ne (o.connected p q e f))
 
--- in a strict order no two come before each other
+-- in a strict order no two are before each other
 pub not_both : {lt : ℕ → ℕ → Bool} → IsStrictOrder lt → (p q : ℕ) → lt p q ≡ true → lt q p ≡ false
 not_both {lt = lt} o p q e = false_from_ne_true (lt q p) (λ f. true≢false (sym (o.transitive p q p e f) ∙ o.irreflexive p))
 
@@ -102,7 +102,7 @@ insert_rises {lt = lt} o p (q ∷ qs) new up = cond_both (lt p q) (p ∷ q ∷ q
       insert_rises o p qs (λ h. new (inr h)) up.1,
     ))
 
--- what was in the list, or is put into it, is in it afterwards
+-- what was in the list, or is inserted, is in it afterwards
 pub in_insert_all : (lt : ℕ → ℕ → Bool) (kept ps : List ℕ) (x : ℕ) → In x kept ⊎ In x ps → In x (insert_all lt kept ps)
 in_insert_all lt kept [] x (inl h) = h
 in_insert_all lt kept [] x (inr h) = absurd h
@@ -110,12 +110,12 @@ in_insert_all lt kept (p ∷ ps) x (inl h) = in_insert_all lt (insert lt p kept)
 in_insert_all lt kept (p ∷ ps) x (inr (inl h)) = in_insert_all lt (insert lt p kept) ps x (inl (in_insert lt p kept x (inl h)))
 in_insert_all lt kept (p ∷ ps) x (inr (inr h)) = in_insert_all lt (insert lt p kept) ps x (inr h)
 
--- what is in the list afterwards was in it, or was put into it
+-- what is in the list afterwards was in it, or was inserted
 pub insert_all_in : (lt : ℕ → ℕ → Bool) (kept ps : List ℕ) (x : ℕ) → In x (insert_all lt kept ps) → In x kept ⊎ In x ps
 insert_all_in lt kept [] x h = inl h
 insert_all_in lt kept (p ∷ ps) x h = elim (insert_all_in lt (insert lt p kept) ps x h) [ inl a ↦ elim (insert_in lt p kept x a) [ inl b ↦ inr (inl b) | inr b ↦ inl b ] | inr a ↦ inr (inr a) ]
 
--- numbers put into an ascending list one by one leave it ascending
+-- numbers inserted into an ascending list one by one leave it ascending
 pub insert_all_rises : {lt : ℕ → ℕ → Bool} → IsStrictOrder lt → (kept ps : List ℕ) → Apart ps → ((x : ℕ) → In x kept → In x ps → ⊥) → Rises lt kept → Rises lt (insert_all lt kept ps)
 insert_all_rises {lt = lt} o kept [] a new up = up
 insert_all_rises {lt = lt} o kept (p ∷ ps) a new up =
@@ -128,7 +128,7 @@ same_heads o x y xs ys a b (inl e) h = e
 same_heads o x y xs ys a b (inr e) (inl h) = sym h
 same_heads o x y xs ys a b (inr e) (inr h) = let k : ⊥ = cc (not_both o x y (a.0 y h), b.0 x e) in absurd k
 
--- what rises is told by its members
+-- a rising list is determined by its members
 pub same_rising : {lt : ℕ → ℕ → Bool} → IsStrictOrder lt → (xs ys : List ℕ) → Rises lt xs → Rises lt ys → ((p : ℕ) → In p xs → In p ys) → ((p : ℕ) → In p ys → In p xs) → xs ≡ ys
 same_rising o [] [] a b f g = refl
 same_rising o [] (y ∷ ys) a b f g = absurd (g y (inl refl))
@@ -139,7 +139,7 @@ same_rising {lt = lt} o (x ∷ xs) (y ∷ ys) a b f g =
     (λ p h. elim (f p (inr h)) [ inl k ↦ (let w : ⊥ = cc (o.irreflexive p, a.0 p h, e, k) in absurd w) | inr k ↦ k ])
     (λ p h. elim (g p (inr h)) [ inl k ↦ (let w : ⊥ = cc (o.irreflexive p, b.0 p h, e, k) in absurd w) | inr k ↦ k ]))
 
--- by places in the list
+-- membership by index
 pub in_at : (xs : List ℕ) (i d : ℕ) → i < length xs → In (get_or xs i d) xs
 in_at [] i d h = absurd (omega arith)
 in_at (x ∷ xs) zero d h = inl refl

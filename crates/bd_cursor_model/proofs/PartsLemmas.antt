@@ -1,4 +1,4 @@
--- What is found over documents, those that match, in their stable order, from skip on up to limit; and a collection cut into parts.
+-- What is found over documents: the matches in their stable order, from skip on, up to limit; and a collection split into parts.
 use Rattle.std.proofs.Common.{◌≡◌, ◌≢◌, ◌==◌, ◌+◌, ◌-◌, ◌<◌, ◌≤◌, ℕ, Bool, true, false, cond, List, [], ◌∷◌, ◌++◌, length, take, drop, map, inl, inr, refl, sym, ap, ◌∙◌, filter, arith, zero}
 use Rattle.std.proofs.Common.{suc, Option, Some, Ordering, nat_cmp, add-zero, append_assoc, take-take, subst}
 use Rattle.std.proofs.lemmas.List.Elements.{All-cons, All-head, All-nil, All-tail, All-take, filter-append, filter_passes}
@@ -11,7 +11,7 @@ use Rattle.bd_cursor_model.specs.Answer.{insert, insert_all, before, ordered, an
 use Rattle.bd_cursor_model.proofs.OrderLemmas.{In, insert_in, filter_in, range_in}
 use Rattle.bd_cursor_model.proofs.{StableLemmas.stable, StableLemmas.stretch_all, StableLemmas.stretch_take, SourceLemmas.filter_same}
 
--- the test that an order makes
+-- the strict order of an ordering
 abbrev earlier : {A : Type 0} → (A → A → Ordering) → A → A → Bool
 earlier by x y = is_lt (by x y)
 
@@ -19,7 +19,7 @@ earlier by x y = is_lt (by x y)
 abbrev window : {A : Type 0} → ℕ → ℕ → List A → List A
 window limit skip xs = cond (limit == 0) (drop skip xs) (take (limit - 0) (drop skip xs))
 
--- a higher place comes before another by its sort key alone
+-- if p is the higher place, p comes before q by the sort keys alone
 after_higher : (by : ℕ → ℕ → Ordering) (p q : ℕ) → q < p → before by p q ≡ is_lt (by p q)
 after_higher by p q l =
     let e : nat_cmp p q ≡ Greater = (let n : p ≡ q → ⊥ = λ k. absurd (omega arith) in rw (le-ltb p q (omega arith), ne_eqb p q n) refl) in
@@ -30,7 +30,7 @@ after_higher by p q l =
     go Equal = refl
     go Greater = refl
 
--- insertion of places is insertion of what stands there
+-- to insert places is to insert the documents there
 module _ {B : Type 0} (at : ℕ → B) (by : B → B → Ordering) where
   abbrev lower : ℕ → ℕ → Bool
   lower = before (λ i j. by (at i) (at j))
@@ -87,7 +87,7 @@ map_ordered r ds =
     ∙ ap (insert_all (earlier (option_cmp r.by)) []) (filter_somes r.matches ds)
     ∙ put_all_somes r.by [] (filter r.matches ds)
 
--- skip and limit, of places and of documents
+-- skip and limit, over places and over documents
 map_limited : {B : Type 0} (at : ℕ → B) (limit skip : ℕ) (ps : List ℕ) → map at (limited limit 0 (drop skip ps)) ≡ window limit skip (map at ps)
 map_limited at limit skip ps = rw (drop-map at skip ps, take-map at (limit - 0) (drop skip ps))
     (elim (limit == 0) as (λ b. map at (cond b (drop skip ps) (take (limit - 0) (drop skip ps))) ≡ cond b (map at (drop skip ps)) (map at (take (limit - 0) (drop skip ps))))
@@ -136,7 +136,7 @@ filter_passing test [] h = refl
 filter_passing test (x ∷ xs) h =
     let first : test x ≡ true = All-head (Passes test) x xs h in rw first (ap (λ ys. x ∷ ys) (filter_passing test xs (All-tail (Passes test) x xs h)))
 
--- lists that are alike up to where the window ends
+-- lists that are equal up to the end of the window
 window_same : {A : Type 0} (limit skip n : ℕ) (xs ys : List A) → limit ≢ 0 → skip + limit ≤ n → take n xs ≡ take n ys → window limit skip xs ≡ window limit skip ys
 window_same limit skip n xs ys some enough e =
     let l : limit - 0 ≡ limit = omega arith in
@@ -152,7 +152,7 @@ found_three : {A : Type 0} (r : DocumentRequest A) (xs ys zs : List A)
     → found_in r (xs ++ (ys ++ zs)) ≡ window r.limit r.skip (stable (earlier r.by) (filter r.matches xs ++ (filter r.matches ys ++ filter r.matches zs)))
 found_three r xs ys zs = found_is r (xs ++ (ys ++ zs)) ∙ ap (λ ws. window r.limit r.skip (stable (earlier r.by) ws)) (filter_three r.matches xs ys zs)
 
--- what a part gives
+-- what a part returns
 of_part_all : {A : Type 0} (r : DocumentRequest A) (ds : List A) → found_in (part_request r 0) ds ≡ stable (earlier r.by) (filter r.matches ds)
 of_part_all r ds = found_is (part_request r 0) ds
 
@@ -201,12 +201,12 @@ parts_after r o limit enough prefix (p ∷ ps) =
     ∙ parts_after r o limit enough (prefix ++ given) ps
     ∙ ap (found_in r) (append_assoc prefix given (flat_map (found_in (part_request r limit)) ps))
 
--- a request over the results of parts gives the answer of the whole
+-- a request over the results of parts has the answer of the whole
 pub parts_give : {A : Type 0} (r : DocumentRequest A) → IsTotalOrder r.by → (limit : ℕ) → IsEnough r limit → (parts : List (List A))
     → found_in r (flat_map (λ ds. ds) parts) ≡ found_in r (flat_map (found_in (part_request r limit)) parts)
 parts_give r o limit enough parts = parts_after r o limit enough [] parts
 
--- tests that say the same of the places below n
+-- tests that agree on the places below n
 abbrev Alike : ℕ → (ℕ → ℕ → Bool) → (ℕ → ℕ → Bool) → Type 0
 Alike n lt less = (p q : ℕ) → p < n → q < n → lt p q ≡ less p q
 

@@ -1,4 +1,4 @@
--- What a run of calls does to one cursor.
+-- What a series of calls does to one cursor.
 use Rattle.std.proofs.Common.{map, ◌≡◌, ◌+◌, ◌-◌, ◌<◌, ◌≤◌, ◌==◌, nat_lt, not, ℕ, Bool, true, false, cond, List, [], ◌∷◌, ◌++◌, length, get_or, take, drop, Option, Some, None, inl, inr}
 use Rattle.std.proofs.Common.{refl, sym, ap, ◌∙◌, subst, arith, min}
 use Rattle.std.proofs.lemmas.Bool.{cases_eq, cond_both, eqb-true, eqb-false, eq-eqb, ne_eqb, not-false, not-true}
@@ -12,7 +12,7 @@ use Rattle.bd_cursor_model.specs.Laws.{GivesInTurn, IsFair, IsPositionAfter, Tok
 use Rattle.bd_cursor_model.specs.Answer.{answer, batches, is_empty, rest}
 use Rattle.bd_cursor_model.proofs.AnswerLemmas.{rest_follows}
 
--- looking for a cursor
+-- look-up of a cursor
 cursor_of_append : (id : ℕ) (cs ds : List OpenCursor) → cursor_of id (cs ++ ds) ≡ option_or (cursor_of id cs) (cursor_of id ds)
 cursor_of_append id [] ds = refl
 cursor_of_append id (c ∷ cs) ds = elim (c.id == id) as (λ b. cond b (Some c) (cursor_of id (cs ++ ds)) ≡ option_or (cond b (Some c) (cursor_of id cs)) (cursor_of id ds)) [
@@ -58,11 +58,11 @@ abbrev opened_in : Reply → Option ℕ
 opened_in (opened id) = Some id
 opened_in _ = None
 
--- no size of a batch is asked of a cursor that is there
+-- the call requests no batch of any open cursor
 abbrev RequestsNone : State → Call → Type 0
 RequestsNone s call = (id : ℕ) (c : OpenCursor) → cursor_of id s.cursors ≡ Some c → (cs : List Call) → sizes_to id (call ∷ cs) ≡ sizes_to id cs
 
--- a call that is refused, or has to do with indexes, keeps the cursors
+-- a call that is refused, or that concerns indexes, leaves the cursors unchanged
 pub data Step (s : State) : Call → Reply → State → Type 0 where
   keeps : {call : Call} {r : Reply} {t : State} → batch_in r ≡ [] → opened_in r ≡ None → t.cursors ≡ s.cursors → t.next_id ≡ s.next_id → RequestsNone s call → Step s call r t
   finds : {q : Query} {hint : Option (List ℕ)} → Step s (find_call q hint) (opened s.next_id) (with_open s q.digest None (answer q.selection))
@@ -153,7 +153,7 @@ next_other id i n s c ne = kept (rw ne refl) (cond_both (is_empty (drop n c.rema
 kill_same : (id : ℕ) (s : State) (c : OpenCursor) → cursor_of id s.cursors ≡ Some c → Effect id (kill_call id) killed (changed_by killed (kill_call id) s) (cursor_of id s.cursors)
 kill_same id s c h = subst (λ o. Effect id (kill_call id) killed (changed_by killed (kill_call id) s) o) (sym h) (ended refl (without_it id s.cursors) (λ cs. rw (eq-eqb id id refl) refl))
 
--- of a cursor that it does not open
+-- the effect on a cursor that the call does not open
 effect : (id : ℕ) (s : State) (call : Call) (r : Reply) (t : State) → (s.next_id ≤ id → id < t.next_id → ⊥) → Step s call r t → Effect id call r t (cursor_of id s.cursors)
 effect id s call r t old (keeps b o e n z) = kept (none_to id call r b) (ap (cursor_of id) e) (z id)
 effect id s call r t old finds = kept refl (same_without_last id s.cursors _ (λ e. old (omega arith) (omega arith))) (λ c h cs. refl)
@@ -167,7 +167,7 @@ effect id s call r t old (kills {id = i} {c = c} h) = elim (cases_eq i id) [
   | inr ne ↦ kept refl (without_other id i ne s.cursors) (λ d k cs. rw (ne_eqb i id ne) refl)
 ]
 
--- a cursor that was given before, at a call
+-- a cursor with an earlier number, at a call
 at_call : (id : ℕ) (s : State) (call : Call) (o : Option OpenCursor) → id < s.next_id → cursor_of id s.cursors ≡ o → Effect id call (reply s call) (state_after s call) o
 at_call id s call o l h = subst (λ x. Effect id call (reply s call) (state_after s call) x) h (effect id s call (reply s call) (state_after s call) (λ a b. absurd (omega arith)) (step s call))
 
@@ -182,7 +182,7 @@ absent_run id s (k ∷ ks) l h = go (absent_run id (state_after s k) ks (still_b
         → batch_to id k (reply s k) ++ batches_to id ks (replies (state_after s k) ks) ≡ []
     go more (kept a e z) = rw a (more e)
 
--- ---- the token of a cursor stands for what is left
+-- ---- the token of a cursor means what remains
 
 drop_taken : (n : ℕ) (ps : List ℕ) → drop (length (take n ps)) ps ≡ drop n ps
 drop_taken n ps = ap (λ k. drop k ps) (length-take n ps) ∙ drop_min n ps
@@ -217,7 +217,7 @@ remaining_moves q fair digest t n = go (take n ps) refl
         rest_follows q.selection fair.0 most_given fair.1 t (length (z ∷ zs)) _ (position_taken most_given (given_by t) n ps z zs f)
         ∙ ap (λ (ys : List ℕ). drop (length ys) ps) (sym f) ∙ drop_taken n ps
 
--- and keeps its request's digest
+-- and has the digest of its request
 token_digest : (digest : List ℕ) (t : Option PositionedToken) (ps : List ℕ) → digest_after digest (token_after digest t ps) ≡ digest_after digest t
 token_digest digest t [] = refl
 token_digest digest t (p ∷ ps) = refl
@@ -227,7 +227,7 @@ leaves : (q : Query) (digest : List ℕ) (t : Option PositionedToken) (ps : List
 leaves q digest None ps h e = tt
 leaves q digest (Some t) ps h e = (h, e)
 
--- a cursor of a request, with what its token leaves
+-- a cursor of a request, which has what remains after its token
 record IsAtWork (q : Query) (c : OpenCursor) : Type 0 where
   remaining : c.remaining ≡ remaining_after q.selection c.token
   digest : digest_after c.digest c.token ≡ q.digest
@@ -238,7 +238,7 @@ goes_on q c n fair i = record {
   digest = token_digest c.digest c.token (take n c.remaining) ∙ i.digest;
 }
 
--- what it gives over any calls
+-- the batches that it returns over any calls
 gives_in_turn : (q : Query) (id : ℕ) (s : State) (c : OpenCursor) (calls : List Call) → IsFair q → id < s.next_id → cursor_of id s.cursors ≡ Some c → IsAtWork q c
     → GivesInTurn q id c.remaining calls (batches_to id calls (replies s calls))
 gives_in_turn q id s c [] fair l h i = (refl, tt)
@@ -267,7 +267,7 @@ gives_in_turn q id s c (k ∷ ks) fair l h i = go (λ d e j. gives_in_turn q id 
 
 -- ---- what is opened
 
--- ids of open cursors were given before
+-- ids of open cursors are below the next one
 abbrev AllBelow : State → Type 0
 AllBelow s = (id : ℕ) → s.next_id ≤ id → cursor_of id s.cursors ≡ None
 
@@ -283,7 +283,7 @@ below_run : (s : State) (ks : List Call) → AllBelow s → AllBelow (state_afte
 below_run s [] h = h
 below_run s (k ∷ ks) h = below_run (state_after s k) ks (below_after s k h)
 
--- a cursor more, and what it gives
+-- one more cursor, and what it returns
 begins : (q : Query) (t : Option PositionedToken) (earlier later : List Call) (id : ℕ) → IsFair q → digest_after q.digest t ≡ q.digest →
     let s = state_after_all new_state earlier in
     s.next_id ≡ id → GivesInTurn q id (remaining_after q.selection t) later (batches_to id later (replies (with_open s q.digest t (remaining_after q.selection t)) later))

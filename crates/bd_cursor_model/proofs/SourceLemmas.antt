@@ -45,7 +45,7 @@ permuted_apart xs ys p h = pairs_apart ys (λ i j d a b. eqb-false (get_or ys i 
 pub permuted_in : (xs ys : List ℕ) → IsPermutation xs ys → (x : ℕ) → In x xs → In x ys
 permuted_in xs ys p x h = contains_in ys x (Contains-permutation xs ys x p (in_contains xs x h))
 
--- lists in order
+-- sorted lists
 pub ascending_rises : (lt : ℕ → ℕ → Bool) (xs : List ℕ) → IsAscending lt xs → Rises lt xs
 ascending_rises lt [] h = tt
 ascending_rises lt (x ∷ xs) h = (
@@ -69,7 +69,7 @@ sorted_rises lt o w (x ∷ xs) h a = (
   sorted_rises lt o w xs (sorted_tail lt x xs h) a.1,
 )
 
--- what a source gives, in order, is what the definition gives
+-- what a source returns, in order, is what the definition says
 before_weak : (by : ℕ → ℕ → Ordering) → IsTotalOrder by → IsStrictWeakOrder (before by)
 before_weak by o =
     let w : IsTotalOrder (λ i j. ordering_then (by i j) (nat_cmp i j)) = then_total o nat_cmp_total in
@@ -92,7 +92,7 @@ from_definition a ps s after p h =
     let t = ordered_in a p r.0 in
     in_filter (passes a.matches_at a.by after) ps p (contains_in ps p (s.complete p t.0 t.1)) (and_from (a.matches_at p) (is_after (before a.by) after p) t.1 r.1)
 
--- the matches of a source that is in order, from a document number on, are the answer from there on
+-- the matches of a source that is in order, after a document number, are the answer after it
 pub batch_in_order : (a : Selection) → IsTotalOrder a.by → (ps : List ℕ) → IsSource a.count a.matches_at ps → IsAscending (before a.by) ps
     → (after : Option ℕ) → filter (passes a.matches_at a.by after) ps ≡ places_after a after
 batch_in_order a o ps s up after =
@@ -128,12 +128,12 @@ range_is_source a = let e : a.count - 0 ≡ a.count = omega arith in let s = sca
 of_range : (a : Selection) → IsTotalOrder a.by → IsUnsorted a → (last : Option ℕ) → filter (passes a.matches_at a.by last) (range_with_len 0 a.count) ≡ places_after a last
 of_range a o u last = batch_in_order a o (range_with_len 0 a.count) (range_is_source a) (rises_ascending (before a.by) (range_with_len 0 a.count) (range_rises a u 0 a.count)) last
 
--- tests that say the same
+-- tests that agree on the members
 pub filter_same : (f g : ℕ → Bool) (xs : List ℕ) → ((x : ℕ) → In x xs → f x ≡ g x) → filter f xs ≡ filter g xs
 filter_same f g [] h = refl
 filter_same f g (x ∷ xs) h = rw (h x (inl refl)) (ap (λ ys. cond (g x) (x ∷ ys) ys) (filter_same f g xs (λ y i. h y (inr i))))
 
--- after no document comes the whole answer
+-- after None comes the whole answer
 pub all_places : (a : Selection) → places_after a None ≡ ordered a
 all_places a = filter_all (λ p. true) (ordered a) (λ x h. refl)
 
@@ -142,7 +142,7 @@ pub unsorted_ordered : (a : Selection) → IsTotalOrder a.by → IsUnsorted a �
 unsorted_ordered a o u =
     sym (all_places a) ∙ sym (of_range a o u None) ∙ filter_same (passes a.matches_at a.by None) a.matches_at (range_with_len 0 a.count) (λ x h. and-true (a.matches_at x))
 
--- those after a place
+-- the places after another place
 later : (a : Selection) → IsUnsorted a → (last k n : ℕ) → last < k → filter (passes a.matches_at a.by (Some last)) (range_with_len k n) ≡ filter a.matches_at (range_with_len k n)
 later a u last k n l =
     filter_same (passes a.matches_at a.by (Some last)) a.matches_at (range_with_len k n)

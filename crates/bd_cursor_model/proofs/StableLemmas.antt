@@ -1,4 +1,4 @@
--- Lists of any type, put in a stable order, and the first places of such a list.
+-- Lists of any type in a stable order, and the first members of such a list.
 use Rattle.std.proofs.Common.{◌≡◌, ℕ, Bool, true, false, not, cond, List, [], ◌∷◌, ◌++◌, take, refl, sym, ap, ◌∙◌, zero, suc, arith, take-take, ◌+◌, get_or, inl, inr, subst}
 use Rattle.std.proofs.lemmas.Bool.{cond_both, not-false, not-true, true_from_ne_false, true≢false}
 use Rattle.std.proofs.lemmas.List.Sorted.{IsPermutation-append_left, IsPermutation-cons, IsPermutation-middle, IsPermutation-refl, IsPermutation-sym, IsPermutation-trans}
@@ -8,7 +8,7 @@ use Rattle.bd_cursor_model.specs.{Answer.insert, Answer.insert_all, Laws.IsStric
 use Rattle.bd_cursor_model.proofs.OrderLemmas.{Apart, In, Rises, insert_all_in, insert_all_rises, in_insert_all, not_both, same_rising}
 use Rattle.bd_cursor_model.proofs.{AnswerLemmas.rises_ascending, AnswerLemmas.take_rises, SourceLemmas.permuted_apart, SourceLemmas.permuted_in, SourceLemmas.sorted_rises}
 
--- elements put into a list from the last on
+-- elements inserted into a list, from the last one on
 abbrev pub put_back : {A : Type 0} → (A → A → Bool) → List A → List A → List A
 put_back test [] kept = kept
 put_back test (x ∷ xs) kept = insert test x (put_back test xs kept)
@@ -17,7 +17,7 @@ put_back test (x ∷ xs) kept = insert test x (put_back test xs kept)
 abbrev pub up_to : {A : Type 0} → (A → A → Bool) → A → A → Bool
 up_to lt x y = not (lt y x)
 
--- a list in its order, where what ties stays as it stands
+-- a list in order, in which equal elements stay in their order
 abbrev pub stable : {A : Type 0} → (A → A → Bool) → List A → List A
 stable lt xs = insert_all lt [] xs
 
@@ -28,7 +28,7 @@ below_trans {lt = lt} o x y z a b = true_from_ne_false (lt y x) (λ e. true≢fa
 below_weak : {A : Type 0} {lt : A → A → Bool} → IsStrictWeakOrder lt → (x y z : A) → lt y x ≡ true → lt z x ≡ false → lt y z ≡ true
 below_weak {lt = lt} o x y z a b = true_from_ne_false (lt y z) (λ e. true≢false (sym a ∙ o.chain y z x e b))
 
--- an earlier element before what ties, and a later one after what ties: in any turn
+-- an earlier element goes before equal ones, and a later one after them: in either sequence
 exchange : {A : Type 0} {lt : A → A → Bool} → IsStrictWeakOrder lt → (x y : A) (zs : List A) → insert lt y (insert (up_to lt) x zs) ≡ insert (up_to lt) x (insert lt y zs)
 exchange {lt = lt} o x y [] = elim (lt y x) as (λ b. cond b (y ∷ x ∷ []) (x ∷ y ∷ []) ≡ cond (not b) (x ∷ y ∷ []) (y ∷ x ∷ [])) [ true ↦ refl | false ↦ refl ]
 exchange {lt = lt} o x y (z ∷ zs) = go (exchange o x y zs) (lt z x) refl (lt y z) refl (lt y x) refl
@@ -53,11 +53,11 @@ stable_back : {A : Type 0} {lt : A → A → Bool} → IsStrictWeakOrder lt → 
 stable_back o [] = refl
 stable_back {lt = lt} o (x ∷ xs) = back_all o (x ∷ []) [] xs ∙ ap (insert (up_to lt) x) (stable_back o xs)
 
--- earlier elements can be put before the order of the later ones
+-- earlier elements can be inserted before the later ones in order
 stable_before : {A : Type 0} {lt : A → A → Bool} → IsStrictWeakOrder lt → (xs ys : List A) → insert_all lt (stable lt xs) ys ≡ put_back (up_to lt) xs (stable lt ys)
 stable_before {lt = lt} o xs ys = ap (λ ws. insert_all lt ws ys) (stable_back o xs) ∙ back_all o xs [] ys
 
--- lists in order
+-- sorted lists
 abbrev IsFirst : {A : Type 0} → (A → A → Bool) → A → List A → Type 0
 IsFirst lt x [] = Unit {0}
 IsFirst lt x (y ∷ ys) = lt y x ≡ false
@@ -100,14 +100,14 @@ ascends_back lt (x ∷ xs) h = ap (insert (up_to lt) x) (ascends_back lt xs h.1)
 stable_ascends : {A : Type 0} {lt : A → A → Bool} → IsStrictWeakOrder lt → (xs : List A) → Ascends lt (stable lt xs)
 stable_ascends {lt = lt} o xs = let e = stable_back o xs in rw e (back_ascends o xs)
 
--- the first of what is in order are in order
+-- the first members of a sorted list are sorted
 stable_take : {A : Type 0} {lt : A → A → Bool} → IsStrictWeakOrder lt → (k : ℕ) (xs : List A) → stable lt (take k (stable lt xs)) ≡ take k (stable lt xs)
 stable_take {lt = lt} o k xs = stable_back o (take k (stable lt xs)) ∙ ascends_back lt (take k (stable lt xs)) (take_ascends lt k (stable lt xs) (stable_ascends o xs))
 
 stable_twice : {A : Type 0} {lt : A → A → Bool} → IsStrictWeakOrder lt → (xs : List A) → stable lt (stable lt xs) ≡ stable lt xs
 stable_twice {lt = lt} o xs = stable_back o (stable lt xs) ∙ ascends_back lt (stable lt xs) (stable_ascends o xs)
 
--- an insertion reads no more of a list than it gives back
+-- an insertion needs no more of a list than it returns
 take_put : {A : Type 0} (test : A → A → Bool) (k : ℕ) (p : A) (xs : List A) → take k (insert test p (take k xs)) ≡ take k (insert test p xs)
 take_put test zero p xs = refl
 take_put test (suc k) p [] = refl
@@ -120,7 +120,7 @@ take_put test (suc k) p (x ∷ xs) =
 same_put : {A : Type 0} (test : A → A → Bool) (k : ℕ) (p : A) (xs ys : List A) → take k xs ≡ take k ys → take k (insert test p xs) ≡ take k (insert test p ys)
 same_put test k p xs ys e = sym (take_put test k p xs) ∙ ap (λ zs. take k (insert test p zs)) e ∙ take_put test k p ys
 
--- so what lists have alike at the front stays alike
+-- so lists with equal beginnings keep equal beginnings
 pub same_firsts : {A : Type 0} (test : A → A → Bool) (k : ℕ) (xs ys ps : List A) → take k xs ≡ take k ys → take k (insert_all test xs ps) ≡ take k (insert_all test ys ps)
 same_firsts test k xs ys [] e = e
 same_firsts test k xs ys (p ∷ ps) e = same_firsts test k (insert test p xs) (insert test p ys) ps (same_put test k p xs ys e)
@@ -136,14 +136,14 @@ insert_all_append test kept (x ∷ xs) ys = insert_all_append test (insert test 
 three : {A : Type 0} (lt : A → A → Bool) (xs ys zs : List A) → stable lt (xs ++ (ys ++ zs)) ≡ insert_all lt (insert_all lt (stable lt xs) ys) zs
 three lt xs ys zs = insert_all_append lt [] xs (ys ++ zs) ∙ insert_all_append lt (stable lt xs) ys zs
 
--- a stretch of a list can be in order already
+-- a stretch of a list can be sorted before
 pub stretch_all : {A : Type 0} {lt : A → A → Bool} → IsStrictWeakOrder lt → (xs ys zs : List A) → stable lt (xs ++ (ys ++ zs)) ≡ stable lt (xs ++ (stable lt ys ++ zs))
 stretch_all {lt = lt} o xs ys zs =
     three lt xs ys zs
     ∙ ap (λ ws. insert_all lt ws zs) (stable_before o xs ys ∙ ap (put_back (up_to lt) xs) (sym (stable_twice o ys)) ∙ sym (stable_before o xs (stable lt ys)))
     ∙ sym (three lt xs (stable lt ys) zs)
 
--- and of a stretch as many are enough as of the whole
+-- and of the stretch, as many members are enough as of the whole
 pub stretch_take : {A : Type 0} {lt : A → A → Bool} → IsStrictWeakOrder lt → (k : ℕ) (xs ys zs : List A)
     → take k (stable lt (xs ++ (ys ++ zs))) ≡ take k (stable lt (xs ++ (take k (stable lt ys) ++ zs)))
 stretch_take {lt = lt} o k xs ys zs =
@@ -157,7 +157,7 @@ stretch_take {lt = lt} o k xs ys zs =
     ∙ same_firsts lt k (insert_all lt (stable lt xs) ys) (insert_all lt (stable lt xs) first) zs prefix
     ∙ ap (take k) (sym (three lt xs first zs))
 
--- what rises is told by its members
+-- a rising list is determined by its members
 pub rising_is_inserted : {lt : ℕ → ℕ → Bool} → IsStrictOrder lt → (xs ys : List ℕ) → Apart xs → Rises lt ys → ((x : ℕ) → In x xs → In x ys) → ((x : ℕ) → In x ys → In x xs) → insert_all lt [] xs ≡ ys
 rising_is_inserted {lt = lt} o xs ys apart up there back =
     same_rising o (insert_all lt [] xs) ys (insert_all_rises o [] xs apart (λ x h g. h) tt) up
@@ -193,7 +193,7 @@ pub apart_left : (xs ys : List ℕ) → Apart (xs ++ ys) → Apart xs
 apart_left [] ys h = tt
 apart_left (x ∷ xs) ys h = (λ i. h.0 (in_left xs ys x i), apart_left xs ys h.1)
 
--- of what was kept only the first so many are kept on
+-- only the first k of the kept members stay
 pub apart_on : (k : ℕ) (kept moved rest : List ℕ) → IsPermutation kept moved → Apart (kept ++ rest) → Apart (take k moved ++ rest)
 apart_on k kept moved rest p h = apart_part k moved rest (permuted_apart (kept ++ rest) (moved ++ rest) (IsPermutation-append_left rest kept moved p) h)
 
@@ -216,7 +216,7 @@ pub firsts_end : {lt : ℕ → ℕ → Bool} → IsStrictOrder lt → IsStrictWe
     → IsSortedBy lt moved → Apart (kept ++ []) → take k moved ≡ take k (insert_all lt [] (kept ++ []))
 firsts_end {lt = lt} o w k kept moved p up h = ap (take k) (sym (sorted_is_inserted o w kept moved (apart_left kept [] h) p up) ∙ ap (insert_all lt []) (sym (append-nil kept)))
 
--- insertion puts in order what it is given
+-- insertion only reorders its input
 insert_permutes : (lt : ℕ → ℕ → Bool) (p : ℕ) (xs : List ℕ) → IsPermutation (p ∷ xs) (insert lt p xs)
 insert_permutes lt p [] = IsPermutation-refl (p ∷ [])
 insert_permutes lt p (x ∷ xs) = cond_both (lt p x) (p ∷ x ∷ xs) (x ∷ insert lt p xs) (IsPermutation (p ∷ x ∷ xs)) (λ e. IsPermutation-refl (p ∷ x ∷ xs))

@@ -1,4 +1,4 @@
--- What always holds of answers, of collections that are cut into parts, and of sessions.
+-- Laws of answers, of collections that are split into parts, and of sessions.
 use Rattle.std.specs.Prelude.{ℕ, ◌+◌, ◌-◌, ◌<◌, ◌≤◌, ◌≡◌, ◌≢◌, ◌==◌, nat_lt, min, Bool, true, false, if◌then◌else◌}
 use Rattle.std.specs.Prelude.{List, [], ◌∷◌, drop, length, map, slice_get, slice_index_or, Option, Some, None, IfSome}
 use Rattle.std.specs.{declared.cmp.Ordering.Ordering, Cmp.IsTotalOrder, Option.option_cmp}
@@ -9,7 +9,7 @@ use Rattle.bd_cursor_model.specs.Session.{Call, GivenBatch, Query, Reply, State,
 use Rattle.bd_cursor_model.specs.Session.{next_call, reply, state_after}
 
 -- a strict total order: nothing comes before itself, it is transitive,
--- and of two different ones one comes first
+-- and of two different numbers one comes first
 pub record IsStrictOrder (lt : ℕ → ℕ → Bool) : Type 0 where
   pub irreflexive : (x : ℕ) → lt x x ≡ false
   pub transitive : (x y z : ℕ) → lt x y ≡ true → lt y z ≡ true → lt x z ≡ true
@@ -19,8 +19,8 @@ pub record IsStrictOrder (lt : ℕ → ℕ → Bool) : Type 0 where
 abbrev pub IsAscending : (ℕ → ℕ → Bool) → List ℕ → Type 0
 IsAscending lt = AllPairs (λ x y. lt x y ≡ true)
 
--- The position after the first k of some documents, of which `old` were given before;
--- the count given stays at `most`.
+-- The position after the first k of some documents, of which `old` were returned before;
+-- the count stops at `most`.
 abbrev pub IsPositionAfter : ℕ → ℕ → ℕ → List ℕ → Position → Type 0
 IsPositionAfter most old k ps m =
     (0 < k) × (k ≤ length ps) × (m.given ≡ min most (old + k)) × ((d : ℕ) → m.last ≡ slice_index_or ps (k - 1) d)
@@ -54,12 +54,12 @@ selection_over r ds = record {
 abbrev pub found_in : {A : Type 0} → DocumentRequest A → List A → List A
 found_in r ds = filter_map (slice_get ds) (answer (selection_over r ds))
 
--- the request that a part of a collection is asked: none is skipped, and at most `limit` are given (0: all)
+-- the request for a part of a collection: none is skipped, and at most `limit` are returned (0: all)
 abbrev pub part_request : {A : Type 0} → DocumentRequest A → ℕ → DocumentRequest A
 part_request r limit = record r { skip = 0; limit = limit }
 
--- The limit for a part is enough: there is none;
--- or the request has one too, and skip and limit together are within the part's.
+-- The limit for a part is enough: it has none;
+-- or the request has one too, and skip plus limit is at most the part's limit.
 abbrev pub IsEnough : {A : Type 0} → DocumentRequest A → ℕ → Type 0
 IsEnough r limit = limit ≢ 0 → (r.limit ≢ 0) × (r.skip + r.limit ≤ limit)
 
@@ -82,12 +82,12 @@ abbrev pub state_after_all : State → List Call → State
 state_after_all s [] = s
 state_after_all s (c ∷ cs) = state_after_all (state_after s c) cs
 
--- the replies to calls made one after the other, each in the state that those before it left
+-- the replies to calls made one after the other, each in the state after those before it
 abbrev pub replies : State → List Call → List Reply
 replies s [] = []
 replies s (c ∷ cs) = reply s c ∷ replies (state_after s c) cs
 
--- the batch sizes that the calls ask of a cursor, until it is killed;
+-- the batch sizes that the calls request from a cursor, until it is killed;
 -- those above 2,147,483,647 are refused and left out
 abbrev pub sizes_to : ℕ → List Call → List ℕ
 sizes_to id [] = []
@@ -96,12 +96,12 @@ sizes_to id (next_call i n ∷ cs) =
 sizes_to id (kill_call i ∷ cs) = if i == id then [] else sizes_to id cs
 sizes_to id (call ∷ cs) = sizes_to id cs
 
--- the batch that a reply gives, if it gives one
+-- the batch that a reply contains, if any
 abbrev pub batch_in : Reply → List GivenBatch
 batch_in (gave b) = b ∷ []
 batch_in r = []
 
--- the batch that a call gets from the cursor of this number, if it asks that cursor and is not refused
+-- the batch that a call gets from the cursor of this number, if it is a call to that cursor and is not refused
 abbrev pub batch_to : ℕ → Call → Reply → List GivenBatch
 batch_to id (next_call i n) r = if i == id then batch_in r else []
 batch_to id c r = []
@@ -110,19 +110,19 @@ batch_to id c r = []
 abbrev pub batches_to : ℕ → List Call → List Reply → List GivenBatch
 batches_to id calls rs = flat_map (λ p. batch_to id p.0 p.1) (zip calls rs)
 
--- Each batch's token is of this request, and what remains after it is what remains after the batch.
+-- Each batch's token is of this request, and what remains after the token is what remains after the batch.
 abbrev pub TokensFollow : Query → List ℕ → List GivenBatch → Type 0
 TokensFollow q remaining [] = Unit {0}
 TokensFollow q remaining (b ∷ bs) = let later = drop (length b.places) remaining in
     IfSome b.token (λ t. (t.digest ≡ q.digest) × (rest q.selection t.position ≡ later)) × TokensFollow q later bs
 
--- The batches are those of this list, by the sizes that the calls ask for,
--- and each token leads on to what remains.
+-- The batches are those of this list, by the requested sizes,
+-- and after each token comes exactly the rest.
 abbrev pub GivesInTurn : Query → ℕ → List ℕ → List Call → List GivenBatch → Type 0
 GivesInTurn q id ps calls given =
     (map (λ (b : GivenBatch). b.places) given ≡ batches ps (sizes_to id calls)) × TokensFollow q ps given
 
--- The sort keys are in a total order, and the limit is at most 2^64 - 1.
+-- The sort keys have a total order, and the limit is at most 2^64 - 1.
 abbrev pub IsFair : Query → Type 0
 IsFair q = IsTotalOrder q.selection.by × (q.selection.limit ≤ most_given)
 
@@ -131,7 +131,7 @@ abbrev pub state_after_attempts : State → List (Call × Bool) → State
 state_after_attempts s [] = s
 state_after_attempts s (a ∷ later) = state_after_attempts (if a.1 then s else state_after s a.0) later
 
--- the replies to calls of which some ran out of memory: for these None
+-- the replies to calls; None for those that ran out of memory
 abbrev pub attempt_replies : State → List (Call × Bool) → List (Option Reply)
 attempt_replies s [] = []
 attempt_replies s (a ∷ later) =

@@ -1,4 +1,4 @@
--- A source of document numbers, and what it hands out.
+-- A source of document numbers.
 use Rattle.std.specs.Prelude.{ℕ, ◌<◌, ◌≡◌, ◌≢◌, ◌-◌, ◌&&◌, Bool, true, List, [], ◌∷◌, Option, Some, None, Contains}
 use Rattle.std.specs.{List.All, List.AllPairs, List.filter, List.range_with_len, declared.cmp.Ordering.Ordering}
 use Rattle.std.proofs.{Common.arith, Common.◌∙◌, Common.zero-add, lemmas.List.FromFn.get_or-range_with_len}
@@ -11,7 +11,7 @@ pub record IsSource (n : ℕ) (matches_at : ℕ → Bool) (ps : List ℕ) : Type
   pub distinct : AllPairs (λ x y. x ≢ y) ps
   pub complete : (p : ℕ) → p < n → matches_at p ≡ true → Contains ps p
 
--- The next document number is handed out; None says that there is none, then or later.
+-- The next document number is returned; None means that there is none, now or later.
 abbrev pub HandsOut : Option ℕ → List ℕ → List ℕ → Type 0
 HandsOut None old new = (old ≡ []) × (new ≡ [])
 HandsOut (Some p) old new = old ≡ p ∷ new
@@ -21,11 +21,11 @@ abbrev pub is_after : (ℕ → ℕ → Bool) → Option ℕ → ℕ → Bool
 is_after lt None p = true
 is_after lt (Some q) p = lt q p
 
--- whether p matches, and comes after another document number, if there is one
+-- whether p matches, and comes after another document number, if any
 abbrev pub passes : (ℕ → Bool) → (ℕ → ℕ → Ordering) → Option ℕ → ℕ → Bool
 passes matches_at by last p = matches_at p && is_after (before by) last p
 
--- the numbers of the matches that come after a document, in order; of all without one
+-- the numbers of the matches that come after a document, in order; of all matches without one
 abbrev pub places_after : Selection → Option ℕ → List ℕ
 places_after a last = filter (is_after (before a.by) last) (ordered a)
 

@@ -9,13 +9,13 @@ ghost use Rattle.bd_cursor_model.specs.Laws.{answered_calls, attempt_replies, ba
 ghost use Rattle.bd_cursor_model.specs.Laws.{state_after_all, state_after_attempts};
 ghost use Rattle.bd_cursor_model.specs.Session.{Call, PositionedToken, Query, State, find_call, given_by, remaining_after, opened, reply, resume_call, state_after};
 
-/// Of two places one comes before the other.
+/// Of two different places, one comes before the other.
 #[tactic(auto, using(crate::proofs::AnswerLemmas::before_strict))]
 pub fn places_are_ordered()
     ensures { (by : ℕ → ℕ → Ordering) → IsTotalOrder by → IsStrictOrder (before by) }
 {}
 
-/// An answer is in its order, so that no place comes twice, and before skip and limit it has each match and nothing else.
+/// An answer is in its order, so no place comes twice. Before skip and limit it has exactly the matches.
 pub fn answers_are_ordered()
     ensures ascends { (a : Selection) → IsTotalOrder a.by → IsAscending (before a.by) (ordered a) }
     ensures matches { (a : Selection) (p : ℕ) →
@@ -23,13 +23,14 @@ pub fn answers_are_ordered()
     ensures answer { (a : Selection) → IsTotalOrder a.by → IsAscending (before a.by) (answer a) }
 {}
 
-/// The batches of an answer, joined, are its first places, as many as the sizes ask for.
+/// The batches of an answer, joined, are its first places, as many as the sizes say.
 #[tactic(auto, using(crate::proofs::AnswerLemmas::batches_joined))]
 pub fn batches_are_the_first()
     ensures { (ps sizes : List ℕ) → concat (batches ps sizes) ≡ take (sum sizes) ps }
 {}
 
-/// A mark in what is left after a token, whoever made it, or in the whole answer, tells where it goes on: exactly the rest follows.
+/// A position within what remains after a token, or within the whole answer, is enough to resume: exactly the rest follows, whoever
+/// made the token.
 #[tactic(auto, using(crate::proofs::AnswerLemmas::rest_follows))]
 pub fn rests_follow()
     ensures { (a : Selection) → IsTotalOrder a.by →
@@ -38,9 +39,9 @@ pub fn rests_follow()
         rest a m ≡ drop k (remaining_after a t) }
 {}
 
-/// After any calls on a session, a cursor gives its answer in batches, as many documents as the sizes ask for, and each token
-/// leads on to exactly the rest, whatever other calls stand between. Calls that are refused because memory ran out are as if they
-/// were not made: the others have the replies that they have without them, and lead to the same state.
+/// After any calls on a session, a cursor returns its answer in batches of the requested sizes, and each token resumes with exactly
+/// the rest, whatever other calls come between. Calls that are refused because memory runs out have no effect: the others have the
+/// same replies without them, and lead to the same state.
 pub fn sessions_keep_to_the_answer()
     ensures find { (earlier later : List Call) (q : Query) (hint : Option (List ℕ)) (id : ℕ) →
         IsFair q →
@@ -57,9 +58,9 @@ pub fn sessions_keep_to_the_answer()
         × (filter_map (λ r. r) (attempt_replies s attempts) ≡ replies s (answered_calls attempts)) }
 {}
 
-/// A collection may be cut into parts, and each part asked by itself: the same request over what the parts gave, joined in their
-/// order, gives the answer of the whole, in the same order also of those that tie. So may any stretch of it, under a limit of its
-/// own. `T` is what documents are, and the answers over them are those at the places of the answer of any such selection.
+/// A collection may be split into parts that are searched separately: the same request over the results of the parts, joined in
+/// their order, has the answer of the whole, also in the order of ties. The same is true of any one stretch of it, with a limit of
+/// that stretch. `T` is the type of documents; their answer is the documents at the places of the answer of any such selection.
 #[tactic(auto, using(crate::proofs::PartsLemmas::parts_give, crate::proofs::PartsLemmas::stretch_gives, crate::proofs::PartsLemmas::answer_gives))]
 pub fn parts_give_the_whole<T>()
     ensures parts { (r : DocumentRequest T) → IsTotalOrder r.by → (limit : ℕ) →

@@ -1,7 +1,7 @@
-//! Which documents of a dump answer a request, in which order, in which batches, and how an answer goes on.
+//! Which documents of a dump answer a request, in which order, in which batches, and how an answer is resumed.
 //!
-//! Documents are known by their places alone: how many there are, which match, and how their sort keys stand. So the laws of
-//! answers and of sessions hold whatever a document is.
+//! Documents are known only by their places: how many there are, which match, and how their sort keys compare. So the laws of
+//! answers and sessions are true whatever a document is.
 //!
 //! An example, which `bd_cli_service_tests` proves and runs as `examples::scan`:
 //!
@@ -13,9 +13,9 @@
 //! ```
 //!
 //! - `specs/Answer.antt`: the answer of a request, its batches, and what follows a token.
-//! - `source`: `PlaceSource`, what hands out places, and `Scan`, which hands out all: `specs/Source.antt`.
+//! - `source`: `PlaceSource`, which returns places, and `Scan`, which returns all: `specs/Source.antt`.
 //! - `specs/Session.antt`: a session as a machine.
-//! - `laws`, `specs/Laws.antt`: what always holds of answers, of collections that are cut into parts, each asked by itself, and of
+//! - `laws`, `specs/Laws.antt`: laws of answers, of collections that are split into parts and searched separately, and of
 //!   sessions.
 #![tactic(auto)]
 

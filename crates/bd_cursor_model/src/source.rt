@@ -3,15 +3,15 @@ ghost use Rattle.std.specs.Prelude.{◌≡◌, ◌-◌, Bool, List, ℕ};
 ghost use Rattle.std.specs.List.{range_with_len};
 ghost use Rattle.bd_cursor_model.specs.Source.{HandsOut, IsSource, scan_law};
 
-/// What hands out places, among which those of all documents that match are.
+/// Returns places, which include those of all documents that match.
 pub trait PlaceSource {
-    /// The places that it has left to hand out.
+    /// The places that it has yet to return.
     ghost remaining: { Self → List ℕ };
 
-    /// What makes it a source for so many documents and a test.
+    /// What makes it a source for n documents and a test.
     ghost serves: { Self → ℕ → (ℕ → Bool) → Type 0 };
 
-    /// The next place, as long as there is one. It takes no memory.
+    /// The next place, if any. It takes no memory.
     fn next_place(&mut self) -> Option<u32>
         ensures { HandsOut result (remaining self.old) (remaining self.new) };
 
@@ -28,7 +28,7 @@ pub struct Scan {
 }
 
 impl Scan {
-    /// A scan of so many documents.
+    /// A scan of n documents.
     pub fn new(count: u32) -> Scan
         ensures { result ≡ record { next = 0; count = count } }
     {

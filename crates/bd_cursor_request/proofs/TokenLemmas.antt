@@ -11,7 +11,7 @@ use Rattle.base64.specs.{declared.decode.DecodeError.DecodeError}
 use Rattle.bd_cursor_request.specs.Token.{token_after_version, token_bytes, token_in, token_of, token_text}
 use Rattle.bd_cursor_request.specs.declared.token.Token.{Token}
 
--- one part, and what is left after it
+-- the first n bytes, and those after them
 pub record IsSplit (n : ℕ) (bytes prefix after : List ℕ) : Type 0 where
   pub part : prefix ≡ take n bytes
   pub remaining : after ≡ drop n bytes
@@ -23,7 +23,7 @@ token_with n m digest = Some (record { given = n; last = m; digest = digest })
 read_whole : (rest : List ℕ) → length rest ≡ 44 → Some (token_after_version rest) ≡ token_in (1 ∷ rest)
 read_whole rest is = rw is refl
 
--- a token of its parts, one after the other
+-- a token from its parts, one after the other
 pub token_parted : (bytes rest rest2 rest3 given last digest : List ℕ) (version n m : ℕ) → bytes ≡ version ∷ rest → version ≡ 1
     → IsSplit 8 rest given rest2 → IsSplit 4 rest2 last rest3 → digest ≡ take 32 rest3 → length bytes ≡ 45
     → n ≡ from_le_bytes w64 given → m ≡ from_le_bytes w32 last → Some (record { given = n; last = m; digest = digest }) ≡ token_in bytes

@@ -35,17 +35,17 @@ refused_words reasons.TokenPlace = codes "token place past the dump"
 refused_words reasons.Range = codes "number out of range"
 refused_words reasons.NoMemory = codes "no memory"
 
--- why something is refused: a rule that its filter breaks, and where, or another refusal
+-- why something is refused: the rule that its filter breaks and where, or another refusal
 pub data Reason : Type 0 where
   bad_filter : Refusal → Reason
   plain : Refused → Reason
 
--- the reason that a `Refused` in memory stands for
+-- the reason that a `Refused` in memory represents
 abbrev pub reason_of : Refused → Reason
 reason_of (reasons.BadFilter fault) = bad_filter (refusal_of fault)
 reason_of refused = plain refused
 
--- what comes after a part that is not refused; a refusal stays
+-- the next step after a part that is not refused; a refusal stays
 abbrev pub then_part : {A B Why : Type 0} → Result A Why → (A → Result B Why) → Result B Why
 then_part (Ok x) next = next x
 then_part (Err why) next = Err why
@@ -54,7 +54,7 @@ then_part (Err why) next = Err why
 abbrev pub error_as : {A Why Explained : Type 0} → (Why → Explained) → Result A Why → Result A Explained
 error_as explain part = result_map_both (λ x. x) explain part
 
--- It is refused for this reason, and `Holds`; or memory ran out.
+-- It is refused for this reason, and `Holds` is true; or memory ran out.
 abbrev pub IsRefusedAs : Refused → Refused → Type 0 → Type 0
 IsRefusedAs refused reason Holds = (refused ≡ reasons.NoMemory) ⊎ ((refused ≡ reason) × Holds)
 

@@ -1,4 +1,4 @@
--- What the results of a session's calls stand for, and the values that report them.
+-- What the results of a session's calls mean, and the values that report them.
 use Rattle.std.specs.Prelude.{ℕ, pos, List, Option, Some, None}
 use Rattle.bd_value.specs.Tree.{Tree, leaf, null, text, int64}
 use Rattle.bd_cursor_model.specs.Session.{IndexCounts, PositionedToken}

@@ -6,7 +6,7 @@ use Rattle.base64.specs.{Engines.standard, GeneralPurpose.decode_of, GeneralPurp
 use Rattle.sha2.specs.Sha256.{sha256}
 use Rattle.bd_cursor_request.specs.declared.token.Token.{Token}
 
--- the 45 bytes of a token: version 1, the count of documents given (uint64) and the number
+-- the 45 bytes of a token: version 1, the count of returned documents (uint64) and the number
 -- of the last (uint32), least byte first, and the digest
 abbrev pub token_bytes : Token → List ℕ
 token_bytes t = 1 ∷ (to_le_bytes w64 t.given ++ (to_le_bytes w32 t.last ++ t.digest))
@@ -32,7 +32,7 @@ token_in (version ∷ bytes) = if (version == 1) && (length bytes == 44) then So
 abbrev pub token_of : List ℕ → Option Token
 token_of text = if length text == 60 then option_and_then token_in (result_ok (decode_of standard text)) else None
 
--- what ties a token to a dump and a request: SHA-256 of the SHA-256 of
+-- the digest of tokens for a dump and a request: SHA-256 of the SHA-256 of
 -- the dump's bytes and the text of the request
 abbrev pub token_digest : List ℕ → List ℕ → List ℕ
 token_digest bytes text = sha256 (sha256 bytes ++ text)

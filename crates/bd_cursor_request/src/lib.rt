@@ -1,7 +1,7 @@
-//! What is asked of a dump, where its answer resumes, and what a call of a session gives.
+//! A request to a dump, the position where its answer resumes, and the results of a session's calls.
 //!
-//! A request is a filter, a sort by up to four paths, and how many documents are passed over and given at most (MongoDB manual,
-//! "cursor.sort()", "cursor.skip()", "cursor.limit()"). A token is a text that tells where the answer of a request goes on.
+//! A request is a filter, a sort by up to four paths, and how many documents are skipped and how many are returned at most (MongoDB
+//! manual, "cursor.sort()", "cursor.skip()", "cursor.limit()"). A token is a text that says where the answer of a request resumes.
 //!
 //! An example, which `bd_cli_service_tests` proves and runs as `examples::ten_cheapest`:
 //!
@@ -14,9 +14,9 @@
 //! assert!(rt; request.sort.len() == 1 && request.limit == 10);
 //! ```
 //!
-//! - `request`: `Request`, the sort that a document asks for, and the text that tokens are tied to: `specs/Request.antt`.
-//! - `token`: `Token`, to and from its text, and what ties one to a dump and a request: `specs/Token.antt`.
-//! - `results`: `Batch`, `Made`, what calls of a session give, and `Refused`, why one is refused: `specs/Results.antt`,
+//! - `request`: `Request`, the sort that a document describes, and the text in the digest of tokens: `specs/Request.antt`.
+//! - `token`: `Token`, to and from its text, and its digest of a dump and a request: `specs/Token.antt`.
+//! - `results`: `Batch`, `Made`, the results of a session's calls, and `Refused`, why one is refused: `specs/Results.antt`,
 //!   `specs/Refused.antt`.
 #![tactic(auto)]
 

@@ -1,4 +1,4 @@
-//! What is asked of a dump: a filter, a sort and counts.
+//! A request to a dump: a filter, a sort and counts.
 
 ghost use Rattle.std.specs.Prelude.{◌≡◌, ◌++◌, IfErr, IfOk, None, Ok, OnOk, Some, codes, decimal};
 ghost use Rattle.std.specs.List.{list_any};
@@ -20,18 +20,18 @@ use bd_query_filter::{Filter, FilterFaultKind, parse};
 use bd_value::{Document, GREATEST_COUNT, NoMemory, Reading, Scalar, Tree, Value};
 use std::alloc::Global;
 
-/// What is asked of a dump: which documents, in which order, how many of them to pass over, and how many at most.
+/// A request to a dump: which documents, in which order, how many to skip, and how many to return at most.
 #[derive(Drop)]
 pub struct Request {
     /// The documents that match.
     pub filter: Filter,
-    /// The paths by which they are sorted, the first one first; none for the order of the dump.
+    /// The paths by which they are sorted, the first one first; empty for file order.
     pub sort: Vec<(Path, Dir)>,
-    /// How many are passed over: 0 to 2,147,483,647.
+    /// How many are skipped: 0 to 2,147,483,647.
     pub skip: u64,
-    /// How many are given at most: 0 to 2,147,483,647, where 0 is no limit.
+    /// How many are returned at most: 0 to 2,147,483,647, where 0 is no limit.
     pub limit: u64,
-    /// The text that tokens are tied to: `{"filter":F,"sort":S,"skip":N,"limit":N}`, in canonical Extended JSON.
+    /// The text in the digest of its tokens: `{"filter":F,"sort":S,"skip":N,"limit":N}`, in canonical Extended JSON.
     pub text: Vec<u8>,
 }
 
@@ -40,8 +40,8 @@ impl Request {
     ///
     /// # Errors
     ///
-    /// In this order: `BadFilter` with the first fault of the filter, `BadSort`, and `Range` where a number is above
-    /// 2,147,483,647. `NoMemory` where no memory was given.
+    /// In this order: `BadFilter` with the first fault of the filter, `BadSort`, and `Range` if a number is above
+    /// 2,147,483,647. `NoMemory` if memory runs out.
     pub fn new(
         alloc: Global,
         filter: Document,
@@ -118,7 +118,7 @@ fn write_counts(skip: u64, limit: u64, text: &mut Vec<u8>) -> Result<(), NoMemor
     text.extend_from_slice(b"}")
 }
 
-/// A sort with each direction as a number of 32 bits.
+/// A sort with each direction as an int32.
 fn written_sort(alloc: Global, sort: &Document) -> Result<Document, NoMemory>
     ensures { IfOk result (λ d. pairs d ≡ sort_written (pairs sort.now)) }
 {
@@ -132,7 +132,7 @@ fn written_sort(alloc: Global, sort: &Document) -> Result<Document, NoMemory>
     Ok(written)
 }
 
-/// 1 for up, -1 for down; 0 where a value is neither.
+/// 1 for up, -1 for down; 0 if a value is neither.
 fn written_direction<N: Reading>(value: N) -> Value
     ensures { tree_of result ≡ leaf (int32 (direction_number (direction_of (N.tree value)))) }
 {
@@ -146,7 +146,7 @@ fn written_direction<N: Reading>(value: N) -> Value
 /// The most paths of a sort.
 const MOST: usize = 4;
 
-/// The sort that a document asks for. It fails with `BadSort` where it asks for none, and with `NoMemory`.
+/// The sort that a document describes. It fails with `BadSort` if it is not a sort, and with `NoMemory`.
 fn read_sort(alloc: Global, document: &Document) -> Result<Vec<(Path, Dir)>, Refused>
     ensures sort { IfOk result (λ v. sort_of (pairs document.now) ≡ Some (sort_paths v.items)) }
     ensures fault { IfErr result (λ r.
@@ -162,7 +162,7 @@ fn read_sort(alloc: Global, document: &Document) -> Result<Vec<(Path, Dir)>, Ref
     read_pairs::<Tree<'_>>(alloc, pairs)
 }
 
-/// Whether no name stands twice.
+/// Whether no name occurs twice.
 fn are_distinct<N: Reading>(pairs: N::Rest) -> bool
     ensures { result ≡ are_distinct (pair_names (N.remaining pairs)) }
 {

@@ -1,4 +1,4 @@
-//! What the calls of a session give, and why one is refused.
+//! The results of a session's calls, and why one is refused.
 
 ghost use Rattle.std.specs.Prelude.{◌≡◌};
 ghost use Rattle.bd_cursor_request.specs.Refused.{refused_number, refused_words};
@@ -9,18 +9,18 @@ use bd_query_filter::FilterFault;
 use std::alloc::{AllocError, AllocFailed};
 use thiserror::Error;
 
-/// What a cursor gives at once.
+/// One batch of a cursor.
 #[derive(Debug, Drop)]
 pub struct Batch {
     /// The numbers of the documents, in the order of the answer.
     pub places: Vec<u32>,
-    /// Where the answer goes on after them; none where no document was given since the start.
+    /// Where the answer resumes after them; None if no document was returned since the start.
     pub token: Option<Token>,
-    /// Whether nothing is left. Then the cursor is closed.
+    /// Whether nothing remains. Then the cursor is closed.
     pub end: bool,
 }
 
-/// What is told of an index that was made.
+/// The counts of a new index.
 #[derive(Clone, Copy, Debug)]
 pub struct Made {
     /// How many entries it has.
@@ -41,7 +41,7 @@ pub enum Refused {
     IndexThere,
     /// There are sixteen indexes already.
     TooManyIndexes,
-    /// There are sixty-four cursors already, or no number is left for one more.
+    /// There are sixty-four cursors already, or no cursor number is left.
     TooManyCursors,
     /// No cursor has the number.
     NoCursor,
@@ -49,17 +49,17 @@ pub enum Refused {
     BadToken,
     /// A token of another dump or request.
     ForeignToken,
-    /// A token whose place is after the last document.
+    /// A token whose document number is after the last document.
     TokenPlace,
     /// A number above 2,147,483,647.
     Range,
-    /// No memory was given.
+    /// Memory ran out.
     NoMemory,
     /// A document that is no filter.
     BadFilter(FilterFault),
 }
 
-/// What is wrong, in words: by number, from 1 on. A filter has the words of its own fault.
+/// The messages by number, from 1 on. A filter has the message of its fault.
 const WORDS: [&str; 11] = [
     "not a sort",
     "no such index",
@@ -75,7 +75,7 @@ const WORDS: [&str; 11] = [
 ];
 
 impl Refused {
-    /// What is wrong, in words; of a filter which rule it breaks.
+    /// The message; for a filter which rule it breaks.
     #[tactic(auto, unfolding(crate::specs::Refused::refused_words))]
     pub fn words(&self) -> &'static str
         ensures { result.now ≡ refused_words self.now }
@@ -86,7 +86,7 @@ impl Refused {
         }
     }
 
-    /// The number by which a reply tells it, 1 to 12.
+    /// Its number in a reply, 1 to 12.
     pub fn number(&self) -> u32
         ensures { result ≡ refused_number self.now }
     {

@@ -1,4 +1,4 @@
-//! Where the answer of a request goes on, and the digests (SHA-256, FIPS 180-4) that tie it to a dump and a request.
+//! The position where the answer of a request resumes, and its digests (SHA-256, FIPS 180-4) of a dump and a request.
 
 ghost use Rattle.std.specs.Prelude.{◌≡◌, ◌++◌, IfErr, IfOk, List, None, Ok, Some, length, string_bytes, ℕ};
 ghost use Rattle.base64.specs.Engines.{standard};
@@ -14,7 +14,7 @@ use bd_value::NoMemory;
 use sha2::{Digest, Sha256};
 use std::alloc::Global;
 
-/// How many bytes a token has, and how many characters its text.
+/// How many bytes a token has; its text has 60 characters.
 const BYTES: usize = 45;
 
 const CHARACTERS: usize = 60;
@@ -22,14 +22,14 @@ const CHARACTERS: usize = 60;
 /// The first byte of a token.
 const VERSION: u8 = 1;
 
-/// Where the answer of a request goes on: after which document, and how many were given before.
+/// The position where the answer of a request resumes: after which document, and how many were returned before.
 #[derive(Clone, Copy, Debug, PartialEq, Eq)]
 pub struct Token {
-    /// How many documents were given since the start. It stays at the greatest number of 64 bits.
+    /// How many documents were returned since the start. It stops at the greatest 64-bit number.
     pub given: u64,
     /// The number of the last of them.
     pub last: u32,
-    /// Of which dump and which request it is.
+    /// The digest of its dump and request.
     pub digest: [u8; 32],
 }
 
@@ -45,11 +45,11 @@ impl Token {
         Ok(text)
     }
 
-    /// The token that a text is. It takes no memory.
+    /// The token in a text. It takes no memory.
     ///
     /// # Errors
     ///
-    /// `BadToken` where it is not the base64, standard and padded, of 45 bytes of which the first is 1.
+    /// `BadToken` if it is not the base64, standard and padded, of 45 bytes of which the first is 1.
     pub fn parse(text: &str) -> Result<Token, Refused>
         ensures token { IfOk result (λ t. token_of text.now ≡ Some t) }
         ensures fault { IfErr result (λ r. (r ≡ BadToken) × (token_of text.now ≡ None)) }
@@ -81,7 +81,7 @@ fn encoded(alloc: Global, bytes: &[u8]) -> Result<String, NoMemory>
     Ok(STANDARD.encode(alloc, bytes)?)
 }
 
-/// The token of 45 bytes in base64.
+/// The token in the base64 of 45 bytes.
 fn decoded(text: &[u8]) -> Option<Token>
     ensures { result ≡ token_of text.now }
 {
@@ -95,7 +95,7 @@ fn decoded(text: &[u8]) -> Option<Token>
     }
 }
 
-/// The token of its bytes.
+/// The token in its bytes.
 fn token_in(bytes: &[u8; BYTES]) -> Option<Token>
     ensures { result ≡ token_in bytes.now }
 {
@@ -122,7 +122,7 @@ pub fn dump_digest(bytes: &[u8]) -> [u8; 32]
     hasher.finalize()
 }
 
-/// The digest of the tokens of a request: that of the digest of the dump and the text of the request. It takes no memory.
+/// The digest in the tokens of a request: that of the digest of the dump and the text of the request. It takes no memory.
 pub fn request_digest(dump: &[u8; 32], request: &Request) -> [u8; 32]
     ensures digest { result ≡ sha256 (dump.now ++ request.now.text.items) }
     ensures of_dump { (bytes : List ℕ) →

@@ -1,4 +1,4 @@
--- How documents stand to a mark.
+-- How documents compare to a pivot.
 use Rattle.std.proofs.Common.{◌≡◌, ℕ, List, [], ◌∷◌, refl, ap, ◌∙◌, arith, Ordering}
 use Rattle.std.proofs.{lemmas.Cmp.nat_cmp_total, lemmas.Cmp.on_total, lemmas.Cmp.then_total, lemmas.List.Sorted.ranks_by}
 use Rattle.std.specs.{Cmp.IsStrictWeakOrder, Cmp.IsTotalOrder, Ordering.is_gt, Ordering.is_lt, Ordering.nat_cmp, Ordering.ordering_reverse, Ordering.ordering_then}
@@ -23,7 +23,7 @@ places_total ds ss = then_total (keys_total ds ss) nat_cmp_total
 pub keys_weak : (ds : List Doc) (ss : List SortPath) → IsStrictWeakOrder (before (order_of_keys ds ss))
 keys_weak ds ss = ranks_by (places_total ds ss) (λ (x : ℕ). x)
 
--- the keys of the document at q stand as that document does
+-- a document compares to the keys of the document at q as it compares to that document
 pub pivot_order : (ds : List Doc) (ss : List SortPath) (p q : ℕ) → pivot_cmp (pivot_keys ds q ss) (document_at ds p) ≡ order_of_keys ds ss p q
 pivot_order ds [] p q = refl
 pivot_order ds (s ∷ ss) p q =

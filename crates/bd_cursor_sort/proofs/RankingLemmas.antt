@@ -1,4 +1,4 @@
--- Ranks say how documents stand.
+-- Ranks order documents as their sort keys do.
 use Rattle.std.proofs.Common.{◌≡◌, ◌+◌, ◌<◌, ◌≤◌, ℕ, false, cond, List, [], ◌∷◌, ◌++◌, length, map, get_or, drop, take, refl, sym, ap, ap₂, ◌∙◌, subst, arith, zero, suc, Option, Some, None}
 use Rattle.std.proofs.Common.{Ordering, add-one, append_assoc, drop-cons}
 use Rattle.std.proofs.lemmas.List.Sorted.{All-permutation, Contains-permutation, IsPermutation-map, IsPermutation-sym, IsPermutation-trans, length_permutation, ranks_by}
@@ -16,11 +16,11 @@ use Rattle.bd_cursor_sort.specs.{Sorting.AreFirst, Selection.order_of_keys, decl
 use Rattle.bd_cursor_sort.proofs.PivotLemmas.{keys_total}
 use Rattle.bd_value.specs.Tree as trees
 
--- the ranks of two documents stand as these do, and the first one's is no higher
+-- the ranks of two documents compare as the documents do, and the first rank is no higher
 abbrev Agree : (ℕ → ℕ → Ordering) → Ranked → Ranked → Type 0
 Agree by a b = (nat_cmp a.rank b.rank ≡ by a.place b.place) × (a.rank ≤ b.rank)
 
--- so do those of a document and each after it, and of any two
+-- the same for a document and each one after it; and `InOrder` for any two
 abbrev Each : (ℕ → ℕ → Ordering) → Ranked → List Ranked → Type 0
 Each by a [] = Unit {0}
 Each by a (b ∷ rs) = Agree by a b × Each by a rs
@@ -57,7 +57,7 @@ all_places : (dir : Dir) (rank : ℕ) (last : Option Keyed) (ys : List Keyed) �
 all_places dir rank last [] = refl
 all_places dir rank last (y ∷ ys) = ap (λ ps. y.place ∷ ps) (all_places dir (next_rank dir rank last y) (Some y) ys)
 
--- one path more
+-- one more path
 then_equal : (o : Ordering) → ordering_then o Equal ≡ o
 then_equal o = grind arith
 
@@ -79,7 +79,7 @@ keyed_in_order ds ss s a b e =
     ap (λ o. ordering_then o (dir_cmp s.dir (sort_key s.dir (document_at ds a.place) s.path) (sort_key s.dir (document_at ds b.place) s.path))) e
     ∙ sym (order_append ds ss s a.place b.place)
 
--- a row is that of some document
+-- each row is that of some document
 no_one : Ranked
 no_one = record { rank = 0; place = 0 }
 
@@ -91,7 +91,7 @@ of_some ds s rs rows moved i d l =
     let m : c.0 < length rs = rw length-map at c.1 in
     (c.0, m, sym (get_or-map (keyed ds s) rs c.0 no_one x m) ∙ c.2)
 
--- the keys stand as the documents do; each row comes after none of those before it
+-- the keys compare as the documents do; no row comes before an earlier one
 abbrev KeysInOrder : (ℕ → ℕ → Ordering) → Dir → List Keyed → Type 0
 KeysInOrder by dir ys = (i j : ℕ) (d : Keyed) → i < length ys → j < length ys → keyed_cmp dir (get_or ys i d) (get_or ys j d) ≡ by (get_or ys i d).place (get_or ys j d).place
 
@@ -153,7 +153,7 @@ ranked_more ds ss s ps rs rows are moved up =
         rw (add-one, get_or-map (λ (k : Keyed). k.place) rows (suc k) none d two, get_or-map (λ (k : Keyed). k.place) rows k none d one, ← in_order (suc k) k none two one)
         (next k none (omega arith))
 
--- before the first path
+-- before the first path: every rank is 0
 abbrev pub of_rank_0 : ℕ → Ranked
 of_rank_0 p = record { rank = 0; place = p }
 
@@ -171,7 +171,7 @@ none_ranked ds ps sorted rs moved up e = rw e (record {
     at : (xs : List ℕ) (i : ℕ) (d : Ranked) → i < length (map of_rank_0 xs) → get_or (map of_rank_0 xs) i d ≡ of_rank_0 (get_or xs i 0)
     at xs i d l = get_or-map of_rank_0 xs i 0 d (rw length-map at l)
 
--- after the last
+-- after the last path
 pub first_of_ranked : {ds : List Doc} {ss : List SortPath} {ps : List ℕ} {rs : List Ranked} → AreRanked ds ss ps rs → (most : ℕ) (new : List ℕ)
     → new ≡ map place_of (take most rs) → AreFirst (before (order_of_keys ds ss)) most ps new
 first_of_ranked {rs = rs} are most new e = record {
@@ -187,7 +187,7 @@ ranked_below {ps = ps} {rs = rs} n are h i d l = rw (get_or-map place_of rs i d 
 pub ranked_long : {ds : List Doc} {ss : List SortPath} {ps : List ℕ} {rs : List Ranked} → AreRanked ds ss ps rs → length rs ≡ length ps
 ranked_long {ps = ps} {rs = rs} are = sym (length-map rs place_of) ∙ length_permutation ps (map place_of rs) are.same
 
--- in hand
+-- the orders of rows are total
 keyed_total : (dir : Dir) → IsTotalOrder (keyed_cmp dir)
 keyed_total dir = then_total (on_total (λ (k : Keyed). k.rank) nat_cmp_total) (on_total (λ (k : Keyed). k.key) (dir_total dir))
 

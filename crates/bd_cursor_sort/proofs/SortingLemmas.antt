@@ -1,4 +1,4 @@
--- The places that match, kept while they come.
+-- The matching places that are kept while a source is read.
 use Rattle.std.proofs.Common.{◌≡◌, ◌-◌, ◌<◌, ◌≤◌, ℕ, Bool, true, false, List, [], ◌∷◌, ◌++◌, length, get_or, take, inl, inr, refl, sym, ap, ◌∙◌, subst, arith, zero, suc, append_assoc, ◌&&◌}
 use Rattle.std.proofs.Common.{cond, not, filter, Option, Some, None, IfSome, ◌+◌}
 use Rattle.std.proofs.lemmas.Bool.{cond_both, false_from_ne_true, ltb-false, ltb-true, not-false, not-true}
@@ -22,7 +22,7 @@ use Rattle.bd_cursor_sort.proofs.PivotLemmas.{keys_strict, keys_total, keys_weak
 use Rattle.bd_cursor_request.specs.declared.request.Request.{Request}
 use Rattle.bd_bson_dump.specs.Collection.{document_at}
 
--- k places at the front of a list, none of which e comes before
+-- the first k places of a list, none of which e comes before
 abbrev pub Stays : (ℕ → ℕ → Bool) → ℕ → ℕ → List ℕ → Type 0
 Stays lt zero e xs = Unit {0}
 Stays lt (suc k) e [] = ⊥
@@ -42,14 +42,14 @@ stays_insert o (suc k) e q [] h = absurd h
 stays_insert {lt = lt} o (suc k) e q (x ∷ xs) h = cond_both (lt q x) (q ∷ x ∷ xs) (x ∷ insert lt q xs) (λ ys. Stays lt (suc k) e ys)
     (λ f. (not_after o e q x f h.0, stays_less lt k e (x ∷ xs) h)) (λ f. (h.0, stays_insert o k e q xs h.1))
 
--- what does not come before e is put in after them
+-- a place that does not come before e is inserted after them
 refused_insert : {lt : ℕ → ℕ → Bool} → IsStrictWeakOrder lt → (k e p : ℕ) (xs : List ℕ) → Stays lt k e xs → lt p e ≡ false → take k (insert lt p xs) ≡ take k xs
 refused_insert w zero e p xs h f = refl
 refused_insert w (suc k) e p [] h f = absurd h
 refused_insert {lt = lt} w (suc k) e p (x ∷ xs) h f =
     rw (w.chain p e x f h.0) (ap (λ ys. x ∷ ys) (refused_insert w k e p xs h.1 f))
 
--- in a rising list it is the last of so many
+-- the member at i is the last of the first i + 1 of a rising list
 rises_stays : {lt : ℕ → ℕ → Bool} → IsStrictOrder lt → (xs : List ℕ) (i d : ℕ) → Rises lt xs → i < length xs → Stays lt (suc i) (get_or xs i d) xs
 rises_stays o [] i d up l = absurd (omega arith)
 rises_stays o (x ∷ xs) zero d up l = (o.irreflexive x, tt)
@@ -65,12 +65,12 @@ apart_without : (xs ys : List ℕ) (p : ℕ) → Apart (xs ++ p ∷ ys) → Apar
 apart_without [] ys p h = h.1
 apart_without (x ∷ xs) ys p h = (λ i. h.0 (in_with xs ys p x i), apart_without xs ys p h.1)
 
--- with those that are still to come, those that are kept have the same first ones as all
+-- the kept places and those still to come have the same first ones as all
 pub record AreKept (lt : ℕ → ℕ → Bool) (most : ℕ) (kept rest all : List ℕ) : Type 0 where
   pub firsts : take most (insert_all lt [] (kept ++ rest)) ≡ take most (insert_all lt [] all)
   pub apart : Apart (kept ++ rest)
 
--- a place is among the first so many of those that are kept only if it comes before e
+-- a place gets among the first of the kept ones only if it comes before e
 abbrev pub EndsAt : (ℕ → ℕ → Bool) → ℕ → List ℕ → ℕ → Type 0
 EndsAt lt most kept e = Stays lt most e (insert_all lt [] kept)
 
@@ -93,7 +93,7 @@ kept_taken lt most p kept rest all h = record { firsts = rw append_assoc h.first
 pub ends_on : {lt : ℕ → ℕ → Bool} → IsStrictOrder lt → (most p e : ℕ) (kept : List ℕ) → EndsAt lt most kept e → EndsAt lt most (kept ++ p ∷ []) e
 ends_on {lt = lt} o most p e kept h = rw (insert_all_append lt [] kept (p ∷ [])) (stays_insert o most e p (insert_all lt [] kept) h)
 
--- once they are put in order, and the first so many kept
+-- after the kept places are sorted and limited to the first ones
 pub kept_first : {lt : ℕ → ℕ → Bool} → IsStrictOrder lt → IsStrictWeakOrder lt → (most : ℕ) (kept first rest all : List ℕ)
     → AreFirst lt most kept first → AreKept lt most kept rest all → AreKept lt most first rest all
 kept_first {lt = lt} o w most kept first rest all are h =
@@ -117,7 +117,7 @@ pub kept_end : {lt : ℕ → ℕ → Bool} → IsStrictOrder lt → IsStrictWeak
 kept_end {lt = lt} o w most kept first all are h =
     are.is ∙ firsts_end o w most kept are.sorted are.same are.rises h.apart ∙ h.firsts
 
--- a place is left out that does not match, or that is not before the end of the first ones
+-- a place may be omitted if it does not match, or is not before the end of the first ones
 pub omitted : {lt : ℕ → ℕ → Bool} → IsStrictWeakOrder lt → (most : ℕ) (pass : ℕ → Bool) (end : Option ℕ) (kept old new all : List ℕ) (p : ℕ)
     → old ≡ p ∷ new → IfSome end (EndsAt lt most kept) → (pass p && is_before_pivot lt end p) ≡ false
     → AreKept lt most kept (filter pass old) all → AreKept lt most kept (filter pass new) all
@@ -133,7 +133,7 @@ omitted {lt = lt} w most pass end kept old new all p e ends late h = go (pass p)
 pub first_below : {lt : ℕ → ℕ → Bool} {most : ℕ} {old new : List ℕ} (n : ℕ) → AreFirst lt most old new → All (λ x. x < n) old → All (λ x. x < n) new
 first_below {most = most} {old = old} n are h = rw are.is (All-take (λ x. x < n) most are.sorted (All-permutation (λ x. x < n) old are.sorted are.same h))
 
--- where a loop over a source stands: the places that are kept, and the mark of the end of the first ones
+-- the state of a loop over a source: the kept places, and the pivot at the end of the first ones
 pub record IsState (ds : List Doc) (ss : List SortPath) (most : ℕ) (pass : ℕ → Bool) (rest all : List ℕ) (places : List ℕ) (end : Option Pivot) : Type 0 where
   pub kept : AreKept (before (order_of_keys ds ss)) most places (filter pass rest) (filter pass all)
   pub below : All (λ p. p < length ds) places
@@ -185,7 +185,7 @@ module _ {ds : List Doc} {ss : List SortPath} {most : ℕ} {pass : ℕ → Bool}
       go None f = tt
       go (Some q) f = rw f.1 (ends_first (keys_strict ds ss) (keys_weak ds ss) most kept first (filter pass remaining) are h.kept.apart some f.0)
 
--- all that come after a place, in order
+-- all places that come after another, in order
 pub all_in_order : (a : Selection) → IsTotalOrder a.by → (remaining : List ℕ) → IsSource a.count a.matches_at remaining → (last : Option ℕ)
     → insert_all (before a.by) [] (filter (passes a.matches_at a.by last) remaining) ≡ places_after a last
 all_in_order a o remaining source last =
@@ -196,7 +196,7 @@ all_in_order a o remaining source last =
 filter_fewer : (g : ℕ → Bool) (xs : List ℕ) → length (filter g xs) ≤ length xs
 filter_fewer g xs = omega (arith, length-filter_both g (λ x. not (g x)) (λ x. refl) xs)
 
--- no more than there are documents
+-- there are at most as many places as documents
 pub places_few : (a : Selection) (last : Option ℕ) → length (places_after a last) ≤ a.count
 places_few a last =
     let fewer : length (places_after a last) ≤ length (ordered a) = filter_fewer (is_after (before a.by) last) (ordered a) in
@@ -204,7 +204,7 @@ places_few a last =
     let matches_at : length (matching a) ≤ length (range_with_len 0 a.count) = filter_fewer a.matches_at (range_with_len 0 a.count) in
     omega (arith, length-range_with_len 0 a.count)
 
--- once nothing is left
+-- once nothing remains
 pub state_end : {ds : List Doc} {ss : List SortPath} {most : ℕ} {remaining all kept first : List ℕ} {end : Option Pivot} (f : Filter) (skip limit : ℕ) (last : Option ℕ)
     → IsSource (length ds) (matches_at_of ds f) all → remaining ≡ [] → AreFirst (before (order_of_keys ds ss)) most kept first
     → IsState ds ss most (passes (matches_at_of ds f) (order_of_keys ds ss) last) remaining all kept end → first ≡ take most (places_after (selection_for ds f ss skip limit) last)
@@ -217,19 +217,19 @@ pub wanted_in_order : (ds : List Doc) (r : Request) (remaining : List ℕ) (last
     → filter (passes (matches_at_of ds (filter_tree r.filter)) (order_of_keys ds (sort_paths r.sort.items)) last) remaining ≡ places_after (selection_of ds r) last
 wanted_in_order ds r remaining last source up = batch_in_order (selection_of ds r) (on_total (document_at ds) (sort_total (sort_paths r.sort.items))) remaining source up last
 
--- where nothing is left, all was taken
+-- if nothing remains, all was taken
 pub all_taken : (test : ℕ → Bool) (most : Option ℕ) (ps remaining all : List ℕ) → ps ++ filter test remaining ≡ all → remaining ≡ [] → IfSome most (λ n. length ps ≤ n) → ps ≡ at_most most all
 all_taken test None ps remaining all fact none few = sym (append-nil ps) ∙ rw none at fact
 all_taken test (Some n) ps remaining all fact none few = sym (take_all n ps few) ∙ ap (take n) (sym (append-nil ps) ∙ rw none at fact)
 
--- where as many were taken as are wanted, they are the first
+-- if as many were taken as are requested, they are the first
 pub first_taken : (most : Option ℕ) (ps xs all : List ℕ) (count : ℕ) → count ≡ length ps → ps ++ xs ≡ all → has_enough most count ≡ true → IfSome most (λ n. length ps ≤ n) → ps ≡ at_most most all
 first_taken None ps xs all count long fact full few = absurd cc
 first_taken (Some n) ps xs all count long fact full few =
     let e : length ps ≡ n = omega (arith, few, ltb-false count n (not-true _ full)) in
     rw (← e, ← fact) (sym (take-append_seam ps xs))
 
--- where fewer were taken than are wanted, there is room for one more
+-- if fewer were taken than are requested, one more may be taken
 pub few_more : (most : Option ℕ) (ps qs : List ℕ) (p count : ℕ) → count ≡ length ps → qs ≡ ps ++ p ∷ [] → has_enough most count ≡ false → IfSome most (λ n. length qs ≤ n)
 few_more None ps qs p count long e h = tt
 few_more (Some n) ps qs p count long e h = let l : length qs ≡ length ps + 1 = ap length e ∙ length-append ps (p ∷ []) in omega (arith, ltb-true count n (not-false _ h))

@@ -1,5 +1,5 @@
 -- Documents that are sorted by one path after the other.
--- By the paths so far each has a rank: the lower rank comes first, and documents that tie have the same rank.
+-- Each has a rank by the paths so far: the lower rank comes first, and documents that tie have the same rank.
 use Rattle.std.specs.Prelude.{◌≡◌, ◌<◌, ℕ, ◌+◌, List, [], ◌∷◌, length, map, Option, Some, None, if◌then◌else◌}
 use Rattle.std.specs.Prelude.{slice_index_or}
 use Rattle.std.specs.Ordering.{is_lt, nat_cmp, ordering_then}
@@ -17,7 +17,7 @@ pub record Keyed : Type 0 where
   pub place : ℕ
   pub key : Tree
 
--- the document, rank and key that a row in memory stands for
+-- the document, rank and key that a row in memory represents
 abbrev pub keyed_row : Row → Keyed
 keyed_row r = record { rank = r.rank; place = r.place; key = stored_key r.key.key }
 
@@ -25,7 +25,7 @@ keyed_row r = record { rank = r.rank; place = r.place; key = stored_key r.key.ke
 abbrev pub keyed : List Doc → SortPath → Ranked → Keyed
 keyed ds s r = record { rank = r.rank; place = r.place; key = sort_key s.dir (document_at ds r.place) s.path }
 
--- the order of documents by rank, and in one rank by their keys
+-- the order of documents by rank, and within one rank by their keys
 abbrev pub keyed_cmp : Dir → Keyed → Keyed → Ordering
 keyed_cmp dir a b = ordering_then (nat_cmp a.rank b.rank) (dir_cmp dir a.key b.key)
 
@@ -34,7 +34,7 @@ abbrev pub rows_cmp : Dir → Keyed → Keyed → Ordering
 rows_cmp dir a b = ordering_then (keyed_cmp dir a b) (nat_cmp a.place b.place)
 
 -- the new rank of a document in a sorted list:
--- one more than the last one's if it comes after it by rank and key, else the same
+-- one more than the last one's if it comes after that by rank and key, otherwise the same
 abbrev pub next_rank : Dir → ℕ → Option Keyed → Keyed → ℕ
 next_rank dir rank None y = rank
 next_rank dir rank (Some x) y = if is_lt (keyed_cmp dir x y) then rank + 1 else rank

@@ -21,7 +21,7 @@ pub(crate) struct Pivot<'d> {
     pub keys: Vec<PivotKey<'d>>,
 }
 
-/// One path of a sort, its direction, and the key of the marked document on it.
+/// One path of a sort, its direction, and the key of the pivot on it.
 #[derive(Clone, Copy)]
 pub(crate) struct PivotKey<'d> {
     pub path: &'d Path,
@@ -30,7 +30,7 @@ pub(crate) struct PivotKey<'d> {
 }
 
 impl<'d> Pivot<'d> {
-    /// The mark of the document at a place.
+    /// The pivot for the document at a place.
     pub(crate) fn new(
         alloc: Global,
         dump: &'d Dump,
@@ -52,7 +52,7 @@ impl<'d> Pivot<'d> {
         Ok(Pivot { place, keys })
     }
 
-    /// How the document at a place stands to it: by their keys, and where these are equal, by their places.
+    /// How the document at a place compares to it: by their keys, and if these are equal, by their places.
     pub(crate) fn compare(&self, dump: &Dump, place: u32) -> Ordering
         requires { place < length (documents dump.now) }
         ensures { (ss : List SortPath) → IsPivot (documents dump.now) ss self.now →
@@ -62,7 +62,7 @@ impl<'d> Pivot<'d> {
         Pivot::compare_keys(&self.keys, dump, place).then(place.cmp(&self.place))
     }
 
-    /// The first key decides that differs from that of the document at a place.
+    /// The first key that differs from that of the document at a place decides.
     fn compare_keys(keys: &[PivotKey<'_>], dump: &Dump, place: u32) -> Ordering
         requires { place < length (documents dump.now) }
         ensures { result ≡ pivot_cmp (pivots_in keys.now) (document_at (documents dump.now) place) }

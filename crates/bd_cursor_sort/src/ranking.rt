@@ -1,4 +1,4 @@
-//! Documents put in order by one path after the other, so that the keys on one path alone are kept at a time.
+//! Documents sorted by one path after the other, so that only the keys on one path are in memory at a time.
 
 ghost use Rattle.std.specs.Prelude.{◌≡◌, ◌<◌, ◌≤◌, ◌∷◌, ◌++◌, [], All, IfOk, List, None, length, map, option_map, take, ℕ};
 ghost use Rattle.std.specs.List.Sorted.{IsPermutation, IsSortedBy};
@@ -19,7 +19,7 @@ use bd_value::NoMemory;
 use std::alloc::{AllocError, Global};
 use std::cmp::Ordering;
 
-/// The places of the first so many of the documents at some places, in order. No value is copied.
+/// The places of the first n of some documents, in order. No value is copied.
 pub(crate) fn first_in_order(
     alloc: Global,
     dump: &Dump,
@@ -38,14 +38,14 @@ pub(crate) fn first_in_order(
     first_places_of(alloc, &ranked, most)
 }
 
-/// A document, and how it stands by some paths of a sort: the lower rank is first, and those that tie have one rank.
+/// A document with its rank by some paths of a sort: the lower rank is first, and documents that tie have one rank.
 #[derive(Clone, Copy)]
 pub(crate) struct Ranked {
     pub rank: u32,
     pub place: u32,
 }
 
-/// The documents at some places, in the order of the places. It fails where memory runs out, and where a rank would not fit in
+/// The documents at some places, in the order of the places. It fails if memory runs out, and if a rank would not fit in
 /// 32 bits.
 fn unranked(alloc: Global, places: &[u32]) -> Result<Vec<Ranked>, NoMemory>
     ensures ranked { IfOk result (λ v. (ds : List Doc) → AreRanked ds [] places.now v.items) }
@@ -67,7 +67,7 @@ fn unranked(alloc: Global, places: &[u32]) -> Result<Vec<Ranked>, NoMemory>
     Ok(ranked)
 }
 
-/// The documents in the order of one path more.
+/// The documents in order after one more path.
 fn ranked_by(
     alloc: Global,
     dump: &Dump,
@@ -89,7 +89,7 @@ fn ranked_by(
     ranks_of(alloc, &rows, dir)
 }
 
-/// Puts documents in order: by rank, key and place, so that no two tie.
+/// Sorts documents by rank, key and place, so that no two tie.
 fn sort_rows(rows: &mut Vec<Row<'_>>, dir: Dir)
     ensures same { IsPermutation rows.old.items rows.new.items }
     ensures rises { IsSortedBy (λ a b.
@@ -98,7 +98,7 @@ fn sort_rows(rows: &mut Vec<Row<'_>>, dir: Dir)
     rows.sort_unstable_by(|a, b| a.compare(b, dir).then(a.place.cmp(&b.place)));
 }
 
-/// The new ranks of documents that are in order.
+/// The new ranks of documents in order.
 fn ranks_of(alloc: Global, rows: &[Row<'_>], dir: Dir) -> Result<Vec<Ranked>, NoMemory>
     requires { length rows.now ≤ 4294967295 }
     ensures { IfOk result (λ v. v.items ≡ ranks_from dir 0 None (map keyed_row rows.now)) }
@@ -115,7 +115,7 @@ fn ranks_of(alloc: Global, rows: &[Row<'_>], dir: Dir) -> Result<Vec<Ranked>, No
     Ok(ranked)
 }
 
-/// The places of the first so many.
+/// The places of the first n.
 fn first_places_of(alloc: Global, ranked: &[Ranked], most: usize) -> Result<Vec<u32>, NoMemory>
     ensures { IfOk result (λ v. v.items ≡ map place_of (take most ranked.now)) }
 {
@@ -148,7 +148,7 @@ impl<'d> Row<'d> {
         }
     }
 
-    /// By rank, and where they have one rank by key.
+    /// By rank, and within one rank by key.
     fn compare(&self, other: &Row<'_>, dir: Dir) -> Ordering
         ensures { result ≡ keyed_cmp dir (keyed_row self.now) (keyed_row other.now) }
     {
@@ -158,7 +158,7 @@ impl<'d> Row<'d> {
         }
     }
 
-    /// The new rank of the next document: that of the last one where they tie.
+    /// The new rank of the next document: that of the last one if they tie.
     fn rank_after(&self, last: Option<Row<'_>>, rank: u32, dir: Dir) -> u32
         requires { rank < 4294967295 }
         ensures { result

@@ -19,7 +19,7 @@ use bd_path::{Dir, Key, Path, compare_in, sort_key_node};
 use bd_value::{Kind, Reading};
 use std::cmp::Ordering;
 
-/// The key of a document on one path of a sort, and its front: a text is read only where two fronts do not tell the order.
+/// The key of a document on one path of a sort, and its prefix: the key is read only if two prefixes do not decide the order.
 #[derive(Clone, Copy)]
 pub(crate) struct SortKey<'d> {
     pub key: Key<RawValue<'d>>,
@@ -28,7 +28,7 @@ pub(crate) struct SortKey<'d> {
 }
 
 impl<'d> SortKey<'d> {
-    /// That of the document at a place.
+    /// The key of the document at a place.
     pub(crate) fn of(dump: &'d Dump, place: u32, path: &Path, dir: Dir) -> SortKey<'d>
         requires { place < length (documents dump.now) }
         ensures { stored_key result.key

@@ -1,4 +1,4 @@
-//! The places of the documents that match and come after the last one given, in the order of a sort.
+//! The places of the documents that match and come after the last one returned, in the order of a sort.
 
 ghost use Rattle.std.specs.Prelude.{◌≡◌, ◌&&◌, ◌<◌, ◌≤◌, ℕ, All, IfOk, IfSome, List, OnOk, length, take};
 ghost use Rattle.bd_cursor_model.specs.Answer.{at_most, before};
@@ -21,14 +21,14 @@ use bd_query_filter::Filter;
 use bd_value::NoMemory;
 use std::alloc::Global;
 
-/// Places that are kept at least before they are put in order, so that few are not put in order often.
+/// The fewest places that are kept before they are sorted, so that few are not sorted often.
 const FEWEST: usize = 256;
 
-/// How many times as many places as are wanted are kept before they are put in order.
+/// Places are sorted when this many times as many as are requested are kept.
 const TIMES: usize = 4;
 
-/// The places of the documents that match and come after the last one given, in the order of the sort, at most so many. It
-/// takes memory for some more places than are wanted, and not for all that match. It fails only if memory runs out.
+/// The places of the documents that match and come after the last one returned, in the order of the sort, at most `most`. It takes
+/// memory for a multiple of the requested places, not for all that match. It fails only if memory runs out.
 pub fn sorted_places<P: PlaceSource + Drop>(
     alloc: Global,
     dump: &Dump,
@@ -51,7 +51,7 @@ pub fn sorted_places<P: PlaceSource + Drop>(
     first_places(alloc, dump, request, source, &last, limit)
 }
 
-/// The same from a source that hands them out in the order of the sort: it stops where the last one is found, and sorts nothing.
+/// The same from a source that returns places in the order of the sort: it stops once the last one is found, and sorts nothing.
 /// It fails only if memory runs out.
 pub fn places_in_order<P: PlaceSource + Drop>(
     alloc: Global,
@@ -92,7 +92,7 @@ pub fn is_match(dump: &Dump, filter: &Filter, place: u32) -> bool
     matches(filter, dump.document(place).value())
 }
 
-/// How many of so many places are given at most.
+/// How many of `count` places are returned at most.
 fn limit_of(most: Option<u64>, count: usize) -> usize
     ensures { (ps : List ℕ) → length ps ≤ count → take result ps ≡ at_most most ps }
 {
@@ -102,7 +102,7 @@ fn limit_of(most: Option<u64>, count: usize) -> usize
     }
 }
 
-/// Whether there are as many places as are wanted at most.
+/// Whether as many places were found as are requested at most.
 fn is_full(most: Option<u64>, count: usize) -> bool
     ensures { result ≡ has_enough most count }
 {
@@ -112,7 +112,7 @@ fn is_full(most: Option<u64>, count: usize) -> bool
     }
 }
 
-/// The mark of the last document given, where there is one.
+/// The pivot for the last document returned, if any.
 fn last_pivot<'d>(
     alloc: Global,
     dump: &'d Dump,
@@ -130,8 +130,8 @@ fn last_pivot<'d>(
     }
 }
 
-/// The first so many places of the documents that match and come after the last one given. A document is compared with the last
-/// of the first so many so far, and mostly left out.
+/// The first n places of the documents that match and come after the last one returned. A document is compared with the last
+/// of the first n so far, and mostly left out.
 fn first_places<P: PlaceSource + Drop>(
     alloc: Global,
     dump: &Dump,
@@ -162,8 +162,8 @@ fn first_places<P: PlaceSource + Drop>(
     first_in_order(alloc, dump, &request.sort, &places, most)
 }
 
-/// Puts places in order and keeps the first so many. Where there are as many, it gives the mark of the last one: no document
-/// after it is among the first so many.
+/// Sorts places and keeps the first n. If there are n, it returns the pivot for the last one: no document after it is among
+/// the first n.
 fn keep_first<'d>(
     alloc: Global,
     dump: &'d Dump,
@@ -188,7 +188,7 @@ fn keep_first<'d>(
     Ok(Some(pivot))
 }
 
-/// Whether the document at a place is wanted, and comes before the end of the first ones.
+/// Whether the document at a place is selected, and comes before the end of the first ones.
 fn may_be_first(
     dump: &Dump,
     request: &Request,
@@ -208,7 +208,7 @@ fn may_be_first(
     is_wanted(dump, request, last, place) && is_ahead(dump, end, place)
 }
 
-/// Whether the document at a place matches and comes after the last one given.
+/// Whether the document at a place matches and comes after the last one returned.
 fn is_wanted(dump: &Dump, request: &Request, last: &Option<Pivot<'_>>, place: u32) -> bool
     requires last { IfSome last.now
         (IsPivot (documents dump.now) (sort_paths request.now.sort.items)) }
@@ -220,7 +220,7 @@ fn is_wanted(dump: &Dump, request: &Request, last: &Option<Pivot<'_>>, place: u3
     is_match(dump, &request.filter, place) && is_after_pivot(dump, last, place)
 }
 
-/// Whether the document at a place comes after that of a mark.
+/// Whether the document at a place comes after a pivot.
 fn is_after_pivot(dump: &Dump, pivot: &Option<Pivot<'_>>, place: u32) -> bool
     requires { place < length (documents dump.now) }
     ensures { (ss : List SortPath) → IfSome pivot.now (IsPivot (documents dump.now) ss) → result
@@ -232,7 +232,7 @@ fn is_after_pivot(dump: &Dump, pivot: &Option<Pivot<'_>>, place: u32) -> bool
     }
 }
 
-/// Whether it comes before that of a mark.
+/// Whether it comes before a pivot.
 fn is_ahead(dump: &Dump, pivot: &Option<Pivot<'_>>, place: u32) -> bool
     requires { place < length (documents dump.now) }
     ensures { (ss : List SortPath) →

@@ -1,16 +1,16 @@
-//! What a row answers, and a row that is begun again.
+//! The result of a row, and a row that is repeated.
 use std::fmt::{Debug, InlineText};
 
-/// Why a row has no answer. It is no `Debug` itself, so that each error converts to it.
+/// Why a row has no result. It is not `Debug` itself, so that each error converts to it.
 #[derive(Drop)]
 pub(crate) enum RowFault {
     NoMemory,
-    /// A call was refused for another reason, or answered what it should not.
+    /// A call was refused for another reason, or its result is wrong.
     Otherwise,
 }
 
-/// Whether the answer of a row is whole, where memory is wanted at most once: at its first try, or at its second where the first
-/// answers that no memory was given. The row is a call, which is written twice.
+/// Whether the result of a row is complete if memory runs out at most once: at its first try, or at its second if the first
+/// runs out of memory. The row is a call, which is written twice.
 macro_rules! is_whole {
     ($row:expr) => {
         match $row {
@@ -22,7 +22,7 @@ macro_rules! is_whole {
 
 pub(crate) use is_whole;
 
-/// Where memory was wanted, the text of an error for debugging has `NoMemory` in it, or is that of an error of the allocator. A filter
+/// If memory ran out, the debugging text of an error has `NoMemory` in it, or is that of an error of the allocator. A filter
 /// is never refused for that.
 impl<E: Debug + Drop> From<E> for RowFault {
     fn from(error: E) -> RowFault {

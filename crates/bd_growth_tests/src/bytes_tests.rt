@@ -1,4 +1,4 @@
-//! Documents in memory and in bytes, and devices that are read whole, and document by document.
+//! Documents in memory and in bytes, and devices that are read completely, and document by document.
 use crate::answers::{RowFault, is_whole};
 use crate::samples::{FIVE, MIXED, ONE, SEVERAL_KEYS, TWICE, dump_of};
 use bd_bson_check::{FaultKind, read_document};
@@ -15,7 +15,7 @@ fn is_one(document: &Document) -> bool {
     document.len() == 1 && matches!(document.first("a"), Some(Value::Int32(1)))
 }
 
-/// Adds a number under `a`. A push that was refused leaves as many pairs as before, and is made again.
+/// Adds a number under `a`. A push that was refused leaves the same pairs, and is repeated.
 fn push(alloc: Global, document: &mut Document, number: i32) -> Result<bool, RowFault> {
     let before = document.len();
     let name = String::from_str(alloc, "a")?;
@@ -38,12 +38,12 @@ fn pushes(alloc: Global) -> Result<bool, RowFault> {
     Ok(true)
 }
 
-/// What is read of bytes.
+/// Documents that are read from bytes.
 fn documents(alloc: Global) -> Result<bool, RowFault> {
     Ok(is_one(&read_document(alloc, ONE, 0, 0)?))
 }
 
-/// What is copied of a view of a dump.
+/// Copies from a view of a dump.
 fn copies(alloc: Global) -> Result<bool, RowFault> {
     let dump = dump_of(alloc, ONE)?;
     if dump.len() != 1 {
@@ -67,7 +67,7 @@ const ROWS: [(&str, &[u8]); 5] = [
     (r#"{"a":0} {"a":1} {"a":2} {"a":3} {"a":4}"#, FIVE),
 ];
 
-/// Whether the documents of texts, with a space after each but the last, have these bytes.
+/// Whether the documents of texts, separated by spaces, have these bytes.
 fn are_written(alloc: Global, texts: &str, wanted: &[u8]) -> Result<bool, RowFault> {
     let mut bytes = Vec::new(alloc);
     for text in texts.split(' ') {
@@ -98,7 +98,7 @@ fn faults(alloc: Global) -> Result<bool, RowFault> {
 /// Five bytes.
 const EMPTY: &[u8] = b"\x05\0\0\0\0";
 
-/// Whether reading five bytes, one a read, is refused for this; for none where all are read.
+/// Whether reading five bytes, one per read, is refused for this reason; None if all are read.
 fn reads(alloc: Global, limits: Limits, wanted: Option<ReadFault>) -> Result<bool, RowFault> {
     let mut input = MemoryInput::new(EMPTY, 1, None);
     match read_all(alloc, &mut input, limits) {
@@ -126,7 +126,7 @@ fn cut_short_documents(alloc: Global) -> Result<bool, RowFault> {
     }
 }
 
-/// What the row of that name answers.
+/// The result of the row with that name.
 fn answer(alloc: Global, row: &str) -> Result<bool, RowFault> {
     match row {
         "pushes" => pushes(alloc),
@@ -152,7 +152,7 @@ fn documents_and_bytes(rt: HostRuntime) {
     for (texts, bytes) in ROWS {
         assert!(rt; is_whole!(are_written(rt.alloc(), texts, bytes)), "{texts}");
     }
-    // The fifth byte is one too many, the fourth turn, or the sixth finds the end.
+    // The fifth byte is one too many, the fourth read is, or the sixth finds the end.
     for (bytes, turns, wanted) in [
         (5, 6, None),
         (4, 9, Some(ReadFault::TooLong)),

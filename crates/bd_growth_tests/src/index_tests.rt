@@ -11,7 +11,7 @@ use bd_path::{Dir, Path, sparse_keys};
 use bd_value::{NoMemory, Value};
 use std::alloc::Global;
 
-/// All entries are from 5 on, of both documents.
+/// All entries are from 5 on, in both documents.
 fn places(alloc: Global) -> Result<bool, RowFault> {
     let dump = dump_of(alloc, SEVERAL_KEYS)?;
     let index = Index::build(alloc, &dump, Path::parse(alloc, "a")?)?;
@@ -70,7 +70,7 @@ fn has_keys(
     Ok(are_values(&keys, wanted))
 }
 
-/// No key of a field that is missing, null, and two numbers.
+/// No key for a missing field, null, and two numbers.
 fn sparse(alloc: Global) -> Result<bool, RowFault> {
     let dump = dump_of(alloc, MIXED)?;
     let index = Index::build_sparse(alloc, &dump, Path::parse(alloc, "a")?)?;
@@ -90,7 +90,7 @@ fn sparse(alloc: Global) -> Result<bool, RowFault> {
     Ok(true)
 }
 
-/// What the row of that name answers.
+/// The result of the row with that name.
 fn answer(alloc: Global, row: &str) -> Result<bool, RowFault> {
     match row {
         "places" => places(alloc),

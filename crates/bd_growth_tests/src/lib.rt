@@ -1,6 +1,6 @@
 //! Rows of calls that grow. `tests/faults/growing_calls.py` runs them once for each growth of their memory, with that one refused.
-//! Where a call answers that no memory was given, the row is begun again; a call of a session or on a lent vector is made again.
-//! Each row then has its whole answer, which was worked by hand. Another refusal or a shorter answer fails. Whole runs of the
+//! If a call runs out of memory, the row is repeated; a call of a session or on a borrowed vector is made again. Each row then
+//! has its complete result, which was worked out by hand. Another refusal or a shorter result fails. Whole runs of the
 //! program are in `tests/faults/growths.py`.
 #![tactic(auto)]
 

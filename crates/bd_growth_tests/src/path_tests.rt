@@ -34,7 +34,7 @@ fn keys_of_an_array(alloc: Global) -> Result<bool, RowFault> {
     Ok(are_keys && matches!(values.as_slice(), [Value::Int32(5), Value::Int32(7)]))
 }
 
-/// A copy of all has them all.
+/// A copy of the array has all its elements.
 fn copies(alloc: Global) -> Result<bool, RowFault> {
     let document = read_doc(alloc, b"{\"a\":[5,7,5]}")?;
     let Some(array) = document.first("a") else {
@@ -89,7 +89,7 @@ fn mixed(alloc: Global) -> Result<bool, RowFault> {
     Ok(matches!(fault.place.as_slice(), [a, b] if a.as_str() == "a" && b.as_str() == "b"))
 }
 
-/// A filter for what is not null gives none; one from 5 on holds 5.
+/// A filter for what is not null has no bounds; the bounds of one from 5 on contain 5.
 fn bounds(alloc: Global) -> Result<bool, RowFault> {
     let path = Path::parse(alloc, "a")?;
     let other = read_filter(alloc, "{\"a\":{\"$ne\":null}}")?;
@@ -101,7 +101,7 @@ fn bounds(alloc: Global) -> Result<bool, RowFault> {
     Ok(matches!(&bounds, Some(b) if b.contains(Tree::Value(&Value::Int32(5)))))
 }
 
-/// What the row of that name answers.
+/// The result of the row with that name.
 fn answer(alloc: Global, row: &str) -> Result<bool, RowFault> {
     match row {
         "keys" => keys_of_an_array(alloc),

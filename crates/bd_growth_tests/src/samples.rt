@@ -1,4 +1,4 @@
-//! Documents in bytes, and what is read of them.
+//! Documents in bytes, and what is read from them.
 use crate::answers::RowFault;
 use bd_bson_dump::{Dump, read_dump};
 use bd_extjson::read_doc;

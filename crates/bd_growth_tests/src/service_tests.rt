@@ -25,7 +25,7 @@ pub(crate) const TALK: (&str, &str) = (
 "#,
 );
 
-/// The same over `MIXED`: a cursor in the order of an index, whose token goes on without it.
+/// The same over `MIXED`: a cursor in the order of an index, whose token resumes without it.
 pub(crate) const RESUMED: (&str, &str) = (
     r#"{"createIndex":"a"}
 {"find":{},"sort":{"a":1},"use":{"index":"a"}}
@@ -43,7 +43,7 @@ pub(crate) const RESUMED: (&str, &str) = (
 "#,
 );
 
-/// Whether each line that is sent to a service over a dump has its reply. Of a reply that was not made nothing is there.
+/// Whether each line that is sent to a service over a dump has its reply. If a reply could not be made, nothing of it is written.
 fn replies(alloc: Global, dump: &[u8], talk: (&str, &str)) -> Result<bool, RowFault> {
     let mut service = Service::new(alloc, dump_of(alloc, dump)?);
     let mut wanted = talk.1.lines();

@@ -1,4 +1,4 @@
-//! Calls of sessions: one that was refused is made again, and gives its whole answer then. The tokens were made by other programs.
+//! Calls of sessions: a refused call is repeated, and then has its complete result. The tokens were made by other programs.
 use crate::answers::{RowFault, is_whole};
 use crate::samples::{FIVE, MIXED, SEVERAL_KEYS, dump_of};
 use crate::service_tests::{RESUMED, TALK};
@@ -75,7 +75,7 @@ fn replies(alloc: Global, dump: &[u8], calls: &[Call], wanted: &str) -> Result<b
     Ok(true)
 }
 
-/// Two batches of an answer that is cut on both sides.
+/// Two batches of an answer with a skip and a limit.
 const BATCHES: [Call; 3] = [
     Call::Find(Words("{}", "{}", 1, 3)),
     Call::Next(1, 2),
@@ -102,7 +102,7 @@ const WALKED: [Call; 6] = [
     Call::Next(2, 5),
 ];
 
-/// What is told of a plan by an index.
+/// The plan by an index, as `explain` reports it.
 const EXPLAINED: [Call; 2] = [
     Call::Create,
     Call::Explain(Words("{\"a\":{\"$gte\":5}}", "{}", 0, 0)),

@@ -1,4 +1,4 @@
-//! Texts and bytes that are appended: after a refusal the vector holds what it held, and the call is made again.
+//! Texts and bytes that are appended: after a refusal the vector is unchanged, and the call is repeated.
 use crate::answers::{RowFault, is_whole};
 use crate::samples::{ONE, TWICE, dump_of};
 use bd_bson_check::read_document;
@@ -28,14 +28,14 @@ const ROWS: [(Row, &[u8]); 8] = [
         br#"{"a":{"$numberInt":"1"},"a":{"$numberInt":"2"}}"#,
     ),
     (Row::View, b"{\"a\":{\"$numberInt\":\"1\"}}"),
-    // The second is over the first.
+    // The second overwrites the first.
     (Row::Line, b"{\"a\":{\"$numberInt\":\"1\"}}\n"),
     (Row::Line, b"{\"a\":{\"$numberInt\":\"1\"}}\n"),
     (
         Row::Reply,
         br#"{"ok":true,"documents":[{"a":{"$numberInt":"1"}}],"end":false,"token":"AQIAAAAAAAAAAgAAAAAAAAAAAAAAAAAAAAAAAAAAAAAAAAAAAAAAAAAAAAAA"}"#,
     ),
-    // One that is packed from its tokens, and one of which a tree is made first.
+    // One that is packed from its tokens, and one for which a tree is built first.
     (Row::Packed(b"{\"a\":1}"), ONE),
     (
         Row::Packed(b"{\"a\":{\"$scope\":{\"x\":1},\"$code\":\"g\"}}"),
@@ -43,7 +43,7 @@ const ROWS: [(Row, &[u8]); 8] = [
     ),
 ];
 
-/// What the calls read, the room of all lines, and their packer.
+/// The inputs of the calls, the buffer for all lines, and the packer.
 #[derive(Drop)]
 struct Sources {
     document: Document,
@@ -90,7 +90,7 @@ fn append(alloc: Global, from: &mut Sources, row: Row, out: &mut Vec<u8>) -> Res
     }
 }
 
-/// Whether all is appended to two bytes, which alone are there after a refusal.
+/// Whether all is appended to two bytes, which alone remain after a refusal.
 fn appends(alloc: Global) -> Result<bool, RowFault> {
     let mut from = read_sources(alloc)?;
     for (row, wanted) in ROWS {

@@ -1,4 +1,4 @@
--- Entries: their order, which of them are the same, how an index keeps them, and those of one document after the other.
+-- Entries: their order, which of them are the same, how an index stores them, and those of one document after the other.
 use Rattle.std.proofs.Common.{◌≡◌, ◌≢◌, ◌<◌, ◌≤◌, ◌+◌, ℕ, zero, suc, Bool, true, false, cond, List, [], ◌∷◌, ◌++◌, Some, length, get_or, map, filter, take, drop, refl, sym, ap, ap₂, ◌∙◌, subst, arith}
 use Rattle.std.proofs.{Common.length-append, lemmas.Bool.and_parts, lemmas.Bool.not-true, lemmas.Bool.Decides.nat_tests, lemmas.List.get_or-map, lemmas.List.length-map}
 use Rattle.std.proofs.{lemmas.List.map_more, lemmas.List.map-append, lemmas.List.Elements.recursion_from_All, lemmas.List.Sorted.ranks_by, lemmas.List.Sorted.sorted_far}
@@ -18,7 +18,7 @@ use Rattle.bd_index.specs.Entries.{KeyAt, entries_from, entries_of, entry_cmp, i
 use Rattle.bd_index.specs.IndexView.{IsFoundIn, IsIndexOf, KeepsDump, KeepsEntries, KeepsEntry, found_entry}
 use Rattle.bd_index.specs.{declared.entry.Entry.Entry, declared.entry.FoundKey.FoundKey, declared.index.Index.Index}
 
--- by key in an order, then by place
+-- by a given order of keys, then by place
 abbrev pub entry_by : (Tree → Tree → Ordering) → KeyAt → KeyAt → Ordering
 entry_by by a b = ordering_then (by a.0 b.0) (nat_cmp a.1 b.1)
 
@@ -52,7 +52,7 @@ tied o p n m e = grind (arith, nat_tests)
 pub ties_are_same : (a b : KeyAt) → ties (λ x y. is_lt (entry_cmp x y)) a b ≡ is_same_entry a b
 ties_are_same a b = tied _ _ a.1 b.1 (cmp_total.antisymm b.0 a.0)
 
--- what stands between two that are the same is the same too
+-- what is between two entries that are the same is the same too
 pub same_between : (k x e : KeyAt) → is_same_entry k e ≡ true → is_lt (entry_cmp x k) ≡ false → is_lt (entry_cmp e x) ≡ false → is_same_entry k x ≡ true
 same_between k x e h low high =
     let before = not-true _ (and_parts _ _ (ties_are_same k e ∙ h)).0 in
@@ -72,14 +72,14 @@ pub keys_rise : (es : List KeyAt) → IsSortedBy (λ a b. is_lt (entry_cmp a b))
     → is_lt (cmp (get_or es j d).0 (get_or es i d).0) ≡ false
 keys_rise es sorted i j d le lt = first_not_less _ _ (sorted_far (λ x y. is_lt (entry_cmp x y)) (ranks_by entry_total (λ x. x)) es sorted i j d le lt)
 
--- ---- entries seen through a view
+-- ---- entries viewed through a function
 
--- some member that was kept passes a test exactly if some member passes both
+-- some member that passes p passes t exactly if some member passes both
 pub any_filter : {A : Type 0} (t p : A → Bool) (xs : List A) → list_any t (filter p xs) ≡ list_any (λ x. p x && t x) xs
 any_filter t p [] = refl
 any_filter t p (x ∷ xs) = grind (arith, any_filter t p xs)
 
--- some image passes a test exactly if some member does whose image passes it
+-- some member whose image passes a test exists exactly if some image passes it
 pub any_map : {A B : Type 0} (test : B → Bool) (f : A → B) (xs : List A) → list_any (λ x. test (f x)) xs ≡ list_any test (map f xs)
 any_map test f [] = refl
 any_map test f (x ∷ xs) = ap (λ (b : Bool). test (f x) || b) (any_map test f xs)
@@ -90,7 +90,7 @@ sorted_map f lt (x ∷ xs) s k d low high =
     let n : length (map f (x ∷ xs)) ≡ length (x ∷ xs) = length-map (x ∷ xs) f in
     rw (get_or-map f (x ∷ xs) (k + 1) x d (omega arith), get_or-map f (x ∷ xs) k x d (omega arith)) (s k x low (omega arith))
 
--- ---- whether some pass, by how many do
+-- ---- whether some member passes, by how many do
 
 pub any_by_count : {A : Type 0} (p : A → Bool) (xs : List A) → list_any p xs ≡ nat_lt 0 (count_by p xs)
 any_by_count p [] = refl
@@ -99,22 +99,22 @@ any_by_count p (x ∷ xs) = positive (p x) (count_by p xs) (list_any p xs) (any_
     positive : (b : Bool) (c : ℕ) (r : Bool) → r ≡ nat_lt 0 c → (b || r) ≡ nat_lt 0 (cond b 1 0 + c)
     positive b c r h = grind (arith, nat_tests)
 
--- two lists with as many members that pass a test both have one, or neither has
+-- if as many members of two lists pass a test, both lists have one or neither has
 pub any_as_counts : {A : Type 0} (p : A → Bool) (xs ys : List A) → count_by p xs ≡ count_by p ys → list_any p xs ≡ list_any p ys
 any_as_counts p xs ys h = any_by_count p xs ∙ ap (nat_lt 0) h ∙ sym (any_by_count p ys)
 
--- ---- what a filter keeps
+-- ---- what passes a filter
 
 pub none_pass : {A : Type 0} (p : A → Bool) (xs : List A) → All (λ x. p x ≡ false) xs → filter p xs ≡ []
 none_pass p [] h = refl
 none_pass p (x ∷ xs) h = rw (h 0 x (omega arith)) (none_pass p xs (λ k d lt. h (suc k) d (omega arith)))
 
--- a list whose members all pass is kept whole
+-- a list whose members all pass stays whole
 pub all_pass : {A : Type 0} (p : A → Bool) (xs : List A) → All (λ x. p x ≡ true) xs → filter p xs ≡ xs
 all_pass p [] h = refl
 all_pass {A} p (x ∷ xs) h = rw (h 0 x (omega arith)) (ap (λ (l : List A). x ∷ l) (all_pass p xs (λ k d lt. h (suc k) d (omega arith))))
 
--- ---- entries as an index keeps them
+-- ---- entries as an index stores them
 
 pub zip_push : {A B : Type 0} (R : A → B → Type 0) (xs : List A) (ys : List B) (x : A) (y : B) → AllZip R xs ys → R x y → AllZip R (xs ++ x ∷ []) (ys ++ y ∷ [])
 zip_push R [] [] x y all one = (one, tt)
@@ -130,16 +130,16 @@ zip_at R (a ∷ xs) (b ∷ ys) (suc i) d e all lt = zip_at R xs ys i d e all.1 (
 pub as_many_stored : (bytes : List ℕ) (stored : List Entry) (es : List KeyAt) → KeepsEntries bytes stored es → length es ≡ length stored
 as_many_stored bytes stored es all = AllZip-long (KeepsEntry bytes) stored es all
 
--- an index has as many entries in memory as those that it stands for
+-- an index has as many entries in memory as it represents
 pub count_stored : (dump : Dump) (index : Index) (h : IsIndexOf dump index) → length h.keeps.entries ≡ length index.entries.items
 count_stored dump index h = as_many_stored (bytes_of dump) index.entries.items h.keeps.entries h.keeps.entries_are_at
 
--- the key of an entry stands where it says
+-- the key of an entry is at its offset
 pub key_there : (bytes : List ℕ) (stored : List Entry) (es : List KeyAt) (i : ℕ) (k : Entry) (d : KeyAt) → KeepsEntries bytes stored es → i < length stored
     → k ≡ get_or stored i k → IsAt bytes k.key (get_or es i d).0
 key_there bytes stored es i k d all lt is = subst (λ (x : Entry). IsAt bytes x.key (get_or es i d).0) (sym is) (zip_at (KeepsEntry bytes) stored es i k d all lt).0
 
--- the entries of some keys, and one more
+-- one more entry, for the next of some found keys
 pub one_entry : (bytes : List ℕ) (stored new : List Entry) (xs : List FoundKey) (i : ℕ) (x : FoundKey) (at : At) → i < length xs → x ≡ get_or xs i x
     → All (IsFoundIn bytes) xs → IsAt x.key.bytes.now at (meaning x.key.sound)
     → new ≡ stored ++ record { key = at; place = x.place } ∷ [] → KeepsEntries bytes stored (map found_entry (take i xs)) → KeepsEntries bytes new (map found_entry (take (i + 1) xs))
@@ -152,7 +152,7 @@ one_entry bytes stored new xs i x at lt is all there pushed so =
 
 -- ---- one document more
 
--- whether a document passes, by this one and those after it
+-- whether a document from number n on passes: this one, or one after it
 pub any_next : (test : Tree → Bool) (n : ℕ) (ds : List Doc) (d : Doc) (t : Tree) (r : Bool) → slice_get ds n ≡ Some d → t ≡ doc (fields_of d) → r ≡ test t
     → list_any (λ x. test (doc (fields_of x))) (drop n ds) ≡ (r || list_any (λ x. test (doc (fields_of x))) (drop (n + 1) ds))
 any_next test n ds d t r is tree fact =
@@ -185,17 +185,17 @@ counted_more test old new document_keys rest from all added is so_far =
     let e = ap (λ (l : List KeyAt). count_by test (old ++ l)) (sym is) ∙ so_far in
     omega (arith, a, b, c, d, e, added)
 
--- ---- how many there are
+-- ---- how many entries there are
 
 count_all : {A : Type 0} (xs : List A) → count_by (λ _. true) xs ≡ length xs
 count_all {A} xs = sym (length-filter (λ _. true) xs) ∙ ap (λ (l : List A). length l) (all_pass (λ _. true) xs (λ k d lt. refl))
 
--- as many are kept as the documents have
+-- as many entries are stored as the documents have
 pub size_stored : (sparse : Bool) (path : Names) (dump : Dump) (stored : List Entry) → KeepsDump sparse path dump stored → length stored ≡ length (entries_of sparse path (documents dump))
 size_stored sparse path dump stored k =
     sym (as_many_stored (bytes_of dump) stored k.entries k.entries_are_at) ∙ sym (count_all k.entries) ∙ k.are.same (λ _. true) ∙ count_all (entries_of sparse path (documents dump))
 
--- ---- each document has a key, so there are more entries than documents where one has two
+-- ---- each document has a key, so there are more entries than documents if one has two
 
 some_keys : (t : Tree) (path : Names) → 0 < length (keys t path)
 some_keys t path = go (keys t path) (has_a_key t path)

@@ -19,9 +19,9 @@ use Rattle.bd_index.specs.{IndexView.IsIndexOf, IndexView.KeepsEntries, declared
 use Rattle.bd_index.specs.Places.{AreInOrder, CoverKeys, has_key_in, is_covered, is_in_span, pieces}
 use Rattle.bd_index.proofs.EntryLemmas.{all_pass, any_as_counts, any_filter, any_map, keys_rise, none_pass}
 
--- ---- the search for a cut
+-- ---- the search for a cutoff
 
--- the entries before a cut come before those that are not
+-- the entries before a cutoff come before those that are not
 pub parted : (cutoff : Cutoff) (es : List KeyAt) → IsSortedBy (λ a b. is_lt (entry_cmp a b)) es → IsPartitionedBy (λ e. is_before cutoff e.0) es
 parted cutoff es sorted i j d le lt h = falls_once cutoff (get_or es i d).0 (get_or es j d).0 (keys_rise es sorted i j d le lt) h
 
@@ -33,7 +33,7 @@ pub above_next : {A : Type 0} (p : A → Bool) (es : List A) (m : ℕ) → IsPar
     → AllWithin (λ e. p e ≡ false) es m (length es)
 above_next p es m up here k d low high = false_from_ne_true (p (get_or es k d)) (λ e. let f = up m k d low high e in let g = here d in cc)
 
--- what the test of an entry tells
+-- what the test of an entry says
 pub fact : (cutoff : Cutoff) (t : Tree) (e : KeyAt) (r b : Bool) → t ≡ e.0 → r ≡ is_before cutoff t → r ≡ b → is_before cutoff e.0 ≡ b
 fact cutoff t e r b key is was = sym (ap (is_before cutoff) key) ∙ sym is ∙ was
 
@@ -74,7 +74,7 @@ none_before low high (x ∷ xs) k h lt =
 
 -- ---- the loop that puts spans in order
 
--- what was put in order of sorted spans, of which i are done
+-- the state after i of the sorted spans: what was put in order so far
 pub record Orders (spans ordered : List Span) (i end : ℕ) : Type 0 where
   pub order : AreInOrder 0 end ordered
   pub same : (k : ℕ) → (is_covered ordered k || is_covered (drop i spans) k) ≡ is_covered spans k
@@ -89,7 +89,7 @@ module _ (spans ordered : List Span) (i end : ℕ) (s : Span) (lt : i < length s
   from_last : o.last ≤ s.from
   from_last = let h = o.later i s (omega arith) lt in let e = ap (λ (x : Span). x.from) is in omega arith
 
-  -- a span that ends before what was put in order
+  -- a span that ends before the end of what was put in order adds nothing
   pub orders_passed : s.to ≤ max s.from end → Orders spans ordered (i + 1) end
   orders_passed short = record {
     order = o.order;
@@ -99,7 +99,7 @@ module _ (spans ordered : List Span) (i end : ℕ) (s : Span) (lt : i < length s
     later = λ j d low high. o.later j d (omega arith) high;
   }
 
-  -- one more, without what it has of those before it
+  -- one more span, without the part that earlier spans cover
   pub orders_one : (new : List Span) (t : Span) → IsNonDecreasingBy (λ x. x.from) spans → t.from ≡ max s.from end → t.to ≡ s.to → t.from < t.to
       → new ≡ ordered ++ t ∷ [] → Orders spans new (i + 1) s.to
   orders_one new t sorted begin until some pushed = record {
@@ -112,7 +112,7 @@ module _ (spans ordered : List Span) (i end : ℕ) (s : Span) (lt : i < length s
 
 -- ---- the loop that finds the gaps
 
--- the gaps so far, and those behind an end
+-- the gaps so far, and those after an end
 pub record Gaps (count : ℕ) (old gaps spans remaining : List Span) (end : ℕ) : Type 0 where
   pub order : AreInOrder end count remaining
   pub below : All (λ s. s.to ≤ count) gaps
@@ -130,7 +130,7 @@ gaps_one count old gaps new spans remaining end s t begin until pushed g =
       added = λ k lt. grind (arith, nat_tests, covered_push gaps t k, none_before s.to count remaining k g.order.2, g.added k lt);
     }
 
--- ---- what stands in the spans is what passes
+-- ---- the members in the spans are those that pass
 
 pub record InPiece {A : Type 0} (xs : List A) (from to k : ℕ) (d : A) : Type 0 where
   pub below : from + k < to
@@ -143,7 +143,7 @@ in_piece xs from to k d lt =
     let m = length-drop from xs in
     record { below = omega arith; inside = omega arith; is = get_or-take (to - from) (drop from xs) k d (omega arith) ∙ get_or-drop from xs k d }
 
--- of entries in spans that are in order, where the positions that are covered are those that pass
+-- if spans in order cover exactly the positions that pass, the members in them are those that pass
 pub pieces_pass : {A : Type 0} (p : A → Bool) (es : List A) (low : ℕ) (spans : List Span) → AreInOrder low (length es) spans
     → ((k : ℕ) (d : A) → low ≤ k → k < length es → is_covered spans k ≡ p (get_or es k d)) → pieces es spans ≡ filter p (drop low es)
 pieces_pass p es low [] order cover = sym (none_pass p (drop low es) (λ k d lt.
@@ -161,7 +161,7 @@ pieces_pass {A} p es low (s ∷ spans) order cover =
     sym (ap (filter p) (drop_split es low s.from a) ∙ filter-append p f (drop s.from es)
     ∙ ap₂ (λ (x y : List A). x ++ y) prefix (ap (filter p) (drop_split es s.from s.to b) ∙ filter-append p m (drop s.to es) ∙ ap₂ (λ (x y : List A). x ++ y) middle (sym rest)))
 
--- what is seen of them
+-- the images of the members in spans
 pub pieces_map : {A B : Type 0} (f : A → B) (xs : List A) (spans : List Span) → map f (pieces xs spans) ≡ pieces (map f xs) spans
 pieces_map f xs [] = refl
 pieces_map {A} {B} f xs (s ∷ spans) =
@@ -170,7 +170,7 @@ pieces_map {A} {B} f xs (s ∷ spans) =
 
 -- ---- spans that cover the keys of bounds, part by part
 
--- what is covered, with the keys in the parts that are left, is what all parts have
+-- what is covered, together with the keys in the remaining parts, is the union of all parts
 abbrev pub UnionSoFar : List KeyAt → List Span → List Bounds → ℕ → Type 0
 UnionSoFar es all parts i = (k : ℕ) (d : KeyAt) → k < length es → (is_covered all k
     || union (map keys_within (drop i parts)) (get_or es k d).0) ≡ union (map keys_within parts) (get_or es k d).0
@@ -217,14 +217,14 @@ covers_one es keys spans s is size le inside = rw is (record { order = (omega ar
 pub keys_within-Range : (from to : Cutoff) → keys_within (Range from to) ≡ keys_between from to
 keys_within-Range from to = search (rules, folds.the_lemmas)
 
--- ---- the places of what stands in the spans
+-- ---- the places of the entries in the spans
 
 places_stored : (bytes : List ℕ) (stored : List Entry) (es : List KeyAt) → KeepsEntries bytes stored es → map (λ e. e.place) stored ≡ map (λ e. e.1) es
 places_stored bytes [] [] h = refl
 places_stored bytes (k ∷ ks) (e ∷ es) h = ap₂ (λ (x : ℕ) (xs : List ℕ). x ∷ xs) h.0.1 (places_stored bytes ks es h.1)
 places_stored bytes _ _ h = absurd h
 
--- a place among those of what passes
+-- a place among those of the entries that pass
 place_among : (p : KeyAt → Bool) (n : ℕ) (es : List KeyAt) → list_any (λ m. m == n) (map (λ e. e.1) (filter p es)) ≡ list_any (λ e. p e && (e.1 == n)) es
 place_among p n es = sym (any_map (λ m. m == n) (λ e. e.1) (filter p es)) ∙ any_filter (λ e. e.1 == n) p es
 
@@ -236,12 +236,12 @@ among_from n k (x ∷ xs) = next (dedup_from eqb k xs) (dedup_from eqb x xs) (li
         → list_any (λ m. m == n) (cond (eqb x k) ks (k ∷ ls)) ≡ ((k == n) || ((x == n) || r))
     next ks ls r h g = grind (arith, nat_tests)
 
--- `dedup` leaves each number
+-- `dedup` drops no number
 pub among_once : (n : ℕ) (xs : List ℕ) → list_any (λ m. m == n) (dedup eqb xs) ≡ list_any (λ m. m == n) xs
 among_once n [] = refl
 among_once n (x ∷ xs) = among_from n x xs
 
--- what stands in the spans: the places of the entries whose keys are inside
+-- what is in the spans: the places of the entries whose keys are inside
 module _ (dump : Dump) (index : Index) (h : IsIndexOf dump index) (bounds : KeyBounds) (spans : List Span) (c : CoverKeys h.keeps.entries (is_among bounds) spans) where
   inside : pieces (map (λ e. e.place) index.entries.items) spans ≡ map (λ e. e.1) (filter (has_key_in bounds) h.keeps.entries)
   inside =

@@ -1,4 +1,4 @@
--- Entries that were sorted, without repeats, are the entries of the documents.
+-- Entries that were sorted and freed of repeats are the entries of the documents.
 use Rattle.std.proofs.Common.{◌≡◌, ◌+◌, ℕ, suc, Bool, true, false, cond, List, [], ◌∷◌, ◌++◌, filter, length, append_assoc, append-nil}
 use Rattle.std.proofs.Common.{get_or, map, refl, sym, ap, ap₂, ◌∙◌, arith, eq-eqb}
 use Rattle.std.proofs.{Math.Path.fun_ext, lemmas.Bool.false_from_ne_true, lemmas.Bool.not-false, lemmas.Bool.Decides.nat_tests, lemmas.Cmp.eq_by_cmp_equiv}
@@ -26,7 +26,7 @@ filter_view f p (x ∷ xs) = grind (arith, filter_view f p xs)
 count_filter : {A : Type 0} (t p : A → Bool) (xs : List A) → count_by t (filter p xs) ≡ count_by (λ x. p x && t x) xs
 count_filter t p xs = sym (length-filter t (filter p xs)) ∙ ap length (filter_both t p xs) ∙ length-filter (λ x. p x && t x) xs
 
--- a list at the first of its members that pass: x, and then the rest of them
+-- a list split at its first member that passes: this is x, and `rest` are the later ones that pass
 record Taken {A : Type 0} (p : A → Bool) (x : A) (rest ys : List A) : Type 0 where
   prefix : List A
   back : List A
@@ -42,7 +42,7 @@ taken {A} p x rest (y ∷ ys) h = go (p y) refl h (taken p x rest ys)
     go true e g on = let same : y ≡ x = cc in record { prefix = []; back = ys; is = ap (λ (z : A). z ∷ ys) same; none = refl; remaining = cc }
     go false e g on = let s = on g in record { prefix = y ∷ s.prefix; back = s.back; is = ap (λ (l : List A). y ∷ l) s.is; none = rw e s.none; remaining = s.remaining }
 
--- ---- of members that are the same the first
+-- ---- of members that are the same, the first
 
 abbrev pub firsts : {A : Type 0} → (A → A → Bool) → List A → List A
 firsts same [] = []
@@ -57,7 +57,7 @@ pub all_firsts : {A : Type 0} (same : A → A → Bool) (P : A → Type 0) (xs :
 all_firsts same P [] all = all
 all_firsts same P (x ∷ xs) all = All-cons P x _ (All-head P x xs all) (All-filter _ P (firsts same xs) (all_firsts same P xs (All-tail P x xs all)))
 
--- a test that x does not pass, and what is the same as x no more
+-- a test that x does not pass loses nothing if the members that are the same as x are dropped
 pub any_firsts : {A : Type 0} (same : A → A → Bool) (t : A → Bool) → ((x y : A) → t x ≡ false → (not (same x y) && t y) ≡ t y) → (xs : List A) → list_any t (firsts same xs) ≡ list_any t xs
 any_firsts same t apart [] = refl
 any_firsts {A} same t apart (x ∷ xs) = go (t x) refl (any_firsts same t apart xs)
@@ -70,7 +70,7 @@ absorbed : (b c : Bool) → b ≡ c → (not c && not b) ≡ not b
 absorbed b c e = grind arith
 
 module _ {A : Type 0} (same : A → A → Bool) (laws : IsEquivalence same) where
-  -- the first of its class counts by itself
+  -- the first of its class counts once
   count_first : (prefix back : List A) (x : A) (t : A → Bool) → filter (same x) prefix ≡ []
       → count_by t (firsts same (prefix ++ x ∷ back)) ≡ cond (t x) 1 0 + count_by (λ y. not (same x y) && t y) (firsts same (prefix ++ back))
   count_first [] back x t none =
@@ -101,7 +101,7 @@ module _ {A : Type 0} (same : A → A → Bool) (laws : IsEquivalence same) wher
   one_class : (e x : A) (xs : List A) → same e x ≡ true → filter (same e) xs ≡ filter (same x) xs
   one_class e x xs h = filter_agree (same e) (same x) (λ y. laws.congr e x y h) xs
 
-  -- each class without its first
+  -- each class, without x
   class_remaining : (x e : A) (xs ys : List A) (s : Taken (same x) x (filter (same x) xs) ys) → filter (same e) ys ≡ filter (same e) (x ∷ xs)
       → filter (same e) (s.prefix ++ s.back) ≡ filter (same e) xs
   class_remaining x e xs ys s h = filter-append (same e) s.prefix s.back ∙ go (same e x) refl (sym (filter-append (same e) s.prefix (x ∷ s.back)) ∙ ap (filter (same e)) (sym s.is) ∙ h)
@@ -111,7 +111,7 @@ module _ {A : Type 0} (same : A → A → Bool) (laws : IsEquivalence same) wher
       go true is g = ap₂ (λ (k l : List A). k ++ l) (one_class e x s.prefix is ∙ s.none) (one_class e x s.back is ∙ s.remaining ∙ sym (one_class e x xs is))
       go false is g = g
 
-  -- lists whose classes are the same have as many firsts of each kind
+  -- if two lists have the same classes, equally many firsts of both pass a test
   pub as_many_firsts : (xs ys : List A) → ((x : A) → filter (same x) ys ≡ filter (same x) xs) → (t : A → Bool) → count_by t (firsts same ys) ≡ count_by t (firsts same xs)
   as_many_firsts [] [] alike t = refl
   as_many_firsts [] (y ∷ ys) alike t = let e = rw (laws.refl y) at (alike y) in absurd cc
@@ -122,9 +122,9 @@ module _ {A : Type 0} (same : A → A → Bool) (laws : IsEquivalence same) wher
       ∙ ap (λ (n : ℕ). cond (t x) 1 0 + n) (as_many_firsts xs (s.prefix ++ s.back) (λ e. class_remaining x e xs ys s (alike e)) u)
       ∙ sym (count_first [] xs x t refl)
 
--- ---- of found keys in their order those without repeats are the firsts
+-- ---- sorted found keys without repeats are the firsts
 
--- whether the entry of a key that was found comes before that of another
+-- whether the entry of a found key comes before that of another
 abbrev pub found_lt : FoundKey → FoundKey → Bool
 found_lt a b = is_lt (entry_cmp (found_entry a) (found_entry b))
 
@@ -178,7 +178,7 @@ distinct_after stored (t ∷ ts) = go (list_any (λ k. equal k t) stored) refl (
     rest : List Tree
     rest = filter (λ e. not (equal t e)) (firsts equal ts)
 
-    -- one that equals t is not new where t is not
+    -- a key that equals t is not new if t is not
     passed : (e : Tree) (b : Bool) → equal t e ≡ b → list_any (λ k. equal k t) stored ≡ true → (not b && new stored e) ≡ new stored e
     passed e true h old = ap not (sym old ∙ ap (λ (f : Tree → Bool). list_any f stored) (fun_ext (λ k. equal_laws.symm k t ∙ equal_laws.congr t e k h ∙ equal_laws.symm e k)))
     passed e false h old = refl
@@ -206,7 +206,7 @@ firsts_at place ks =
     sym (firsts_map (λ k. (k, place)) is_same_entry ks)
     ∙ ap (keys_at place) (ap (λ (b : Bool). firsts (λ x y. b && equal x y) ks) (eq-eqb place place refl) ∙ sym (distinct_firsts ks))
 
--- there are two where one is not equal to the first
+-- there are two distinct keys if one is not equal to the first
 pub several : (ks : List Tree) (k : Tree) (ts : List Tree) → ks ≡ k ∷ ts → nat_lt 1 (length (distinct ks)) ≡ list_any (λ t. not (equal k t)) ts
 several ks k ts is =
     let others : Tree → Bool = λ t. not (equal k t) in

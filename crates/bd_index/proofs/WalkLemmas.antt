@@ -1,4 +1,4 @@
--- Entries in the order of a direction give the walk: from the greatest key down run by run, then the places in turn.
+-- Entries in the order of a direction give the walk: from the greatest key down, run by run, with the places in turn.
 use Rattle.std.proofs.Common.{◌≡◌, ◌≢◌, ◌+◌, ◌-◌, ◌<◌, ◌≤◌, ℕ, zero, suc, Bool, true, false, cond, List, [], ◌∷◌, ◌++◌, length, get_or, map, filter, take, drop, Option, Some, None}
 use Rattle.std.proofs.Common.{inl, inr, refl, sym, ap, ap₂, ◌∙◌, subst, add-zero, append-nil, eq-eqb, arith}
 use Rattle.std.specs.Prelude.{◌==◌, ◌&&◌, ◌||◌, nat_lt, not, slice_range, unwrap_or}
@@ -75,7 +75,7 @@ module _ (es : List KeyAt) (start end : ℕ) (run : IsRun es start end) (le : en
       let cutoff : take end es ≡ take start es ++ slice_range es start end = ap (λ (m : ℕ). take m es) (sym n) ∙ take-add start (end - start) es in
       ap downward cutoff ∙ run_first (take start es) (slice_range es start end) prefix_below tied
 
--- ---- all entries are there
+-- ---- all entries are present
 
 count_put : (test : KeyAt → Bool) (e : KeyAt) (xs : List KeyAt) → count_by test (put_down e xs) ≡ cond (test e) 1 0 + count_by test xs
 count_put test e [] = sum_by-cons (λ (y : KeyAt). cond (test y) 1 0) e []
@@ -112,7 +112,7 @@ all_downward P (e ∷ es) all = all_put P e (downward es) all.0 (all_downward P 
 greater_first : (o r : Ordering) → is_lt o ≡ true → is_lt (ordering_then (ordering_reverse o) r) ≡ false
 greater_first o r h = grind arith
 
--- o is of x and e, p of e and x: x is not before e in their order, and its key is not greater
+-- o compares x and e, p compares e and x: x is not before e in their order, and its key is not greater
 alike_after : (o p r : Ordering) → p ≡ ordering_reverse o → is_lt (ordering_then o r) ≡ false → is_lt p ≡ false → is_lt (ordering_then (ordering_reverse o) r) ≡ false
 alike_after o p r e h n = grind arith
 
@@ -138,7 +138,7 @@ pub downward_rises : (es : List KeyAt) → Rises cmp es → Rises (dir_cmp Down)
 downward_rises [] h = tt
 downward_rises (e ∷ es) h = put_rises e (downward es) (all_downward (λ x. is_lt (entry_cmp x e) ≡ false) es h.0) (downward_rises es h.1)
 
--- ---- a run that is found from its end
+-- ---- a run, found from its end
 
 pub run_begins : (es : List KeyAt) (end k : ℕ) (d : KeyAt) → end - 1 ≤ k → k < end → equal (get_or es k d).0 (get_or es (end - 1) d).0 ≡ true
 run_begins es end k d low high = let same : k ≡ end - 1 = omega arith in rw same (equal_itself (get_or es (end - 1) d).0)
@@ -163,7 +163,7 @@ run_is_whole es start end a b d sorted some lt le first last other k low =
     let differ : is_eq (cmp s l) ≡ false = sym (ap₂ (λ (y z : Tree). is_eq (cmp y z)) first last) ∙ other in
     let tied : is_eq (cmp s l) ≡ true = ap is_eq same in cc)
 
--- ---- the entries that are ahead, one after the other
+-- ---- the entries ahead, one after the other
 
 module _ (dump : Dump) (index : Index) (i h : IsIndexOf dump index) where
   same_stored : i.keeps.entries ≡ h.keeps.entries
@@ -198,7 +198,7 @@ module _ (dump : Dump) (index : Index) (i h : IsIndexOf dump index) where
 
 -- ---- the sort key of a document among its keys
 
--- one of the keys is equal to it, and none is before it
+-- some key is equal to it, and none is before it
 pub record IsBest (dir : Dir) (ks : List Tree) (best : Tree) : Type 0 where
   pub low : list_any (λ k. is_lt (dir_cmp dir k best)) ks ≡ false
   pub there : list_any (λ k. is_eq (dir_cmp dir k best)) ks ≡ true
@@ -295,7 +295,7 @@ at_one = on (λ e. e.1) (λ n m. n == m)
 other_place : (n m p : ℕ) → (n == p) ≡ false → (not (n == m) && (m == p)) ≡ (m == p)
 other_place n m p h = grind (arith, nat_tests)
 
--- places by keys that they have, then in their own order
+-- places by their keys, then by number
 abbrev place_by : (Tree → Tree → Ordering) → (ℕ → Tree) → ℕ → ℕ → Ordering
 place_by by key i j = ordering_then (by (key i) (key j)) (nat_cmp i j)
 
@@ -303,11 +303,11 @@ sorted_pair : (o p : Ordering) (n m : ℕ) → p ≡ ordering_reverse o → is_l
 sorted_pair o p n m e later other = grind (arith, nat_tests)
 
 module _ (R : Tree → Tree → Ordering) (total : IsTotalOrder R) (key : ℕ → Tree) where
-  -- some entry of the same place has its sort key
+  -- some entry of the same place has the sort key of this place
   abbrev There : List KeyAt → KeyAt → Type 0
   There es e = list_any (λ x. (x.1 == e.1) && is_eq (R x.0 (key e.1))) es ≡ true
 
-  -- of an entry that comes first of its document the key is the sort key
+  -- if an entry is the first of its document, its key is the sort key
   first_is : (e : KeyAt) (es : List KeyAt) → is_lt (R e.0 (key e.1)) ≡ false → AllByRecursion (λ x. is_lt (entry_by R x e) ≡ false) es → There (e ∷ es) e → R e.0 (key e.1) ≡ Equal
   first_is e es low up there =
       let a = Any-from_list_any (λ x. (x.1 == e.1) && is_eq (R x.0 (key e.1))) (e ∷ es) there in
@@ -345,7 +345,7 @@ module _ (R : Tree → Tree → Ordering) (total : IsTotalOrder R) (key : ℕ �
       let keys = total.congr x.0 (key x.1) y.0 ex ∙ alike_right total y.0 (key y.1) (key x.1) ey in
       sorted_pair (R (key x.1) (key y.1)) (R y.0 x.0) x.1 y.1 (total.antisymm y.0 x.0 ∙ ap ordering_reverse keys) later.0 later.1
 
--- ---- the places in turn
+-- ---- the places, one after the other
 
 pub record AreOrdered (dir : Dir) (path : Names) (ds : List Doc) (es : List KeyAt) : Type 0 where
   pub same : (test : KeyAt → Bool) → count_by test es ≡ count_by test (entries_of false path ds)
@@ -408,7 +408,7 @@ module _ (dir : Dir) (path : Names) (ds : List Doc) (es : List KeyAt) (a : AreOr
   pub in_range_for : (n : ℕ) → n ≡ length ds → All (λ p. p < n) (map (λ e. e.1) es)
   in_range_for n size = All-map (λ p. p < n) (λ e. e.1) es (λ i d lt. let low = places_below i d lt in omega arith)
 
--- ---- marks in place of a list of what came
+-- ---- flags of visited places instead of a list of them
 
 fresh_firsts : (visited : List Bool) (ps : List ℕ) → All (λ p. p < length visited) ps → fresh_places visited ps ≡ filter (λ p. not (get_or visited p true)) (firsts (λ n m. n == m) ps)
 fresh_firsts visited [] below = refl

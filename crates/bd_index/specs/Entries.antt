@@ -11,7 +11,7 @@ use Rattle.bd_path.specs.{Key.indexed_keys, Key.keys, Reach.Names}
 abbrev pub KeyAt : Type 0
 KeyAt = Tree × ℕ
 
--- an entry for each of these keys, all at one document
+-- an entry for each of these keys, all of one document
 abbrev pub keys_at : ℕ → List Tree → List KeyAt
 keys_at place ks = map (λ k. (k, place)) ks
 
@@ -31,7 +31,7 @@ abbrev pub has_two_keys : Names → Tree → Bool
 has_two_keys path t = nat_lt 1 (length (keys t path))
 
 -- whether some document has two keys on the path,
--- null for a missing field counted too (MongoDB manual, "Multikey Indexes")
+-- a null for a missing field included (MongoDB manual, "Multikey Indexes")
 abbrev pub is_multikey : Names → List Doc → Bool
 is_multikey path ds = list_any (λ d. has_two_keys path (doc (fields_of d))) ds
 
@@ -58,7 +58,7 @@ abbrev pub downward : List KeyAt → List KeyAt
 downward [] = []
 downward (e ∷ es) = put_down e (downward es)
 
--- The entries from `start` to before `end` have equal keys, and those before them have lesser ones.
+-- The entries from `start` to before `end` have equal keys, and those before them have lesser keys.
 pub record IsRun (es : List KeyAt) (start end : ℕ) : Type 0 where
   pub some : start < end
   pub equals : (k : ℕ) (d : KeyAt) → start ≤ k → k < end →

@@ -1,4 +1,4 @@
--- Which dump an index in memory is of: where the keys of its entries are in the bytes of the dump.
+-- The dump of an index in memory: where the keys of its entries are in the bytes of the dump.
 use Rattle.std.proofs.Common.{sym, ◌∙◌}
 use Rattle.std.proofs.Props.{props}
 use Rattle.std.specs.Prelude.{◌≡◌, ℕ, List, [], ◌∷◌, Bool}
@@ -12,7 +12,7 @@ use Rattle.bd_path.specs.{PathNames.names_of, Reach.Names}
 use Rattle.bd_index.specs.Entries.{AreEntries, KeyAt, is_multikey}
 use Rattle.bd_index.specs.{declared.entry.Entry.Entry, declared.entry.FoundKey.FoundKey, declared.index.Index.Index}
 
--- The entry in memory is this one: its key begins in the bytes where it says,
+-- The entry in memory is this one: its key is in the bytes at its offset,
 -- and it has the same document number.
 abbrev pub KeepsEntry : List ℕ → Entry → KeyAt → Type 0
 KeepsEntry bytes stored e = IsAt bytes stored.key e.0 × (stored.place ≡ e.1)
@@ -27,14 +27,14 @@ pub record KeepsDump (sparse : Bool) (path : Names) (dump : Dump) (stored : List
   pub entries_are_at : KeepsEntries (bytes_of dump) stored entries
   pub are : AreEntries sparse path (documents dump) entries
 
--- The index in memory has the entries of this dump's documents, and says rightly whether it is multikey.
+-- The index in memory has the entries of this dump's documents, and its multikey flag is right.
 pub record IsIndexOf (dump : Dump) (index : Index) : Type 0 where
   pub keeps : KeepsDump index.sparse (names_of index.path) dump index.entries.items
   pub many : index.multikey ≡ is_multikey (names_of index.path) (documents dump)
 
--- ---- there is one proof of it at most, so that a ghost field may hold it
+-- ---- there is at most one proof of it, so a ghost field may contain it
 
--- entries in memory stand for one list of entries at most
+-- entries in memory represent at most one list of entries
 pub same_entries : (bytes : List ℕ) (stored : List Entry) (es fs : List KeyAt) → KeepsEntries bytes stored es →
     KeepsEntries bytes stored fs → es ≡ fs
 same_entries bytes [] [] [] p q = λ i. []
@@ -77,18 +77,18 @@ AreIndexesOf dump indexes = All (IsIndexOf dump) indexes
 pub AreIndexesOf-prop : (dump : Dump) (indexes : List Index) → IsProp (AreIndexesOf dump indexes)
 AreIndexesOf-prop dump indexes = hlevel IsIndexOf-prop
 
--- the value that a view into the bytes of a dump stands for
+-- the value that a view into the bytes of a dump means
 abbrev pub raw_tree : RawValue → Tree
 raw_tree v = meaning v.sound
 
--- the bytes that a view is into
+-- the bytes under a view
 abbrev pub raw_source : RawValue → List ℕ
 raw_source v = v.bytes.now
 
--- the entry that was found: the value of its key, and its document number
+-- the entry of a found key: the value of the key, and its document number
 abbrev pub found_entry : FoundKey → KeyAt
 found_entry f = (meaning f.key.sound, f.place)
 
--- The key that was found is a view into these bytes.
+-- The found key is a view into these bytes.
 abbrev pub IsFoundIn : List ℕ → FoundKey → Type 0
 IsFoundIn bytes f = f.key.bytes.now ≡ bytes

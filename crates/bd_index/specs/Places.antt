@@ -8,7 +8,7 @@ use Rattle.bd_index_bounds.specs.Bounds.{KeyBounds, KeySet, is_among}
 use Rattle.bd_index_bounds.specs.{BoundsView.keys_within, declared.bounds.Bounds.Bounds}
 use Rattle.bd_index.specs.{Entries.KeyAt, Entries.entries_of, declared.places.Span.Span}
 
--- the bounds that borrowed bounds stand for; None is unbounded
+-- the bounds that borrowed bounds represent; None is unbounded
 abbrev pub lent_bounds : Option (Bor Bounds) → KeyBounds
 lent_bounds bounds = option_map (λ b. keys_within b.now) bounds
 
@@ -17,7 +17,7 @@ abbrev pub has_key_in : KeyBounds → KeyAt → Bool
 has_key_in bounds e = is_among bounds e.0
 
 -- These are the numbers of the documents with an entry inside the bounds, ascending, each once;
--- and that is the number of entries inside.
+-- `entries` is the number of entries inside.
 pub record AreWithin (sparse : Bool) (path : Names) (ds : List Doc) (bounds : KeyBounds) (places : List ℕ)
     (entries : ℕ) : Type 0 where
   pub ascend : IsStrictlyIncreasing places

@@ -1,4 +1,4 @@
--- The order of a walk: that of a sort by the one path of the index.
+-- The order of a walk: that of a sort by the path of the index.
 use Rattle.std.proofs.Common.{◌<◌, false, get_or, refl, sym, ◌∙◌, arith, subst, eq-eqb}
 use Rattle.std.proofs.{lemmas.Bool.eqb-true, lemmas.Bool.lt-ltb, lemmas.Bool.ltb-true, lemmas.Cmp.on_total}
 use Rattle.std.proofs.lemmas.List.Folds.{Any-from_list_any, list_any_at}
@@ -13,7 +13,7 @@ use Rattle.bd_path.specs.{Reach.Names, Sort.sort_cmp, declared.sort.Dir.Dir}
 use Rattle.bd_path.proofs.SortLemmas.{sort_total}
 use Rattle.bd_index.specs.{Entries.KeyAt, Entries.downward, declared.entry_order.EntryOrder.EntryOrder}
 
--- the order of two documents, by their numbers, in a sort by this one path
+-- the order of two documents, by their numbers, in a sort by this path
 abbrev pub walk_order : Dir → Names → List Doc → ℕ → ℕ → Ordering
 walk_order dir path ds p q = sort_cmp (record { path = path; dir = dir } ∷ []) (document_at ds p) (document_at ds q)
 
@@ -55,17 +55,17 @@ walk_law n matches_at ps w = record {
       ∙ lt-ltb p (length w.documents) (let c = w.count in omega arith));
 }
 
--- the entries that a walk has not come to yet, in its order:
+-- the entries that a walk has not reached yet, in its order:
 -- the rest of the current run, then downward those below
 abbrev pub entries_ahead : EntryOrder → List KeyAt
 entries_ahead o = slice_range o.indexed.keeps.entries o.next o.end ++ downward (take o.below o.indexed.keeps.entries)
 
--- the document numbers of the entries that a walk has not come to yet;
+-- the document numbers of the entries that a walk has not reached yet;
 -- a document comes once for each of its entries
 abbrev pub places_ahead : EntryOrder → List ℕ
 places_ahead o = map (λ e. e.1) (entries_ahead o)
 
--- of these document numbers those that were not seen before, each once
+-- those of these document numbers that were not visited before, each once
 abbrev pub fresh_places : List Bool → List ℕ → List ℕ
 fresh_places visited [] = []
 fresh_places visited (p ∷ ps) =

@@ -6,8 +6,8 @@ ghost use Rattle.bd_index.specs.IndexView.{IsIndexOf, IsIndexOf-prop};
 use crate::index::Index;
 use bd_bson_dump::Dump;
 
-/// The entries of an index that are ahead: upward all of them in turn; downward those of the greatest key first, and of equal
-/// keys in turn.
+/// The entries of an index that are ahead: upward all of them in turn; downward those with the greatest key first, equal keys
+/// in turn.
 #[derive(Clone, Copy)]
 pub(crate) struct EntryOrder<'a> {
     pub dump: &'a Dump,
@@ -43,7 +43,7 @@ impl<'a> EntryOrder<'a> {
         }
     }
 
-    /// All entries, those of the greatest key first.
+    /// All entries, those with the greatest key first.
     pub(crate) fn downward(dump: &'a Dump, index: &'a Index) -> EntryOrder<'a>
         requires { IsIndexOf dump.now index.now }
         ensures { (h : IsIndexOf dump.now index.now) →
@@ -58,7 +58,7 @@ impl<'a> EntryOrder<'a> {
         }
     }
 
-    /// The place of the next entry, and those after it.
+    /// The place of the next entry, and the entries after it.
     pub(crate) fn split_first(self) -> Option<(u32, EntryOrder<'a>)>
         ensures none { IfNone result (places_ahead self.entry ≡ []) }
         ensures some { IfSome result (λ r. places_ahead self.entry ≡ r.0 ∷ places_ahead r.1) }
@@ -75,7 +75,7 @@ impl<'a> EntryOrder<'a> {
         Some((place, after))
     }
 
-    /// The same entries with the next one in the run; none where no entry is ahead.
+    /// The same entries with the next one in the run; None if no entry is ahead.
     fn at_entry(self) -> Option<EntryOrder<'a>>
         ensures none { IfNone result (entries_ahead self.entry ≡ []) }
         ensures some { IfSome result (λ o. o.next < o.end) }
@@ -90,7 +90,7 @@ impl<'a> EntryOrder<'a> {
         Some(self.at_next_run())
     }
 
-    /// The same entries, where a run is done, with those of the greatest key as the run.
+    /// The same entries after the end of a run, with those of the greatest key as the new run.
     fn at_next_run(self) -> EntryOrder<'a>
         requires done { self.end ≤ self.next }
         requires more { 0 < self.below }

@@ -1,4 +1,4 @@
-//! An index, and how it is built: the keys of all documents, put in order.
+//! An index, and how it is built: the keys of all documents, sorted.
 
 ghost use Rattle.std.specs.Prelude.{◌≡◌, ◌++◌, List, ℕ, Bool, true, false, not, map, length, nat_lt, count_by, IfOk, OnOk};
 ghost use Rattle.std.specs.List.{All, list_any};
@@ -20,8 +20,8 @@ use bd_value::{NoMemory, Reading, compare_nodes};
 use std::alloc::Global;
 use std::cmp::Ordering;
 
-/// The keys of the documents of a dump on a path, in their order, each by where it stands in the dump. It holds no key itself:
-/// it is read beside the dump that it was built from.
+/// The sorted keys of the documents of a dump on a path, each as its offset in the dump. It contains no key itself: it is read
+/// together with the dump that it was built from.
 #[derive(Drop)]
 pub struct Index {
     pub(crate) path: Path,
@@ -48,8 +48,7 @@ impl Index {
         })
     }
 
-    /// The same without an entry for a field that is missing. It is multikey where the other would be. It fails for want of
-    /// memory alone.
+    /// The same without an entry for a missing field. It is multikey if the other would be. It fails only if memory runs out.
     pub fn build_sparse(alloc: Global, dump: &Dump, path: Path) -> Result<Index, NoMemory>
         ensures index { IfOk result (λ index. IsIndexOf dump.now index) }
         ensures path { IfOk result (λ index. index.path ≡ path) }
@@ -72,7 +71,7 @@ impl Index {
         &self.path
     }
 
-    /// Whether some document has two keys, those for missing fields among them. It takes no memory.
+    /// Whether some document has two keys, those for missing fields included. It takes no memory.
     pub fn multikey(&self) -> bool
         ensures { (dump : Dump) → IsIndexOf dump self.now →
             result ≡ is_multikey (names_of self.now.path) (documents dump) }
@@ -96,8 +95,8 @@ impl Index {
     }
 }
 
-/// The entries of the documents on a path, in their order; without a null for a field that is missing where the index is
-/// sparse. It fails only if memory runs out.
+/// The sorted entries of the documents on a path; a sparse index has no null for a missing field. It fails only if memory
+/// runs out.
 fn entries_of(alloc: Global, dump: &Dump, path: &Path, sparse: bool) -> Result<Vec<Entry>, NoMemory>
     ensures { IfOk result (λ v. KeepsDump sparse (names_of path.now) dump.now v.items) }
 {
@@ -107,7 +106,7 @@ fn entries_of(alloc: Global, dump: &Dump, path: &Path, sparse: bool) -> Result<V
     Ok(entries)
 }
 
-/// The keys of all documents, each once for a document.
+/// The keys of all documents, each key once per document.
 fn find_all<'a>(
     alloc: Global,
     dump: &'a Dump,
@@ -128,9 +127,9 @@ fn find_all<'a>(
     Ok(found)
 }
 
-/// Appends the keys of one document, each once. They are sorted in a room of their own, so that equal ones are side by side: an
-/// array takes no time in the square of its length, and of equal elements the memory of one. The keys are let go before that, since
-/// one document may have nearly all keys of a dump.
+/// Appends the keys of one document, each once. They are sorted in a separate buffer, so that equal ones are side by side: an
+/// array takes no quadratic time, and equal elements take the memory of one. The keys are freed before that, since one document may
+/// have nearly all keys of a dump.
 fn add_document<'a>(
     dump: &'a Dump,
     keys: Vec<Key<RawValue<'a>>>,
@@ -176,7 +175,7 @@ fn add_found<'a>(
     Ok(())
 }
 
-/// The key as a value of the dump. One that is not there takes no byte, and stands everywhere.
+/// The key as a value of the dump. A missing one takes no byte, so it is anywhere.
 fn in_dump<'a>(dump: &'a Dump, key: Key<RawValue<'a>>) -> RawValue<'a>
     requires { IsKeyOf raw_source (bytes_of dump.now) key }
     ensures tree { meaning result.sound ≡ key_tree raw_tree key.entry }
@@ -189,7 +188,7 @@ fn in_dump<'a>(dump: &'a Dump, key: Key<RawValue<'a>>) -> RawValue<'a>
     }
 }
 
-/// The order of two: by key, then by place. The keys are read only where their fronts do not tell it.
+/// The order of two: by key, then by place. The keys are read only if their prefixes do not decide it.
 fn compare_found(a: &FoundKey<'_>, b: &FoundKey<'_>) -> Ordering
     ensures { result ≡ entry_cmp (found_entry a.now) (found_entry b.now) }
 {
@@ -200,14 +199,14 @@ fn compare_found(a: &FoundKey<'_>, b: &FoundKey<'_>) -> Ordering
     order.then(a.place.cmp(&b.place))
 }
 
-/// Whether it is an equal key of the same document.
+/// Whether the next is an equal key of the same document.
 fn repeats(last: &FoundKey<'_>, next: &FoundKey<'_>) -> bool
     ensures { result ≡ is_same_entry (found_entry last.now) (found_entry next.now) }
 {
     last.place == next.place && compare_nodes(last.key, next.key).is_eq()
 }
 
-/// Where the keys stand.
+/// The offsets of the keys.
 fn stored_entries(alloc: Global, found: &[FoundKey<'_>]) -> Result<Vec<Entry>, NoMemory>
     ensures { (bytes : List ℕ) → All (IsFoundIn bytes) found.now →
         IfOk result (λ v. KeepsEntries bytes v.items (map found_entry found.now)) }

@@ -75,7 +75,7 @@ impl Index {
         Ok(())
     }
 
-    /// The positions of the entries inside bounds, where there are any; else of all entries. It fails only if memory runs out.
+    /// The positions of the entries inside bounds; without bounds of all entries. It fails only if memory runs out.
     fn spans(
         &self,
         alloc: Global,
@@ -95,7 +95,7 @@ impl Index {
         }
     }
 
-    /// A range takes two searches. Of the members of an `$in` that are parts of two bounds none is tried with each of the others.
+    /// A range takes two searches. If two bounds have an `$in` each, no member of one is combined with each of the other.
     #[cycle(spanning)]
     fn spans_within(
         &self,
@@ -116,7 +116,7 @@ impl Index {
         }
     }
 
-    /// Those inside one of the bounds.
+    /// The positions inside at least one of the bounds.
     #[cycle(spanning)]
     fn spans_of_any(
         &self,
@@ -137,7 +137,7 @@ impl Index {
         Ok(ordered)
     }
 
-    /// Those inside each of the bounds: they are in no gap of one of them.
+    /// The positions inside each of the bounds: those in no gap of any.
     #[cycle(spanning)]
     fn spans_of_all(
         &self,
@@ -159,7 +159,7 @@ impl Index {
         Ok(spans)
     }
 
-    /// The positions of the entries between two cuts.
+    /// The positions of the entries between two cutoffs.
     fn span_between(&self, dump: &Dump, from: Cutoff<'_>, to: Cutoff<'_>) -> Span
         requires { IsIndexOf dump.now self.now }
         ensures order { result.from ≤ result.to }
@@ -173,7 +173,7 @@ impl Index {
         Span { from, to }
     }
 
-    /// How many entries are before a cut, by binary search.
+    /// How many entries are before a cutoff, by binary search.
     fn count_before(&self, dump: &Dump, cutoff: Cutoff<'_>) -> usize
         requires { IsIndexOf dump.now self.now }
         ensures bound { result ≤ length self.now.entries.items }
@@ -205,7 +205,7 @@ impl Index {
         dump.value_at(self.entries[i].key)
     }
 
-    /// Where the entries begin whose keys equal that of the last one before the end. It compares each of them once.
+    /// Where the entries begin whose keys equal that of the last entry before the end. It compares each of them once.
     pub(crate) fn run_start(&self, dump: &Dump, end: usize) -> usize
         requires indexed { IsIndexOf dump.now self.now }
         requires some { 0 < end }
@@ -221,15 +221,14 @@ impl Index {
     }
 }
 
-/// The positions from one to another, that one left out.
+/// The positions from one to before another.
 #[derive(Clone, Copy)]
 pub(crate) struct Span {
     pub from: usize,
     pub to: usize,
 }
 
-/// The same positions, one span after the other, each of which was in one of the spans or in several. It fails for want of
-/// memory alone.
+/// The positions in at least one of the spans, as spans in order that do not overlap. It fails only if memory runs out.
 fn in_order(alloc: Global, mut spans: Vec<Span>, count: usize) -> Result<Vec<Span>, NoMemory>
     requires { All (λ s. s.to ≤ count) spans.items }
     ensures order { IfOk result (λ v. AreInOrder 0 count v.items) }
@@ -266,7 +265,7 @@ fn append_gaps(gaps: &mut Vec<Span>, spans: &[Span], count: usize) -> Result<(),
     Ok(())
 }
 
-/// The positions below a count that are in no gap, one span after the other. It fails only if memory runs out.
+/// The positions below a count that are in no gap, as spans in order. It fails only if memory runs out.
 fn between_gaps(alloc: Global, gaps: Vec<Span>, count: usize) -> Result<Vec<Span>, NoMemory>
     requires { All (λ s. s.to ≤ count) gaps.items }
     ensures order { IfOk result (λ v. AreInOrder 0 count v.items) }

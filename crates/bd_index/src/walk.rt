@@ -12,12 +12,12 @@ use bd_path::Dir;
 use bd_value::NoMemory;
 use std::alloc::Global;
 
-/// The places of all documents, each once, in the order of a sort by the path of an index. Its memory was taken when it was
-/// made, and it reads no more entries than it is asked for.
+/// The places of all documents, each once, in the order of a sort by the path of an index. Its memory is taken when it is
+/// made, and it reads no more entries than are requested.
 #[derive(Drop)]
 pub struct Walk<'a> {
     pub(crate) order: EntryOrder<'a>,
-    /// For each place, whether it was handed out.
+    /// For each place, whether it was returned.
     pub(crate) visited: Vec<bool>,
     ghost in_range: { All (λ p.
         p < length visited.items) (places_ahead order) } by { Prim.hlevel props },
@@ -68,8 +68,8 @@ impl Index {
     ghost use Rattle.bd_index.specs.Walk.{WalksAll};
     ghost use Rattle.bd_index.specs.WalkRemaining.{walk_remaining};
 
-    /// The places of all documents, each once, in the order of a sort by the path of the index; documents whose sort keys are
-    /// equal in the order of the dump, in both directions. It fails only if memory runs out.
+    /// The places of all documents, each once, in the order of a sort by the path of the index; documents with equal sort keys are
+    /// in file order, in both directions. It fails only if memory runs out.
     pub fn walk<'a>(&'a self, alloc: Global, dump: &'a Dump, dir: Dir) -> Result<Walk<'a>, NoMemory>
         requires index { IsIndexOf dump.now self.now }
         requires whole { self.now.sparse ≡ false }

@@ -16,9 +16,9 @@ use Rattle.bd_index_bounds.specs.Bounds.{KeyBounds, KeySet, all_bounds, all_elem
 use Rattle.bd_index_bounds.specs.Bounds.{element_bounds, is_among, is_listed, is_of_class, keys_equal_to, keys_of_each, keys_of_equal}
 use Rattle.bd_index_bounds.specs.Bounds.{keys_of_types, intersection, no_key, union, operator_bounds, rest_after, some_bounds}
 
--- ---- what holds of bounds that are put together holds of those of a filter
+-- ---- what holds of each of two bounds holds of their combination, and of the bounds of a filter
 
--- a relation of the bounds in an index with m to those in one with n, which stays as bounds are put together
+-- a relation between the bounds in an index with multikey flag m and those in one with n; combining bounds preserves it
 pub record Stays (R : KeyBounds → KeyBounds → Type 0) (m n : Bool) : Type 0 where
   pub none : R None None
   pub nothing : R (Some no_key) (Some no_key)
@@ -59,7 +59,7 @@ pub equal_is : (o : Ordering) → is_eq o ≡ true → o ≡ Equal
 equal_is Equal e = refl
 equal_is _ e = absurd cc
 
--- the first of two orders that tie
+-- if two orderings in turn give Equal, the first is Equal
 pub first_ties : (o p : Ordering) → ordering_then o p ≡ Equal → o ≡ Equal
 first_ties Equal p e = refl
 first_ties _ p e = absurd cc
@@ -143,7 +143,7 @@ module _ (x y : Tree) (e : equal x y ≡ true) where
   same_here (has_element os) m = same_all_elements os
   same_here (has_document fs) m = ap (λ n. n == 5) same_class
 
-  -- one bounds in both places, the same for both keys
+  -- the bounds for both indexes are the same, and treat the two keys alike
   abbrev SameOne : KeyBounds → KeyBounds → Type 0
   SameOne b c = (b ≡ c) × Same b
 
@@ -156,7 +156,7 @@ module _ (x y : Tree) (e : equal x y ≡ true) where
     here = λ o. (refl, same_here o m);
   }
 
-  -- equal keys are inside the bounds of a filter alike
+  -- the bounds of a filter treat equal keys alike
   pub same_bounds : (f : Filter) (p : Names) (m : Bool) → Same (bounds f p m)
   same_bounds f p m = (on_bounds SameOne m m (stays_same m) f p).1
 
@@ -166,7 +166,7 @@ module _ (x y : Tree) (e : equal x y ≡ true) where
   pub same_operators : (os : Operators) (s : Option Names) (m : Bool) → Same (operator_bounds os s m)
   same_operators os s m = (on_operators SameOne m m (stays_same m) os s).1
 
--- ---- several keys or one, the same filters are bounded
+-- ---- the same filters are bounded, multikey or not
 
 abbrev Alike : KeyBounds → KeyBounds → Type 0
 Alike b c = is_some b ≡ is_some c

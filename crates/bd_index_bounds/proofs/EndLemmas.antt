@@ -1,4 +1,4 @@
--- What an operator finds at the end of a path is a key, or an array whose elements are keys.
+-- The value that an operator finds at the end of a path is a key, or an array whose elements are keys.
 use Rattle.std.proofs.Common.{◌≡◌, ℕ, ◌==◌, Bool, true, false, cond, not, ◌&&◌, List, [], ◌∷◌, length, map, Some, None, ◌⊎◌, inl, inr, refl, sym, ap, ◌∙◌, arith, is_eq, eqb-true, eq-eqb}
 use Rattle.std.specs.Prelude.{is_some}
 use Rattle.std.specs.List.{list_any, list_all}
@@ -88,7 +88,7 @@ sound_equal t p v h =
 
 -- ---- values in an order
 
--- a candidate that passes is inside, unless the bounds are left out, as they are where an array passes
+-- a candidate that passes is inside, unless the bounds are omitted, which they are if an array passes
 unless : (test : End → Bool) (set : KeySet) (t : Tree) (p : Names) (out : Bool) → ((c : End) → test c ≡ true → set (value_or_null c) ≡ true)
     → ((ts : Items) → test (Some (array ts)) ≡ true → out ≡ true) → any_candidate test (reach t p) ≡ true → Found (is_among (cond out None (Some set))) (keys_of t p)
 unless test set t p true inside array_passes h = everywhere t p
@@ -165,7 +165,7 @@ pub sound_exists : (t : Tree) (p : Names) (m : Bool) (b : Bool) → cond b (list
 sound_exists t p m true h = everywhere t p
 sound_exists t p m false h = record { it = null; is_in = absent t p (not-true (list_any is_some (reach t p)) h); passes = refl }
 
--- ---- elements taken by themselves
+-- ---- elements by themselves
 
 -- an element of an array at the end of a path
 pub record ElementFound (test : Tree → Bool) (t : Tree) (p : Names) : Type 0 where

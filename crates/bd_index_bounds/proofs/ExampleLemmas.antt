@@ -30,7 +30,7 @@ inside f path multikey ks = map (is_inside f path multikey) ks
 at_least_5 : inside (on a (compares AtLeast (number 5) ∷ [])) a true (number 4 ∷ number 5 ∷ number 7 ∷ leaf null ∷ numbers (7 ∷ []) ∷ []) ≡ false ∷ true ∷ true ∷ false ∷ false ∷ []
 at_least_5 = refl
 
--- ---- {"a":{"$gt":4,"$lt":6}} over {"a":[1,9]}: by the first alone in a multikey index, and by both in another; by both for an element
+-- ---- {"a":{"$gt":4,"$lt":6}} over {"a":[1,9]}: by the first alone in a multikey index, by both in another, by both for an element
 
 abbrev between : List Operator
 between = compares Above (number 4) ∷ compares Below (number 6) ∷ []
@@ -63,7 +63,7 @@ missing_below = on (codes "p" ∷ []) (has_document (filters_from (on (codes "q"
 below : inside missing_below (codes "p" ∷ codes "q" ∷ codes "r" ∷ []) true (leaf null ∷ number 5 ∷ []) ≡ true ∷ false ∷ []
 below = refl
 
--- at the path of `$elemMatch` it bounds by documents, and of another path nothing
+-- at the path of `$elemMatch` the bounds are the class of documents; for another path there are none
 here : inside missing_below (codes "p" ∷ []) true (one_field (codes "q") (number 1) ∷ leaf null ∷ []) ≡ true ∷ false ∷ []
 here = refl
 
@@ -78,7 +78,7 @@ not_null = refl
 either_path : bounds (some_of (filters_from (on a (equals (number 1) ∷ []) ∷ on (codes "b" ∷ []) (equals (number 1) ∷ []) ∷ []))) a false ≡ None
 either_path = refl
 
--- ---- no key, of nothing
+-- ---- no key, if there are no members
 
 in_nothing : inside (on a (is_in [] ∷ [])) a true (leaf null ∷ leaf undefined ∷ number 1 ∷ []) ≡ false ∷ false ∷ false ∷ []
 in_nothing = refl

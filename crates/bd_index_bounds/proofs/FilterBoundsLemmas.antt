@@ -1,4 +1,4 @@
--- Bounds of some members, and of those that are left.
+-- Bounds of some members, and of the remaining ones.
 use Rattle.std.proofs.Common.{◌≡◌, ℕ, ◌<◌, ◌+◌, length, get_or, drop, Bool, true, false, ◌||◌, List, [], ◌∷◌, ◌++◌, map, arith, rules, Vec, Some, None, refl, sym, ap}
 use Rattle.std.proofs.Common.{◌∙◌, ◌≤◌, zero, suc, cond, Ordering, nat_cmp}
 use Rattle.std.proofs.{Math.Path.fun_ext, lemmas.List.at_drop_more, lemmas.List.map-append, lemmas.List.Folds.list_any-append, lemmas.Cmp.nat_cmp_total}
@@ -17,9 +17,9 @@ use Rattle.bd_value.specs.declared.node.Class.TheVariants as classes
 use Rattle.bd_value.proofs.OrderLemmas.{cmp_total}
 use Rattle.bd_index_bounds.specs.declared.bounds.Edge.TheVariants as edges
 
--- ---- what is left of a list
+-- ---- the rest of a list
 
--- what remains of a list from an index on is the member there and the rest
+-- the rest of a list from an index on is the member there and the members after it
 pub one_off : {A B C : Type 0} (F : List B → C) (f : A → B) (xs : List A) (i : ℕ) (x : A) → i < length xs → x ≡ get_or xs i x
     → F (map f (drop i xs)) ≡ F (f x ∷ map f (drop (i + 1) xs))
 one_off F f xs i x lt is = at_drop_more (λ ys. F (map f ys)) xs i x lt ∙ ap (λ y. F (f y ∷ map f (drop (i + 1) xs))) (sym is)
@@ -34,7 +34,7 @@ in_turn true (Some s) (Some u) (Some v) = refl
 in_turn false (Some s) (Some u) None = refl
 in_turn false (Some s) (Some u) (Some v) = ap Some (fun_ext (λ k. grind arith))
 
--- one member more, of bounds F of a list that are put together from its first member on
+-- one more member, for bounds F that combine the members of a list from the first on
 pub one_narrower : {A B : Type 0} (m : Bool) (F : List B → KeyBounds) (f : A → B) (xs : List A) (i : ℕ) (x : A) (next parts after : KeyBounds)
     → ((ys : List B) → F (f x ∷ ys) ≡ conjunction m next (F ys)) → i < length xs → x ≡ get_or xs i x → after ≡ conjunction m parts next
     → conjunction m parts (F (map f (drop i xs))) ≡ F (map f xs) → conjunction m after (F (map f (drop (i + 1) xs))) ≡ F (map f xs)
@@ -53,7 +53,7 @@ either_in_turn (Some s) None c = refl
 either_in_turn (Some s) (Some u) None = refl
 either_in_turn (Some s) (Some u) (Some v) = ap Some (fun_ext (λ k. grind arith))
 
--- the bounds that are the union of some parts
+-- the union of some parts, as bounds
 abbrev pub some_parts : List Bounds → KeyBounds
 some_parts parts = Some (union (map keys_within parts))
 
@@ -104,7 +104,7 @@ lower after o p le h = grind arith
 first_not_less : (o p : Ordering) → is_lt (ordering_then o p) ≡ false → is_lt o ≡ false
 first_not_less o p h = grind arith
 
--- two of them, in order
+-- if y does not sort below x, x compares to v no higher than y does
 in_order : {A : Type 0} (by : A → A → Ordering) → IsTotalOrder by → (x y v : A) → is_lt (by y x) ≡ false → ordering_index (by x v) ≤ ordering_index (by y v)
 in_order by total x y v h = searchable_from_sorted total (λ e. e) (x ∷ y ∷ []) v sorted 0 1 x (omega arith) (omega arith)
   where
@@ -117,6 +117,6 @@ edges_rise (edges.Value v) j k h = in_order cmp cmp_total j k (tree_of v.now) h
 edges_rise (edges.Class class) j k h =
     in_order nat_cmp nat_cmp_total (class_rank (class_of j)) (class_rank (class_of k)) (class_rank class) (first_not_less (class_cmp k j) (same_class_cmp k j) h)
 
--- a key that is not above one before a cut is before the cut too
+-- a key that does not compare above a key before a cutoff is before the cutoff too
 pub falls_once : (cutoff : Cutoff) (j k : Tree) → is_lt (cmp k j) ≡ false → is_before cutoff k ≡ true → is_before cutoff j ≡ true
 falls_once cutoff j k h b = lower cutoff.after (edge_cmp j cutoff.edge) (edge_cmp k cutoff.edge) (edges_rise cutoff.edge j k h) b

@@ -17,7 +17,7 @@ null = leaf trees.null
 abbrev pub nulls : List Tree
 nulls = null ∷ []
 
--- the keys of a document on a path, with equal ones
+-- the keys of a document on a path, with duplicates
 abbrev pub keys_of : Tree → Names → List Tree
 keys_of t p = all_keys false t p
 
@@ -25,7 +25,7 @@ in_or_else : (k : Tree) (ks other : List Tree) → In k ks → In k (or_else ks 
 in_or_else k [] other h = absurd h
 in_or_else k (x ∷ xs) other h = h
 
--- ---- the keys without equal ones are among all
+-- ---- the distinct keys are among all keys
 
 one_of : (b : Bool) (ks : List Tree) (t x : Tree) → In x (cond b ks (ks ++ t ∷ [])) → In x ks ⊎ (x ≡ t)
 one_of true ks t x h = inl h
@@ -44,7 +44,7 @@ key_is_key t x p h = elim (among_all (keys_of t p) [] x h) [ inl a ↦ absurd a 
 pub missing : (t : Tree) (p : Names) → In None (reach t p) → In null (keys_of t p)
 missing t p h = key_is_key t null p (missing_gives_null t p h)
 
--- where there are no bounds, some key is inside
+-- without bounds, some key is inside
 pub everywhere : (t : Tree) (p : Names) → Found (λ k. true) (keys_of t p)
 everywhere t p = go (keys_of t p) (has_a_key t p)
   where
@@ -52,7 +52,7 @@ everywhere t p = go (keys_of t p) (has_a_key t p)
     go [] some = absurd (some refl)
     go (k ∷ ks) some = record { it = k; is_in = inl refl; passes = refl }
 
--- ---- the keys of an end are keys of the whole
+-- ---- the keys of the value at an end are keys of the whole
 
 no_some : (x : Tree) → In (Some x) (None ∷ []) → ⊥
 no_some x h = elim h [ inl e ↦ cc | inr e ↦ absurd e ]

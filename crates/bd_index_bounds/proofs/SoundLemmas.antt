@@ -1,4 +1,4 @@
--- Where a document matches, one of its keys is inside the bounds.
+-- If a document matches, one of its keys is inside the bounds.
 use Rattle.std.proofs.Common.{◌≡◌, ℕ, Bool, true, false, cond, ◌&&◌, ◌||◌, ◌==◌, List, [], ◌∷◌, ◌++◌, length, map, Option, Some, None, ◌⊎◌, inl, inr, refl, sym, ap₂, ◌∙◌, subst, append-nil, eqb-true, arith}
 use Rattle.std.specs.{List.list_any, List.list_all, Str.bytes_eq, Cmp.Lexicographic.bytes_decides}
 use Rattle.std.proofs.lemmas.Bool.{and_parts, and_from, or_cases, or_left, or_right}
@@ -15,7 +15,7 @@ use Rattle.bd_index_bounds.proofs.AlikeLemmas.{same_all, same_bounds, same_keys_
 use Rattle.bd_index_bounds.proofs.EndLemmas.{document_class, element_found, in_each, in_union, sound_compares, sound_element, sound_equal, sound_exists, sound_size, sound_type}
 use Rattle.bd_index_bounds.proofs.KeyLemmas.{element_of_end, everywhere, keys_of, keys_of_element, null, through}
 
--- several keys are allowed, or all are equal
+-- several keys are allowed, or all keys are equal
 abbrev Fine : Bool → List Tree → Type 0
 Fine true ks = Unit {0}
 Fine false ks = (x y : Tree) → In x ks → In y ks → equal x y ≡ true
@@ -24,11 +24,11 @@ fine_part : (m : Bool) (ks ls : List Tree) → ((k : Tree) → In k ls → In k 
 fine_part true ks ls f g = tt
 fine_part false ks ls f g = λ x y h i. g x y (f x h) (f y i)
 
--- where all keys are equal, each passes
+-- if all keys are equal, each passes
 each_passes : (test : Tree → Bool) (ks : List Tree) → ((x y : Tree) → equal x y ≡ true → test x ≡ test y) → Fine false ks → Found test ks → (x : Tree) → In x ks → test x ≡ true
 each_passes test ks same fine f x h = same x f.it (fine x f.it h f.is_in) ∙ f.passes
 
--- two members of a conjunction
+-- bounds of two members of a conjunction
 both_found : (m : Bool) (b c : KeyBounds) (ks : List Tree) → Fine m ks → ((x y : Tree) → equal x y ≡ true → is_among c x ≡ is_among c y)
     → Found (is_among b) ks → Found (is_among c) ks → Found (is_among (conjunction m b c)) ks
 both_found m None c ks fine same f g = g
@@ -37,7 +37,7 @@ both_found true (Some s) (Some u) ks fine same f g = f
 both_found false (Some s) (Some u) ks fine same f g =
     record { it = f.it; is_in = f.is_in; passes = and_from (s f.it) (u f.it) f.passes (each_passes u ks same fine g f.it f.is_in) }
 
--- one of a disjunction
+-- bounds of one member of a disjunction
 either_found : (b c : KeyBounds) (t : Tree) (p : Names) → Found (is_among b) (keys_of t p) ⊎ Found (is_among c) (keys_of t p) → Found (is_among (disjunction b c)) (keys_of t p)
 either_found (Some s) (Some u) t p (inl f) = record { it = f.it; is_in = f.is_in; passes = or_left (s f.it) (u f.it) f.passes }
 either_found (Some s) (Some u) t p (inr f) = record { it = f.it; is_in = f.is_in; passes = or_right (s f.it) (u f.it) f.passes }
@@ -83,7 +83,7 @@ sound_here (has_document fs) t p m fine h =
     let b = and_parts (is_document e.it) (all_match fs e.it) e.passes in
     record { it = e.it; is_in = element_of_end t e.whole e.it p e.is_end e.is_in; passes = document_class e.it b.0 }
 
--- ---- what is left of a path
+-- ---- the rest of a path
 
 rest_is : (r p s : Names) → rest_after r p ≡ Some s → p ≡ r ++ s
 rest_is [] p s e = cc
@@ -144,7 +144,7 @@ mutual
       record { it = k.it; is_in = part k.it k.is_in; passes = k.passes }
   sound_operator _ (Some (c ∷ s)) r p m t w fine h = everywhere t p
 
--- ---- the keys without equal ones
+-- ---- the distinct keys
 
 -- each key equals a distinct one
 found_distinct : (test : Tree → Bool) (t : Tree) (p : Names) → ((x y : Tree) → equal x y ≡ true → test x ≡ test y) → Found test (keys_of t p) → Found test (keys t p)
@@ -159,7 +159,7 @@ one_member (k ∷ []) x y one (inl e) (inr f) = absurd f
 one_member (k ∷ []) x y one (inr e) g = absurd e
 one_member (k ∷ l ∷ ks) x y one h g = absurd (omega arith)
 
--- a document with one key has no two that differ
+-- if a document has one distinct key, its keys do not differ
 all_equal : (t : Tree) (p : Names) → length (keys t p) ≡ 1 → Fine false (keys_of t p)
 all_equal t p one x y h g =
     let a = distinct_has (keys_of t p) [] x h in
@@ -182,7 +182,7 @@ key_found f p m t fit h = found_distinct (is_inside f p m) t p (λ x y e. same_b
 pub loses_no_match : (f : Filter) (p : Names) (m : Bool) (t : Tree) → is_fit m p t ≡ true → matches f t ≡ true → list_any (is_inside f p m) (keys t p) ≡ true
 loses_no_match f p m t fit h = let k = key_found f p m t fit h in any_at (is_inside f p m) (keys t p) k.it k.is_in k.passes
 
--- if null is outside the bounds, a sparse key of it is inside
+-- if a document matches and null is outside the bounds, a sparse key of it is inside
 pub sparse_loses_no_match : (f : Filter) (p : Names) (m : Bool) (t : Tree) → is_fit m p t ≡ true → matches f t ≡ true → is_inside f p m null ≡ false
     → list_any (is_inside f p m) (sparse_keys t p) ≡ true
 sparse_loses_no_match f p m t fit h out =

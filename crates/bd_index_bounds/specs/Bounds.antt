@@ -1,4 +1,4 @@
--- The bounds that a filter gives to an index on a path: a set of keys, of which each document that matches has one.
+-- The bounds that a filter gives to an index on a path: a set of keys. Each document that matches has a key in it.
 -- `bd_path` says in `Key` which keys a document has. (MongoDB manual, "Multikey Indexes", "Multikey Index Bounds".)
 use Rattle.std.specs.Prelude.{◌==◌, Bool, true, false, ◌&&◌, ◌||◌, List, [], ◌∷◌, get_or, map, Option, Some, None}
 use Rattle.std.specs.Prelude.{if◌then◌else◌}
@@ -36,11 +36,11 @@ keys_equal_to v k = equal k v
 abbrev pub is_of_class : Class → KeySet
 is_of_class class k = class_rank (class_of k) == class_rank class
 
--- the keys in at least one of the sets; of no set, no key
+-- the keys in at least one of the sets; no key if there are no sets
 abbrev pub union : List KeySet → KeySet
 union sets k = list_any (λ set. set k) sets
 
--- the keys in each of the sets; of no set, every key
+-- the keys in each of the sets; every key if there are no sets
 abbrev pub intersection : List KeySet → KeySet
 intersection sets k = list_all (λ set. set k) sets
 
@@ -54,13 +54,13 @@ abbrev pub keys_of_equal : Tree → KeySet
 keys_of_equal v k = equal k v || (is_array v && equal k (get_or (elements_in v) 0 (leaf trees.undefined)))
 
 -- `$all`: in a multikey index the keys of its first member,
--- else the keys of each member; of no member, no key
+-- otherwise the keys that all its members have; no key if there are no members
 abbrev pub keys_of_each : Bool → List KeySet → KeySet
 keys_of_each multikey [] = no_key
 keys_of_each true (set ∷ sets) = set
 keys_of_each false (set ∷ sets) = intersection (set ∷ sets)
 
--- both of two bounds: their intersection; in a multikey index the first bounds alone,
+-- the intersection of two bounds; in a multikey index the first bounds alone,
 -- since another key of the same document may be within the second
 abbrev pub conjunction : Bool → KeyBounds → KeyBounds → KeyBounds
 conjunction multikey None second = second
@@ -93,7 +93,7 @@ abbrev pub is_listed : Kind → List Kind → Bool
 is_listed kind types = list_any (λ k. is_kind k kind) types
 
 -- The bounds that an operator gives at the path of the index.
--- An array that is compared, or that `$type` asks for, is itself no key.
+-- A comparison with an array, and `$type` that lists arrays, give none: an array is itself no key.
 abbrev pub bounds_here : Operator → Bool → KeyBounds
 bounds_here (equals v) multikey = Some (keys_of_equal v)
 bounds_here (compares r v) multikey = if is_array v then None else Some (is_related r v)
@@ -108,7 +108,7 @@ bounds_here (has_document fs) multikey = Some (is_of_class classes.Doc)
 
 -- ---- filters
 
--- what remains of a path after this beginning; None if it begins otherwise
+-- the rest of a path after this prefix; None if it is no prefix of the path
 abbrev pub rest_after : Names → Names → Option Names
 rest_after [] path = Some path
 rest_after (name ∷ start) [] = None
@@ -116,7 +116,7 @@ rest_after (name ∷ start) (other ∷ path) = if bytes_eq name other then rest_
 
 abbrev mutual
   -- The bounds that a filter gives to an index on this path, multikey or not:
-  -- each document that matches has a key inside. None is unbounded: the filter says nothing of the keys.
+  -- each document that matches has a key inside. None is unbounded: the filter does not limit the keys.
   pub bounds : Filter → Names → Bool → KeyBounds
   bounds (all_of fs) path multikey = all_bounds fs path multikey
   bounds (some_of fs) path multikey = some_bounds fs path multikey
@@ -134,13 +134,13 @@ abbrev mutual
   some_bounds no_filters path multikey = Some no_key
   some_bounds (filter f fs) path multikey = disjunction (bounds f path multikey) (some_bounds fs path multikey)
 
-  -- the bounds of all operators of a path; `rest` is what remains of the index's path after it
+  -- the bounds of all operators of a path; `rest` is the rest of the index's path after it
   pub operator_bounds : Operators → Option Names → Bool → KeyBounds
   operator_bounds no_operators rest multikey = None
   operator_bounds (operator o os) rest multikey =
       conjunction multikey (bounds_at o rest multikey) (operator_bounds os rest multikey)
 
-  -- the bounds of one operator of a path; if the index's path goes on,
+  -- the bounds of one operator of a path; if the index's path continues,
   -- only a filter in `$elemMatch` gives any
   pub bounds_at : Operator → Option Names → Bool → KeyBounds
   bounds_at o None multikey = None
@@ -148,11 +148,11 @@ abbrev mutual
   bounds_at (has_document fs) (Some path) multikey = all_bounds fs path multikey
   bounds_at _ _ _ = None
 
--- whether a key is inside bounds; without bounds each key is
+-- whether a key is inside bounds; every key is if there are none
 abbrev pub is_among : KeyBounds → Tree → Bool
 is_among None k = true
 is_among (Some set) k = set k
 
--- whether a key is inside the bounds of a filter; each key is if there are none
+-- whether a key is inside the bounds of a filter; every key is if there are none
 abbrev pub is_inside : Filter → Names → Bool → Tree → Bool
 is_inside f path multikey k = is_among (bounds f path multikey) k

@@ -1,4 +1,4 @@
-//! Bounds, as the code has them.
+//! Bounds in memory.
 
 ghost use Rattle.std.specs.Prelude.{◌≡◌, map};
 ghost use Rattle.bd_value.specs.Tree as trees;
@@ -9,17 +9,17 @@ ghost use Rattle.bd_index_bounds.specs.BoundsView.{keys_within, edge_cmp, is_bef
 use bd_value::{Class, Reading, Tree, Value, class_of_node, compare_nodes};
 use std::cmp::Ordering;
 
-/// The bounds that a filter gives to an index: ranges of keys, put together as the filter has them.
+/// The bounds that a filter gives to an index: ranges of keys, combined as in the filter.
 ///
-/// They borrow the values of the filter. An `$in` of n members has some n ranges, and two of them have as many as they have
-/// members, since they are kept side by side.
+/// They borrow the values of the filter. An `$in` of n members has about n ranges. Two of these have as many ranges as they have
+/// members together, since both are kept side by side.
 #[derive(Drop)]
 pub enum Bounds<'a> {
-    /// The keys from one cut to another.
+    /// The keys from one cutoff to another.
     Range { from: Cutoff<'a>, to: Cutoff<'a> },
     /// The keys that are in each of them.
     And(Vec<Bounds<'a>>),
-    /// The keys that are in one of them; no key where there are none.
+    /// The keys that are in at least one of them; no key if there are none.
     Or(Vec<Bounds<'a>>),
 }
 
@@ -36,7 +36,7 @@ impl<'a> Bounds<'a> {
         }
     }
 
-    /// Whether null is inside, which a sparse index does not have for a field that is missing. It takes no memory.
+    /// Whether null is inside, the key that a sparse index omits if a field is missing. It takes no memory.
     pub fn has_null(&self) -> bool
         ensures { result ≡ keys_within self.now (leaf trees.null) }
     {
@@ -75,7 +75,7 @@ pub enum Edge<'a> {
     Class(Class),
 }
 
-/// A place in the order of keys: before the keys that equal a value or are of a class, or after them.
+/// A position in the order of keys: before the keys that equal a value or are of a class, or after them.
 #[derive(Clone, Copy)]
 pub struct Cutoff<'a> {
     pub edge: Edge<'a>,
@@ -83,7 +83,7 @@ pub struct Cutoff<'a> {
 }
 
 impl<'a> Cutoff<'a> {
-    /// Whether a key is before the cut. It takes no memory.
+    /// Whether a key is before the cutoff. It takes no memory.
     pub fn has_before<N: Reading>(self, key: N) -> bool
         ensures { result ≡ is_before self.entry (N.tree key) }
     {
@@ -96,7 +96,7 @@ impl<'a> Cutoff<'a> {
     }
 }
 
-/// How a key stands to an edge.
+/// How a key compares to an edge.
 fn compare_edge<N: Reading>(key: N, edge: Edge<'_>) -> Ordering
     ensures { result ≡ edge_cmp (N.tree key) edge.entry }
 {

@@ -23,7 +23,7 @@ use bd_value::{Class, Kind, NoMemory, Value};
 use std::alloc::Global;
 
 impl<'a> Bounds<'a> {
-    /// The bounds of a filter for an index on a path; None where it has none, so that each key may be that of a match. In a
+    /// The bounds of a filter for an index on a path; None if it has none, so that each key may be that of a match. In a
     /// multikey index some document has several keys. It fails only if memory runs out.
     ///
     /// A document that matches has a key inside: see `bounds_lose_no_match`.
@@ -41,10 +41,10 @@ impl<'a> Bounds<'a> {
     }
 }
 
-/// The bounds of a part of a filter; None where it has none.
+/// The bounds of a part of a filter; None if it has none.
 type Found<'a> = Result<Option<Bounds<'a>>, NoMemory>;
 
-/// What is known of an index: its path from here on, and whether some document has several keys.
+/// What is known of an index: the rest of its path, and whether some document has several keys.
 #[derive(Clone, Copy)]
 pub(crate) struct Index<'p> {
     path: &'p [Component],
@@ -85,7 +85,7 @@ fn all_bounds<'a>(alloc: Global, filters: &'a [Filter], index: &Index) -> Found<
     Ok(conjoined(parts))
 }
 
-/// The bounds of filters of which one matches.
+/// The bounds of filters of which at least one matches.
 #[cycle(bounding)]
 fn some_bounds<'a>(alloc: Global, filters: &'a [Filter], index: &Index) -> Found<'a>
     ensures { IfOk result
@@ -102,7 +102,7 @@ fn some_bounds<'a>(alloc: Global, filters: &'a [Filter], index: &Index) -> Found
     Ok(Some(Bounds::Or(parts)))
 }
 
-/// The bounds of operators at a path, by what is left of the path of the index after it.
+/// The bounds of operators at a path, by the rest of the index's path after it.
 #[cycle(bounding)]
 fn operator_bounds<'a>(alloc: Global, operators: &'a [Operator], index: &Index) -> Found<'a>
     ensures { IfOk result
@@ -117,7 +117,7 @@ fn operator_bounds<'a>(alloc: Global, operators: &'a [Operator], index: &Index) 
     Ok(conjoined(parts))
 }
 
-/// The bounds of an operator, by what is left of the path of the index after its own.
+/// The bounds of an operator, by the rest of the index's path after the operator's path.
 #[cycle(bounding)]
 fn bounds_at<'a>(alloc: Global, operator: &'a Operator, index: &Index) -> Found<'a>
     ensures { IfOk result
@@ -133,7 +133,7 @@ fn bounds_at<'a>(alloc: Global, operator: &'a Operator, index: &Index) -> Found<
     }
 }
 
-/// What is left of a path after a beginning of it; None where it begins otherwise.
+/// The rest of a path after a prefix; None if it does not begin with this prefix.
 fn rest_after<'p>(start: &[Component], path: &'p [Component]) -> Option<&'p [Component]>
     ensures { option_map (λ path. component_names path.now) result
         ≡ rest_after (component_names start.now) (component_names path.now) }
@@ -149,8 +149,8 @@ fn rest_after<'p>(start: &[Component], path: &'p [Component]) -> Option<&'p [Com
     Some(remaining)
 }
 
-/// One more part of a conjunction, in the filter's order. In a multikey index the first part counts alone: a document may have
-/// a key in the one and another key in the other. It fails only if memory runs out.
+/// Adds one more part to a conjunction, in the filter's order. In a multikey index only the first part counts: a document may
+/// have one key in the first and another key in the second. It fails only if memory runs out.
 fn narrow<'a>(
     parts: &mut Vec<Bounds<'a>>,
     next: Option<Bounds<'a>>,
@@ -169,7 +169,7 @@ fn narrow<'a>(
     Ok(())
 }
 
-/// The conjunction of parts; unbounded where there are none.
+/// The conjunction of parts; unbounded if there are none.
 fn conjoined(parts: Vec<Bounds<'_>>) -> Option<Bounds<'_>>
     ensures { bounds_view result ≡ parts_bounds parts.entry.items }
 {
@@ -179,7 +179,7 @@ fn conjoined(parts: Vec<Bounds<'_>>) -> Option<Bounds<'_>>
     Some(Bounds::And(parts))
 }
 
-/// Bounds of an operand that orders values; unbounded where it is an array, since an array in a document is no key.
+/// Bounds of an operand that orders values; unbounded if it is an array, since an array in a document is no key.
 fn unless_array(relation: Relation, operand: &Value) -> Option<Bounds<'_>>
     ensures { bounds_view result ≡ (if is_array
         (tree_of operand.now) then None else Some (is_related relation (tree_of operand.now))) }
@@ -190,7 +190,7 @@ fn unless_array(relation: Relation, operand: &Value) -> Option<Bounds<'_>>
     }
 }
 
-/// `$type`: unbounded where arrays are listed, since an array in a document is no key. It fails only if memory runs out.
+/// `$type`: unbounded if arrays are listed, since an array in a document is no key. It fails only if memory runs out.
 fn type_bounds<'a>(alloc: Global, kinds: &[Kind]) -> Found<'a>
     ensures { IfOk result (λ b. bounds_view b
         ≡ (if is_listed kind.Array kinds.now then None else Some (keys_of_types kinds.now))) }
@@ -207,7 +207,7 @@ fn lists_arrays(kinds: &[Kind]) -> bool
     kinds.iter().any(|kind| *kind == Kind::Array)
 }
 
-/// The bounds of an operator for an index on its path; None where there are none. It fails only if memory runs out.
+/// The bounds of an operator for an index on its path; None if there are none. It fails only if memory runs out.
 fn bounds_here<'a>(alloc: Global, operator: &'a Operator, multikey: bool) -> Found<'a>
     ensures { IfOk result (λ b. bounds_view b ≡ bounds_here (operator_tree operator.now) multikey) }
 {
@@ -232,7 +232,7 @@ fn bounds_here<'a>(alloc: Global, operator: &'a Operator, multikey: bool) -> Fou
     }
 }
 
-/// The bounds of operators that all hold of one element, which is a key. It fails only if memory runs out.
+/// The bounds of operators that all must match one element, which is a key. It fails only if memory runs out.
 fn all_element_bounds<'a>(alloc: Global, operators: &'a [Operator]) -> Found<'a>
     ensures { IfOk result (λ b.
         bounds_view b ≡ all_element_bounds (operators_from (map operator_tree operators.now))) }
@@ -244,7 +244,7 @@ fn all_element_bounds<'a>(alloc: Global, operators: &'a [Operator]) -> Found<'a>
     Ok(conjoined(parts))
 }
 
-/// The bounds of an operator of one element, which is a key; None where there are none. It fails only if memory runs out.
+/// The bounds of an operator for one element, which is a key; None if there are none. It fails only if memory runs out.
 fn element_bounds<'a>(alloc: Global, operator: &'a Operator) -> Found<'a>
     ensures { IfOk result (λ b. bounds_view b ≡ element_bounds (operator_tree operator.now)) }
 {

@@ -14,8 +14,8 @@ ghost use Rattle.bd_index_bounds.specs.BoundsView.{is_before};
 ghost use Rattle.bd_index_bounds.specs.declared.bounds.Cutoff as cutoffs;
 
 /// A document that matches a filter has a key inside the filter's bounds, for every filter, path and document: in a multikey
-/// index, and in any index where the document has one key. It has one that is not for a missing field, where null is outside.
-/// Equal keys are both inside, or both outside.
+/// index, and in any index if the document has one key. If null is outside the bounds, it has such a key that is not that of a
+/// missing field. Equal keys are both inside, or both outside.
 #[tactic(auto, using(crate::proofs::SoundLemmas::loses_no_match, crate::proofs::SoundLemmas::sparse_loses_no_match, crate::proofs::AlikeLemmas::same_bounds))]
 pub fn bounds_lose_no_match()
     ensures keys { (f : filters.Filter) (path : Names) (multikey : Bool) (d : trees.Tree) →
@@ -29,14 +29,14 @@ pub fn bounds_lose_no_match()
         IsTrue (equal j k) → is_inside f path multikey j ≡ is_inside f path multikey k }
 {}
 
-/// A filter is bounded for a multikey index exactly where it is for another.
+/// A filter is bounded for a multikey index exactly if it is bounded for another.
 #[tactic(auto, using(crate::proofs::AlikeLemmas::alike_bounds))]
 pub fn bounded_alike()
     ensures { (f : filters.Filter) (path : Names) →
         is_some (bounds f path true) ≡ is_some (bounds f path false) }
 {}
 
-/// What is not above a key before a cut is before it too, so that keys in their order are parted by a cut.
+/// A key that is not above a key before a cutoff is before it too, so a cutoff splits keys in order into two runs.
 #[tactic(auto, using(crate::proofs::FilterBoundsLemmas::falls_once))]
 pub fn cutoffs_fall_once()
     ensures { (cutoff : cutoffs.Cutoff) (j k : trees.Tree) →

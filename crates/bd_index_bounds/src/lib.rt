@@ -1,8 +1,8 @@
 //! Bounds: which keys of an index on a path can be those of documents that match a filter.
 //!
-//! A filter bounds an index where it says of the index's own path, or of documents in an array on the way, what a value must be
+//! A filter bounds an index if it says what a value at the index's path must be, or in documents of an array on this path
 //! (MongoDB manual, "Multikey Index Bounds"). No match is lost: a document that matches has a key inside, for every filter, path
-//! and document. The bounds themselves are this project's own.
+//! and document. How the bounds are written is this project's choice.
 //!
 //! An example, which `bd_query_tests` proves and runs as `examples::between_four_and_six`:
 //!
@@ -15,11 +15,11 @@
 //! assert!(rt; matches!(&bounds, Some(b) if !b.contains(Tree::Value(&Value::Int32(9)))));
 //! ```
 //!
-//! - `bounds`: `Bounds`, ranges put together as the filter has them, each between two places in the order of keys:
+//! - `bounds`: `Bounds`, ranges combined as in the filter, each between two positions in the order of keys:
 //!   `specs/BoundsView.antt`.
-//! - `filter_bounds`: `Bounds::of`, the bounds that a filter gives: `specs/Bounds.antt`. They lose no match, in a sparse index too
-//!   where null is outside; a key before a cut has all lesser keys before it.
-//! - `range`: the keys that equal a value, are of a class or stand to a value, and those of several values.
+//! - `filter_bounds`: `Bounds::of`, the bounds that a filter gives: `specs/Bounds.antt`. They lose no match, nor in a sparse
+//!   index if null is outside. If a key is before a cutoff, so are all lesser keys.
+//! - `range`: the keys that equal a value, are of a class or compare to a value in one way, and those of several values.
 //! - `laws`: bounds lose no match.
 #![tactic(auto)]
 

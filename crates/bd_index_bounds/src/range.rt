@@ -30,7 +30,7 @@ pub(crate) fn of_class<'a>(class: Class) -> Bounds<'a>
     between(before(edge), after(edge))
 }
 
-/// The keys of a value's class that stand to it so.
+/// The keys of a value's class that have this relation to it.
 pub(crate) fn related(relation: Relation, value: &Value) -> Bounds<'_>
     ensures { keys_within result ≡ is_related relation (tree_of value.now) }
 {
@@ -78,10 +78,10 @@ fn after(edge: Edge<'_>) -> Cutoff<'_>
     Cutoff { edge, after: true }
 }
 
-/// The keys of a document with a value that equals this one. It fails only if memory runs out.
+/// The keys of a document that has a value equal to this one. It fails only if memory runs out.
 ///
-/// Those of an array are its elements, so an equal array is found by the first of them, or by undefined where it is empty. It
-/// may also stand in an array, and is then itself a key.
+/// The keys of an array are its elements, so an equal array is found by its first element, or by undefined if it is empty. It
+/// may also be an element of an array, and is then itself a key.
 pub(crate) fn equal_bounds<'a>(alloc: Global, value: &'a Value) -> Result<Bounds<'a>, NoMemory>
     ensures { IfOk result (λ b. keys_within b ≡ keys_of_equal (tree_of value.now)) }
 {
@@ -94,7 +94,7 @@ pub(crate) fn equal_bounds<'a>(alloc: Global, value: &'a Value) -> Result<Bounds
     Ok(Bounds::Or(parts))
 }
 
-/// The keys that equal the first element, or undefined where there is none.
+/// The keys that equal the first element, or undefined if there is none.
 fn first_range(elements: &[Value]) -> Bounds<'_>
     ensures { keys_within result
         ≡ keys_equal_to (get_or (map tree_of elements.now) 0 (leaf trees.undefined)) }
@@ -105,7 +105,7 @@ fn first_range(elements: &[Value]) -> Bounds<'_>
     }
 }
 
-/// Such keys of each value. It fails only if memory runs out.
+/// The keys of documents that have an equal value, for each value. It fails only if memory runs out.
 pub(crate) fn bounds_of_equal<'a>(
     alloc: Global,
     values: &'a [Value],
@@ -120,7 +120,7 @@ pub(crate) fn bounds_of_equal<'a>(
     Ok(parts)
 }
 
-/// The keys that equal a value, for each of them. It fails only if memory runs out.
+/// The keys that equal a value, for each value. It fails only if memory runs out.
 pub(crate) fn ranges_of_equal<'a>(
     alloc: Global,
     values: &'a [Value],
@@ -135,7 +135,7 @@ pub(crate) fn ranges_of_equal<'a>(
     Ok(parts)
 }
 
-/// The keys of the class of a kind, for each of them. It fails only if memory runs out.
+/// The keys of the class of a kind, for each kind. It fails only if memory runs out.
 pub(crate) fn ranges_of_kinds<'a>(
     alloc: Global,
     kinds: &[Kind],
@@ -150,7 +150,8 @@ pub(crate) fn ranges_of_kinds<'a>(
     Ok(parts)
 }
 
-/// `$all`: in a multikey index the first member bounds, else each; of no member, no key. It fails only if memory runs out.
+/// `$all`: in a multikey index only the first member bounds, otherwise each; no key if there are no members. It fails only if
+/// memory runs out.
 pub(crate) fn bounds_of_all<'a>(
     alloc: Global,
     members: &'a [Value],
@@ -168,7 +169,7 @@ pub(crate) fn bounds_of_all<'a>(
     Ok(Bounds::And(bounds_of_equal(alloc, members)?))
 }
 
-/// `$all` of an element by itself: it equals each member; of no member, no key. It fails only if memory runs out.
+/// `$all` of an element by itself: it equals each member; no key if there are no members. It fails only if memory runs out.
 pub(crate) fn ranges_of_all<'a>(alloc: Global, members: &'a [Value]) -> Result<Bounds<'a>, NoMemory>
     ensures { IfOk result (λ b.
         keys_within b ≡ keys_of_each false (map keys_equal_to (map tree_of members.now))) }

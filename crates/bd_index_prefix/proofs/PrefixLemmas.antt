@@ -1,4 +1,4 @@
--- What the fronts of two texts tell of their order.
+-- What the prefixes of two texts say of their order.
 use Rattle.std.proofs.Common.{◌≡◌, ◌≢◌, ◌<◌, ◌≤◌, ℕ, List, [], ◌∷◌, ◌++◌, length, min, take, drop, zero, suc, refl, sym, ap, ap₂, ◌∙◌, arith, true}
 use Rattle.std.proofs.Common.{nat_lt, ◌&&◌, ◌==◌, Ordering}
 use Rattle.std.specs.{Cmp.Lexicographic.slice_cmp, Ordering.is_eq, Ordering.nat_cmp, Ordering.ordering_then, Str.bytes_eq}
@@ -20,7 +20,7 @@ zero_less n = grind (arith, nat_tests)
 zero_greater : (n : ℕ) → nat_cmp (suc n) 0 ≡ Greater
 zero_greater n = grind (arith, nat_tests)
 
--- where the padded bytes differ they decide: first of a text and of none
+-- if the padded bytes differ, they decide: first a text against an empty one
 none_before : (n : ℕ) (t : List ℕ) → ordering_then (slice_cmp nat_cmp (padded n []) (padded n t)) Less ≡ Less
 unfolding padded
 none_before zero t = refl
@@ -46,7 +46,7 @@ padded_first (suc n) [] (y ∷ t) = none_before (suc n) (y ∷ t)
 padded_first (suc n) (x ∷ s) [] = none_after (suc n) (x ∷ s)
 padded_first (suc n) (x ∷ s) (y ∷ t) = step (nat_cmp x y) (slice_cmp nat_cmp (padded n s) (padded n t)) (bytes_cmp s t) (padded_first n s t)
 
--- where they are equal the lengths decide, unless both texts are longer
+-- if they are equal, the lengths decide, unless both texts are longer
 both_equal : (o p : Ordering) → ordering_then o p ≡ Equal → (o ≡ Equal) × (p ≡ Equal)
 both_equal o p e = (grind arith, grind arith)
 
@@ -60,7 +60,7 @@ padded_then (suc n) (x ∷ s) (y ∷ t) e few =
     let both = both_equal (nat_cmp x y) (slice_cmp nat_cmp (padded n s) (padded n t)) e in
     rw both.0 (padded_then n s t both.1 (omega arith) ∙ sym (nat_next (length s) (length t)))
 
--- a copy of the first bytes over zeros
+-- the first bytes copied over zeros
 abbrev pub zeros : ℕ → List ℕ
 zeros zero = []
 zeros (suc n) = 0 ∷ zeros n
@@ -77,11 +77,11 @@ copied (suc n) zero [] e = ap (λ ys. 0 ∷ ys) (no_bytes n)
 copied (suc n) (suc k) (x ∷ s) e = ap (λ ys. x ∷ ys) (copied n k s (omega arith))
 copied _ _ _ e = absurd (omega arith)
 
--- the lengths of two fronts stand as those of their texts, where one text is no longer than a front
+-- the lengths of two prefixes compare as those of their texts, if one text is no longer than its prefix
 capped : (m n : ℕ) → min m n ≤ 15 → nat_cmp (min m 16) (min n 16) ≡ nat_cmp m n
 capped m n few = grind (arith, nat_tests)
 
--- where the fronts are not both of longer texts and equal
+-- unless both prefixes are equal and of longer texts, one text is short
 one_short : (m n : ℕ) → (nat_cmp (min m 16) (min n 16) ≡ Equal → min m 16 < 16) → min m n ≤ 15
 one_short m n h = grind (arith, nat_tests)
 
@@ -103,7 +103,7 @@ prefixes_decide a b o is short s t e f =
     is ∙ ap₂ (λ (g h : TextPrefix). ordering_then (slice_cmp nat_cmp g.bytes h.bytes) (nat_cmp g.length h.length)) e f in
     texts_decided o s t order (λ g. let l : a.length < 16 = short g in omega arith)
 
--- when two fronts of texts tell an order
+-- when the prefixes of two texts decide their order
 both_tied : (o p : Ordering) → is_eq (ordering_then o p) ≡ (is_eq o && is_eq p)
 both_tied o p = grind arith
 

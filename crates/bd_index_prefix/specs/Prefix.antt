@@ -9,7 +9,7 @@ use Rattle.bd_path.specs.{Key.key_tree, declared.key.Key.Key}
 use Rattle.bd_index_prefix.specs.{declared.prefix.Prefix.Prefix, declared.prefix.TextPrefix.TextPrefix}
 use Rattle.bd_index_prefix.specs.declared.prefix.Prefix.TheVariants as prefixes
 
--- the value of a key that is kept as a node in the bytes of a dump
+-- the value of a key that is a node in the bytes of a dump
 abbrev pub stored_key : Key RawValue → Tree
 stored_key k = key_tree (λ v. meaning v.sound) k
 
@@ -23,8 +23,8 @@ padded (suc n) (x ∷ s) = x ∷ padded n s
 abbrev pub prefix_of_text : List ℕ → TextPrefix
 prefix_of_text s = record { bytes = padded 15 s; length = min (length s) 16 }
 
--- the prefix of a scalar: strings and symbols have that of a text;
--- a kind that is not named here has none (`Other`)
+-- the prefix of a scalar: that of a text for strings and symbols;
+-- none (`Other`) for a kind that is not listed here
 abbrev pub prefix_of_scalar : Scalar → Prefix
 prefix_of_scalar (text s) = prefixes.Text (prefix_of_text s)
 prefix_of_scalar (symbol s) = prefixes.Text (prefix_of_text s)
@@ -39,7 +39,7 @@ abbrev pub prefix_of_leaf : Option Leaf → Prefix
 prefix_of_leaf (Some (scalar_leaf s)) = prefix_of_scalar s
 prefix_of_leaf _ = prefixes.Other
 
--- the prefix of a key, by which most keys compare without a look at their bytes;
+-- the prefix of a key, by which most keys compare without reading their bytes;
 -- `Other` for a kind that has none
 abbrev pub prefix_of : Tree → Prefix
 prefix_of t = prefix_of_leaf (leaf_of t)
@@ -50,7 +50,7 @@ abbrev pub texts_decide : TextPrefix → TextPrefix → Bool
 texts_decide a b = nat_lt a.length 16 || not (bytes_eq a.bytes b.bytes && (a.length == b.length))
 
 -- whether two prefixes decide the order of their keys:
--- those of two numbers, dates or ids do, those of texts mostly
+-- two of numbers, dates or ids always do, two of texts mostly
 abbrev pub decides_order : Prefix → Prefix → Bool
 decides_order (prefixes.Text a) (prefixes.Text b) = texts_decide a b
 decides_order (prefixes.Number m) (prefixes.Number n) = true

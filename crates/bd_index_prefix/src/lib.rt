@@ -1,8 +1,8 @@
-//! Fronts of keys, by which most keys compare.
+//! Prefixes of keys, by which most keys compare.
 //!
-//! To compare two keys that lie in a dump, their bytes are read, which are mostly far apart. A front is what decides most
-//! comparisons by itself: of a text its first 15 bytes and its length, of a number, a date or an ObjectId all of it. Fronts are kept
-//! side by side while keys are sorted.
+//! To compare two keys of a dump, their bytes are read, which are mostly far apart. A prefix decides most comparisons alone:
+//! it is the first 15 bytes of a text and its length, or all of a number, a date or an ObjectId. Prefixes are side by side while
+//! keys are sorted.
 //!
 //! An example, which `bd_query_tests` proves and runs as `examples::seven_before_nine`:
 //!

@@ -1,4 +1,4 @@
-//! The front of a key, by which most keys compare.
+//! The prefix of a key, by which most keys compare.
 
 ghost use Rattle.std.specs.Prelude.{◌≡◌, IfSome, List, is_some, option_map, ℕ};
 ghost use Rattle.bd_value.specs.Order.{bytes_cmp, cmp};
@@ -11,28 +11,28 @@ use bd_path::Key;
 use bd_value::{Node, Scalar};
 use std::cmp::Ordering;
 
-/// How many bytes of a text its front has.
+/// How many bytes of a text are in its prefix.
 const BYTES: usize = 15;
 
-/// The length of a front of a text with more bytes.
+/// The length in the prefix of a text that has more bytes.
 const LONG: u8 = 16;
 
-/// What decides most comparisons of a key by itself.
+/// The part of a key that decides most comparisons.
 #[derive(Clone, Copy)]
 pub enum Prefix {
-    /// Of a string or a symbol.
+    /// A string or a symbol.
     Text(TextPrefix),
-    /// Of an int or a long the number.
+    /// An int or a long.
     Number(i64),
-    /// Of a date its milliseconds.
+    /// The milliseconds of a date.
     Date(i64),
-    /// Of an ObjectId its bytes.
+    /// The bytes of an ObjectId.
     Id([u8; 12]),
-    /// Of a value of another kind nothing.
+    /// A value of another kind: nothing.
     Other,
 }
 
-/// The first bytes of a text, with zeros after them where it has fewer, and its length.
+/// The first bytes of a text, padded with zeros, and its length.
 #[derive(Clone, Copy)]
 pub struct TextPrefix {
     pub(crate) bytes: [u8; BYTES],
@@ -41,7 +41,7 @@ pub struct TextPrefix {
 }
 
 impl Prefix {
-    /// The front of what a key stands for. It takes no memory.
+    /// The prefix of a key. It takes no memory.
     pub fn of(key: Key<RawValue<'_>>) -> Prefix
         ensures { result ≡ prefix_of (stored_key key.entry) }
     {
@@ -53,7 +53,7 @@ impl Prefix {
     }
 }
 
-/// The front of what a value holds besides other values.
+/// The prefix of a value, by its scalar part.
 fn prefix_of_leaf(scalar: Option<Scalar<'_>>) -> Prefix
     ensures { result ≡ prefix_of_leaf (option_map view_of scalar.entry) }
 {
@@ -80,8 +80,8 @@ fn prefix_of_text(text: &[u8]) -> TextPrefix
     }
 }
 
-/// The order of two keys by their fronts. None where the fronts do not tell it: of keys of different kinds, of a kind that has no
-/// front, and of two longer texts that begin alike. It takes no memory.
+/// The order of two keys by their prefixes. None if the prefixes do not decide it: for keys of different kinds, of a kind that
+/// has no prefix, and for two longer texts that begin alike. It takes no memory.
 pub fn compare_prefixes(a: Prefix, b: Prefix) -> Option<Ordering>
     ensures order { IfSome result (λ o. (x y : Tree) →
         a ≡ prefix_of x → b ≡ prefix_of y → o ≡ cmp x y) }
@@ -96,7 +96,7 @@ pub fn compare_prefixes(a: Prefix, b: Prefix) -> Option<Ordering>
     }
 }
 
-/// The order of two texts by their fronts. None where both are longer and have one front.
+/// The order of two texts by their prefixes. None if both are longer and their prefixes are equal.
 fn compare_texts(a: TextPrefix, b: TextPrefix) -> Option<Ordering>
     ensures order { IfSome result (λ o. (s t : List ℕ) →
         a ≡ prefix_of_text s → b ≡ prefix_of_text t → o ≡ bytes_cmp s t) }

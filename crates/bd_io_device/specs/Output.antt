@@ -24,7 +24,7 @@ output_spare output = output_size output - output.filled
 abbrev pub next_write : MemoryOutput → ℕ
 next_write output = after_more output.tally.calls 1
 
--- A write of these bytes into memory takes so many, or fails (None), and leaves the second device:
+-- A write of these bytes into memory takes this number of them, or fails (None), and leaves the second device:
 -- the call that is to fail does so, or takes none; any other takes all that fit, and that a call may take.
 abbrev pub MemoryTakes : MemoryOutput → List ℕ → Option ℕ → MemoryOutput → Type 0
 MemoryTakes before bytes answer after = (after.most ≡ before.most)

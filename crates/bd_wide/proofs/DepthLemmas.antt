@@ -1,4 +1,4 @@
--- A document of few bytes has no number that is too deep: each level has at least seven.
+-- A short document has no number that is too deep: each level takes at least seven bytes.
 use Rattle.std.proofs.Common.{◌≡◌, ℕ, zero, suc, ◌+◌, ◌-◌, ◌*◌, ◌≤◌, List, [], ◌∷◌, length, take, drop, Option, Some, None, refl, ap, ap₂, ◌∙◌, arith, length-drop, Bool, true, false, if◌then◌else◌, nat_lt, ◌++◌}
 use Rattle.std.proofs.lemmas.List.{length-take-le}
 use Rattle.bd_value.specs.declared.node.Kind.TheVariants as kinds

@@ -11,7 +11,7 @@ use Rattle.bd_wide.specs.declared.find.Found.{Found}
 use Rattle.bd_wide.specs.Refused.{Refused, Refuses, Element, Finds, FindsLocated, first_of_two, refused_body, refused_element, refused_elements, refused_nested, refused_part, refused_scope}
 use Rattle.bd_wide.proofs.RewriteLemmas.{path_back, shorter, first_element_nil}
 
--- one turn, by what stands at the front
+-- one step, by the first element
 abbrev pub Turn : Element → (List ℕ → List ℕ) → ℕ → ℕ → List ℕ → Option (ElementType × ℕ × ℕ) → Option Refused
 Turn element path_in n at bytes None = None
 Turn element path_in n at bytes (Some x) =
@@ -29,7 +29,7 @@ unfolding refused_elements
 none_in element path_in zero at = refl
 none_in element path_in (suc n) at = refl
 
--- any number of turns from the count of the bytes on is as good
+-- any number of steps is enough that is at least the count of the bytes
 enough : (element : Element) (path_in : List ℕ → List ℕ) (n m at : ℕ) (bytes : List ℕ) → length bytes ≤ n → length bytes ≤ m → refused_elements element path_in n at bytes ≡ refused_elements element path_in m at bytes
 enough element path_in n m at [] p q = none_in element path_in n at ∙ sym (none_in element path_in m at)
 enough element path_in zero m at (b ∷ bytes) p q = absurd (omega arith)
@@ -60,7 +60,7 @@ ends element path_in at (b ∷ bytes) is = turned element path_in (length bytes)
 
 -- ---- what is found
 
--- one element was looked at
+-- one element was examined
 pub found_here : (element : Element) (b : Bool) (old : List ℕ) (at here : ℕ) (bytes rest head more value path new : List ℕ) (t : ElementType) (k n : ℕ) (found : Option Found)
     → refused_elements element (path_of b old) (length bytes) at bytes ≡ refused_elements element (path_of b old) (length rest) here rest
     → Some (t, k, n) ≡ first_element rest → head ≡ take k rest → length head ≡ k → more ≡ drop k rest → value ≡ take n more → path ≡ old

@@ -1,4 +1,4 @@
--- Where what is written of each number is as long as it, all is.
+-- If the text for each number is as long as the number, the whole is as long as before.
 use Rattle.std.proofs.Common.{◌≡◌, ℕ, zero, suc, ◌+◌, ◌-◌, ◌≤◌, List, [], ◌∷◌, ◌++◌, length, take, drop, Option, Some, None, refl, sym, ap, ◌∙◌, arith, length-append, length-drop, Bool, true, false, if◌then◌else◌, nat_lt, ◌==◌, ◌||◌, not, subst}
 use Rattle.std.proofs.lemmas.{Bool.Decides.nat_tests, List.length-take-le, List.Quantifiers.position-Some}
 use Rattle.bd_value.specs.declared.node.Kind.TheVariants as kinds
@@ -71,7 +71,7 @@ size_fits (Kept kinds.Array) bytes n is = let f = counted_fits 5 0 bytes n is in
 size_fits (Kept kinds.CodeScope) bytes n is = let f = counted_fits 14 0 bytes n is in (omega (arith, f.0), f.1)
 size_fits (Kept _) bytes n is = let e : 0 ≡ n = cc in (omega arith, omega arith)
 
--- ---- the element at the front
+-- ---- the first element
 
 abbrev pub FirstElementFits : ℕ → ElementType × ℕ × ℕ → Type 0
 FirstElementFits all x = (2 ≤ x.1) × (least x.0 ≤ x.2) × (x.1 + x.2 ≤ all)
@@ -92,7 +92,7 @@ named all None r size x h is = absurd cc
 named all (Some t) None size x h is = absurd cc
 named all (Some t) (Some k) size x h is = sized all t k (size t k) x (λ n e. h t k n refl e) is
 
--- the element at the start of bytes fits into them, and its value is not shorter than its type asks
+-- the first element fits into the bytes, and its value has at least the length that its type requires
 pub first_element_fits : (bytes : List ℕ) (x : ElementType × ℕ × ℕ) → first_element bytes ≡ Some x → FirstElementFits (length bytes) x
 unfolding first_element
 first_element_fits [] x is = absurd cc
@@ -196,12 +196,12 @@ nested_keeps Is others keeps (suc depth_left) holders.CodeScope path value new s
 pub long_enough : (bytes : List ℕ) → nat_lt (length bytes) 5 ≡ false → 5 ≤ length bytes
 long_enough bytes at = grind (arith, nat_tests)
 
--- what may be written of a document's bytes, by whether they are fewer than five
+-- what may be written for a document's bytes, by whether there are fewer than five
 abbrev pub WholeTurn : Writes → Others → List ℕ → List ℕ → Bool → Type 0
 WholeTurn Is others bytes new true = new ≡ bytes
 WholeTurn Is others bytes new false = IsNested Is others 200 holders.Document [] bytes new
 
--- what may be written of bytes is what may be written of a document, if there are five or more
+-- what may be written for bytes is what may be written for a document, if there are five or more
 pub to_whole : (Is : Writes) (others : Others) (bytes new : List ℕ) → IsRewritten Is others bytes new → WholeTurn Is others bytes new (nat_lt (length bytes) 5)
 unfolding IsRewritten
 to_whole Is others bytes new = elim (nat_lt (length bytes) 5) as (λ b. (elim b [ true ↦ new ≡ bytes | false ↦ IsNested Is others 200 holders.Document [] bytes new ]) → WholeTurn Is others bytes new b) [ true ↦ λ h. h | false ↦ λ h. h ]

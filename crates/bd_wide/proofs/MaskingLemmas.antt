@@ -1,4 +1,4 @@
--- Bytes that are masked at their place.
+-- Bytes that are masked in place.
 use Rattle.std.proofs.Common.{◌≡◌, ◌≢◌, ◌⊎◌, ℕ, zero, suc, ◌+◌, ◌-◌, ◌<◌, ◌≤◌, inl, inr, Bool, true, false, nat_lt, if◌then◌else◌, List, [], ◌∷◌, ◌++◌, length, take, drop, Option, Some, None, refl, sym, ap, ap₂, ◌∙◌, arith, append_assoc, length-append, length-drop, append-nil, take_at, drop_at, subst, codes}
 use Rattle.std.proofs.lemmas.List.{take-append-drop, length-take-le, drop-drop, drop-take, take-take, take_all, drop_all}
 use Rattle.std.proofs.lemmas.Bool.Decides.{nat_tests}
@@ -24,7 +24,7 @@ use Rattle.bd_wide.proofs.RewriteLemmas.{Comes, ScopeTurn, below, ends, from_sco
 abbrev Below : ℕ → Nested
 Below depth_left = IsNested IsMasked masked_others depth_left
 
--- ---- elements: those before a place are masked, those from there on are as they were
+-- ---- elements: those before an offset are masked, those from there on are unchanged
 
 pub record MasksUpTo (depth_left : ℕ) (old now : List ℕ) (at : ℕ) : Type 0 where
   pub comes : (path_in : List ℕ → List ℕ) → Comes IsMasked masked_others (IsNested IsMasked masked_others depth_left) path_in old (drop at old) [] (take at now)
@@ -40,7 +40,7 @@ masks_none depth_left old = record {
   as_long = refl;
 }
 
--- one more
+-- one more element
 masks_one : (depth_left : ℕ) (old now new sub : List ℕ) (at size : ℕ) → MasksUpTo depth_left old now at → IsFirstOf depth_left (drop at now) sub size
     → new ≡ take at now ++ sub → MasksUpTo depth_left old new (at + size)
 masks_one depth_left old now new sub at size m f is =
@@ -71,7 +71,7 @@ rest_masked : (depth_left : ℕ) (path_in : List ℕ → List ℕ) (rest : List 
 rest_masked depth_left path_in [] is = none IsMasked masked_others (Below depth_left) path_in 0
 rest_masked depth_left path_in (b ∷ bytes) is = ends IsMasked masked_others (Below depth_left) path_in (b ∷ bytes) (omega arith) (sym is)
 
--- all
+-- all elements
 masks_all : (depth_left : ℕ) (old now new sub : List ℕ) (at : ℕ) → MasksUpTo depth_left old now at → first_element (drop at now) ≡ None → sub ≡ masked_others (drop at now)
     → new ≡ take at now ++ sub → MasksElements depth_left old new
 masks_all depth_left old now new sub at m nothing is whole = λ path_in.
@@ -81,7 +81,7 @@ masks_all depth_left old now new sub at m nothing is whole = λ path_in.
     let same : all.0 ≡ new = sym all.2 ∙ ap (λ x. take at now ++ masked_others x) (sym m.rest) ∙ ap (λ x. take at now ++ x) (sym is) ∙ sym whole in
     subst (λ (x : List ℕ). AreElements IsMasked masked_others (Below depth_left) path_in (length old) old x) same all.1
 
--- what stands from a place on
+-- the bytes from an offset on
 
 pub part_whole : (at : ℕ) (xs : List ℕ) → take (length xs - at) (drop at xs) ≡ drop at xs
 part_whole at xs = take_all (length xs - at) (drop at xs) (omega (arith, length-drop at xs))
@@ -107,7 +107,7 @@ masks_end depth_left old now sub last at m nothing is =
     masks_all depth_left old now (put_mid at (length now - at) now last) last at m (ap (λ x. first_element x) (sym (part_whole at now)) ∙ nothing.0) (is ∙ ap (λ x. masked_others x) (part_whole at now)) (put_end at now last) in
     subst (λ (x : List ℕ). last ≡ masked_others (take (length x - at) (drop at x)) → MasksElements depth_left old (put_mid at (length x - at) x last)) (sym same) here is
 
--- ---- what holds values
+-- ---- documents, arrays and code with scope
 
 count_first : (n : ℕ) (value sized : List ℕ) → sized ≡ number n ++ drop 4 value → (take 4 sized ≡ number n) × (drop 4 sized ≡ drop 4 value)
 count_first n value sized is = (
@@ -215,7 +215,7 @@ first_any depth_left old sub new t k n fact two fits masked long is =
       written = is;
     }
 
--- ---- one whose type tells its size
+-- ---- an element whose type determines its size
 
 fixed_there : (m n : ℕ) (bytes : List ℕ) → Some m ≡ Some n → n ≤ length bytes → fixed m bytes ≡ Some n
 fixed_there m n bytes is fits =
@@ -263,7 +263,7 @@ prefix_reported b rest t k n p q r = ap (λ (o : Option ElementType). o >>= λ t
 element_is : (bytes : List ℕ) (k n : ℕ) → take (k + n) bytes ≡ take k bytes ++ take n (drop k bytes)
 element_is bytes k n = take-add k n bytes
 
--- without its type
+-- the same without its type
 nameless : (bytes : List ℕ) (k n : ℕ) → 1 ≤ k → k ≤ length bytes → drop 1 (take (k + n) bytes) ≡ drop 1 (take k bytes) ++ take n (drop k bytes)
 nameless [] k n some fits = absurd (omega (arith, some, fits))
 nameless (b ∷ bytes) zero n some fits = absurd (omega (arith, some))
@@ -328,7 +328,7 @@ first_plain depth_left old byte size p =
 
 -- ---- numbers
 
--- four letters stand where the name was ended, and a zero after them
+-- four letters come where the name ended, and a zero after them
 pub decimal_at : (k : ℕ) (old seven new : List ℕ) → 2 ≤ k → k + 16 ≤ length old → seven ≡ 7 ∷ drop 1 old
     → new ≡ take (k - 1) seven ++ ((codes "####" ++ 0 ∷ []) ++ drop (k + 4) seven) → new ≡ masked_element Decimal128 (take k old) (drop k old)
 decimal_at k [] seven new two fits is whole = absurd (omega (arith, two, fits))
@@ -378,7 +378,7 @@ short_stays bytes new short is =
     let b : nat_lt (length bytes) 5 ≡ true = grind (arith, nat_tests, short) in
     from_whole bytes new (subst (λ (x : Bool). WholeTurn IsMasked masked_others bytes new x) (sym b) is)
 
--- masked after what was there
+-- masked after the bytes that were there
 pub appended : (before full : ℕ) (out bytes all sub tail : List ℕ) → before ≡ length out → all ≡ out ++ bytes → full ≡ length all
     → length sub ≡ length (take (length all - before) (drop before all)) → IsRewritten IsMasked masked_others (take (length all - before) (drop before all)) sub
     → Adds (IsRewritten IsMasked masked_others bytes) out (take full (put_mid before (length all - before) all sub ++ tail))

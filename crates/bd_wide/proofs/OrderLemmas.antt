@@ -1,4 +1,4 @@
--- Documents with their numbers in them.
+-- Documents with their numbers in the dump.
 use Rattle.std.proofs.Common.{◌≡◌, ℕ, zero, suc, ◌+◌, ◌-◌, ◌≤◌, List, [], ◌∷◌, ◌++◌, length, take, drop, codes, sym, ap, ap₂, ◌∙◌, refl, arith, append_assoc, length-append, length-drop, drop-drop, take_at, drop_at, Bool, true, false, nat_lt, ◌<◌, Some, Result, Ok, Err, OnOk, OnErr, subst, if◌then◌else◌}
 use Rattle.std.specs.Io.{StartsWith}
 use Rattle.std.proofs.lemmas.List.{take-append-le, drop-append-le}
@@ -40,7 +40,7 @@ numbered_ok P one two three four out t n at P_is single fits p q r is =
     let document : drop at P ≡ i ++ t = ap (drop at) P_is ∙ drop-append-le at one t (omega (arith, fits)) in
     is ∙ (λ k. prefix k ++ (number (count k) ++ back k)) ∙ sym (ap (λ d. take at P ++ numbered n d) document ∙ ap (λ x. take at P ++ x) (numbered_split n i t single))
 
--- ---- a document stays one
+-- ---- the result is still a document
 
 body_some : (Is : Writes) (others : Others) (f : Nested) (path_in : List ℕ → List ℕ) (value new : List ℕ) → 5 ≤ length value → IsBody Is others f path_in value new → 5 ≤ length new
 unfolding IsBody
@@ -61,7 +61,7 @@ rewritten_some Is others bytes new some h =
     ] in
     cases (nat_lt (length bytes) 5) (to_whole Is others bytes new h)
 
--- the document at the end of what was written gets its number
+-- the document at the end of the output gets its number
 pub numbered_here : (paths : List OrderPath) (n at : ℕ) (bytes old mid out : List ℕ) → at ≡ length old → Adds (IsRewritten (IsOrdered paths) (λ others. others) bytes) old mid
     → out ≡ take at mid ++ numbered n (drop at mid) → Adds (IsNumbered paths n bytes) old out
 numbered_here paths n at bytes old mid out here h is =
@@ -83,7 +83,7 @@ pub err_numbered : {A B : Type 0} (r : Result A B) (at : ℕ) (old mid out new :
 err_numbered (Ok x) at old mid out new here h is = _
 err_numbered (Err e) at old mid out new here h is = subst (λ (x : List ℕ). StartsWith out x) (ap (take at) h ∙ take_at old new at (sym here)) is
 
--- ---- the power of ten at the end of a word
+-- ---- the power of ten at the end of an argument
 
 pub power_read : (remaining : ℕ) (word : List ℕ) → 0 < remaining → ends_with_power word (remaining - 1) ≡ true → path_read remaining word ≡ (take (length word - (remaining - 1 + 2)) word, Some (remaining - 1))
 power_read zero word some is = absurd (omega arith)

@@ -1,4 +1,4 @@
--- Where paths are ignored, what may be written is the same at every path.
+-- If paths are ignored, the same may be written at every path.
 use Rattle.std.proofs.Common.{◌≡◌, inl, inr, ℕ, zero, suc, ◌-◌, List, [], ◌∷◌, ◌++◌, length, take, drop, Option, Some, None, Result, Ok, Err, OnOk, subst, sym, true, false}
 use Rattle.bd_bson_view.specs.declared.raw_parts.ElementType.{ElementType}
 use Rattle.bd_bson_view.specs.declared.raw_parts.Holder.{Holder}
@@ -63,7 +63,7 @@ nested_moves Is others free (suc depth_left) holders.Array path other value new 
 nested_moves Is others free (suc depth_left) holders.CodeScope path other value new is =
     scoped_moves (IsNested Is others depth_left holders.Document path) (IsNested Is others depth_left holders.Document other) (λ v n h. nested_moves Is others free depth_left holders.Document path other v n h) value new is
 
--- ---- so a path that serves as another does
+-- ---- so a path may be replaced by one that serves for it
 
 part_serves : (Is : Writes) (others : Others) (depth_left : ℕ) (part : Option Part) (path other : List ℕ) (t : ElementType) (head value new : List ℕ) → ServesAs Is path other
     → IsPart Is (IsNested Is others depth_left) part path t head value new → IsPart Is (IsNested Is others depth_left) part other t head value new

@@ -14,7 +14,7 @@ use Rattle.bd_wide.specs.declared.element.Part.{Part}
 use Rattle.bd_wide.specs.declared.element.Part.TheVariants as parts
 use Rattle.bd_wide.specs.Rewritten.{Writes, Others, Nested, Adds, first_element, least, holder_least, part_of, name_in, path_of, IsPart, IsElement, AreElements, IsBody, IsScoped, IsNested, scope_at, ◌>>=◌, first_zero, size_at}
 
--- ---- the element at the front
+-- ---- the first element
 
 sized : (t : ElementType) (k : ℕ) (n : Option ℕ) (x : ElementType × ℕ × ℕ) → (n >>= λ n. Some (t, k + 2, n)) ≡ Some x → 2 ≤ x.1
 sized t k None x is = absurd cc
@@ -38,13 +38,13 @@ shorter b bytes x is = omega (arith, first_element_takes (b ∷ bytes) x is, len
 
 -- ---- elements
 
--- what may be written from there on, by what stands at the front
+-- what may be written from there on, by the first element
 abbrev pub Turn : Writes → Others → Nested → (List ℕ → List ℕ) → ℕ → List ℕ → Option (ElementType × ℕ × ℕ) → List ℕ → Type 0
 Turn Is others nested path_in n bytes None new = new ≡ others bytes
 Turn Is others nested path_in n bytes (Some x) new = (one : List ℕ) × (two : List ℕ) × IsElement Is nested (path_in (take x.1 bytes)) x.0 (take x.1 bytes) (take x.2 (drop x.1 bytes)) one
     × AreElements Is others nested path_in n (drop x.2 (drop x.1 bytes)) two × (new ≡ one ++ two)
 
--- the turn of the definition, which is this
+-- the step of the definition, which is the same
 abbrev Turned : Writes → Others → Nested → (List ℕ → List ℕ) → ℕ → List ℕ → Option (ElementType × ℕ × ℕ) → List ℕ → Type 0
 Turned Is others nested path_in n bytes f new = elim f [
   | None ↦ new ≡ others bytes
@@ -55,7 +55,7 @@ Turned Is others nested path_in n bytes f new = elim f [
       × AreElements Is others nested path_in n (drop x.2 rest) two × (new ≡ one ++ two)
 ]
 
--- what may be written of elements is what may be written of the first one and of the others
+-- what may be written for elements is what may be written for the first one and for the others
 pub to_turn : (Is : Writes) (others : Others) (nested : Nested) (path_in : List ℕ → List ℕ) (n b : ℕ) (bytes new : List ℕ) → AreElements Is others nested path_in (suc n) (b ∷ bytes) new → Turn Is others nested path_in n (b ∷ bytes) (first_element (b ∷ bytes)) new
 unfolding AreElements
 to_turn Is others nested path_in n b bytes new = elim (first_element (b ∷ bytes)) as (λ f. Turned Is others nested path_in n (b ∷ bytes) f new → Turn Is others nested path_in n (b ∷ bytes) f new) [ None ↦ λ h. h | Some x ↦ λ h. h ]
@@ -64,7 +64,7 @@ pub from_turn : (Is : Writes) (others : Others) (nested : Nested) (path_in : Lis
 unfolding AreElements
 from_turn Is others nested path_in n b bytes new = elim (first_element (b ∷ bytes)) as (λ f. Turn Is others nested path_in n (b ∷ bytes) f new → Turned Is others nested path_in n (b ∷ bytes) f new) [ None ↦ λ h. h | Some x ↦ λ h. h ]
 
--- after the last turn the rest stays as it is
+-- after the last step the rest is unchanged
 pub no_turn : (Is : Writes) (others : Others) (nested : Nested) (path_in : List ℕ → List ℕ) (bytes new : List ℕ) → AreElements Is others nested path_in zero bytes new → new ≡ bytes
 unfolding AreElements
 no_turn Is others nested path_in bytes new h = h
@@ -74,13 +74,13 @@ unfolding AreElements
 none Is others nested path_in zero = refl
 none Is others nested path_in (suc n) = refl
 
--- of no elements nothing is written
+-- for no elements nothing is written
 pub none_only : (Is : Writes) (others : Others) (nested : Nested) (path_in : List ℕ → List ℕ) (n : ℕ) (new : List ℕ) → AreElements Is others nested path_in n [] new → new ≡ []
 unfolding AreElements
 none_only Is others nested path_in zero new h = h
 none_only Is others nested path_in (suc n) new h = h
 
--- any number of turns from the count of the bytes on is as good
+-- any number of steps is enough that is at least the count of the bytes
 enough : (Is : Writes) (others : Others) (nested : Nested) (path_in : List ℕ → List ℕ) (n m : ℕ) (bytes new : List ℕ) → length bytes ≤ n → length bytes ≤ m → AreElements Is others nested path_in n bytes new → AreElements Is others nested path_in m bytes new
 enough Is others nested path_in n m [] new p q h = subst (λ (x : List ℕ). AreElements Is others nested path_in m [] x) (sym (none_only Is others nested path_in n new h)) (none Is others nested path_in m)
 enough Is others nested path_in zero m (b ∷ bytes) new p q h = absurd (omega arith)
@@ -123,14 +123,14 @@ adds Is a c x is e = (x, is, e)
 pub headed : (Is : List ℕ → Type 0) (a b c head : List ℕ) → b ≡ a ++ head → Adds Is b c → Adds (λ new. (v : List ℕ) × Is v × (new ≡ head ++ v)) a c
 headed Is a b c head begun h = (head ++ h.0, (h.0, h.1, refl), h.2 ∙ ap (λ x. x ++ h.0) begun ∙ append_assoc a head h.0)
 
--- what is still to come makes all
+-- the output so far, with the output for the rest, is the output for all
 abbrev pub Comes : Writes → Others → Nested → (List ℕ → List ℕ) → List ℕ → List ℕ → List ℕ → List ℕ → Type 0
 Comes Is others nested path_in bytes rest old out = (more : List ℕ) → AreElements Is others nested path_in (length rest) rest more → Adds (AreElements Is others nested path_in (length bytes) bytes) old (out ++ more)
 
 pub begins : (Is : Writes) (others : Others) (nested : Nested) (path_in : List ℕ → List ℕ) (bytes old : List ℕ) → Comes Is others nested path_in bytes bytes old old
 begins Is others nested path_in bytes old = λ more h. (more, h, refl)
 
--- after one more element is written, what is written is of the bytes up to the next
+-- after one more element is written, the output is for the bytes up to the next
 pub stepped : (Is : Writes) (others : Others) (nested : Nested) (path_in : List ℕ → List ℕ) (bytes old out now rest head more value remaining path : List ℕ) (t : ElementType) (k n : ℕ)
     → Comes Is others nested path_in bytes rest old out → Some (t, k, n) ≡ first_element rest
     → head ≡ take k rest → more ≡ drop k rest → value ≡ take n more → remaining ≡ drop n more → path ≡ path_in head → Adds (IsElement Is nested path t head value) out now
@@ -173,7 +173,7 @@ pub on_err : {A B : Type 0} (r : Result A B) (P : Type 0) → P → OnErr r P
 on_err (Ok x) P p = _
 on_err (Err e) P p = p
 
--- ---- what is written of the front of an element is kept where the rest is not
+-- ---- what is written for the beginning of an element stays if the rest fails
 
 pub prefix_of_two : (a b c x : List ℕ) → b ≡ a ++ x → StartsWith c b → StartsWith c a
 prefix_of_two a b c x is more = prefix_then a b c (prefix_all a x is) more
@@ -224,7 +224,7 @@ body_ok Is others nested path_in value old one two three out more inner last at 
 
 -- ---- code with scope
 
--- what may be written of code with scope, by where its scope begins
+-- what may be written for code with scope, by where its scope begins
 abbrev pub ScopeTurn : (List ℕ → List ℕ → Type 0) → List ℕ → List ℕ → Option ℕ → Type 0
 ScopeTurn document value new None = new ≡ value
 ScopeTurn document value new (Some at) = (scope : List ℕ) × document (drop at value) scope × (new ≡ number (at + length scope) ++ (take (at - 4) (drop 4 value) ++ scope))
@@ -236,7 +236,7 @@ from_scope document value new = elim (scope_at value) as (λ o. ScopeTurn docume
   | Some at ↦ (scope : List ℕ) × document (drop at value) scope × (new ≡ number (at + length scope) ++ (take (at - 4) (drop 4 value) ++ scope))
 ])) [ None ↦ λ h. h | Some at ↦ λ h. h ]
 
--- what may be written of code with scope is what may be written of its scope, behind its code
+-- what may be written for code with scope is what may be written for its scope, after its code
 pub to_scope : (document : List ℕ → List ℕ → Type 0) (value new : List ℕ) → IsScoped document value new → ScopeTurn document value new (scope_at value)
 unfolding IsScoped
 to_scope document value new = elim (scope_at value) as (λ o. (elim o [
@@ -263,7 +263,7 @@ scoped_ok document value old two three out scope start at gives eight fits split
       fact,
     )
 
--- ---- so many levels deep
+-- ---- with n levels left
 
 -- a body with one level fewer left is a nested document, array or code with scope
 pub below : (Is : Writes) (others : Others) (depth_left : ℕ) (path value new : List ℕ) → 0 < depth_left
@@ -285,19 +285,19 @@ nested_ok (Err e) Is others depth_left holder h path value a c P is f ok = _
 nested_ok (Ok y) Is others depth_left holder h path value a c P is f ok =
     (ok.0, subst (λ (k : Holder). IsNested Is others depth_left k path value ok.0) (sym is) (f ok.0 ok.1), ok.2)
 
--- ---- what is looked into
+-- ---- elements that are examined
 
--- what is written of a part of this type is what is written of an element
+-- what is written for a part of this type is what is written for an element
 pub part_of_element : (Is : Writes) (nested : Nested) (path : List ℕ) (type : ElementType) (part : Option Part) (head value new : List ℕ) → part ≡ part_of type → IsPart Is nested part path type head value new → IsElement Is nested path type head value new
 unfolding IsElement
 part_of_element Is nested path type part head value new is h = subst (λ (p : Option Part). IsPart Is nested p path type head value new) is h
 
--- one that is looked into, by what of it is
+-- an element that is examined, by its part
 pub as_part : (Is : Writes) (nested : Nested) (path : List ℕ) (type : ElementType) (part : Part) (head value a c : List ℕ) → Some part ≡ part_of type
     → Adds (IsPart Is nested (Some part) path type head value) a c → Adds (IsElement Is nested path type head value) a c
 as_part Is nested path type part head value a c is h = (h.0, part_of_element Is nested path type (Some part) head value h.0 is h.1, h.2)
 
--- an element that has values in it has the bytes that its kind needs at least
+-- an element that contains values has at least the bytes that its kind needs
 pub holder_takes_least : (type : ElementType) (holder : Holder) → part_of type ≡ Some (parts.Values holder) → holder_least holder ≤ least type
 unfolding part_of least holder_least
 holder_takes_least (Kept kinds.Doc) holders.Document is = omega arith
@@ -305,7 +305,7 @@ holder_takes_least (Kept kinds.Array) holders.Array is = omega arith
 holder_takes_least (Kept kinds.CodeScope) holders.CodeScope is = omega arith
 holder_takes_least type holder is = absurd cc
 
--- the path is cut to what it was
+-- the path is truncated to what it was
 pub path_in_begins : (b : Bool) (old head : List ℕ) → StartsWith (path_of b old head) old
 path_in_begins true old head = take-length old
 path_in_begins false old head = take-append_seam old (name_in head)

@@ -1,4 +1,4 @@
--- Runs of elements that stay as they are, whose bytes are written at once.
+-- Runs of unchanged elements, whose bytes are written at once.
 use Rattle.std.proofs.Common.{◌≡◌, ◌≤◌, ◌+◌, ap₂, zero, suc, inl, inr, ℕ, ◌-◌, List, [], ◌∷◌, ◌++◌, length, take, drop, Some, None, refl, sym, ap, ◌∙◌, arith, append_assoc, append-nil, length-append, take_at, subst}
 use Rattle.std.proofs.lemmas.List.{take-append-drop}
 use Rattle.bd_bson_view.specs.declared.raw_parts.ElementType.{ElementType}
@@ -20,7 +20,7 @@ run_begins bytes = ap (λ x. x ++ bytes) (sym (before_itself bytes))
 pub nothing_before : (run rest out : List ℕ) → length run - length rest ≡ 0 → out ≡ out ++ take (length run - length rest) run
 nothing_before run rest out none = sym (append-nil out) ∙ ap (λ n. out ++ take n run) (sym none)
 
--- a run begins where all before it is written
+-- a run begins once everything before it is written
 pub comes_anew : (Is : Writes) (others : Others) (nested : Nested) (path_in : List ℕ → List ℕ) (bytes rest old out : List ℕ)
     → Comes Is others nested path_in bytes rest old out → Comes Is others nested path_in bytes rest old (out ++ before rest rest)
 comes_anew Is others nested path_in bytes rest old out comes =
@@ -30,7 +30,7 @@ pub comes_flushed : (Is : Writes) (others : Others) (nested : Nested) (path_in :
     → Comes Is others nested path_in bytes rest old (out ++ before run rest) → now ≡ out ++ before run rest → Comes Is others nested path_in bytes rest old now
 comes_flushed Is others nested path_in bytes rest old out now run comes is = subst (λ x. Comes Is others nested path_in bytes rest old x) (sym is) comes
 
--- an element that stays is one more of the run
+-- an unchanged element extends the run
 pub stays_as_it_is : (Is : Writes) (nested : Nested) (path : List ℕ) (t : ElementType) (head value : List ℕ) → Stays Is t → IsElement Is nested path t head value (head ++ value)
 stays_as_it_is Is nested path t head value (inl none) = part_of_element Is nested path t None head value (head ++ value) (sym none) refl
 stays_as_it_is Is nested path t head value (inr number) = part_of_element Is nested path t (Some parts.Number) head value (head ++ value) (sym number.0) (number.1 path head value)
@@ -62,7 +62,7 @@ run_goes_on Is others nested path_in bytes old out run rest head more value rema
     subst (λ (l : List ℕ). Comes Is others nested path_in bytes l old (out ++ before run l) × (run ≡ before run l ++ l)) same
     (subst (λ (x : List ℕ). Comes Is others nested path_in bytes after old x) written next, all ∙ ap (λ x. x ++ after) (sym splits))
 
--- one that gets another type ends the run before its type, and begins one after it
+-- an element that gets another type ends the run before its type, and begins one after it
 pub after_type : (k : ℕ) (rest : List ℕ) → 1 ≤ k → k ≤ length rest → drop 1 rest ≡ drop 1 (take k rest) ++ drop k rest
 after_type k [] some fits = absurd (omega (arith, some, fits))
 after_type zero (b ∷ bytes) some fits = absurd (omega (arith, some))

@@ -1,4 +1,4 @@
--- What has no number that is refused stays as it is, where all others do.
+-- A document without a refused number is unchanged, if the writer changes nothing else.
 use Rattle.std.proofs.Common.{◌≡◌, ℕ, zero, suc, ◌+◌, ◌-◌, ◌<◌, ◌≤◌, List, [], ◌∷◌, ◌++◌, length, take, drop, get_or, Option, Some, None, refl, sym, ap, ap₂, ◌∙◌, subst, arith, append_assoc, length-drop, length-take, take-append-drop, Bool, true, false, not, nat_lt, inl, inr, drop-drop, ◌==◌, ◌||◌, if◌then◌else◌, option_map}
 use Rattle.std.proofs.lemmas.{Bool.cases_lt, Bool.Decides.nat_tests, Nat.le_bytes_4, List.get_or-drop, List.get_or-take, List.length-take-le, List.take-take, List.get_or_past}
 use Rattle.std.specs.Int.{w32, from_le_bytes}
@@ -27,14 +27,14 @@ bytes_take n bytes h i = elim (cases_lt i n) [
   | inr beyond ↦ rw (get_or_past (take n bytes) i 0 (omega (arith, length-take n bytes))) (omega arith)
 ]
 
--- ---- a writer that keeps what is not refused
+-- ---- a writer that changes only what is refused
 
--- A number that is not refused stays as it is, and so does what cannot be passed on.
+-- A number that is not refused is unchanged, and so are bytes that cannot be read.
 pub record Same (Is : Writes) (others : Others) (refuses : Refuses) : Type 0 where
   pub element : (depth_left : ℕ) (path : List ℕ) (t : ElementType) (head value new : List ℕ) → refuses depth_left path t value ≡ None → Is path t head value new → new ≡ head ++ value
   pub rest : (bytes : List ℕ) → others bytes ≡ bytes
 
--- what holds values and counts its bytes stays as it is
+-- documents, arrays and code with scope that count their bytes are unchanged
 abbrev SameNested : Nested → (Holder → List ℕ → ℕ → List ℕ → Option Refused) → Type 0
 SameNested f g = (h : Holder) (path : List ℕ) (at : ℕ) (value new : List ℕ) → holder_least h ≤ length value → number_of value ≡ length value → IsBytes value
     → g h path at value ≡ None → f h path value new → new ≡ value
@@ -47,7 +47,7 @@ none_mapped : {A B : Type 0} (f : A → B) (o : Option A) → option_map f o ≡
 none_mapped f None e = refl
 none_mapped f (Some x) e = absurd cc
 
--- ---- what counts its bytes
+-- ---- values that count their bytes
 
 abbrev pub Counts : ElementType → List ℕ → Type 0
 Counts (Kept kinds.Doc) value = number_of value ≡ length value
@@ -213,7 +213,7 @@ nested_same Is others refuses same (suc depth_left) holders.Array path at value 
 nested_same Is others refuses same (suc depth_left) holders.CodeScope path at value new some counts fits clear is =
     scoped_same (IsNested Is others depth_left holders.Document path) (refused_nested refuses depth_left holders.Document path) (λ a v n s c b e i. nested_same Is others refuses same depth_left holders.Document path a v n s c b e i) at value new some counts fits clear is
 
--- a document in which no number is refused stays as it is
+-- a document in which no number is refused is unchanged
 pub rewritten_same : (Is : Writes) (others : Others) (refuses : Refuses) → Same Is others refuses → (bytes new : List ℕ) → number_of bytes ≡ length bytes → IsBytes bytes
     → first_refused refuses bytes ≡ None → IsRewritten Is others bytes new → new ≡ bytes
 unfolding first_refused holder_least

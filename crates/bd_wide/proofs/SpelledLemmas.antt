@@ -1,4 +1,4 @@
--- What spells a document has neither doubles nor decimal128, and stays as it is.
+-- Bytes that spell a document have neither doubles nor decimal128, and are unchanged.
 use Rattle.std.proofs.Common.{◌≡◌, ℕ, zero, suc, ◌+◌, ◌-◌, ◌≤◌, List, [], ◌∷◌, ◌++◌, length, take, drop, Option, Some, None, refl, sym, ap, ap₂, ◌∙◌, subst, arith, append_assoc, length-append, take_at, drop_at, Bool, true, false, nat_lt, ◌==◌, ◌||◌, not, if◌then◌else◌}
 use Rattle.std.proofs.lemmas.{Bool.Decides.nat_tests}
 use Rattle.bd_value.specs.declared.node.Kind.{Kind}
@@ -73,7 +73,7 @@ scalar_there (trees.regex p o) v r h =
     rw h.1 (two_there p o r h.0.0 h.0.1 ∙ ap Some (sym size))
 scalar_there _ v r h = rw h.1 refl
 
--- as many as stand for the value
+-- the size of a value is the length of its bytes
 size_is : (t : Tree) (v r : List ℕ) → IsValue t v → length v ≤ longest_document → size_of (kind_of t) (v ++ r) ≡ length v
 size_is t v r h short =
     let s : Sound (kind_of t) (v ++ r) = record { tree = t; begins = record { value = v; after = r; spells = h; typed = refl; splits = refl; short = short } } in
@@ -95,7 +95,7 @@ size_there (code_scope s fs) v r h short =
     let least : 14 ≤ length v = omega (arith, ap (λ (x : List ℕ). length x) h.2, values.scoped_length s (framed h.0), length-append (string s) (framed h.0), string_length s, values.framed_length h.0) in
     counted_there 14 0 v r (omega arith) (omega (arith, size)) (omega (arith, size))
 
--- ---- the element at the front
+-- ---- the first element
 
 first_element_there : (t : Tree) (name v r : List ℕ) → IsName name → IsValue t v → length v ≤ longest_document
     → first_element (type_byte (kind_of t) ∷ (name ++ 0 ∷ (v ++ r))) ≡ Some (Kept (kind_of t), length name + 2, length v)
@@ -110,12 +110,12 @@ first_element_there t name v r named h short =
 
 -- ---- what is written
 
--- a writer that keeps what is neither a double nor a decimal128
+-- a writer that changes only doubles and decimal128
 abbrev pub KeepsOthers : Writes → Type 0
 KeepsOthers Is = (path : List ℕ) (kind : Kind) (head value new : List ℕ) → Is path (Kept kind) head value new → new ≡ head ++ value
 
 module _ (Is : Writes) (others : Others) (keeps : KeepsOthers Is) where
-  -- elements that stay as they are, at each level
+  -- elements that are unchanged at each level
   abbrev Stay : List ℕ → Type 0
   Stay bytes = (depth_left n : ℕ) (path_in : List ℕ → List ℕ) (new : List ℕ) → AreElements Is others (IsNested Is others depth_left) path_in n bytes new → new ≡ bytes
 

@@ -1,4 +1,4 @@
--- The document that holds the text of a number.
+-- The document that contains the text of a number.
 use Rattle.std.proofs.Common.{◌≡◌, ℕ, ◌+◌, ◌-◌, List, [], ◌∷◌, ◌++◌, length, take, drop, refl, sym, ap, ap₂, ◌∙◌, arith, append_assoc, length-append, take_at, drop_at}
 use Rattle.bd_bson_view.specs.{Spelling.number, Spelling.string, Spelling.framed, Unique.number_length}
 use Rattle.bd_wide.specs.Rewritten.{Adds}

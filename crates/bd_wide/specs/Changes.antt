@@ -1,4 +1,4 @@
--- What a writer of numbers may promise of itself, so that the walker has less to do.
+-- What a writer of numbers may promise, so that less has to be done.
 use Rattle.std.specs.Prelude.{◌≡◌, ◌⊎◌, ℕ, List, ◌∷◌, ◌++◌, drop, Some, None}
 use Rattle.bd_bson_view.specs.declared.raw_parts.ElementType.{ElementType}
 use Rattle.bd_wide.specs.declared.element.Change.{Change}
@@ -11,7 +11,7 @@ abbrev pub IgnoresPaths : Writes → Type 0
 IgnoresPaths Is = (path other : List ℕ) (type : ElementType) (head value new : List ℕ)
     → Is path type head value new → Is other type head value new
 
--- What may be written at the one path may be written at the other: they are equal, or paths are ignored.
+-- What may be written at one path may be written at the other: they are equal, or paths are ignored.
 abbrev pub ServesAs : Writes → List ℕ → List ℕ → Type 0
 ServesAs Is path other = (path ≡ other) ⊎ IgnoresPaths Is
 
@@ -19,7 +19,7 @@ ServesAs Is path other = (path ≡ other) ⊎ IgnoresPaths Is
 abbrev pub Leaves : Writes → ElementType → Type 0
 Leaves Is type = (path head value : List ℕ) → Is path type head value (head ++ value)
 
--- An element of this type may stay as it is: it is not looked into, or is a number that may stay.
+-- An element of this type may stay unchanged: it is not examined, or is a number that may stay.
 abbrev pub Stays : Writes → ElementType → Type 0
 Stays Is type = (part_of type ≡ None) ⊎ ((part_of type ≡ Some parts.Number) × Leaves Is type)
 

@@ -1,4 +1,4 @@
--- What becomes of bytes that are masked at their place.
+-- The result for bytes that are masked in place.
 use Rattle.std.specs.Prelude.{◌≡◌, ◌≢◌, ◌⊎◌, ℕ, ◌+◌, ◌<◌, ◌≤◌, List, ◌∷◌, ◌++◌, length, take, drop, Option, Some, None}
 use Rattle.bd_value.specs.declared.node.Kind.{Kind}
 use Rattle.bd_value.specs.declared.node.Kind.TheVariants as kinds
@@ -10,7 +10,7 @@ use Rattle.bd_bson_view.specs.declared.raw_parts.Holder.TheVariants as holders
 use Rattle.bd_wide.specs.Mask.{IsMasked, masked_others}
 use Rattle.bd_wide.specs.Rewritten.{first_element, AreElements, IsBody, IsElement, IsNested, IsScoped}
 
--- paths are ignored, so each holds for all of them
+-- paths are ignored, so each definition is for all paths
 
 -- a document or array is written masked, whatever its path
 abbrev pub MasksNested : ℕ → Holder → List ℕ → List ℕ → Type 0
@@ -29,12 +29,12 @@ abbrev pub MasksElements : ℕ → List ℕ → List ℕ → Type 0
 MasksElements depth_left old new = (path_in : List ℕ → List ℕ)
     → AreElements IsMasked masked_others (IsNested IsMasked masked_others depth_left) path_in (length old) old new
 
--- an element whose head has so many bytes
+-- an element whose head has k bytes
 abbrev pub MasksElement : ℕ → ElementType → ℕ → List ℕ → List ℕ → Type 0
 MasksElement depth_left type k old new = (path : List ℕ)
     → IsElement IsMasked (IsNested IsMasked masked_others depth_left) path type (take k old) (drop k old) new
 
--- the first element has so many bytes, and became these
+-- the first element has `size` bytes, and became these
 pub record IsFirstOf (depth_left : ℕ) (old new : List ℕ) (size : ℕ) : Type 0 where
   pub type : ElementType
   pub head : ℕ
@@ -48,12 +48,12 @@ pub record IsFirstOf (depth_left : ℕ) (old new : List ℕ) (size : ℕ) : Type
   pub as_long : length one ≡ size
   pub written : new ≡ one ++ drop size old
 
--- the first element is masked, or none can be passed on and the bytes stay
+-- the first element is masked, or it cannot be read and the bytes are unchanged
 abbrev pub IsFirst : ℕ → List ℕ → List ℕ → Option ℕ → Type 0
 IsFirst depth_left old new None = (first_element old ≡ None) × (new ≡ old)
 IsFirst depth_left old new (Some size) = IsFirstOf depth_left old new size
 
--- how many bytes each value of a type has, if all have as many and none of them changes
+-- how many bytes the values of a type have, if all have the same length and none of them changes
 unfoldable pub plain_size : ElementType → Option ℕ
 plain_size Double = Some 8
 plain_size (Kept kinds.ObjectId) = Some 12
@@ -65,14 +65,14 @@ plain_size (Kept kinds.Timestamp) = Some 8
 plain_size (Kept kinds.Int64) = Some 8
 plain_size _ = None
 
--- so many have the values of the type that this byte tells; 1 tells a double, and no other byte does
+-- the values of the type with this byte have this size; 1 is the byte of a double, and no other is
 pub record HasPlain (byte size : ℕ) : Type 0 where
   pub type : ElementType
   pub fact : type_at byte ≡ Some type
   pub plain : plain_size type ≡ Some size
   pub kind : ((byte ≡ 1) × (type ≡ Double)) ⊎ ((byte ≢ 1) × ((kind : Kind) × (type ≡ Kept kind)))
 
--- the element at the front has so many bytes, and is masked by this type alone
+-- the first element has this size, and this type byte is all that masking changes
 pub record IsPlain (byte size : ℕ) (bytes : List ℕ) : Type 0 where
   pub type : ElementType
   pub head : ℕ

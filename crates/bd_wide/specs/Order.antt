@@ -1,4 +1,4 @@
--- Numbers as whole numbers in the same order: at the paths that are asked for by their codes, elsewhere as they are.
+-- Numbers as whole numbers in the same order: by their codes at the requested paths, otherwise unchanged.
 use Rattle.std.specs.Prelude.{◌≡◌, ◌<◌, ◌≤◌, ℕ, ◌+◌, ◌-◌, List, ◌∷◌, ◌++◌, length, take, drop, Option, Some, None, codes, ℤ}
 use Rattle.std.specs.Int.{w32, w64, cast_signed, cast_unsigned}
 use Rattle.bd_value.specs.declared.node.Kind.TheVariants as kinds
@@ -31,24 +31,24 @@ abbrev pub coded : Refusal → Option ℤ → Outcome
 coded why (Some z) = outcomes.Int64 z
 coded why None = outcomes.Nothing why
 
--- what becomes of a number at a path that is asked for, with a power of ten or without
+-- the result for a number at a requested path, with a power of ten or without
 abbrev pub code_at : Option ℕ → Number → Outcome
 code_at None number = coded NoDouble (number_code None (value_of number))
 code_at (Some power) number = coded NotWhole (number_code (Some power) (value_of number))
 
--- what becomes of a number at any other path: an int32 and an int64 stay,
+-- the result for a number at any other path: an int32 and an int64 are unchanged,
 -- others become an int64 if they are whole
 abbrev pub whole_at : ElementType → Number → Outcome
 whole_at (Kept kind) number = outcomes.Itself
 whole_at _ number = coded NotWhole (whole_code (value_of number))
 
--- what becomes of a value, by what is asked for at its path
+-- the result for a value, by what is requested at its path
 abbrev pub outcome_of : Option (Option ℕ) → ElementType → Option Number → Outcome
 outcome_of requested type None = outcomes.Itself
 outcome_of None type (Some number) = whole_at type number
 outcome_of (Some power) type (Some number) = code_at power number
 
--- what `order` makes of a value: an int64, its code if its path is asked for, else its own value; or itself;
+-- the result of `order` for a value: an int64, which is its code if its path is requested, otherwise its own value; or itself;
 -- or nothing, for a reason
 abbrev pub outcome_at : List OrderPath → List ℕ → ElementType → List ℕ → Outcome
 outcome_at paths path type value = outcome_of (requested_at paths path) type (number_at type value)
@@ -57,23 +57,23 @@ outcome_at paths path type value = outcome_of (requested_at paths path) type (nu
 unfoldable pub int64_element : List ℕ → ℤ → List ℕ
 int64_element head z = 18 ∷ (drop 1 head ++ long (cast_unsigned w64 z))
 
--- the element with what became of its number; one that is refused stays
+-- the element with the result for its number; unchanged if it is refused
 abbrev pub became : List ℕ → List ℕ → Outcome → List ℕ
 became head value outcomes.Itself = head ++ value
 became head value (outcomes.Int64 z) = int64_element head z
 became head value (outcomes.Nothing why) = head ++ value
 
--- This is what `order` writes of an element with a number, by the paths that are asked for.
+-- This is what `order` writes for an element with a number, by the requested paths.
 abbrev pub IsOrdered : List OrderPath → Writes
 IsOrdered paths path type head value new = new ≡ became head value (outcome_at paths path type value)
 
--- why a number is refused, if nothing becomes of it
+-- why a number is refused, if it has no result
 abbrev pub refusal_in : Outcome → Option Refusal
 refusal_in outcomes.Itself = None
 refusal_in (outcomes.Int64 z) = None
 refusal_in (outcomes.Nothing why) = Some why
 
--- why `order` refuses a number: no int64 stands for it at its path
+-- why `order` refuses a number: no int64 represents it at its path
 abbrev pub refuses_unordered : List OrderPath → Refuses
 refuses_unordered paths depth_left path type value = refusal_in (outcome_at paths path type value)
 
@@ -84,26 +84,26 @@ unfoldable pub numbered : ℕ → List ℕ → List ℕ
 numbered n document = number (length document + 12)
     ++ (drop 4 (take (length document - 1) document) ++ (18 ∷ (codes "~n" ++ 0 ∷ long n) ++ drop (length document - 1) document))
 
--- This may be written of the document with number n, however long it is.
+-- This may be written for the document with number n, however long it is.
 abbrev pub IsNumbered : List OrderPath → ℕ → List ℕ → List ℕ → Type 0
 IsNumbered paths n bytes new = (document : List ℕ)
     × IsRewritten (IsOrdered paths) (λ others. others) bytes document × (new ≡ numbered n document)
 
--- This may be written of the document with number n:
--- none of its numbers is refused, and it does not get too long.
+-- This may be written for the document with number n:
+-- none of its numbers is refused, and the result is not too long.
 abbrev pub IsOrderedDocument : List OrderPath → ℕ → List ℕ → List ℕ → Type 0
 IsOrderedDocument paths n bytes new = (first_refused (refuses_unordered paths) bytes ≡ None)
     × IsNumbered paths n bytes new × (length new ≤ longest_document)
 
--- Why nothing may be written of the document: its first number that is refused,
--- at this path, or it gets too long.
+-- Why nothing may be written for the document: its first refused number,
+-- at this path, or it would be too long.
 abbrev pub IsUnordered : List OrderPath → ℕ → List ℕ → List ℕ → Unordered → Type 0
 IsUnordered paths n bytes path (unordered.Number found) =
     first_refused (refuses_unordered paths) bytes ≡ Some (record { at = found.at; path = path; why = found.why })
 IsUnordered paths n bytes path unordered.TooLong = (first_refused (refuses_unordered paths) bytes ≡ None)
     × ((new : List ℕ) × IsNumbered paths n bytes new × (longest_document < length new))
 
--- Why nothing was written of a document: for this reason, or memory ran out.
+-- Why nothing was written for a document: for this reason, or memory ran out.
 abbrev pub IsUnfiltered : (Unordered → Type 0) → Unfiltered → Type 0
 IsUnfiltered Is unfiltered.NoMemory = Unit {0}
 IsUnfiltered Is (unfiltered.Refused why) = Is why

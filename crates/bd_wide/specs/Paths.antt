@@ -3,28 +3,28 @@ use Rattle.std.specs.Prelude.{ℕ, zero, suc, ◌+◌, ◌-◌, List, [], ◌∷
 use Rattle.std.specs.{List.ends_with, Str.bytes_eq}
 use Rattle.bd_wide.specs.declared.paths.OrderPath.{OrderPath}
 
--- the power of ten that is asked for at a path, if any; None if the path is not asked for.
--- Of two for one path the first counts.
+-- the power of ten that is requested at a path, if any; None if the path is not requested.
+-- If a path is requested twice, the first power counts.
 abbrev pub requested_at : List OrderPath → List ℕ → Option (Option ℕ)
 requested_at [] path = None
 requested_at (p ∷ ps) path = if bytes_eq p.names.items path then Some p.power else requested_at ps path
 
--- ---- a word such as `price`, or `price*100` with a power of ten up to 10^18
+-- ---- an argument such as `price`, or `price*100` with a power of ten up to 10^18
 
--- an asterisk and 10 ^ n, as in `*100`; n is at most 18
+-- an asterisk and 10 ^ n, such as `*100`; n is at most 18
 unfoldable pub power_word : ℕ → List ℕ
 power_word n = take (n + 2) (codes "*1000000000000000000")
 
--- whether a word ends with an asterisk and 10 ^ n
+-- whether an argument ends with an asterisk and 10 ^ n
 abbrev pub ends_with_power : List ℕ → ℕ → Bool
 ends_with_power word n = ends_with nat_eq word (power_word n)
 
--- the path and the power of ten that an argument has, of fewer than n zeros
+-- the path and the power of ten of an argument, with fewer than n zeros
 abbrev pub path_read : ℕ → List ℕ → List ℕ × Option ℕ
 path_read zero word = (word, None)
 path_read (suc n) word = if ends_with_power word n then (take (length word - (n + 2)) word, Some n) else path_read n word
 
--- the path and the power of ten that an argument has, such as `price` or `price*100`
+-- the path and the power of ten of an argument, such as `price` or `price*100`
 abbrev pub word_read : {Z : Type 0} → String Z → List ℕ × Option ℕ
 word_read word = path_read 19 (string_bytes word)
 

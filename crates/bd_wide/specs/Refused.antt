@@ -1,4 +1,4 @@
--- The first number of a document that is refused, from left to right, and where it is.
+-- The first refused number of a document, from left to right, and where it is.
 use Rattle.std.specs.Prelude.{◌≡◌, ℕ, zero, suc, ◌+◌, ◌-◌, List, [], ◌∷◌, ◌++◌, length, take, drop, Option, Some, None, option_map, true, false, nat_lt, if◌then◌else◌}
 use Rattle.std.specs.Io.{StartsWith}
 use Rattle.bd_bson_view.specs.declared.raw_parts.ElementType.{ElementType}
@@ -24,9 +24,9 @@ pub record Refused : Type 0 where
 abbrev pub refused_at : ℕ → List ℕ → Option Refusal → Option Refused
 refused_at at path why = option_map (λ w. record { at = at; path = path; why = w }) why
 
--- ---- by recursion, as `IsRewritten`; the number is how many bytes stand before what is looked at
+-- ---- by recursion, as `IsRewritten`; the number `at` is the byte offset
 
--- the first refused number in what holds values, by its kind, its path as `path_of` has it,
+-- the first refused number in a document, an array or code with scope, by its kind, its path as in `path_of`,
 -- its offset and its bytes
 abbrev pub Nested : Type 0
 Nested = Holder → List ℕ → ℕ → List ℕ → Option Refused
@@ -36,12 +36,12 @@ Nested = Holder → List ℕ → ℕ → List ℕ → Option Refused
 abbrev pub Element : Type 0
 Element = ElementType → List ℕ → ℕ → ℕ → List ℕ → Option Refused
 
--- the first of two refused numbers, if there is one
+-- the first of two refused numbers, if any
 abbrev pub first_of_two : Option Refused → Option Refused → Option Refused
 first_of_two None next = next
 first_of_two (Some first) next = Some first
 
--- the first refused number in an element, by what of it is looked into
+-- the first refused number in an element, by its part that is examined
 abbrev pub refused_part : (List ℕ → ElementType → List ℕ → Option Refusal) → Nested → Option Part → Element
 refused_part refuses nested None type path at k value = None
 refused_part refuses nested (Some parts.Number) type path at k value = refused_at at path (refuses path type value)
@@ -52,8 +52,8 @@ refused_part refuses nested (Some (parts.Values holder)) type path at k value =
 unfoldable pub refused_element : (List ℕ → ElementType → List ℕ → Option Refusal) → Nested → Element
 refused_element refuses nested type path at k value = refused_part refuses nested (part_of type) type path at k value
 
--- the first refused number among elements, from left to right, up to the first that cannot be passed on.
--- The first number bounds the turns: the count of the bytes is always enough.
+-- the first refused number among elements, from left to right, up to the first that cannot be read.
+-- The first number limits the steps: the count of the bytes is always enough.
 unfoldable pub refused_elements : Element → (List ℕ → List ℕ) → ℕ → ℕ → List ℕ → Option Refused
 refused_elements element path_in zero at bytes = None
 refused_elements element path_in (suc n) at [] = None
@@ -66,17 +66,17 @@ refused_elements element path_in (suc n) at (b ∷ bytes) = elim (first_element 
 ]
 
 -- the first refused number in a document or an array,
--- whose elements stand between its length and its last byte
+-- whose elements are between its length and its last byte
 unfoldable pub refused_body : Element → (List ℕ → List ℕ) → ℕ → List ℕ → Option Refused
 refused_body element path_in at value =
     let inner = take (length value - 5) (drop 4 value) in refused_elements element path_in (length inner) (at + 4) inner
 
 -- the first refused number in the scope of code with scope;
--- none if the scope does not end where the value does
+-- None if the scope does not end where the value does
 unfoldable pub refused_scope : (ℕ → List ℕ → Option Refused) → ℕ → List ℕ → Option Refused
 refused_scope document at value = elim (scope_at value) [ None ↦ None | Some k ↦ document (at + k) (drop k value) ]
 
--- the first refused number in what holds values, at most `depth_left` levels deep
+-- the first refused number in a document, an array or code with scope, at most `depth_left` levels deep
 unfoldable pub refused_nested : Refuses → ℕ → Nested
 refused_nested refuses zero holder path at value = None
 refused_nested refuses (suc depth_left) holders.Document path at value =

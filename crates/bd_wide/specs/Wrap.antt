@@ -1,4 +1,4 @@
--- Doubles and decimal128 as the documents of Extended JSON that hold their texts.
+-- Doubles and decimal128 as the documents of Extended JSON that contain their texts.
 use Rattle.std.specs.Prelude.{◌≡◌, ◌<◌, ◌≤◌, ◌⊎◌, ℕ, zero, Bool, true, false, List, ◌∷◌, ◌++◌, length, drop, codes, None, Some, IsSome}
 use Rattle.bd_value.specs.Limits.{longest_document}
 use Rattle.bd_bson_view.specs.declared.raw_parts.ElementType.TheVariants.{Kept, Double, Decimal128}
@@ -36,27 +36,27 @@ IsStringOf number new = (text : List ℕ) × IsNumberText number text × (new �
 abbrev pub IsElementOf : List ℕ → Number → List ℕ → Type 0
 IsElementOf head number new = (document : List ℕ) × IsWrapper number document × (new ≡ 3 ∷ (drop 1 head ++ document))
 
--- This is what `wrap` writes of an element with a number:
+-- This is what `wrap` writes for an element with a number:
 -- a double or decimal128 as its document, any other unchanged.
 abbrev pub IsWrapped : Writes
 IsWrapped path Double head value new = IsElementOf head (numbers.Double (long_of value)) new
 IsWrapped path Decimal128 head value new = IsElementOf head (numbers.Decimal128 (long_of value) (long_of (drop 8 value))) new
 IsWrapped path (Kept _) head value new = new ≡ head ++ value
 
--- why `wrap` keeps a document: a double or decimal128 at the deepest level, whose document would be too deep
+-- why `wrap` leaves a document unchanged: a double or decimal128 at the deepest level, whose document would be too deep
 abbrev pub refuses_deepest : Refuses
 refuses_deepest zero path Double value = Some TooDeep
 refuses_deepest zero path Decimal128 value = Some TooDeep
 refuses_deepest depth_left path type value = None
 
--- This is what `wrap` writes of a document: wrapped, or unchanged if it would be too deep or too long.
+-- This is what `wrap` writes for a document: wrapped, or unchanged if it would be too deep or too long.
 abbrev pub IsWrappedDocument : List ℕ → Bool → List ℕ → Type 0
 IsWrappedDocument bytes true new = (first_refused refuses_deepest bytes ≡ None)
     × IsRewritten IsWrapped (λ others. others) bytes new × (length new ≤ longest_document)
 IsWrappedDocument bytes false new = (new ≡ bytes) × (IsSome (first_refused refuses_deepest bytes)
     ⊎ ((long : List ℕ) × IsRewritten IsWrapped (λ others. others) bytes long × (longest_document < length long)))
 
--- each double and decimal128 is refused, wherever it is; the reason means nothing
+-- each double and decimal128 is refused at any place; the reason has no meaning
 abbrev pub refuses_wide : Refuses
 refuses_wide depth_left path Double value = Some TooDeep
 refuses_wide depth_left path Decimal128 value = Some TooDeep

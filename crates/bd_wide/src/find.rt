@@ -1,4 +1,4 @@
-//! The first number of a document that is refused.
+//! The first refused number of a document.
 
 ghost use Rattle.std.specs.Prelude.{◌≡◌, ◌≤◌, ◌<◌, ◌+◌, ◌^◌, ◌++◌, List, ℕ, length, Option, OnOk, IfOk, Some};
 ghost use Rattle.std.specs.Io.{StartsWith};
@@ -17,9 +17,9 @@ use bd_value::{MOST_LEVELS, NoMemory};
 /// Why a number is refused.
 #[derive(Clone, Copy, Debug, PartialEq, Eq)]
 pub enum Refusal {
-    /// Nothing can stand in its place at a level more.
+    /// A document in its place would be one level too deep.
     TooDeep,
-    /// It, or it times a power of ten, is no whole number of 64 bits.
+    /// The number, or the number times a power of ten, is not a whole number of 64 bits.
     NotWhole,
     /// No double equals it.
     NoDouble,
@@ -28,18 +28,18 @@ pub enum Refusal {
 /// A refused number.
 #[derive(Clone, Copy, Debug)]
 pub struct Found {
-    /// How many bytes stand before its element.
+    /// The byte offset of its element.
     pub at: usize,
     pub why: Refusal,
 }
 
 /// Which numbers are refused.
 pub trait Refuser {
-    /// Why one is, by how many levels are left below it, its path, its type and its value.
+    /// Why a number is refused, by how many levels are left below it, its path, its type and its value.
     ghost refuses: { Self →
         ℕ → List ℕ → element_type.ElementType → List ℕ → Option refusal.Refusal };
 
-    /// Why a number is refused; none if it is not.
+    /// Why a number is refused; None if it is not.
     fn refuse(
         &self,
         depth_left: u32,
@@ -51,7 +51,7 @@ pub trait Refuser {
         ensures { result ≡ refuses self.now depth_left path.now typed value.now };
 }
 
-/// The first number that is refused of the document that all of the bytes are. `path` is empty, and gets the path of it.
+/// The first refused number of the document that all of the bytes are. `path` is empty, and gets the number's path.
 #[tactic(auto, unfolding(crate::specs::Refused::first_refused, crate::specs::Rewritten::holder_least))]
 pub fn find_refused<R: Refuser>(
     refuser: &R,
@@ -75,7 +75,7 @@ pub fn find_refused<R: Refuser>(
     )
 }
 
-/// Of elements, with so many levels left below them.
+/// The first refused number in elements, with `depth_left` levels left below them.
 #[cycle(finding)]
 fn elements<R: Refuser>(
     refuser: &R,
@@ -108,7 +108,7 @@ fn elements<R: Refuser>(
     Ok(None)
 }
 
-/// Of an element, with so many levels left below it.
+/// The first refused number in an element, with `depth_left` levels left below it.
 #[cycle(finding)]
 #[tactic(auto, using(bd_value::proofs::PrefixLemmas::prefixes), unfolding(crate::specs::Refused::refused_element))]
 fn element<R: Refuser>(
@@ -149,7 +149,7 @@ fn element<R: Refuser>(
     Ok(found)
 }
 
-/// Of an element that is looked into, and whose path this is.
+/// The first refused number in an element that is examined, and whose path this is.
 #[cycle(finding)]
 #[tactic(auto, using(bd_value::proofs::PrefixLemmas::prefixes))]
 fn entered<R: Refuser>(
@@ -177,7 +177,7 @@ fn entered<R: Refuser>(
     nested(refuser, depth_left, holder, at + size, value, path)
 }
 
-/// Of a number.
+/// The number itself, if it is refused.
 fn number<R: Refuser>(
     refuser: &R,
     depth_left: u32,
@@ -196,7 +196,7 @@ fn number<R: Refuser>(
     }
 }
 
-/// Of a value that holds values, with so many levels left for it.
+/// The first refused number in a document, an array or code with scope, with `depth_left` levels left for it.
 #[cycle(finding)]
 #[tactic(auto, unfolding(crate::specs::Refused::refused_nested, crate::specs::Rewritten::holder_least))]
 fn nested<R: Refuser>(
@@ -222,7 +222,7 @@ fn nested<R: Refuser>(
     }
 }
 
-/// Of a document or an array, with so many levels left below it.
+/// The first refused number in a document or an array, with `depth_left` levels left below it.
 #[cycle(finding)]
 #[tactic(auto, unfolding(crate::specs::Refused::refused_body))]
 fn body<R: Refuser>(
@@ -244,7 +244,7 @@ fn body<R: Refuser>(
     elements(refuser, depth_left, in_array, at + 4, inner, path)
 }
 
-/// Of code with scope, with so many levels left for its scope.
+/// The first refused number in code with scope, with `depth_left` levels left for its scope.
 #[cycle(finding)]
 #[tactic(auto, unfolding(crate::specs::Refused::refused_scope))]
 fn scoped<R: Refuser>(

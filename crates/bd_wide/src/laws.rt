@@ -1,4 +1,4 @@
-//! Laws of what is written of documents. The body of each is empty: its contract is the law.
+//! Laws of what is written for documents. The body of each is empty: its contract is the law.
 
 ghost use Rattle.std.specs.Prelude.{◌≡◌, ◌<◌, [], List, ℕ, None, length, slice_index};
 ghost use Rattle.bd_bson_view.specs.Sizes.{number_of};
@@ -10,28 +10,28 @@ ghost use Rattle.bd_wide.specs.Refused.{first_refused};
 ghost use Rattle.bd_wide.specs.Rewritten.{IsRewritten};
 ghost use Rattle.bd_wide.specs.Wrap.{IsWrapped, refuses_wide};
 
-/// Masked bytes are as many.
+/// Masked bytes have the same length.
 pub fn mask_keeps_length()
     ensures { (bytes new : List ℕ) → IsRewritten IsMasked masked_others bytes new
         → length new ≡ length bytes }
 {}
 
-/// A document of which no double and no decimal128 is found stays as it is.
+/// `wrap` leaves a document unchanged if no double and no decimal128 is found in it.
 pub fn wrap_leaves_others()
     ensures { (bytes new : List ℕ) → ((i : ℕ) → slice_index bytes i < 256)
         → number_of bytes ≡ length bytes → first_refused refuses_wide bytes ≡ None
         → IsRewritten IsWrapped (λ others. others) bytes new → new ≡ bytes }
 {}
 
-/// So it does where no code is asked for, apart from the number of the document.
+/// So does `order` if no path is requested, apart from the number of the document.
 pub fn order_leaves_others()
     ensures { (bytes new : List ℕ) → ((i : ℕ) → slice_index bytes i < 256)
         → number_of bytes ≡ length bytes → first_refused refuses_wide bytes ≡ None
         → IsRewritten (IsOrdered []) (λ others. others) bytes new → new ≡ bytes }
 {}
 
-/// A document that bsonfind reads stays as it is: masked, wrapped, and, apart from its number,
-/// ordered where no code is asked for.
+/// Each filter leaves a document unchanged that `bsonfind` reads: `mask`, `wrap`, and, apart from the document's number,
+/// `order` if no path is requested.
 pub fn read_documents_stay()
     ensures masked { (d : Doc) (bytes new : List ℕ) → IsDocument d bytes
         → IsRewritten IsMasked masked_others bytes new → new ≡ bytes }

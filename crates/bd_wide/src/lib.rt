@@ -1,6 +1,6 @@
-//! Documents in which other bytes stand for their numbers.
+//! Documents in which other bytes replace the numbers.
 //!
-//! What may be written of a document's bytes, whatever they are: `specs/Rewritten.antt`.
+//! What may be written for a document's bytes, whatever they are: `specs/Rewritten.antt`.
 //!
 //! An example, which `bd_wide_tests` proves and runs as `examples::masked`:
 //!
@@ -18,15 +18,14 @@
 //! ```
 //!
 //! - `find`: `find_refused`, the first number that a `Refuser` refuses: `specs/Refused.antt`.
-//! - `rewrite`: `write_rewritten`, the one walker, and `NumberWriter`, what it asks for each number.
-//! - `wrap`: `Wrap`, in which doubles and decimal128 are documents that hold their texts: `specs/Wrap.antt`.
-//! - `element`: the element at the front of bytes, of which only sizes are looked at.
+//! - `rewrite`: `write_rewritten`, the one walker, and `NumberWriter`, which it calls for each number.
+//! - `wrap`: `Wrap`, which makes doubles and decimal128 documents that contain their texts: `specs/Wrap.antt`.
+//! - `element`: the first element of bytes, by sizes alone.
 //! - `order`: `write_ordered`, a document whose numbers are whole numbers in the same order: `specs/Order.antt`.
 //! - `paths`: the paths whose numbers become codes: `specs/Paths.antt`.
-//! - `mask`: `Mask`, in which each element has a type that bsonfind reads, at the same place.
-//! - `masking`: `write_masked`, which masks a document at its place.
-//! - `laws`: that `mask` keeps the length, and that `wrap` and `order` leave documents without doubles and decimal128 as they
-//!   are.
+//! - `mask`: `Mask`, which gives each element a type that `bsonfind` reads, in place.
+//! - `masking`: `write_masked`, which masks a document in place.
+//! - `laws`: `mask` keeps the length, and `wrap` and `order` leave documents without doubles and decimal128 unchanged.
 #![tactic(auto)]
 
 mod element;

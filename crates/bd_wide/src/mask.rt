@@ -1,4 +1,4 @@
-//! Bytes of the same length, in which each type is read.
+//! Bytes of the same length, in which `bsonfind` reads each type.
 
 ghost use Rattle.std.specs.Prelude.{◌≡◌, ◌≤◌, ◌++◌, length, OnOk, OnErr};
 ghost use Rattle.bd_bson_view.specs.declared.raw_parts.ElementType.TheVariants.{Decimal128, Double};
@@ -10,7 +10,7 @@ use crate::rewrite::NumberWriter;
 use bd_bson_view::{ElementType, raw_parts as raw};
 use bd_value::NoMemory;
 
-/// A double becomes an int64 of the same eight bytes, and a decimal128 an ObjectId whose name has four letters more.
+/// A double becomes an int64 of the same eight bytes, and a decimal128 an ObjectId whose name has four more letters.
 /// `write_masked` writes the same in less time.
 pub struct Mask;
 

@@ -1,4 +1,4 @@
-//! A document masked at its place: `Mask` keeps each length, so no byte moves.
+//! A document masked in place: `Mask` keeps each length, so no byte moves.
 
 ghost use Rattle.std.specs.Prelude.{◌≡◌, ◌≢◌, ◌≤◌, ◌+◌, ◌++◌, length, take, drop, OnOk, OnErr, IfSome};
 ghost use Rattle.bd_bson_view.specs.Spelling.{number};
@@ -11,10 +11,10 @@ use crate::rewrite::{low_bytes, scope_at};
 use bd_bson_view::{ElementType, Holder, raw_parts as raw};
 use bd_value::{MOST_LEVELS, NoMemory};
 
-/// Appends what `Mask` writes of the document that all of the bytes are.
+/// Appends what `Mask` writes for the document that all of the bytes are.
 ///
 /// # Errors
-/// `NoMemory` leaves `out` as it was.
+/// On `NoMemory`, `out` is unchanged.
 pub fn write_masked(bytes: &[u8], out: &mut Vec<u8>) -> Result<(), NoMemory>
     ensures ok { OnOk result (Adds (IsRewritten IsMasked masked_others bytes.now)
         out.old.items out.new.items) }
@@ -36,7 +36,7 @@ fn mask_document(bytes: &mut [u8])
     }
 }
 
-/// Masks a value that holds values, with so many levels left for it.
+/// Masks a document, an array or code with scope, with `depth_left` levels left for it.
 #[cycle(masking)]
 #[tactic(auto, unfolding(crate::specs::Rewritten::holder_least))]
 fn nested(depth_left: u32, holder: Holder, value: &mut [u8])
@@ -53,7 +53,7 @@ fn nested(depth_left: u32, holder: Holder, value: &mut [u8])
     }
 }
 
-/// Masks a document or an array, with so many levels left below it.
+/// Masks a document or an array, with `depth_left` levels left below it.
 #[cycle(masking)]
 fn body(depth_left: u32, value: &mut [u8])
     requires { 5 ≤ length value.old }
@@ -64,7 +64,7 @@ fn body(depth_left: u32, value: &mut [u8])
     elements(depth_left, &mut value[4..size - 1]);
 }
 
-/// Puts the count of the bytes into the first four.
+/// Writes the count of the bytes into the first four.
 fn put_size(value: &mut [u8])
     requires { 5 ≤ length value.old }
     ensures { value.new ≡ number (length value.old) ++ drop 4 value.old }
@@ -73,7 +73,7 @@ fn put_size(value: &mut [u8])
     value[..4].copy_from_slice(&size);
 }
 
-/// Masks code with scope, with so many levels left for its scope.
+/// Masks code with scope, with `depth_left` levels left for its scope.
 #[cycle(masking)]
 fn scoped(depth_left: u32, value: &mut [u8])
     requires { 14 ≤ length value.old }
@@ -86,7 +86,7 @@ fn scoped(depth_left: u32, value: &mut [u8])
     nested(depth_left, Holder::Document, &mut value[at..]);
 }
 
-/// Masks elements, with so many levels left below them.
+/// Masks elements, with `depth_left` levels left below them.
 #[cycle(masking)]
 fn elements(depth_left: u32, bytes: &mut [u8])
     ensures { MasksElements depth_left bytes.old bytes.new }
@@ -98,7 +98,7 @@ fn elements(depth_left: u32, bytes: &mut [u8])
     others(&mut bytes[at..]);
 }
 
-/// Masks the first element, with so many levels left below it, and says how many bytes it has; none if it can't be passed on.
+/// Masks the first element, with `depth_left` levels left below it, and returns its size; None if it cannot be read.
 #[cycle(masking)]
 #[inline(always)]
 fn first(depth_left: u32, bytes: &mut [u8]) -> Option<usize>
@@ -113,8 +113,8 @@ fn first(depth_left: u32, bytes: &mut [u8]) -> Option<usize>
     }
 }
 
-/// Of most elements their type alone tells how many bytes the value has: the type that the one at the front gets, and how
-/// many bytes it has.
+/// For most elements the type alone determines the size of the value: the type that the first element gets, and its
+/// size.
 #[inline(always)]
 fn plain(bytes: &[u8]) -> Option<(u8, usize)>
     ensures { IfSome result (λ x. IsPlain x.0 x.1 bytes.now) }
@@ -141,7 +141,7 @@ fn masked_type(byte: u8) -> u8
     if byte == 1 { 0x12 } else { byte }
 }
 
-/// How many bytes a value of this type has, if all have as many and nothing of them changes.
+/// How many bytes the values of this type have, if all have the same length and nothing of them changes.
 #[inline(always)]
 fn plain_size(byte: u8) -> Option<usize>
     ensures { IfSome result (λ n. HasPlain byte n) }
@@ -169,7 +169,7 @@ fn next(depth_left: u32, bytes: &mut [u8]) -> Option<usize>
     Some(k + n)
 }
 
-/// Masks an element whose head has so many bytes.
+/// Masks an element whose head has k bytes.
 #[cycle(masking)]
 fn element(depth_left: u32, typed: ElementType, k: usize, bytes: &mut [u8])
     requires head { 2 ≤ k }
@@ -183,7 +183,7 @@ fn element(depth_left: u32, typed: ElementType, k: usize, bytes: &mut [u8])
     }
 }
 
-/// Masks an element that holds a number.
+/// Masks an element with a number.
 fn number_element(typed: ElementType, k: usize, bytes: &mut [u8])
     requires head { 2 ≤ k }
     requires value { k + least typed ≤ length bytes.old }
@@ -199,7 +199,7 @@ fn number_element(typed: ElementType, k: usize, bytes: &mut [u8])
     }
 }
 
-/// Masks the bytes from the first element on that can't be passed on.
+/// Masks the bytes from the first element on that cannot be read.
 fn others(bytes: &mut [u8])
     ensures { bytes.new ≡ masked_others bytes.old }
 {

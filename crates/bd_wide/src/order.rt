@@ -14,7 +14,7 @@ use bd_bson_view::{ElementType, raw_parts as raw};
 use bd_value::{Kind, LONGEST_DOCUMENT, NoMemory};
 use bd_wide_number::{Number, code_of, whole_of};
 
-/// What becomes of a number.
+/// The result for a number.
 #[derive(Clone, Copy, Debug)]
 pub enum Outcome {
     Itself,
@@ -23,7 +23,7 @@ pub enum Outcome {
     Nothing(Refusal),
 }
 
-/// Numbers become their codes at some paths, and stay or become an int64 elsewhere.
+/// Numbers become their codes at some paths, and are unchanged or become an int64 elsewhere.
 #[derive(Debug, Drop)]
 pub struct Order {
     pub paths: Vec<OrderPath>,
@@ -32,13 +32,13 @@ pub struct Order {
 /// Why a document is refused.
 #[derive(Clone, Copy, Debug)]
 pub enum Unordered {
-    /// A number of it is.
+    /// One of its numbers is refused.
     Number(Found),
     /// It would be longer than 16,793,600 bytes.
     TooLong,
 }
 
-/// Why nothing is written of a document.
+/// Why nothing is written for a document.
 #[derive(Clone, Copy, Debug)]
 pub enum Unfiltered {
     /// Memory ran out.
@@ -104,7 +104,7 @@ impl Refuser for Order {
     }
 }
 
-/// What becomes of a number at a path.
+/// The result for a number at a path.
 fn becomes(paths: &[OrderPath], path: &[u8], typed: ElementType, value: &[u8]) -> Outcome
     requires { least typed ≤ length value.now }
     ensures { result ≡ outcome_at paths.now path.now typed value.now }
@@ -118,7 +118,7 @@ fn becomes(paths: &[OrderPath], path: &[u8], typed: ElementType, value: &[u8]) -
     }
 }
 
-/// What becomes of a number that is asked for, with a power of ten or without.
+/// The result for a number at a requested path, with a power of ten or without.
 fn code(power: Option<u32>, number: Number) -> Outcome
     ensures { result ≡ code_at power number }
 {
@@ -129,7 +129,7 @@ fn code(power: Option<u32>, number: Number) -> Outcome
     coded(why, code_of(number, power))
 }
 
-/// What becomes of any other number.
+/// The result for any other number.
 fn whole(typed: ElementType, number: Number) -> Outcome
     ensures { result ≡ whole_at typed number }
 {
@@ -151,7 +151,7 @@ fn coded(why: Refusal, code: Option<i64>) -> Outcome
     }
 }
 
-/// The number that a value is, if it is one.
+/// The number in a value, if it is numeric.
 #[tactic(auto, unfolding(crate::specs::Order::number_at, crate::specs::Rewritten::least))]
 fn number_in(typed: ElementType, value: &[u8]) -> Option<Number>
     requires { least typed ≤ length value.now }
@@ -185,7 +185,7 @@ fn put_int64(head: &[u8], z: i64, out: &mut Vec<u8>) -> Result<(), NoMemory>
     write_long(z.cast_unsigned(), out)
 }
 
-/// Appends a number of eight bytes.
+/// Appends a number as eight bytes.
 #[tactic(auto, unfolding(bd_bson_view::specs::Spelling::long))]
 fn write_long(n: u64, out: &mut Vec<u8>) -> Result<(), NoMemory>
     ensures ok { OnOk result (out.new.items ≡ out.old.items ++ long_bytes n) }
@@ -194,11 +194,11 @@ fn write_long(n: u64, out: &mut Vec<u8>) -> Result<(), NoMemory>
     out.extend_from_slice(&n.to_le_bytes())
 }
 
-/// Appends a document whose numbers are ordered, with its number as one field more. `path` is a buffer, and gets the path of
-/// a number that is refused.
+/// Appends a document whose numbers are ordered, with its own number as one more field. `path` is a buffer, and gets the path of
+/// a refused number.
 ///
 /// # Errors
-/// Each leaves `out` as it was.
+/// On each, `out` is unchanged.
 pub fn write_ordered(
     order: &Order,
     number: u64,
@@ -249,7 +249,7 @@ fn write_numbered(
     put_document_number(at, number, out)
 }
 
-/// Puts the number of a document into the document at a place, as one field more at its end.
+/// Adds the number of a document to the document at an offset, as one more field at its end.
 fn put_document_number(at: usize, n: u64, out: &mut Vec<u8>) -> Result<(), NoMemory>
     requires { at + 5 ≤ length out.old.items }
     ensures ok { OnOk result

@@ -11,11 +11,11 @@ use std::alloc::{AllocError, Global};
 #[derive(Debug, Drop)]
 pub struct OrderPath {
     pub names: Vec<u8>,
-    /// The code is the number times ten to this power; without it, the bits of the double that equals it.
+    /// The code is the number times ten to this power; if None, the bits of the double that equals it.
     pub power: Option<u32>,
 }
 
-/// The paths that words are, in their order.
+/// The paths in arguments, in their order.
 pub fn read_order(alloc: Global, words: &[String]) -> Result<Order, NoMemory>
     ensures { IfOk result (λ o. map spelled o.paths.items ≡ map word_read words.now) }
 {
@@ -29,7 +29,7 @@ pub fn read_order(alloc: Global, words: &[String]) -> Result<Order, NoMemory>
     Ok(Order { paths })
 }
 
-/// The path that a word is, with the power of ten that may follow it: `price`, `price*100`.
+/// The path in an argument, with the power of ten that may follow it: `price`, `price*100`.
 fn read_path(alloc: Global, word: &str) -> Result<OrderPath, NoMemory>
     ensures { IfOk result (λ p. spelled p ≡ path_read 19 word.now) }
 {
@@ -42,7 +42,7 @@ fn read_path(alloc: Global, word: &str) -> Result<OrderPath, NoMemory>
 /// The most zeros of a power of ten.
 const MOST_ZEROS: usize = 18;
 
-/// The path and the power of ten of a word.
+/// The path and the power of ten in an argument.
 fn path_and_power(word: &[u8]) -> (&[u8], Option<u32>)
     ensures { (result.0.now, result.1) ≡ path_read 19 word.now }
 {
@@ -57,7 +57,7 @@ fn path_and_power(word: &[u8]) -> (&[u8], Option<u32>)
     (word, None)
 }
 
-/// Whether a word ends in an asterisk and 1 with so many zeros.
+/// Whether an argument ends in an asterisk and 1 with this many zeros.
 #[tactic(auto, unfolding(crate::specs::Paths::power_word))]
 fn ends_with_power(word: &[u8], zeros: usize) -> bool
     requires { zeros ≤ 18 }
@@ -67,7 +67,7 @@ fn ends_with_power(word: &[u8], zeros: usize) -> bool
     word.ends_with(&b"*1000000000000000000"[..zeros + 2])
 }
 
-/// The power of ten that is asked for at a path, if any; none where the path is not asked for.
+/// The power of ten that is requested at a path, if any; None if the path is not requested.
 pub(crate) fn requested(paths: &[OrderPath], path: &[u8]) -> Option<Option<u32>>
     ensures { result ≡ requested_at paths.now path.now }
 {

@@ -13,27 +13,27 @@ use crate::element::{Change, Part, enter, first_element, looked_into, separator}
 use bd_bson_view::{ElementType, Holder, raw_parts as raw};
 use bd_value::{MOST_LEVELS, NoMemory};
 
-/// What is written of numbers.
+/// What is written for numbers.
 pub trait NumberWriter {
-    /// What may be written of an element that holds a number, by its path, its type, its head and its value.
+    /// What may be written for an element with a number, by its path, its type, its head and its value.
     ghost is_written: { Self →
         List ℕ → element_type.ElementType → List ℕ → List ℕ → List ℕ → Type 0 };
-    /// What is written of bytes from the first element on that can't be passed on.
+    /// What is written for bytes from the first element on that cannot be read.
     ghost others_of: { Self → List ℕ → List ℕ };
 
-    /// Whether what may be written of a number is the same at every path. If so, `element` may be given any path.
+    /// Whether the same may be written for a number at every path. If so, `element` may get any path.
     fn ignores_paths(&self) -> bool
         ensures { IsTrue result → IgnoresPaths (is_written self.now) };
 
-    /// Whether each element with a number of this type may stay as it is.
+    /// Whether each element with a number of this type may stay unchanged.
     fn leaves(&self, typed: ElementType) -> bool
         ensures { IsTrue result → Leaves (is_written self.now) typed };
 
-    /// The type that each element with a number of this type may get, if it may otherwise stay as it is.
+    /// The type that each element with a number of this type may get, if it may otherwise stay unchanged.
     fn retyped(&self, typed: ElementType) -> Option<u8>
         ensures { IfSome result (λ byte. Retypes (is_written self.now) typed byte) };
 
-    /// Appends what is written of an element that holds a number.
+    /// Appends what is written for an element with a number.
     fn element(
         &self,
         path: &[u8],
@@ -48,17 +48,17 @@ pub trait NumberWriter {
             (is_written self.now path.now typed head.now value.now) out.old.items out.new.items) }
         ensures prefix { OnErr result (StartsWith out.new.items out.old.items) };
 
-    /// Appends what is written of bytes from the first element on that can't be passed on.
+    /// Appends what is written for bytes from the first element on that cannot be read.
     fn others(&self, bytes: &[u8], out: &mut Vec<u8>) -> Result<(), NoMemory>
         requires { 0 < length bytes.now }
         ensures ok { OnOk result (out.new.items ≡ out.old.items ++ others_of self.now bytes.now) }
         ensures prefix { OnErr result (StartsWith out.new.items out.old.items) };
 }
 
-/// Appends what is written of the document that all of the bytes are. `path` is a buffer.
+/// Appends what is written for the document that all of the bytes are. `path` is a buffer.
 ///
 /// # Errors
-/// `NoMemory` leaves `out` as it was.
+/// On `NoMemory`, `out` is unchanged.
 pub fn write_rewritten<W: NumberWriter>(
     writer: &W,
     bytes: &[u8],
@@ -104,7 +104,7 @@ fn whole<W: NumberWriter>(
     )
 }
 
-/// Appends elements, with so many levels left below them.
+/// Appends elements, with `depth_left` levels left below them.
 #[cycle(rewriting)]
 #[tactic(auto, using(bd_value::proofs::PrefixLemmas::prefixes))]
 fn elements<W: NumberWriter>(
@@ -151,7 +151,7 @@ fn elements<W: NumberWriter>(
     writer.others(rest, out)
 }
 
-/// What of an element of this type changes.
+/// The part of an element of this type that changes.
 fn change<W: NumberWriter>(writer: &W, typed: ElementType) -> Change
     ensures { Allows (W.is_written writer.now) typed result }
 {
@@ -162,7 +162,7 @@ fn change<W: NumberWriter>(writer: &W, typed: ElementType) -> Change
     }
 }
 
-/// What of an element with a number of this type changes.
+/// The part of an element with a number of this type that changes.
 fn number_change<W: NumberWriter>(writer: &W, typed: ElementType) -> Change
     requires { part_of typed ≡ Some parts.Number }
     ensures { Allows (W.is_written writer.now) typed result }
@@ -176,7 +176,7 @@ fn number_change<W: NumberWriter>(writer: &W, typed: ElementType) -> Change
     }
 }
 
-/// Appends the bytes of a run that end where the rest begins.
+/// Appends the bytes of a run up to where the rest begins.
 #[tactic(auto, using(bd_value::proofs::PrefixLemmas::prefixes, crate::proofs::RunLemmas::nothing_before))]
 fn put_run(run: &[u8], rest: &[u8], out: &mut Vec<u8>) -> Result<(), NoMemory>
     requires { length rest.now ≤ length run.now }
@@ -192,7 +192,7 @@ fn put_run(run: &[u8], rest: &[u8], out: &mut Vec<u8>) -> Result<(), NoMemory>
     out.extend_from_slice(same)
 }
 
-/// Appends an element that is looked into, with so many levels left below it.
+/// Appends an element that is examined, with `depth_left` levels left below it.
 #[cycle(rewriting)]
 #[tactic(auto, using(bd_value::proofs::PrefixLemmas::prefixes))]
 fn element<W: NumberWriter>(
@@ -222,7 +222,7 @@ fn element<W: NumberWriter>(
     Ok(())
 }
 
-/// Makes the path that of an element, unless the writer ignores paths.
+/// Changes the path to that of an element, unless the writer ignores paths.
 fn enter_element<W: NumberWriter>(
     writer: &W,
     in_array: bool,
@@ -240,7 +240,7 @@ fn enter_element<W: NumberWriter>(
     enter(in_array, head, path)
 }
 
-/// Makes the path that before the names in a value, unless the writer ignores paths.
+/// Changes the path to that before the names in a value, unless the writer ignores paths.
 fn enter_value<W: NumberWriter>(
     writer: &W,
     holder: Holder,
@@ -256,7 +256,7 @@ fn enter_value<W: NumberWriter>(
     path.extend_from_slice(separator(holder))
 }
 
-/// Appends an element that is looked into, and whose path this is.
+/// Appends an element that is examined, and whose path this is.
 #[cycle(rewriting)]
 #[tactic(auto, using(bd_value::proofs::PrefixLemmas::prefixes))]
 fn entered<W: NumberWriter>(
@@ -287,7 +287,7 @@ fn entered<W: NumberWriter>(
     nested(writer, depth_left, holder, value, path, out)
 }
 
-/// Appends a value that holds values, with so many levels left for it.
+/// Appends a document, an array or code with scope, with `depth_left` levels left for it.
 #[cycle(rewriting)]
 #[tactic(auto, using(bd_value::proofs::PrefixLemmas::prefixes), unfolding(crate::specs::Rewritten::IsNested, crate::specs::Rewritten::holder_least))]
 fn nested<W: NumberWriter>(
@@ -315,7 +315,7 @@ fn nested<W: NumberWriter>(
     }
 }
 
-/// Appends a document or an array, with so many levels left below it.
+/// Appends a document or an array, with `depth_left` levels left below it.
 #[cycle(rewriting)]
 #[tactic(auto, using(bd_value::proofs::PrefixLemmas::prefixes), unfolding(crate::specs::Rewritten::IsBody))]
 fn body<W: NumberWriter>(
@@ -354,7 +354,7 @@ fn inner_and_last(value: &[u8]) -> (&[u8], &[u8])
     (inner, last)
 }
 
-/// Appends code with scope, with so many levels left for its scope.
+/// Appends code with scope, with `depth_left` levels left for its scope.
 #[cycle(rewriting)]
 #[tactic(auto, using(bd_value::proofs::PrefixLemmas::prefixes), unfolding(crate::specs::Rewritten::IsScoped))]
 fn scoped<W: NumberWriter>(
@@ -380,7 +380,7 @@ fn scoped<W: NumberWriter>(
     }
 }
 
-/// Appends code with scope whose scope begins at a place, with so many levels left for the scope.
+/// Appends code with scope whose scope begins at an offset, with `depth_left` levels left for the scope.
 #[cycle(rewriting)]
 #[tactic(auto, using(bd_value::proofs::PrefixLemmas::prefixes))]
 fn with_scope<W: NumberWriter>(
@@ -407,7 +407,7 @@ fn with_scope<W: NumberWriter>(
     Ok(())
 }
 
-/// Appends a count of four bytes that is not known yet, and the code.
+/// Appends four bytes for a count that is not known yet, and the code.
 #[tactic(auto, using(bd_value::proofs::PrefixLemmas::prefixes))]
 fn write_code(at: usize, value: &[u8], out: &mut Vec<u8>) -> Result<(), NoMemory>
     requires { (8 ≤ at) × (at ≤ length value.now) }
@@ -421,7 +421,7 @@ fn write_code(at: usize, value: &[u8], out: &mut Vec<u8>) -> Result<(), NoMemory
     out.extend_from_slice(code)
 }
 
-/// Where the scope of code with scope begins; none where it does not end where the code with scope does.
+/// The offset of the scope in code with scope; None if the scope does not end where the code with scope does.
 #[tactic(auto, unfolding(crate::specs::Rewritten::scope_at))]
 pub(crate) fn scope_at(value: &[u8]) -> Option<usize>
     requires { 14 ≤ length value.now }
@@ -441,7 +441,7 @@ pub(crate) fn scope_at(value: &[u8]) -> Option<usize>
     Some(at)
 }
 
-/// Puts the count of the bytes from a place on into the four bytes at that place.
+/// Writes the count of the bytes from an offset on into the four bytes at that offset.
 pub(crate) fn seal(at: usize, out: &mut Vec<u8>)
     requires { at + 4 ≤ vec_len out.old }
     ensures { out.new.items ≡ take at out.old.items ++ (number (length out.old.items - at) ++ drop
@@ -451,7 +451,7 @@ pub(crate) fn seal(at: usize, out: &mut Vec<u8>)
     put_number(at, count as u64, out);
 }
 
-/// Puts a number into the four bytes at a place.
+/// Writes a number into the four bytes at an offset.
 #[tactic(auto, unfolding(bd_bson_view::specs::Spelling::number))]
 pub(crate) fn put_number(at: usize, n: u64, out: &mut Vec<u8>)
     requires { at + 4 ≤ vec_len out.old }
@@ -471,7 +471,7 @@ pub(crate) fn low_bytes(n: u64) -> [u8; 4]
     [bytes[0], bytes[1], bytes[2], bytes[3]]
 }
 
-/// Appends a number of four bytes.
+/// Appends a number as four bytes.
 pub(crate) fn write_number(n: u64, out: &mut Vec<u8>) -> Result<(), NoMemory>
     ensures ok { OnOk result (out.new.items ≡ out.old.items ++ number n) }
     ensures err { OnErr result (out.new.items ≡ out.old.items) }

@@ -1,4 +1,4 @@
-//! Doubles and decimal128 as the documents of Extended JSON that hold their texts.
+//! Doubles and decimal128 as the documents of Extended JSON that contain their texts.
 
 ghost use Rattle.std.specs.Prelude.{◌≡◌, ◌≤◌, ◌++◌, ◌∷◌, [], List, ℕ, length, IfOk, IsSome, IsTrue, None, false, OnErr, OnOk};
 ghost use Rattle.std.specs.Io.{StartsWith};
@@ -14,7 +14,7 @@ use bd_bson_view::ElementType;
 use bd_value::{LONGEST_DOCUMENT, MOST_LEVELS, NoMemory};
 use bd_wide_text::{write_decimal128, write_double};
 
-/// What is wrapped, by its bits.
+/// A number to wrap, by its bits.
 #[derive(Clone, Copy)]
 pub enum Number {
     Double(u64),
@@ -22,7 +22,7 @@ pub enum Number {
     Decimal128(u64, u64),
 }
 
-/// A double or a decimal128 becomes a document that holds its text.
+/// A double or a decimal128 becomes a document that contains its text.
 pub struct Wrap;
 
 impl NumberWriter for Wrap {
@@ -70,7 +70,7 @@ impl NumberWriter for Wrap {
     }
 }
 
-/// Numbers in whose place no document can stand, since it would be too deep.
+/// Refuses numbers whose documents would be too deep.
 struct Deepest;
 
 impl Refuser for Deepest {
@@ -92,11 +92,11 @@ impl Refuser for Deepest {
     }
 }
 
-/// Appends a document in which doubles and decimal128 are wrapped, and says so; or the document as it is, where it would be
+/// Appends a document in which doubles and decimal128 are wrapped, and says so; or the document unchanged, if it would be
 /// too deep or too long. `path` is a buffer.
 ///
 /// # Errors
-/// `NoMemory` leaves `out` as it was.
+/// On `NoMemory`, `out` is unchanged.
 pub fn write_wrapped(bytes: &[u8], path: &mut Vec<u8>, out: &mut Vec<u8>) -> Result<bool, NoMemory>
     ensures ok { IfOk result (λ wrapped.
         Adds (IsWrappedDocument bytes.now wrapped) out.old.items out.new.items) }
@@ -114,10 +114,10 @@ pub fn write_wrapped(bytes: &[u8], path: &mut Vec<u8>, out: &mut Vec<u8>) -> Res
     Ok(false)
 }
 
-/// A document of no more bytes has no number that is too deep: each level has at least seven.
+/// A document of at most this length has no number that is too deep: each level takes at least seven bytes.
 const LONGEST_SHALLOW: usize = 7 * MOST_LEVELS;
 
-/// Whether a number stands where no document can, since it would be too deep. `path` is a buffer.
+/// Whether there is a number whose document would be too deep. `path` is a buffer.
 #[tactic(auto, using(crate::proofs::DepthLemmas::few_bytes_clear))]
 fn has_too_deep(bytes: &[u8], path: &mut Vec<u8>) -> Result<bool, NoMemory>
     ensures some { IfOk result (λ deep.
@@ -132,7 +132,7 @@ fn has_too_deep(bytes: &[u8], path: &mut Vec<u8>) -> Result<bool, NoMemory>
     Ok(find_refused(&Deepest, bytes, path)?.is_some())
 }
 
-/// The number that the first eight bytes are.
+/// The number in the first eight bytes.
 pub(crate) fn long(bytes: &[u8]) -> u64
     requires { 8 ≤ length bytes.now }
     ensures { result ≡ long_of bytes.now }
@@ -171,7 +171,7 @@ fn put_document(number: Number, out: &mut Vec<u8>) -> Result<(), NoMemory>
     Ok(())
 }
 
-/// The type and the name of the one element of such a document.
+/// The type and the name of the only element of such a document.
 fn label(number: Number) -> &'static [u8]
     ensures { result.now ≡ 2 ∷ (wrapper_name number ++ 0 ∷ []) }
 {

@@ -1,4 +1,4 @@
--- The lines that are taken have an order.
+-- Accepted command lines have a command.
 use Rattle.std.proofs.Common.{ap₂, subst, ◌⊎◌, inl, inr, ◌≡◌, ◌∙◌, ◌||◌, Bool, cond, true, false, not, refl, sym, ap, List, [], ◌∷◌, codes, Option, Some, None}
 use Rattle.std.proofs.Common.{Box, find, slice_get, unwrap_or, IfSome, is_some, option_and_then, option_map}
 use Rattle.std.specs.{Prelude.⊤, Map.lookup, Str.bytes_eq}
@@ -25,7 +25,7 @@ line_simple = refl
 pub line_free : is_simple_and_free line_app ≡ true
 line_free = refl
 
--- the words of the command have an order where they have no fault
+-- arguments of the command without a fault have an `Order`
 abbrev HasOrders : Shape → Type 0
 HasOrders s = (words : List Text) → level_fault s [] nothing_held words false [] ≡ [] → is_some (ordered_by s.name (rows_after s.rules [] words)) ≡ true
 
@@ -33,7 +33,7 @@ HasOrders s = (words : List Text) → level_fault s [] nothing_held words false 
 abbrev pub shape_in : App → Shape
 shape_in app = built_leaf (inherited (on_top with_leaf_noted (on_top marked_built line_app)).top app.top)
 
--- a command that takes a file alone
+-- a command that takes only a file
 abbrev pub file_shape : Text → Shape
 file_shape name = shape_in (file_app name)
 
@@ -51,7 +51,7 @@ commands_order : EachShape HasOrders (built line_app).subs
 unfolding EachShape
 commands_order = (file_orders (codes "mask") mask (λ rows. refl), (file_orders (codes "wrap") wrap (λ rows. refl), (order_orders, tt)))
 
--- words that have no fault have an order
+-- arguments without a fault have an `Order`
 pub order_there : (words : List Text) → fault_of line_app words ≡ [] → is_some (order_of words) ≡ true
 order_there words e =
     let stop = (walk top.rules names nothing_held words).stopped in
@@ -80,7 +80,7 @@ order_there words e =
     at_stop (Some p) e c = at_shape p (find (λ s. answers_to p.0 (label_of s)) (built line_app).subs)
         (found_shape HasOrders (λ s. answers_to p.0 (label_of s)) (built line_app).subs commands_order) e c
 
--- ---- what a refusal is told as
+-- ---- how a refusal is reported
 
 kind_explained : (words : List Text) (e : Error) → HasKind (fault_of line_app words) e
     → (explain_refusal (kind_of e) ≡ NoMemory) ⊎ (fault_for words ≡ Some (explain_refusal (kind_of e)))
@@ -90,9 +90,9 @@ kind_explained words e (inr among) = inr (first_explained (fault_of line_app wor
 pub refusal_none : (words : List Text) → fault_of line_app words ≡ [] → fault_for words ≡ None
 refusal_none words is = ap (λ ks. option_map explain_refusal (slice_get ks 0)) is
 
--- ---- from what the code reads of the matches to the order
+-- ---- from the matches that the code reads to the command
 
--- what the getters read of the matches
+-- what the getters read from the matches
 pub ruleset readings = (first_value-rows, one_text-rows, raw_values-rows)
 
 -- whatever the command, without a FILE there is no order
@@ -100,11 +100,11 @@ no_order : (o : Option (Text → OrderView)) → option_and_then (λ says. optio
 no_order None = refl
 no_order (Some says) = refl
 
--- a command without FILE has no order
+-- without FILE there is no command
 pub no_file : (name : Text) (rows : List Row) → first_of (codes "file") rows ≡ None → ordered_by name rows ≡ None
 no_file name rows e = rw e (no_order (lookup (bytes_eq name) (wide_commands rows)))
 
--- ---- the clauses of the parse, at the program's line
+-- ---- the clauses of the parse, for the program's command line
 
 pub refused_as : (a : App) (words : List Text) (e : Error) (f : WordsFault) → a ≡ line_app → (is_simple_and_free a ≡ true → HasKind (fault_of a words) e)
     → f ≡ explain_refusal (kind_of e) → (f ≡ NoMemory) ⊎ (fault_for words ≡ Some f)
@@ -119,7 +119,7 @@ refused_taken a words e is h taken = ap explain_refusal (h (ap (λ (x : App). ta
 pub no_fault : (a : App) (words : List Text) → a ≡ line_app → (is_simple_and_free a ≡ true → fault_of a words ≡ []) → fault_of line_app words ≡ []
 no_fault a words is h = subst (λ (x : App). is_simple_and_free x ≡ true → fault_of x words ≡ []) is h line_free
 
--- the name and the rows that the code reads give the order
+-- the name and the rows that the code reads determine the command
 pub order_read : (a : App) (words : List Text) (m inner : ArgMatches) (name : Text) → a ≡ line_app → HasMatchesOf a words m → Some name ≡ subcommand_name_of m
     → Some (rows_of (found_of inner)) ≡ option_map (λ p. p.1) (subcommand_rows_of m) → order_of words ≡ ordered_by name (rows_of (found_of inner))
 order_read a words m inner name is has named rows =

@@ -1,5 +1,5 @@
 -- The command lines that `bsonwide` accepts, by the parser's own definition,
--- and the command that each asks for.
+-- and the command that each one means.
 use Rattle.std.specs.Prelude.{List, [], ◌∷◌, map, slice_get, codes, string_bytes, unwrap_or, Option, Some, None, option_map, option_and_then, true}
 use Rattle.std.specs.Map.{lookup}
 use Rattle.std.specs.Str.{bytes_eq}
@@ -28,19 +28,19 @@ order_app = with_rule (file_app (codes "order")) paths_rule
 abbrev pub line_app : App
 line_app = program_app (codes "bsonwide") (codes "mask" ∷ codes "wrap" ∷ []) order_app
 
--- a command: what the arguments ask for, with texts as their bytes
+-- a command: the meaning of the arguments, with texts as their bytes
 pub data OrderView : Type 0 where
   mask : Text → OrderView
   wrap : Text → OrderView
   order : Text → List Text → OrderView
 
--- the command that an `Order` in memory stands for
+-- the command that an `Order` in memory represents
 abbrev pub meant : Order → OrderView
 meant (Order.Mask file) = mask (string_bytes file)
 meant (Order.Wrap file) = wrap (string_bytes file)
 meant (Order.Order file paths) = order (string_bytes file) (map string_bytes paths.items)
 
--- the texts of an argument, none if it is not given
+-- the texts of an argument; empty if it is not given
 abbrev pub texts_in : Text → List Row → List Text
 texts_in name rows = unwrap_or (all_of name rows) []
 
@@ -49,12 +49,12 @@ abbrev pub wide_commands : List Row → List (Text × (Text → OrderView))
 wide_commands rows = (codes "mask", mask) ∷ (codes "wrap", wrap)
     ∷ (codes "order", λ file. order file (texts_in (codes "path") rows)) ∷ []
 
--- the command that a name and its parsed arguments ask for
+-- the command that a name and its parsed arguments mean
 abbrev pub ordered_by : Text → List Row → Option OrderView
 ordered_by name rows =
     option_and_then (λ says. option_map says (first_of (codes "file") rows)) (lookup (bytes_eq name) (wide_commands rows))
 
--- the command that arguments ask for; None if they are refused
+-- the command that arguments mean; None if they are refused
 abbrev pub order_of : List Text → Option OrderView
 order_of words = option_and_then (λ p. ordered_by p.0 p.1) (subcommand_of line_app words)
 

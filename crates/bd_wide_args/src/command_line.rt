@@ -1,4 +1,4 @@
-//! Reads the words of a line, by `clap`: the line that it takes, and the order that a line is.
+//! Parses the command line, by `clap`: which arguments are accepted, and the command that they mean.
 
 ghost use Rattle.std.specs.Prelude.{◌≡◌, ◌⊎◌, map, string_bytes, true, false, IfErr, IfOk, IsSome, None, Some};
 ghost use Rattle.clap.specs.Words.{found_of, rows_of, rule_of, takes};
@@ -11,25 +11,25 @@ use bd_cli_args::{Made, WordsFault, explain_error, of_file, program_command};
 use clap::{Arg, ArgAction, ArgMatches};
 use std::alloc::Global;
 
-/// A line that was taken. The file `-` is the standard input.
+/// A command with its file and paths. The file `-` is standard input.
 #[derive(Debug, Drop)]
 pub enum Order {
-    /// Each element with a type that `bsonfind` reads, at the same place.
+    /// Each element with a type that `bsonfind` reads, in place.
     Mask { file: String },
-    /// Doubles and decimal128 as documents that hold their texts.
+    /// Doubles and decimal128 as documents that contain their texts.
     Wrap { file: String },
     /// Numbers as whole numbers in the same order; at these paths by their codes.
     Order { file: String, paths: Vec<String> },
 }
 
-/// The order of a line: its words without the program's name. `mask FILE`, `wrap FILE` and `order FILE [PATH..]` are taken. A
-/// file or a path whose name looks like a flag stands after `--`.
+/// The command that the arguments mean, without the program's name. `mask FILE`, `wrap FILE` and `order FILE [PATH..]` are
+/// accepted. A file or a path whose name looks like a flag comes after `--`.
 ///
 /// # Errors
 ///
-/// - `Help` where the words ask for help by a flag, as `--help` and `mask -h` do.
-/// - `Usage` where they are not taken otherwise.
-/// - `NoMemory` where memory ran out.
+/// - `Help` if the arguments request help by a flag, such as `--help` and `mask -h`.
+/// - `Usage` if they are invalid otherwise.
+/// - `NoMemory` if memory runs out.
 pub fn parse_words(alloc: Global, words: &[String]) -> Result<Order, WordsFault>
     ensures order { IfOk result (λ o. order_of (words_of words.now) ≡ Some (meant o)) }
     ensures only_taken { IfOk result (λ _. fault_for (words_of words.now) ≡ None) }
@@ -47,7 +47,7 @@ pub fn parse_words(alloc: Global, words: &[String]) -> Result<Order, WordsFault>
     order_named(alloc, name, inner)
 }
 
-/// The order of the command `name` with these matches.
+/// The command `name` with these matches.
 #[tactic(auto, using(crate::proofs::LineLemmas::no_file, crate::proofs::LineLemmas::readings))]
 fn order_named(alloc: Global, name: &str, matches: &ArgMatches<'_>) -> Result<Order, WordsFault>
     requires { IsSome (ordered_by name.now (rows_of (found_of matches.now))) }
@@ -70,7 +70,7 @@ fn order_named(alloc: Global, name: &str, matches: &ArgMatches<'_>) -> Result<Or
     }
 }
 
-/// The texts of an argument, in their order; none where it is not given.
+/// The texts of an argument, in their order; empty if it is not given.
 #[tactic(auto, using(crate::proofs::LineLemmas::readings))]
 fn texts_of(alloc: Global, found: &ArgMatches<'_>, name: &str) -> Result<Vec<String>, WordsFault>
     ensures texts { IfOk result (λ v.
@@ -83,7 +83,7 @@ fn texts_of(alloc: Global, found: &ArgMatches<'_>, name: &str) -> Result<Vec<Str
     }
 }
 
-/// Texts of our own.
+/// Copies of texts.
 fn copied(alloc: Global, texts: &[&str]) -> Result<Vec<String>, WordsFault>
     ensures texts { IfOk result (λ v. map string_bytes v.items ≡ map (λ text. text.now) texts.now) }
     ensures fault { IfErr result (λ f. f ≡ NoMemory) }
@@ -98,7 +98,7 @@ fn copied(alloc: Global, texts: &[&str]) -> Result<Vec<String>, WordsFault>
     Ok(all)
 }
 
-/// The program's whole line.
+/// The program's whole command line.
 fn line_command<'a>(alloc: Global) -> Made<'a>
     ensures { IfOk result (IsBuiltAs line_app) }
 {
@@ -120,5 +120,5 @@ fn paths_argument<'a>(alloc: Global) -> Arg<'a>
         .action(ArgAction::Append)
 }
 
-/// The commands that take a file and nothing else.
+/// The commands that take only a file.
 const FILE_COMMANDS: [&str; 2] = ["mask", "wrap"];

@@ -1,6 +1,6 @@
 //! The command line of `bsonwide`.
 //!
-//! Which lines are taken, and what they order: `specs/CommandLine.antt`.
+//! Which command lines are accepted, and what they mean: `specs/CommandLine.antt`.
 //!
 //! An example, which `bd_wide_tests` proves and runs as `examples::command_line`:
 //!

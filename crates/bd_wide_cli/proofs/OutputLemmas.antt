@@ -32,7 +32,7 @@ pub took_of : {A E : Type 0} (r : Result A E) (P : Type 0) → is_err r ≡ fals
 took_of (Ok x) P is h = h
 took_of (Err e) P is h = absurd (true≢false is)
 
--- what is told by writing a message
+-- what is reported by writing a message
 pub reported_by : {A E : Type 0} (r : Result A E) (err : Over Writer) (text message : List ℕ) (wanted status : Status) → text ≡ message → OnOk r (TakesText err text) → OnErr r (WriteFailsWithin err text)
     → OnOk r (status ≡ wanted) → OnErr r (status ≡ Failed) → ReportsMessage err message wanted status
 reported_by (Ok x) err text message wanted status is took failed_write ok failed = inl (subst (λ (x : List ℕ). TakesText err x) is took, ok)

@@ -1,4 +1,4 @@
--- How far a run has come, and how it ends.
+-- The progress of a run, and how it ends.
 use Rattle.std.proofs.Common.{◌≡◌, ◌≤◌, ◌<◌, ◌⊎◌, ℕ, ◌+◌, Bool, true, false, cond, List, [], ◌++◌, length, take, refl, sym, ap, ◌∙◌, subst, inl, inr, arith, append_assoc, append-nil, length-append, Option, Result, Ok, Err, OnOk, IfErr, take_at}
 use Rattle.std.proofs.KnownBytes.{Consumes-nil, Consumes-trans}
 use Rattle.std.specs.Io.KnownBytes.{Consumes}
@@ -13,7 +13,7 @@ use Rattle.bd_wide_cli.specs.declared.running.Stop.TheVariants as stops
 use Rattle.bd_wide_cli.specs.Filtered.{AreDocuments, none, more, ArePartlyFiltered, BeginsWithNone, Ends, FiltersAll, FiltersPartly, IsBadLength, IsFrame, IsNext, IsWritten, CopiesRest, PassesOn, StopsCopying, StopsDocument, StopsPassing, WritesDocument, refusal_text}
 use Rattle.bd_io_device.proofs.DevicesLemmas.{write_fails_second, takes_both, takes_none}
 
--- the documents that were read and passed on so far, and what was written of them
+-- the documents that were read so far, and what was written for them
 pub record Progress (filter : Filter) (file remaining : Reader) (old new : Writer) (number start kept : ℕ) : Type 0 where
   pub documents : List ℕ
   pub written : List ℕ
@@ -37,7 +37,7 @@ goes_on filter file remaining later old new last number start kept bytes filtere
   took = takes_both old new last p.written wrote.0 p.took wrote.2;
 }
 
--- a text that was taken whole is a front of itself, and of a longer one
+-- a text that was written completely is a prefix of itself, and of a longer one
 pub prefix_of : (out : Over Writer) (text later : List ℕ) → TakesText out text → TakesPrefix out (text ++ later)
 prefix_of out text later t = (text, later, refl, t)
 
@@ -54,7 +54,7 @@ written_after stops.NoMemory old mid new first second a b = prefixes_after old m
 written_after (stops.Refused text) old mid new first second a b = absurd b
 written_after (stops.Unread f) old mid new first second a b = prefixes_after old mid new first second a b
 
--- ---- what begins with no document
+-- ---- bytes that begin with no document
 
 first_four : (bytes rest : List ℕ) → length bytes ≡ 4 → number_of (bytes ++ rest) ≡ number_of bytes
 first_four bytes rest four = ap (from_le_bytes w32) (take_at bytes rest 4 four ∙ sym (ap (take 4) (sym (append-nil bytes)) ∙ take_at bytes [] 4 four))
@@ -68,7 +68,7 @@ cut_short : (bytes : List ℕ) → (length bytes < 4) ⊎ (length bytes < number
 cut_short bytes (inl short) = inl short
 cut_short bytes (inr beyond) = inr (inr beyond)
 
--- ---- what is passed on
+-- ---- bytes that are copied
 
 pub copied : (file remaining last : Reader) (old mid new : Writer) (given part : List ℕ) → Consumes file.remaining remaining.remaining given → Consumes remaining.remaining last.remaining part
     → TakesText (between old mid) given → TakesText (between mid new) part → (bytes : List ℕ) × Consumes file.remaining last.remaining bytes × TakesText (between old new) bytes

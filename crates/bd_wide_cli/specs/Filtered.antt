@@ -1,4 +1,4 @@
--- What a filter writes of a dump.
+-- What a filter writes for a dump.
 use Rattle.std.specs.Prelude.{◌≡◌, ◌<◌, ◌≤◌, ◌⊎◌, ℕ, ◌+◌, Bool, true, false, List, [], ◌++◌, length, codes, decimal, if◌then◌else◌, Option}
 use Rattle.std.specs.Io.KnownBytes.{Consumes, IsAtEnd}
 use Rattle.bd_value.specs.Limits.{longest_document}
@@ -17,8 +17,8 @@ use Rattle.bd_wide_cli.specs.declared.frame.Next.TheVariants as nexts
 use Rattle.bd_wide_cli.specs.declared.running.Stop.{Stop}
 use Rattle.bd_wide_cli.specs.declared.running.Stop.TheVariants as stops
 
--- This may be written of the document with number n;
--- the Boolean says whether it was filtered, or stays since `wrap` could not.
+-- This may be written for the document with number n;
+-- the Boolean says whether it was filtered, or is unchanged because `wrap` could not wrap it.
 abbrev pub IsFiltered : Filter → ℕ → List ℕ → Bool → List ℕ → Type 0
 IsFiltered Mask n bytes true new = IsRewritten IsMasked masked_others bytes new
 IsFiltered Mask n bytes false new = ⊥
@@ -26,7 +26,7 @@ IsFiltered Wrap n bytes filtered new = IsWrappedDocument bytes filtered new
 IsFiltered (Order order) n bytes true new = IsOrderedDocument order.paths.items n bytes new
 IsFiltered (Order order) n bytes false new = ⊥
 
--- Why nothing may be written of the document: `order` refuses a number, which has this path, or the length.
+-- Why nothing may be written for the document: `order` refuses a number, which has this path, or the length.
 abbrev pub IsRefused : Filter → ℕ → List ℕ → List ℕ → Unordered → Type 0
 IsRefused Mask n bytes path why = ⊥
 IsRefused Wrap n bytes path why = ⊥
@@ -42,45 +42,45 @@ pub record IsFrame (bytes : List ℕ) : Type 0 where
 abbrev pub IsBadLength : List ℕ → Type 0
 IsBadLength bytes = (number_of bytes < 5) ⊎ (longest_document < number_of bytes)
 
--- The bytes begin with no document: its length is cut short, bad, or past the end.
+-- The bytes begin with no document: its length is truncated, bad, or extends beyond the end.
 abbrev pub BeginsWithNone : List ℕ → Type 0
 BeginsWithNone bytes = (length bytes < 4) ⊎ IsBadLength bytes ⊎ (length bytes < number_of bytes)
 
--- The bytes are n documents in a row, numbered from 0; `kept` of them stay as they are, and this is written
--- of all of them.
+-- The bytes are n documents in a row, numbered from 0; `kept` of them are unchanged, and this is written
+-- for all of them.
 pub data AreDocuments (filter : Filter) : ℕ → List ℕ → ℕ → List ℕ → Type 0 where
   none : AreDocuments filter 0 [] 0 []
   more : (n : ℕ) (documents written bytes new : List ℕ) (kept : ℕ) (filtered : Bool)
       → AreDocuments filter n documents kept written → IsFrame bytes → IsFiltered filter n bytes filtered new
       → AreDocuments filter (n + 1) (documents ++ bytes) (if filtered then kept else kept + 1) (written ++ new)
 
--- This is written of a dump: its documents filtered, and from the first bad length on all bytes as they are;
--- `kept` documents stay.
+-- This is written for a dump: its documents filtered, and from the first bad length on all bytes unchanged;
+-- `kept` documents are unchanged.
 abbrev pub AreFiltered : Filter → List ℕ → ℕ → List ℕ → Type 0
 AreFiltered filter bytes kept new = (n : ℕ) × (documents : List ℕ) × (written : List ℕ) × (rest : List ℕ)
     × AreDocuments filter n documents kept written × BeginsWithNone rest × (bytes ≡ documents ++ rest) × (new ≡ written ++ rest)
 
--- This is written of the bytes read so far: their documents filtered, and of what follows nothing,
--- unless it begins with none.
+-- This is written for the bytes read so far: their documents filtered, and nothing for what follows,
+-- unless that begins with no document.
 abbrev pub ArePartlyFiltered : Filter → List ℕ → List ℕ → Type 0
 ArePartlyFiltered filter bytes new = (n : ℕ) × (documents : List ℕ) × (written : List ℕ) × (rest : List ℕ) × (kept : ℕ)
     × AreDocuments filter n documents kept written × (bytes ≡ documents ++ rest)
     × ((new ≡ written) ⊎ (BeginsWithNone rest × (new ≡ written ++ rest)))
 
--- the message of a number that is refused
+-- the message for a number that is refused
 abbrev pub refusal_words : Refusal → List ℕ
 refusal_words refusals.TooDeep = codes "too deep"
 refusal_words refusals.NotWhole = codes "not a whole number of 64 bits"
 refusal_words refusals.NoDouble = codes "no double equals it"
 
--- where a refused number is, by the byte offset of its element in the
+-- the place of a refused number, by the byte offset of its element in the
 -- dump and by its path, and why it is refused
 abbrev pub found_text : ℕ → List ℕ → Found → List ℕ
 found_text start path found = codes ", byte " ++ (decimal (start + found.at)
     ++ (codes ", path " ++ (quoted path ++ (codes ": " ++ refusal_words found.why))))
 
--- the message of a document that is refused: its number,
--- and of a number in it the byte offset in the dump and the path
+-- the message for a document that is refused: its number,
+-- and for a number in it the byte offset in the dump and the path
 abbrev pub refusal_text : ℕ → ℕ → List ℕ → Unordered → List ℕ
 refusal_text n start path unordereds.TooLong = codes "document " ++ (decimal n ++ codes ": document too long")
 refusal_text n start path (unordereds.Number found) = codes "document " ++ (decimal n ++ found_text start path found)
@@ -91,14 +91,14 @@ ReportsRefusal n start path why (stops.Refused text) = text.items ≡ refusal_te
 ReportsRefusal n start path why stops.NoMemory = Unit {0}
 ReportsRefusal n start path why _ = ⊥
 
--- The input ends with a document that is refused: this is written of those before it, and the text says why.
+-- The input ends with a document that is refused: this is written for those before it, and the text says why.
 abbrev pub IsRefusedDump : Filter → List ℕ → List ℕ → List ℕ → Type 0
 IsRefusedDump filter bytes new text = (n : ℕ) × (documents : List ℕ) × (kept : ℕ) × (last : List ℕ) × (path : List ℕ)
     × (why : Unordered) × AreDocuments filter n documents kept new × IsFrame last × (bytes ≡ documents ++ last)
     × IsRefused filter n last path why × (text ≡ refusal_text n (length documents) path why)
 
--- What is in the buffer: a document, four bytes that are a bad length,
--- or the fewer bytes that the device had left.
+-- The content of the buffer: a document, four bytes that are a bad length,
+-- or the fewer bytes that remained in the device.
 abbrev pub IsNext : Next → List ℕ → Option (List ℕ) → Type 0
 IsNext nexts.Document bytes remaining = IsFrame bytes
 IsNext nexts.BadLength bytes remaining = (length bytes ≡ 4) × IsBadLength bytes
@@ -117,25 +117,25 @@ IsWritten stops.Unwritten out new = WriteFailsWithin out new
 IsWritten (stops.Refused text) out new = ⊥
 IsWritten _ out new = TakesPrefix out new
 
--- A prefix of the input was filtered, and standard output has a prefix of that;
--- before a document that is refused it has all.
+-- A prefix of the input was filtered, and standard output has a prefix of the result;
+-- before a document that is refused it has all of it.
 abbrev pub Ends : Filter → List ℕ → List ℕ → Over Writer → Stop → Type 0
 Ends filter bytes new out (stops.Refused text) = IsRefusedDump filter bytes new text.items × TakesText out new
 Ends filter bytes new out stop = ArePartlyFiltered filter bytes new × IsWritten stop out new
 
 -- The run stopped for this reason: a prefix of the input was read and filtered,
--- and of what is to be written standard output has a prefix.
+-- and standard output has a prefix of what is written for it.
 abbrev pub FiltersPartly : Filter → Over Reader → Over Writer → Stop → Type 0
 FiltersPartly filter file out stop = (bytes : List ℕ) × (new : List ℕ) × Consumes file.before.remaining file.after.remaining bytes
     × Ends filter bytes new out stop
 
 -- ---- its parts
 
--- The document with number n was written, filtered or as it is.
+-- The document with number n was written, filtered or unchanged.
 abbrev pub WritesDocument : Filter → ℕ → List ℕ → Over Writer → Bool → Type 0
 WritesDocument filter n bytes out filtered = (new : List ℕ) × IsFiltered filter n bytes filtered new × TakesText out new
 
--- The document with number n was not written whole: memory ran out, it is refused, or a write failed.
+-- The document with number n was not written completely: memory ran out, it is refused, or a write failed.
 abbrev pub StopsDocument : Filter → ℕ → ℕ → List ℕ → Over Writer → Stop → Type 0
 StopsDocument filter n start bytes out stops.NoMemory = TakesText out []
 StopsDocument filter n start bytes out (stops.Refused text) = TakesText out []
@@ -144,7 +144,7 @@ StopsDocument filter n start bytes out stops.Unwritten =
     (new : List ℕ) × (filtered : Bool) × IsFiltered filter n bytes filtered new × WriteFailsWithin out new
 StopsDocument filter n start bytes out (stops.Unread fault) = ⊥
 
--- All that the input still gave was written.
+-- All remaining bytes of the input were written.
 abbrev pub CopiesRest : Over Reader → Over Writer → Type 0
 CopiesRest file out = (bytes : List ℕ) × Consumes file.before.remaining file.after.remaining bytes
     × IsAtEnd file.after.remaining × TakesText out bytes
@@ -153,12 +153,12 @@ CopiesRest file out = (bytes : List ℕ) × Consumes file.before.remaining file.
 abbrev pub StopsCopying : Over Reader → Over Writer → Stop → Type 0
 StopsCopying file out stop = (bytes : List ℕ) × Consumes file.before.remaining file.after.remaining bytes × IsWritten stop out bytes
 
--- Bytes that begin with no document were written, and all that the input still gave.
+-- Bytes that begin with no document were written, and all remaining bytes of the input.
 abbrev pub PassesOn : List ℕ → Over Reader → Over Writer → Type 0
 PassesOn bytes file out = (rest : List ℕ) × BeginsWithNone (bytes ++ rest) × Consumes file.before.remaining file.after.remaining rest
     × IsAtEnd file.after.remaining × TakesText out (bytes ++ rest)
 
--- Passing on bytes that begin with no document, and the rest of the input, stopped for this reason.
+-- Copying bytes that begin with no document, and the rest of the input, stopped for this reason.
 abbrev pub StopsPassing : List ℕ → Over Reader → Over Writer → Stop → Type 0
 StopsPassing bytes file out stop = (rest : List ℕ) × BeginsWithNone (bytes ++ rest)
     × Consumes file.before.remaining file.after.remaining rest × IsWritten stop out (bytes ++ rest)

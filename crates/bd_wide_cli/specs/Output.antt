@@ -21,11 +21,11 @@ stop_words stops.Unwritten = codes "cannot write"
 stop_words (stops.Unread fault) = read_words fault
 stop_words (stops.Refused text) = text.items
 
--- the line on standard error that says how many documents stay as they are; nothing if none does
+-- the line on standard error that says how many documents are unchanged; empty if none is
 abbrev pub kept_line : ℕ → List ℕ
 kept_line kept = if kept == 0 then [] else decimal kept ++ codes " documents too long or too deep to wrap\n"
 
--- Standard error took the message, and the status is the one expected;
+-- Standard error took the message, and the status is the expected one;
 -- or a write failed, and the status is 1.
 abbrev pub ReportsMessage : Over Writer → List ℕ → Status → Status → Type 0
 ReportsMessage err message wanted status =
@@ -42,7 +42,7 @@ abbrev pub usage_text : List ℕ
 usage_text =
     codes "usage: bsonwide mask FILE\n       bsonwide wrap FILE\n       bsonwide order FILE [PATH..]\n"
 
--- Arguments that are no command are reported: help on standard output, a refusal on standard error.
+-- Arguments that are not a command are reported: help on standard output, a refusal on standard error.
 -- If a write fails the status is 1.
 abbrev pub ReportsFault : WordsFault → Over Writer → Over Writer → Status → Type 0
 ReportsFault words.Help out err status = (TakesText out usage_text × (status ≡ Done))

@@ -1,4 +1,4 @@
-//! What a filter writes of a document.
+//! What a filter writes for a document.
 
 ghost use Rattle.std.specs.Prelude.{◌≡◌, ◌≤◌, length, IfErr, IfOk, OnErr};
 ghost use Rattle.bd_wide.specs.Rewritten.{Adds};
@@ -7,22 +7,22 @@ ghost use Rattle.bd_wide_cli.specs.Filtered.{IsFiltered, IsRefused};
 
 use bd_wide::{Order, Unfiltered, write_masked, write_ordered, write_wrapped};
 
-/// A command, by what it does to the documents of a dump.
+/// A command, by its effect on the documents of a dump.
 #[derive(Debug, Drop)]
 pub enum Filter {
-    /// Each element has a type that `bsonfind` reads, at the same place.
+    /// Each element has a type that `bsonfind` reads, in place.
     Mask,
-    /// Doubles and decimal128 are documents that hold their texts.
+    /// Doubles and decimal128 are documents that contain their texts.
     Wrap,
     /// Numbers are whole numbers in the same order.
     Order(Order),
 }
 
-/// Appends what is written of a document with this number, and says whether it is filtered. `path` is a buffer, and gets the
-/// path of a number that is refused.
+/// Appends what is written for a document with this number, and says whether it is filtered. `path` is a buffer, and gets the
+/// path of a refused number.
 ///
 /// # Errors
-/// Each leaves `out` as it was.
+/// On each, `out` is unchanged.
 pub(crate) fn write_filtered(
     filter: &Filter,
     number: u64,

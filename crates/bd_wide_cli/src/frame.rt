@@ -1,4 +1,4 @@
-//! The next document of a device, as far as its length says.
+//! The next document of a device, by its length.
 
 ghost use Rattle.std.specs.Prelude.{◌≡◌, ◌≤◌, ◌+◌, ◌++◌, IfOk, OnErr, OnOk, List, ℕ, length};
 ghost use Rattle.std.specs.Io.KnownBytes.{Consumes};
@@ -9,18 +9,18 @@ ghost use Rattle.bd_wide_cli.specs.Filtered.{IsNext};
 use bd_io_device::{Input, Limits, ReadFault, fill, fill_after};
 use bd_value::LONGEST_DOCUMENT;
 
-/// What a buffer holds of a device.
+/// The content of the buffer.
 #[derive(Clone, Copy, Debug, PartialEq, Eq)]
 pub enum Next {
     /// A document.
     Document,
-    /// Four bytes that are the length of none.
+    /// Four bytes that are not the length of a document.
     BadLength,
-    /// What the device had left, perhaps nothing: less than a document.
+    /// The remaining bytes of the device, perhaps none: less than a document.
     Last,
 }
 
-/// Reads the next document into the buffer, or the bytes from which on there is none. `remaining` is what the device may still give.
+/// Reads the next document into the buffer, or the bytes if no document begins there. `remaining` is how much may still be read.
 pub(crate) fn next_frame<R: Input>(
     input: &mut R,
     remaining: &mut Limits,
@@ -80,7 +80,7 @@ fn read_rest<R: Input>(
     Ok(Next::Document)
 }
 
-/// Makes the buffer hold these bytes.
+/// Makes these bytes the content of the buffer.
 fn store(bytes: &[u8], buffer: &mut Vec<u8>) -> Result<(), ReadFault>
     ensures { OnOk result (buffer.new.items ≡ bytes.now) }
 {

@@ -1,6 +1,6 @@
 //! The commands of `bsonwide`.
 //!
-//! What a filter writes of a dump: `specs/Filtered.antt`. What a run tells, and its status: `specs/Output.antt`.
+//! What a filter writes for a dump: `specs/Filtered.antt`. The messages of a run, and its status: `specs/Output.antt`.
 //!
 //! An example, which `bd_wide_tests` proves and runs as `examples::filtered`:
 //!
@@ -15,11 +15,11 @@
 //! assert!(rt; out.bytes() == b"\x05\0\0\0\0".as_slice());
 //! ```
 //!
-//! - `filter`: `Filter`, and what it writes of a document.
-//! - `frame`: the next document of a device, or what begins with none.
+//! - `filter`: `Filter`, and what it writes for a document.
+//! - `frame`: the next document of a device, or bytes that begin with no document.
 //! - `running`: `run`, a whole run over devices.
-//! - `refusal`: what is told of a document that `order` refuses.
-//! - `output`: what is told on standard error, and `Status`.
+//! - `refusal`: the message for a document that `order` refuses.
+//! - `output`: the messages on standard error, and `Status`.
 #![tactic(auto)]
 
 mod filter;

@@ -1,4 +1,4 @@
-//! What a run tells on standard error, and how it ends. It takes no memory.
+//! The messages of a run on standard error, and how it ends. It takes no memory.
 
 ghost use Rattle.std.specs.Prelude.{◌≡◌, ◌++◌, OnErr, OnOk, decimal};
 ghost use Rattle.bd_io_device.specs.Devices.{WriteFailsWithin, TakesText, over};
@@ -17,14 +17,14 @@ pub enum Status {
     Done = 0,
     /// A read, a write or memory failed.
     Failed = 1,
-    /// The arguments were refused.
+    /// The arguments are invalid.
     Usage = 2,
 }
 
-/// Why a run ends where memory ran out.
+/// The message if memory runs out.
 pub const NO_MEMORY: &str = "no memory";
 
-/// Why a run ends where standard output failed.
+/// The message if standard output fails.
 pub const CANNOT_WRITE: &str = "cannot write";
 
 /// Writes the line of an error.
@@ -39,7 +39,7 @@ pub fn write_error<E: Output>(message: &[u8], err: &mut E) -> Result<(), DeviceF
     write_all(err, b"\n")
 }
 
-/// The status that is wanted where a message was written, and 1 where it was not.
+/// The given status if a message was written, and 1 if it was not.
 pub fn status_of(written: Result<(), DeviceFault>, wanted: Status) -> Status
     ensures ok { OnOk written (result ≡ wanted) }
     ensures err { OnErr written (result ≡ Failed) }
@@ -50,7 +50,7 @@ pub fn status_of(written: Result<(), DeviceFault>, wanted: Status) -> Status
     }
 }
 
-/// Tells why no more of an input was filtered.
+/// Reports why no more of an input was filtered.
 pub(crate) fn report_stop<E: Output>(stop: &Stop, err: &mut E) -> Status
     ensures { ReportsMessage (over E.state err.old err.new) (error_line
         (stop_words stop.now)) Failed result }
@@ -64,14 +64,14 @@ pub(crate) fn report_stop<E: Output>(stop: &Stop, err: &mut E) -> Status
     status_of(write_error(words, err), Status::Failed)
 }
 
-/// Tells how many documents stay as they are, where some do.
+/// Reports how many documents are unchanged, if any.
 pub(crate) fn report_kept<E: Output>(kept: u64, err: &mut E) -> Status
     ensures { ReportsMessage (over E.state err.old err.new) (kept_line kept) Done result }
 {
     status_of(write_kept(kept, err), Status::Done)
 }
 
-/// Writes how many documents stay as they are, where some do.
+/// Writes how many documents are unchanged, if any.
 #[tactic(auto, using(crate::proofs::OutputLemmas::taking))]
 fn write_kept<E: Output>(kept: u64, err: &mut E) -> Result<(), DeviceFault>
     ensures ok { OnOk result (TakesText (over E.state err.old err.new) (kept_line kept)) }
@@ -83,7 +83,7 @@ fn write_kept<E: Output>(kept: u64, err: &mut E) -> Result<(), DeviceFault>
     write_count(kept, " documents too long or too deep to wrap\n", err)
 }
 
-/// Writes a number and the words after it.
+/// Writes a number and the text after it.
 #[tactic(auto, using(crate::proofs::OutputLemmas::taking))]
 fn write_count<E: Output>(count: u64, words: &str, err: &mut E) -> Result<(), DeviceFault>
     ensures ok { OnOk result (TakesText (over E.state err.old err.new)
@@ -96,15 +96,15 @@ fn write_count<E: Output>(count: u64, words: &str, err: &mut E) -> Result<(), De
     write_all(err, words.as_bytes())
 }
 
-/// What a request for help and a refused line are answered with.
+/// The answer to a request for help and to invalid arguments.
 pub const USAGE: &str = "usage: bsonwide mask FILE
        bsonwide wrap FILE
        bsonwide order FILE [PATH..]
 ";
 
-/// Tells why words are no order, and gives the exit status. It takes no memory.
+/// Reports why arguments are not a command, and returns the exit status. It takes no memory.
 ///
-/// A request for help prints the usage on `out`, with status 0; words that are not taken print it on `err`, with status 2;
+/// A request for help prints the usage on `out`, with status 0; invalid arguments print it on `err`, with status 2;
 /// out of memory is reported on `err`, with status 1. A device that fails makes the status 1.
 pub fn report<O: Output, E: Output>(fault: WordsFault, out: &mut O, err: &mut E) -> Status
     ensures { ReportsFault fault (over O.state out.old out.new)
@@ -120,7 +120,7 @@ pub fn report<O: Output, E: Output>(fault: WordsFault, out: &mut O, err: &mut E)
     }
 }
 
-/// Tells which arguments are taken.
+/// Reports which arguments are accepted.
 fn report_usage<E: Output>(err: &mut E) -> Status
     ensures { ReportsMessage (over E.state err.old err.new) usage_text Usage result }
 {

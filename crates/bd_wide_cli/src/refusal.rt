@@ -1,4 +1,4 @@
-//! What is told of a refused document.
+//! The message for a refused document.
 
 ghost use Rattle.std.specs.Prelude.{◌≡◌, ◌<◌, ◌++◌, OnOk, decimal};
 ghost use Rattle.std.specs.Char.{digit_char};
@@ -10,14 +10,14 @@ use bd_value::NoMemory;
 use bd_wide::{Found, Refusal, Unordered};
 use itoa::Buffer;
 
-/// A document, by its number and by how many bytes stand before it.
+/// A document, by its number and its byte offset.
 #[derive(Clone, Copy)]
 pub(crate) struct Place {
     pub number: u64,
     pub start: u64,
 }
 
-/// The end of a run at a refused document; or that memory ran out.
+/// The end of a run at a refused document, or out of memory.
 pub(crate) fn refused(place: Place, path: &Vec<u8>, why: Unordered) -> Stop
     ensures { ReportsRefusal place.number place.start path.now.items why result }
 {
@@ -47,7 +47,7 @@ fn write_refusal(
     Ok(())
 }
 
-/// Appends where a refused number stands, and why it is refused.
+/// Appends the place of a refused number, and why it is refused.
 fn write_found(start: u64, path: &[u8], found: Found, out: &mut Vec<u8>) -> Result<(), NoMemory>
     ensures { OnOk result (out.new.items ≡ out.old.items ++ found_text start path.now found) }
 {
@@ -79,7 +79,7 @@ fn refusal_words(why: Refusal) -> &'static [u8]
     }
 }
 
-/// Appends a path as a string of JSON, whether it is UTF-8 or not.
+/// Appends a path as a JSON string, whether it is UTF-8 or not.
 #[tactic(auto, unfolding(bd_extjson_text::specs::Text::quoted))]
 fn write_quoted(path: &[u8], out: &mut Vec<u8>) -> Result<(), NoMemory>
     ensures { OnOk result (out.new.items ≡ out.old.items ++ quoted path.now) }

@@ -24,11 +24,11 @@ pub enum Stop {
     Unwritten,
     /// The input was not read to its end.
     Unread(ReadFault),
-    /// A document is refused, and this tells which and why.
+    /// A document is refused; the text says which and why.
     Refused(Vec<u8>),
 }
 
-/// Filters an input document by document, and writes each before the next is read. The memory is that of one document.
+/// Filters an input document by document, and writes each before the next is read. It takes the memory of one document.
 pub fn run<R: Input, O: Output, E: Output>(
     alloc: Global,
     filter: &Filter,
@@ -45,16 +45,16 @@ pub fn run<R: Input, O: Output, E: Output>(
     }
 }
 
-/// An input has at most 4,294,967,295 bytes, and takes at most 4,294,967,296 reads: one a byte, and the one that finds the end.
+/// An input has at most 4,294,967,295 bytes, and takes at most 4,294,967,296 reads: one per byte, and the one that finds the end.
 const LIMITS: Limits = Limits {
     bytes: LONGEST_INPUT,
     turns: MOST_READS,
 };
 
-/// How many bytes are passed on together.
+/// How many bytes are copied together.
 const BLOCK: usize = 65_536;
 
-/// Filters the documents of an input, and says how many of them stay as they are.
+/// Filters the documents of an input, and returns how many of them are unchanged.
 fn filter_input<R: Input, O: Output>(
     alloc: Global,
     filter: &Filter,
@@ -107,7 +107,7 @@ fn filter_documents<R: Input, O: Output>(
     }
 }
 
-/// One more where a document stays as it is.
+/// One more if a document is unchanged.
 fn count_kept(kept: u64, filtered: bool) -> u64
     requires { kept ≤ longest_input }
     ensures { result ≡ (if filtered then kept else kept + 1) }
@@ -115,7 +115,7 @@ fn count_kept(kept: u64, filtered: bool) -> u64
     if filtered { kept } else { kept + 1 }
 }
 
-/// Writes what is to be written of a document.
+/// Writes the text for a document.
 fn write_document<O: Output>(
     filter: &Filter,
     place: Place,
@@ -142,7 +142,7 @@ fn write_document<O: Output>(
     Ok(filtered)
 }
 
-/// Passes on bytes that begin with no document, and all that follow them.
+/// Copies bytes that begin with no document, and all that follow them.
 fn pass_on<R: Input, O: Output>(
     next: Next,
     bytes: &[u8],
@@ -165,7 +165,7 @@ fn pass_on<R: Input, O: Output>(
     }
 }
 
-/// Writes all that an input still gives.
+/// Writes all remaining bytes of an input.
 fn copy_rest<R: Input, O: Output>(input: &mut R, remaining: Limits, out: &mut O) -> Result<(), Stop>
     ensures ok { OnOk result
         (CopiesRest (over R.state input.old input.new) (over O.state out.old out.new)) }

@@ -1,4 +1,4 @@
--- All elements of masked bytes, and what holds them.
+-- All elements of masked bytes, and the documents and arrays that contain them.
 use Rattle.std.proofs.Common.{◌≡◌, ℕ, zero, suc, ◌+◌, ◌-◌, ◌≤◌, List, [], ◌∷◌, ◌++◌, length, take, drop, Option, Some, None, Result, Ok, Err, refl, sym, ap, ◌∙◌, subst, arith, append_assoc, length-append, take-append-drop, take_at, drop_at, Bool, true, false, nat_lt, ◌==◌, ◌||◌, ◌&&◌, not, if◌then◌else◌, option_map}
 use Rattle.std.specs.Int.{w32, from_le_bytes}
 use Rattle.std.proofs.lemmas.{List.length-take-le}
@@ -20,13 +20,13 @@ use Rattle.bd_wide_fault.proofs.StepLemmas.{NestedAlike, Stepped, bad_element, f
 
 -- ---- elements
 
--- what may be written from there on, by what stands at the front
+-- what may be written from there on, by the first element
 abbrev Turn : written.Nested → (List ℕ → List ℕ) → ℕ → List ℕ → Option (ElementType × ℕ × ℕ) → List ℕ → Type 0
 Turn into path_in n bytes None new = new ≡ masked_others bytes
 Turn into path_in n bytes (Some x) new = (one : List ℕ) × (two : List ℕ) × IsElement IsMasked into (path_in (take x.1 bytes)) x.0 (take x.1 bytes) (take x.2 (drop x.1 bytes)) one
     × AreElements IsMasked masked_others into path_in n (drop x.2 (drop x.1 bytes)) two × (new ≡ one ++ two)
 
--- the turn of the definition, which is this
+-- the step of the definition, which is the same
 abbrev Turned : written.Nested → (List ℕ → List ℕ) → ℕ → List ℕ → Option (ElementType × ℕ × ℕ) → List ℕ → Type 0
 Turned into path_in n bytes f new = elim f [
   | None ↦ new ≡ masked_others bytes
@@ -133,7 +133,7 @@ top_test false n m h = refl
 frame_tests : (top : Bool) (n m : ℕ) → 5 ≤ n → n ≤ m → (top ≡ true → n ≡ m) → (nat_lt n 5 || nat_lt longest_document n || nat_lt m n || (top && not (n == m))) ≡ nat_lt longest_document n
 frame_tests top n m low le all = or_middle (nat_lt n 5) (nat_lt longest_document n) (nat_lt m n) (top && not (n == m)) (le-ltb _ _ low) (le-ltb _ _ le) (top_test top n m all)
 
--- the elements of a frame whose length is right, by where they end and what follows
+-- the elements of a frame whose length is right, with the offset of their end and the bytes after them
 pub frame_is : (top : Bool) (e : ℕ) (four inner : List ℕ) (last : ℕ) (r : List ℕ) → length four ≡ 4 → from_le_bytes w32 four ≡ length inner + 5 → (top ≡ true → r ≡ [])
     → skip_frame top e (four ++ (inner ++ last ∷ r)) ≡ frame_stated e inner last r
 unfolding skip_frame

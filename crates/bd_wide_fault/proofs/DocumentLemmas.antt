@@ -1,4 +1,4 @@
--- Masked documents, so many levels deep.
+-- Masked documents, with n levels left.
 use Rattle.std.proofs.Common.{◌≡◌, ℕ, zero, suc, ◌+◌, ◌-◌, ◌≤◌, ◌<◌, List, [], ◌∷◌, ◌++◌, length, take, drop, Option, Some, None, Result, Ok, Err, refl, sym, ap, ap₂, ◌∙◌, arith, append_assoc, append-nil, length-append, length-drop, take-append-drop, take_at, drop-drop, Bool, true, false, nat_lt, ◌==◌, ◌||◌, ◌&&◌, not, if◌then◌else◌, codes}
 use Rattle.std.specs.{Int.w32, Int.from_le_bytes, Result.result_err}
 use Rattle.std.proofs.lemmas.{Bool.Decides.nat_tests, List.length-take-le}
@@ -110,7 +110,7 @@ scope_alike f g into fails below path v new some count fits h =
     ] in
     cases (scope_at v) refl (to_scope (into holders.Document path) v new h)
 
--- ---- so many levels deep
+-- ---- with n levels left
 
 abbrev Masked : ℕ → written.Nested
 Masked depth_left = IsNested IsMasked masked_others depth_left

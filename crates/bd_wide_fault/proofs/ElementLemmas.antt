@@ -1,4 +1,4 @@
--- The element at the front of masked bytes.
+-- The first element of masked bytes.
 use Rattle.std.proofs.Common.{◌≡◌, ◌⊎◌, inl, inr, ℕ, suc, ◌-◌, List, [], ◌∷◌, ◌++◌, length, drop, Option, Some, None, Result, Ok, Err, refl, sym, ap, ◌∙◌, Bool, true, false, cond, nat_eq, ◌==◌, ◌&&◌}
 use Rattle.std.specs.{List.list_all, Map.lookup, Str.is_utf8}
 use Rattle.bd_value.specs.declared.node.Kind.{Kind}
@@ -17,7 +17,7 @@ use Rattle.bd_wide_fault.proofs.SkipLemmas.{gives, NoZero, name_is}
 use Rattle.bd_wide_fault.proofs.FailLemmas.{scalar_fails, fixed_none}
 use Rattle.bd_wide_fault.proofs.TextLemmas.{text_checked}
 
--- the same is left after either, or the same fault is found
+-- the same bytes remain after both, or both have the same fault
 abbrev pub Alike : List ℕ → List ℕ → Result (List ℕ) Fault → Result (List ℕ) Fault → Type 0
 Alike r two a b = (s : Result (Unit {0}) Fault) × (a ≡ gives s r) × (b ≡ gives s two)
 
@@ -26,27 +26,27 @@ FailAlike a b = (f : Fault) × (a ≡ Err f) × (b ≡ Err f)
 
 -- ---- kinds
 
--- the kind of what holds values
+-- the kind of a document, an array or code with scope
 abbrev pub holder_kind : Holder → Kind
 holder_kind holders.Document = kinds.Doc
 holder_kind holders.Array = kinds.Array
 holder_kind holders.CodeScope = kinds.CodeScope
 
--- a kind is that of a scalar, or of what holds values
+-- a kind is that of a scalar, or of a document, an array or code with scope
 pub kind_is : (kind : Kind) → (is_holder kind ≡ false) ⊎ ((h : Holder) × (kind ≡ holder_kind h))
 kind_is kinds.Doc = inr (holders.Document, refl)
 kind_is kinds.Array = inr (holders.Array, refl)
 kind_is kinds.CodeScope = inr (holders.CodeScope, refl)
 kind_is _ = inl refl
 
--- what a scalar's bytes are checked for does not depend on how nested values are checked
+-- the check of a scalar does not depend on how nested values are checked
 pub scalar_same : (kind : Kind) (f g : Nested) (q e : ℕ) (bytes : List ℕ) → is_holder kind ≡ false → skip_value f kind q e bytes ≡ skip_value g kind q e bytes
 scalar_same kinds.Doc f g q e bytes bare = absurd cc
 scalar_same kinds.Array f g q e bytes bare = absurd cc
 scalar_same kinds.CodeScope f g q e bytes bare = absurd cc
 scalar_same _ f g q e bytes bare = refl
 
--- what holds values is checked as nested values are
+-- a document, an array or code with scope is checked as nested values are
 pub holder_value : (h : Holder) (f : Nested) (q e : ℕ) (bytes : List ℕ) → skip_value f (holder_kind h) q e bytes ≡ f h q e bytes
 holder_value holders.Document f q e bytes = refl
 holder_value holders.Array f q e bytes = refl
@@ -82,7 +82,7 @@ double_byte b at is =
     let rest : lookup (nat_eq b) other_types ≡ Some Double = sym (ap (λ x. cond x (Some Double) (lookup (nat_eq b) other_types)) at) ∙ is in
     let f : false ≡ true = in_others (nat_eq b) other_types Double refl rest in cc
 
--- ---- an element, by what is said of its name and of its value
+-- ---- an element, by the checks of its name and of its value
 
 abbrev pub named_value : Result (Unit {0}) Fault → Option ℕ → List ℕ → Result (List ℕ) Fault → Result (List ℕ) Fault
 named_value text index name value = text >>= λ u. within (label index name) value
@@ -106,13 +106,13 @@ unfolding skip_element
 skip_element_is f index e b type name rest is h =
     rw (is, name_is NameUnended e name rest h) (text_named (e - length (name ++ 0 ∷ rest)) name rest (λ n more. within (label index n) (skip_typed f type (e - suc (length (name ++ 0 ∷ rest))) e more)))
 
--- ---- an element that can't be passed on
+-- ---- an element that cannot be read
 
 pub named_fail : (text : Result (Unit {0}) Fault) (index : Option ℕ) (name : List ℕ) (a b : Result (List ℕ) Fault) → FailAlike a b → FailAlike (named_value text index name a) (named_value text index name b)
 named_fail (Ok u) index name a b (f, p, q) = (_, ap (within (label index name)) p, ap (within (label index name)) q)
 named_fail (Err d) index name a b h = (d, refl, refl)
 
--- If the length of what holds values is bad, both checks report the same fault.
+-- If the length of a document, an array or code with scope is bad, both checks report the same fault.
 abbrev pub NestedFails : Nested → Nested → Type 0
 NestedFails f g = (h : Holder) (q e : ℕ) (bytes : List ℕ) → counted (holder_least h) 0 bytes ≡ None → FailAlike (f h q e bytes) (g h q e bytes)
 

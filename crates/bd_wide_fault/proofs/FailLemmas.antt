@@ -1,4 +1,4 @@
--- A value that has no size has a fault.
+-- A value without a size has a fault.
 use Rattle.std.proofs.Common.{◌≡◌, ℕ, ◌+◌, ◌-◌, ◌≤◌, ◌<◌, List, [], ◌∷◌, ◌++◌, length, take, drop, Option, Some, None, Result, Ok, Err, refl, sym, ap, ◌∙◌, subst, arith, append_assoc, length-append, length-drop, take-append-drop, drop_at, Bool, true, false, cond, nat_lt, ◌==◌, ◌||◌, ◌&&◌, not, if◌then◌else◌}
 use Rattle.std.proofs.lemmas.{Bool.Decides.nat_tests, List.length-take-le}
 use Rattle.std.proofs.lemmas.Bool.{le-ltb}
@@ -32,7 +32,7 @@ else_fails : {A : Type 0} (b : Bool) (f : Fault) (x : Result A Fault) → (b ≡
 else_fails true f x h = (f, refl)
 else_fails false f x h = h refl
 
--- ---- what has no size
+-- ---- values without a size
 
 pub fixed_none : (n : ℕ) (bytes : List ℕ) → fixed n bytes ≡ None → nat_lt (length bytes) n ≡ true
 fixed_none n bytes is = goes (nat_lt (length bytes) n) is
@@ -55,7 +55,7 @@ counted_none low others bytes is four some =
 pub fixed_fails : (n e : ℕ) (bytes : List ℕ) → fixed n bytes ≡ None → Fails (skip_fixed n e bytes)
 fixed_fails n e bytes is = if_fails (nat_lt (length bytes) n) _ (Ok (drop n bytes)) (fixed_none n bytes is)
 
--- a number that is there, and what follows it, or a fault
+-- a number at the start, and the check after it, or a fault
 pub number_then : {B : Type 0} (short : FaultKind) (e : ℕ) (bytes : List ℕ) (f : ℕ × List ℕ → Result B Fault) → (4 ≤ length bytes → Fails (f (number_of bytes, drop 4 bytes))) → Fails (skip_number short e bytes >>= f)
 number_then short e bytes f h = goes (nat_lt (length bytes) 4) refl
   where

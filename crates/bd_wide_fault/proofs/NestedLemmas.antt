@@ -115,7 +115,7 @@ code_frame_is e four parts r len count some =
     let tests : (nat_lt (length parts + 4) 14 || nat_lt (length parts + 4 + length r) (length parts + 4)) ≡ false = grind (arith, nat_tests) in
     rw (number_is ValueShort e four (parts ++ r) len, count, total, tests, k, drop_at parts r (length parts) refl, take_at parts r (length parts) refl) refl
 
--- what is said of a scope, and of what is left after it
+-- the check of a scope, and of the bytes after it
 abbrev pub tail_if : Bool → ℕ → List ℕ → Result (List ℕ) Fault
 tail_if b bad r = if b then fault BadScopeLength bad else Ok r
 
@@ -190,7 +190,7 @@ scope_is v k is =
     let t = some_test count (length v) n k (count == 0 || nat_lt (length v) (8 + count + 5) || not (n == length v - (8 + count))) refl is in
     record { start = t.0; some = t.1; inside = omega (arith, t.0, t.2); count = ap (λ j. number_of (drop j v)) (sym t.0) ∙ t.3 ∙ ap (λ j. length v - j) t.0 }
 
--- a string at the front of the bytes, and what is said of it whatever as many bytes follow
+-- a string at the start of the bytes; its check is the same for any as many bytes after it
 pub record StringIs (at : ℕ) (parts : List ℕ) (m : ℕ) : Type 0 where
   pub stated : Result (Unit {0}) Fault
   pub goes : (r : List ℕ) → length r ≡ length (drop m parts) → skip_string at (take m parts ++ r) ≡ gives stated r

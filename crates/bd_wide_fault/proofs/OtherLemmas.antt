@@ -1,4 +1,4 @@
--- Where the first fault is no double and no decimal128, it is found where these are read.
+-- If the first fault is not a double and not a decimal128, it is also the first fault if these are read.
 use Rattle.std.proofs.Common.{◌≡◌, ◌≢◌, ◌⊎◌, inl, inr, ℕ, zero, suc, ◌+◌, ◌-◌, List, [], ◌∷◌, length, Option, Some, None, Result, Ok, Err, refl, sym, ap, subst, ◌∙◌, Bool, true, false, ◌==◌, if◌then◌else◌, codes, option_map}
 use Rattle.std.specs.{Option.ok_or, Result.result_err}
 use Rattle.bd_value.specs.Limits.{most_levels}
@@ -17,7 +17,7 @@ abbrev Other : {A : Type 0} → Result A Fault → Type 0
 Other (Ok x) = Unit {0}
 Other (Err f) = (f.kind ≢ Double) × (f.kind ≢ Decimal128)
 
--- two steps of which the first is the same, or is if its fault is another
+-- two checks in turn, of which the second is the same if its fault is another
 other_bind : {A B : Type 0} (a : Result A Fault) (f g : A → Result B Fault) → Other (a >>= f) → ((x : A) → Other (f x) → g x ≡ f x) → (a >>= g) ≡ (a >>= f)
 other_bind (Ok x) f g o h = h x o
 other_bind (Err d) f g o h = refl

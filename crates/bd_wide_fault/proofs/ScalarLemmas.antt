@@ -1,4 +1,4 @@
--- Scalars: what is said of one whose size is known, and that one without a size has a fault.
+-- Scalars: the check of one whose size is known, and a fault in one without a size.
 use Rattle.std.proofs.Common.{◌≡◌, ℕ, suc, ◌+◌, ◌-◌, ◌≤◌, List, [], ◌∷◌, ◌++◌, length, take, drop, Option, Some, None, Result, Ok, Err, refl, sym, ap, ◌∙◌, subst, arith, append_assoc, length-append, length-drop, take-append-drop, take_at, drop_at, Bool, true, false, cond, nat_lt, ◌==◌, ◌&&◌, not}
 use Rattle.std.specs.{Int.w32, Int.from_le_bytes}
 use Rattle.std.proofs.lemmas.{Bool.Decides.nat_tests, List.length-take-le, List.take-take}

@@ -1,4 +1,4 @@
--- What a rule says of a value depends on its bytes, and of the bytes after it on their number alone.
+-- The check of a value depends on its bytes, and only on the number of the bytes after it.
 use Rattle.std.proofs.Common.{◌≡◌, ◌≢◌, ℕ, zero, suc, ◌+◌, ◌-◌, ◌≤◌, ◌<◌, List, [], ◌∷◌, ◌++◌, length, take, drop, get_or, Some, None, Result, Ok, Err, refl, sym, ap, ◌∙◌, arith, append_assoc, length-append, length-drop, take-append-drop, take_at, drop_at, drop-drop, Bool, true, false, nat_lt, ◌==◌, ◌||◌, if◌then◌else◌}
 use Rattle.std.specs.{List.AllByRecursion, Int.w32, Int.from_le_bytes}
 use Rattle.std.proofs.lemmas.Bool.{eqb-true, eqb-false, le-ltb}
@@ -11,7 +11,7 @@ use Rattle.bd_bson_check.specs.Fault.{Fault}
 use Rattle.bd_bson_check.specs.FirstFault.{◌>>=◌, fault, skip_number, skip_zero, text_at, skip_name, skip_fixed, skip_boolean, skip_string, skip_regex}
 use Rattle.bd_wide.specs.Rewritten.{fixed, counted, first_zero}
 
--- what is left after what was gone past, or the fault
+-- the bytes that remain after what was skipped, or the fault
 abbrev pub gives : Result (Unit {0}) Fault → List ℕ → Result (List ℕ) Fault
 gives (Ok u) r = Ok r
 gives (Err f) r = Err f
@@ -49,7 +49,7 @@ fixed_cases : (b : Bool) (m l n : ℕ) → nat_lt l m ≡ b → (if b then None 
 fixed_cases true m l n at is = absurd cc
 fixed_cases false m l n at is = let e : m ≡ n = cc in let le : m ≤ l = grind (arith, nat_tests, at) in (e, omega arith)
 
--- a value of m bytes takes m, and they are there
+-- a value of m bytes takes m, and there are that many
 pub fixed_is : (m : ℕ) (bytes : List ℕ) (n : ℕ) → fixed m bytes ≡ Some n → (m ≡ n) × (n ≤ length bytes)
 fixed_is m bytes n is = fixed_cases (nat_lt (length bytes) m) m (length bytes) n refl is
 
@@ -68,11 +68,11 @@ counted_cases false low others bytes n at is =
     let some : low ≤ number_of bytes = grind (arith, nat_tests, at) in
     record { four = four; some = some; all = f.0; inside = f.1 }
 
--- a value that begins with its count takes that and the bytes beside it, and they are there
+-- a value that begins with its count takes as many bytes and the others, and there are that many
 pub counted_is : (low others : ℕ) (bytes : List ℕ) (n : ℕ) → counted low others bytes ≡ Some n → CountedIs low others bytes n
 counted_is low others bytes n is = counted_cases (nat_lt (length bytes) 4 || nat_lt (number_of bytes) low) low others bytes n refl is
 
--- a number of four bytes reads the same, whatever follows
+-- a number of four bytes is the same, whatever follows
 pub number_splits : (v r : List ℕ) → 4 ≤ length v → number_of (v ++ r) ≡ number_of v
 number_splits v r four =
     let splits : take 4 (v ++ r) ≡ take 4 v = ap (λ (x : List ℕ). take 4 (x ++ r)) (sym (take-append-drop 4 v)) ∙ ap (take 4) (append_assoc (take 4 v) (drop 4 v) r)
@@ -100,7 +100,7 @@ boolean_local e (b ∷ []) l len = goes (nat_lt 1 b) refl
 
 -- ---- texts
 
--- past the four bytes of a number comes what follows them
+-- after the four bytes of a number comes what follows them
 pub number_is : (short : FaultKind) (e : ℕ) (four more : List ℕ) → length four ≡ 4 → skip_number short e (four ++ more) ≡ Ok (from_le_bytes w32 four, more)
 number_is short e four more len =
     let long : nat_lt (length (four ++ more)) 4 ≡ false = le-ltb _ _ (omega (arith, length-append four more)) in
@@ -173,7 +173,7 @@ zero_offset_is name rest h =
     let long : nat_lt (length name) (length (name ++ 0 ∷ rest)) ≡ true = grind (arith, nat_tests, length-append name (0 ∷ rest)) in
     rw (zero_offset name rest h, long) refl
 
--- past a name and its zero comes what follows it, if the name is UTF-8
+-- after a name and its zero comes what follows it, if the name is UTF-8
 pub name_is : (kind : FaultKind) (e : ℕ) (name rest : List ℕ) → NoZero name → skip_name kind e (name ++ 0 ∷ rest) ≡ (text_at (e - length (name ++ 0 ∷ rest)) name >>= λ t. Ok (t, rest))
 unfolding skip_name
 name_is kind e name rest h =

@@ -1,4 +1,4 @@
--- Past the element at the front of masked bytes.
+-- The check beyond the first element of masked bytes.
 use Rattle.std.proofs.Common.{◌≡◌, ◌⊎◌, inl, inr, ℕ, suc, ◌+◌, ◌-◌, ◌≤◌, List, [], ◌∷◌, ◌++◌, length, take, drop, Option, Some, None, Result, Ok, Err, refl, sym, ap, ◌∙◌, subst, arith, append_assoc, length-append, length-drop, take_at, drop_at, Bool, true, false, nat_lt, ◌==◌, ◌&&◌, if◌then◌else◌, is_some}
 use Rattle.std.proofs.lemmas.Bool.{le-ltb, eqb-true}
 use Rattle.bd_value.specs.declared.node.Kind.{Kind}
@@ -22,7 +22,7 @@ use Rattle.bd_wide_fault.proofs.FailLemmas.{fixed_fails, name_fails}
 use Rattle.bd_wide_fault.proofs.TextLemmas.{text_checked, text_longer}
 use Rattle.bd_wide_fault.proofs.ElementLemmas.{Alike, FailAlike, NestedFails, holder_kind, kind_is, scalar_same, holder_value, holder_size, not_double, double_byte, named_value, named_fail, typed_fail, wide_element_is, skip_element_is}
 
--- ---- an element that can't be passed on
+-- ---- an element that cannot be read
 
 no_type : (f g : Nested) (index : Option ℕ) (e b : ℕ) (bytes : List ℕ) → type_at b ≡ None → FailAlike (wide_element f index e (b ∷ bytes)) (skip_element g index e (b ∷ bytes))
 unfolding wide_element skip_element
@@ -106,7 +106,7 @@ bad_element f g below index e b bytes none = goes (type_at b) refl (first_zero b
         subst (λ z. FailAlike (wide_element f index e (b ∷ bytes)) (skip_element g index e (masked_byte b (is_some z) ∷ bytes))) (sym at)
         (bad_value f g below index e b type bytes k is s (ap (size_at type) (sym (after_zero bytes k s)) ∙ size))
 
--- ---- an element that is passed on
+-- ---- an element that can be read
 
 pub record FirstElement (b : ℕ) (bytes : List ℕ) (x : ElementType × ℕ × ℕ) : Type 0 where
   pub typed : type_at b ≡ Some x.0
@@ -135,7 +135,7 @@ first_element_is b bytes x h = goes (type_at b) refl (first_zero bytes) refl h
         let s = zero_split bytes k at in
         prefix_sized b bytes x type k s (size_at type (drop (k + 1) bytes)) is (ap (size_at type) (sym (after_zero bytes k s))) h
 
--- what stands for an element, and that it is gone past alike
+-- what is written for an element, whose check is alike
 pub record Stepped (f g : Nested) (b : ℕ) (name v r one : List ℕ) : Type 0 where
   pub first : ℕ
   pub others : List ℕ
@@ -232,7 +232,7 @@ decimal_stepped f g b name v r one is h size given =
 
 -- ---- each type
 
--- What is written of nested values has the same length, and the check of it gives the same fault or none.
+-- What is written for nested values has the same length, and its check gives the same fault or none.
 abbrev pub NestedAlike : Nested → Nested → written.Nested → Type 0
 NestedAlike f g into = (h : Holder) (path v new : List ℕ) → holder_least h ≤ length v → number_of v ≡ length v → IsBytes v → into h path v new
     → (length new ≡ length v) × ((q e : ℕ) (r two : List ℕ) → length two ≡ length r → Alike r two (f h q e (v ++ r)) (g h q e (new ++ two)))

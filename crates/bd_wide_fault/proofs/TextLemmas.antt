@@ -1,4 +1,4 @@
--- Four letters more at the end of a name are no matter to what is said of it as a text.
+-- Four more letters at the end of a name do not change whether it is UTF-8.
 use Rattle.std.proofs.Common.{◌≡◌, ℕ, zero, suc, ◌≤◌, ◌<◌, List, [], ◌∷◌, ◌++◌, length, take, get_or, Result, Ok, refl, sym, ap, ◌∙◌, subst, arith, append_assoc, length-append, take_at, Bool, true, false, cond, IsUtf8}
 use Rattle.std.specs.{Str.is_utf8, Str.IsAscii, Str.Lossy.utf8_valid_len, Str.Lossy.valid_len_up_to}
 use Rattle.std.proofs.lemmas.List.{take_all, take-append-le}
@@ -47,7 +47,7 @@ valid_more s is =
     let no_text : is_utf8 (take (suc (length s)) (s ++ 35 ∷ [])) ≡ false = ap is_utf8 all ∙ utf8_more s ∙ is in
     ap (valid_len_up_to (s ++ 35 ∷ [])) size ∙ ap (λ b. cond b (suc (length s)) (valid_len_up_to (s ++ 35 ∷ []) (length s))) no_text ∙ up_to_same s (35 ∷ []) (length s) (omega arith)
 
--- a text is one, or the fault
+-- the check that bytes are UTF-8
 abbrev pub text_checked : ℕ → List ℕ → Result (Unit {0}) Fault
 text_checked at s = text_at at s >>= λ x. Ok tt
 

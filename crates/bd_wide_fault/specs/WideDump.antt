@@ -1,4 +1,4 @@
--- The first fault of a dump, in which doubles and decimal128 are read.
+-- The first fault of a dump if doubles and decimal128 are read.
 use Rattle.std.specs.Prelude.{◌≡◌, ℕ, ◌+◌, List, [], ◌++◌, length, take, Option, Some, None, Result, Ok, Err}
 use Rattle.bd_bson_check.specs.Dump.{frame_length}
 use Rattle.bd_bson_check.specs.Fault.{Fault}
@@ -12,7 +12,7 @@ wide_framed base bytes (Ok None) = None
 wide_framed base bytes (Ok (Some n)) = wide_fault base (take n bytes)
 wide_framed base bytes (Err kind) = Some (record { kind = kind; offset = base; path = [] })
 
--- the first fault of the document at the start of bytes, the first of which is at this offset of the dump,
+-- the first fault of the document at the start of bytes, which begin at this offset of the dump,
 -- if doubles and decimal128 are read; None if it has none, and at the end of the bytes
 abbrev pub wide_frame_fault : ℕ → List ℕ → Option Fault
 wide_frame_fault base bytes = wide_framed base bytes (frame_length bytes)

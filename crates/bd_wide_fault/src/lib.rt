@@ -1,12 +1,12 @@
 //! The first fault of masked documents and dumps.
 //!
-//! `check` reports a double or a decimal128 as a fault. A masked document has the fault that the document has where these are read,
+//! `check` reports a double or a decimal128 as a fault. A masked document has the fault that the document has if these are read,
 //! at the same byte and with the same path.
 //!
-//! - `specs/WideFault.antt`: the first check that fails where doubles and decimal128 are read.
-//! - `specs/WideDump.antt`: the same over a dump.
-//! - `laws`: that this is the fault of the masked document, and of the document itself if it is another than these numbers;
-//!   and the same of a masked dump.
+//! - `specs/WideFault.antt`: the first check that fails if doubles and decimal128 are read.
+//! - `specs/WideDump.antt`: the same for a dump.
+//! - `laws`: this is the fault of the masked document, and of the document itself unless its first fault is such a number;
+//!   and the same for a masked dump.
 #![tactic(auto)]
 
 mod laws;

@@ -1,4 +1,4 @@
--- The codes of numbers by what they are worth.
+-- The codes of numbers, by the values of the numbers.
 use Rattle.std.proofs.Common.{◌≡◌, ◌≢◌, ◌⊎◌, ℕ, zero, suc, ◌+◌, ◌-◌, ◌*◌, ◌/◌, ◌%◌, ◌^◌, ◌<◌, ◌≤◌, Bool, true, false, ℤ, pos, neg_ℤ, Option, None, Some, refl, sym, ap, ◌∙◌, arith, inl, inr, ⊎_elim, pow-add, pow_pos, mul-one, zero-mul, mul-pos, mul-div_cancel, le-mul_of_pos_right, option_map, w64, SFits, to_z, of_z}
 use Rattle.std.specs.Prelude.{unsigned_abs}
 use Rattle.std.proofs.Math.Nat.{one-le-pow, eq_of_mul-eq-mul_right, mul-mod_left, mul_comm}
@@ -96,7 +96,7 @@ module _ (x unit size : ℕ) (some : 0 < unit) (is : x * unit ≡ size) where
 multiple : (size unit : ℕ) → size % unit ≡ 0 → (size / unit) * unit ≡ size
 multiple size unit h = let split = div-add-mod' size unit in omega arith
 
--- the least double is more than no units
+-- the least double has more than zero units
 pub least_pos : 0 < least_double
 unfolding least_double
 least_pos = mul-pos (pow_pos 5102) (one-le-pow 6176 5 (omega arith))
@@ -105,7 +105,7 @@ pub one_pos : 0 < one
 unfolding one
 one_pos = one-le-pow 6176 10 (omega arith)
 
--- ---- so many units as a double
+-- ---- a number of units as a double
 
 pub double_is : (negative : Bool) (size b : ℕ) → b < infinite_bits → magnitude b * least_double ≡ size → double_part negative size ≡ Some (signed negative b)
 unfolding double_part
@@ -132,7 +132,7 @@ pub double_none : (negative : Bool) (size : ℕ) → ((b : ℕ) → b < infinite
 double_none negative size h = none_from (double_part negative size)
     (λ (c : ℤ) (e : double_part negative size ≡ Some c). let r = double_gives negative size c e in h r.0 r.1 r.2)
 
--- ---- so many units as a whole number
+-- ---- a number of units as a whole number
 
 within_gives : (negative : Bool) (n : ℕ) (c : ℤ) → within_64 negative n ≡ Some c → (n ≤ 2 ^ 63) × (c ≡ signed negative n)
 within_gives true n c h = ⊎_elim
@@ -149,7 +149,7 @@ unfolding whole_part
 whole_is negative size w is =
     rw (eq-eqb (size % one) 0 (no_rest w one size one_pos is), quotient w one size one_pos is) refl
 
--- the whole number of a size is that many ones, at most 2^63 of them, with the sign
+-- the whole number of a size is its count of ones, at most 2^63, with the sign
 pub whole_gives : (negative : Bool) (size : ℕ) (c : ℤ) → whole_part negative size ≡ Some c
     → (w : ℕ) × (w * one ≡ size) × (w ≤ 2 ^ 63) × (c ≡ signed negative w)
 unfolding whole_part
@@ -208,7 +208,7 @@ module _ (t : ℕ) (unit : one ≡ 2 ^ t * fives) where
   whole_units : (w size : ℕ) → w * one ≡ size → (w * 2 ^ t) * fives ≡ size
   whole_units w size is = let turned : (w * 2 ^ t) * fives ≡ w * (2 ^ t * fives) = simp products in turned ∙ ap (λ (z : ℕ). w * z) (sym unit) ∙ is
 
--- ---- a number times a power of ten as a double
+-- ---- a number times a power of ten, as a double
 
 -- the code of 0 by a double is 0, whatever its sign
 pub zero_double : (negative : Bool) (size : ℕ) → size ≡ 0 → Some (pos 0) ≡ double_part negative size
@@ -233,7 +233,7 @@ module _ (negative : Bool) (number e n : ℕ) (o : Odd) (units : n * fives ≡ n
   double_found b d few sum is = double_is negative (number * 10 ^ e) b few
       (found_units 5102 least_is b o.odd d is ∙ ap (λ (z : ℕ). (o.odd * 2 ^ z) * fives) sum ∙ ap (λ (z : ℕ). z * fives) odd.is ∙ units ∙ sym (tens number e))
 
--- ---- so many units as a whole number
+-- ---- a number of units as a whole number, by its odd part
 
 -- the whole number of 0 is 0, whatever its sign
 pub zero_whole : (negative : Bool) (size : ℕ) → size ≡ 0 → Some (pos 0) ≡ whole_part negative size

@@ -11,7 +11,7 @@ use Rattle.bd_wide_number.proofs.ValueLemmas.{none_is, rises}
 
 -- ---- sizes and codes without their signs
 
--- two pairs that are in one order
+-- two pairs that are in the same order
 record InOneOrder (b n d m : ℕ) : Type 0 where
   up : b < d → n < m
   down : d < b → m < n
@@ -20,7 +20,7 @@ record InOneOrder (b n d m : ℕ) : Type 0 where
   down_back : m < n → d < b
   same_back : n ≡ m → b ≡ d
 
--- they are, and so is each with zero
+-- the two pairs are in the same order, and so is each with zero
 record AreAlike (b n d m : ℕ) : Type 0 where
   both : InOneOrder b n d m
   first : InOneOrder b n 0 0
@@ -101,7 +101,7 @@ scaled_alike k b n d m first second = record {
 
 -- ---- codes in order
 
--- what is said of two numbers and their codes
+-- how two numbers and their codes compare
 abbrev InOrder : Value → Value → ℤ → ℤ → Type 0
 InOrder a b c d = ((c <ℤ d) ↔ IsLess a b) × ((c ≡ d) ↔ IsEqual a b)
 
@@ -115,7 +115,7 @@ between false b c few e = (omega (arith, ints), omega (arith, ints))
 part_between : (negative : Bool) (size : ℕ) (c : ℤ) → double_part negative size ≡ Some c → (neg_ℤ (pos infinite_bits) <ℤ c) × (c <ℤ pos infinite_bits)
 part_between negative size c h = let g = double_gives negative size c h in between negative g.0 c g.1 g.3
 
--- by ranks that differ, or are one
+-- by ranks that differ, or are equal
 below : (r q : ℕ) (c d : ℤ) → r < q → c <ℤ d → ((c <ℤ d) ↔ (r < q)) × ((c ≡ d) ↔ (r ≡ q))
 below r q c d l less = ((λ h. l, λ h. less), (λ h. absurd (omega (arith, ints)), λ h. absurd (omega arith)))
 
@@ -265,7 +265,7 @@ equal_itself nan = refl
 equal_itself (infinite s) = refl
 equal_itself (finite s n) = refl
 
--- there is a double of this value
+-- some double has this value
 HasDouble : Value → Type 0
 HasDouble a = (bits : ℕ) × (bits < 2 ^ 64) × IsEqual a (double_value bits)
 
@@ -293,7 +293,7 @@ pub equal_double : (a : Value) (c : ℤ) → number_code None a ≡ Some c → (
 unfolding number_code HasDouble
 equal_double a c h = has_double a c h
 
--- ---- what codes stand for
+-- ---- the numbers of codes
 
 negative_times : (x y : ℕ) → neg_ℤ (pos x) *ℤ pos y ≡ neg_ℤ (pos (x * y))
 negative_times zero y = rw zero-mul refl
@@ -304,7 +304,7 @@ code_size true zero = rw (none_is, zero-mul) refl
 code_size true (suc b) = negative_times (magnitude (suc b)) least_double
 code_size false b = refl
 
--- the number that a code by a double stands for is the one that has the code
+-- the number of a code by a double is the number that has this code
 pub code_means_number : (negative : Bool) (size : ℕ) (c : ℤ) → number_code None (finite negative size) ≡ Some c → code_value c *ℤ pos least_double ≡ signed negative size
 unfolding number_code double_code
 code_means_number s n c h =
@@ -340,7 +340,7 @@ from_neg m n l = omega (arith, ints)
 never : (m n : ℕ) → pos m <ℤ negsuc n → ⊥
 never m n l = omega (arith, ints)
 
--- of two codes by doubles the greater one stands for the greater number
+-- the greater of two codes by doubles has the greater number
 pub code_values_rise : (c d : ℤ) → c <ℤ d → code_value c <ℤ code_value d
 code_values_rise (pos m) (pos n) l = pos_less (magnitude m) (magnitude n) (rises m n (from_pos m n l))
 code_values_rise (pos m) (negsuc n) l = absurd (never m n l)

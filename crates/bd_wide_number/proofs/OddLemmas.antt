@@ -31,7 +31,7 @@ twice m j = simp (pow-suc, products)
 halved : (a b : ℕ) → a * 2 ≡ b * 2 → a ≡ b
 halved a b e = omega arith
 
--- what an odd number times a power of two is otherwise: the same number times a power of two, times a lesser power
+-- if an odd number times a power of two is m * 2 ^ j, then m is the odd number times a power of two, and j is at most x
 pub odd_form : (o x m j : ℕ) → o % 2 ≡ 1 → m * 2 ^ j ≡ o * 2 ^ x → (d : ℕ) × (j + d ≡ x) × (m ≡ o * 2 ^ d)
 odd_form o x m zero h e = (x, omega arith, sym (mul-one m) ∙ e)
 odd_form o zero m (suc j) h e = absurd (let f : (m * 2 ^ j) * 2 ≡ o = sym (twice m j) ∙ e ∙ mul-one o in omega arith)
@@ -63,7 +63,7 @@ only_fives (suc t) q k y e = only_fives t (q / 2) k y (half_fives q k (y * 2 ^ t
 
 -- ---- the lowest bit
 
--- no bit below is set
+-- no lower bit is set
 no_rest : (n t : ℕ) → ((i : ℕ) → i < t → n / 2 ^ i % 2 ≡ 0) → n % 2 ^ t ≡ 0
 no_rest n zero h = omega arith
 no_rest n (suc t) h =
@@ -74,7 +74,7 @@ no_rest n (suc t) h =
     let same : 1 + t ≡ suc t = omega arith in
     subst (λ (z : ℕ). n % 2 ^ z ≡ 0) same (one ∙ omega arith)
 
--- a number without its zeros is odd, and times so many twos it is the number
+-- a number without its trailing zero bits is odd, and times 2 for each of them it is the number again
 pub stripped_is : (n : ℕ) → 0 < n → n < 2 ^ 128
     → (n / 2 ^ trailing_zeros w128 n % 2 ≡ 1) × (n / 2 ^ trailing_zeros w128 n * 2 ^ trailing_zeros w128 n ≡ n) × (trailing_zeros w128 n < 128)
 stripped_is n some fits =
@@ -146,7 +146,7 @@ unfolding fives
 fives_pos = one-le-pow 6176 5 (omega arith)
 
 module _ (number twos f k : ℕ) (sum : f + k ≡ 6176) where
-  -- where 5 ^ k does not divide the number
+  -- if 5 ^ k does not divide the number
   pub not_whole : ((q : ℕ) → q * 5 ^ k ≢ number) → (n : ℕ) → n * fives ≡ number * 2 ^ twos * 5 ^ f → IsWide n
   not_whole not n e =
       let split = fives_split f k sum in

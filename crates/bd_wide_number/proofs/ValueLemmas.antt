@@ -59,7 +59,7 @@ magnitude_form b =
     let s = spelled_form (b / 2 ^ 52) (b % 2 ^ 52) (omega arith) in
     (s.0, s.1, s.2, s.3 ∙ sym (by_parts (b / 2 ^ 52) (b % 2 ^ 52) (omega arith)) ∙ ap magnitude (parts_of b))
 
--- from 2 ^ 52 on it is no less
+-- with an exponent above 0 it is at least 2 ^ 52
 spelled_least : (e f : ℕ) → 2 ^ 52 ≤ spelled (suc e) f
 spelled_least e f = omega (arith, le-mul_of_pos_right (2 ^ 52 + f) (pow_pos e))
 
@@ -72,7 +72,7 @@ magnitude_least b high =
 
 -- ---- magnitudes are in the order of the bits
 
--- what an exponent spells is below what the next one does
+-- the magnitude with an exponent is below those with the next one
 top : (e f : ℕ) → f < 2 ^ 52 → spelled e f < 2 ^ 52 * 2 ^ e
 top zero f h = omega arith
 top (suc e) f h =

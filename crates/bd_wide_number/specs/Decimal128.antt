@@ -7,7 +7,7 @@ use Rattle.std.specs.Prelude.{ℕ, ◌+◌, ◌*◌, ◌/◌, ◌%◌, ◌^◌, 
 abbrev pub five_bits : ℕ → ℕ
 five_bits high = high / 2 ^ 58 % 32
 
--- the coefficient of a decimal128, below 10 ^ 34; one that is encoded as 10 ^ 34 or more counts as 0
+-- the coefficient of a decimal128, below 10 ^ 34; an encoded 10 ^ 34 or more counts as 0
 abbrev pub coefficient_of : ℕ → ℕ → ℕ
 coefficient_of low high = let all = high % 2 ^ 49 * 2 ^ 64 + low in
     if nat_le 24 (five_bits high) || nat_le (10 ^ 34) all then 0 else all

@@ -1,12 +1,12 @@
--- What numbers are worth, and the order of what they are worth.
+-- The values of numbers, and their order.
 use Rattle.std.specs.Prelude.{◌≡◌, ◌<◌, ℕ, zero, suc, ◌+◌, ◌*◌, ◌/◌, ◌%◌, ◌^◌, ◌==◌, nat_lt, nat_le, if◌then◌else◌}
 use Rattle.std.specs.Prelude.{Bool, ℤ, pos, neg_ℤ, ◌<ℤ◌, unsigned_abs, int_lt}
 use Rattle.bd_wide_number.specs.declared.number.Number.{Number}
 use Rattle.bd_wide_number.specs.declared.number.Number.TheVariants as numbers
 use Rattle.bd_wide_number.specs.Decimal128.{five_bits, coefficient_of, biased_exponent}
 
--- What a number is worth: NaN, an infinity, or finite: whether it is negative, and its size in units of the
--- least decimal128, 10 ^ -6176. Each double and each whole number is a number of units.
+-- The value of a number: NaN, an infinity, or finite: whether it is negative, and its size in units of the
+-- least decimal128, 10 ^ -6176. Each double and each whole number is a whole number of units.
 pub data Value : Type 0 where
   nan : Value
   infinite : Bool → Value
@@ -41,7 +41,7 @@ infinite_bits = 2047 * 2 ^ 52
 abbrev pub has_sign : ℕ → Bool
 has_sign bits = nat_le (2 ^ 63) bits
 
--- what a double is worth, by its 64 bits (IEEE 754, binary64); any NaN is `nan`
+-- the value of a double, by its 64 bits (IEEE 754, binary64); any NaN is `nan`
 unfoldable pub double_value : ℕ → Value
 double_value bits = let size = bits % 2 ^ 63 in
     if nat_lt infinite_bits size then nan else (
@@ -50,40 +50,40 @@ double_value bits = let size = bits % 2 ^ 63 in
 
 -- ---- the other kinds
 
--- what an int32 or an int64 is worth
+-- the value of an int32 or an int64
 unfoldable pub whole_value : ℤ → Value
 whole_value z = finite (int_lt z (pos 0)) (unsigned_abs z * one)
 
--- what a decimal128 is worth, by the halves of its 128 bits; any NaN is `nan`
+-- the value of a decimal128, by the halves of its 128 bits; any NaN is `nan`
 unfoldable pub decimal128_value : ℕ → ℕ → Value
 decimal128_value low high = if five_bits high == 31 then nan else (
     if five_bits high == 30 then infinite (has_sign high)
     else finite (has_sign high) (coefficient_of low high * 10 ^ biased_exponent high))
 
--- what a number in memory is worth
+-- the value of a number in memory
 unfoldable pub value_of : Number → Value
 value_of (numbers.Whole z) = whole_value z
 value_of (numbers.Double bits) = double_value bits
 value_of (numbers.Decimal128 low high) = decimal128_value low high
 
--- ---- the order: what is no number comes first, and is equal to itself; -0 is equal to 0
+-- ---- the order: NaN comes first, and is equal to itself; -0 is equal to 0
 
 -- a size with its sign, as a whole number; 0 has none
 abbrev pub signed : Bool → ℕ → ℤ
 signed negative n = if negative then neg_ℤ (pos n) else pos n
 
--- where a value stands by its kind: NaN below -Infinity, then all finite values, then Infinity
+-- the rank of a value by its kind: NaN below -Infinity, then all finite values, then Infinity
 abbrev pub rank : Value → ℕ
 rank nan = 0
 rank (infinite negative) = if negative then 1 else 3
 rank (finite negative size) = 2
 
--- One value comes before another: NaN first, then by what they are worth.
+-- One value comes before another: NaN first, then by size and sign.
 abbrev pub IsLess : Value → Value → Type 0
 IsLess (finite m a) (finite n b) = signed m a <ℤ signed n b
 IsLess a b = rank a < rank b
 
--- Two values are worth the same: -0 and 0 are, and NaN is equal to NaN.
+-- Two values are equal: -0 equals 0, and NaN equals NaN.
 abbrev pub IsEqual : Value → Value → Type 0
 IsEqual (finite m a) (finite n b) = signed m a ≡ signed n b
 IsEqual a b = rank a ≡ rank b

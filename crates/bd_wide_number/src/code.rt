@@ -8,9 +8,9 @@ use crate::decimal128::{biased_exponent, coefficient, five_bits};
 use crate::number::Number;
 use crate::odd::odd_part;
 
-/// The code of a number at a path, or none. By a power of ten it is the number times 10 ^ power, where that is a whole number
-/// of 64 bits. Else it is the bits of the double that is equal to the number, and of a negative one those without the sign,
-/// less than 0: so 0 and -0.0 have the code 0. What is no number has the least, -2 ^ 63.
+/// The code of a number at a path, if any. With a power of ten it is the number times 10 ^ power, if that is a whole number
+/// of 64 bits. Otherwise it is the bits of the double that equals the number; for a negative one the bits without the sign,
+/// negated: so 0 and -0.0 have the code 0. NaN has the least code, -2 ^ 63.
 pub fn code_of(number: Number, power: Option<u32>) -> Option<i64>
     ensures { result ≡ number_code power (value_of number) }
 {
@@ -20,7 +20,7 @@ pub fn code_of(number: Number, power: Option<u32>) -> Option<i64>
     }
 }
 
-/// The number itself, where it is a whole number of 64 bits.
+/// The number itself, if it is a whole number of 64 bits.
 pub fn whole_of(number: Number) -> Option<i64>
     ensures { result ≡ whole_code (value_of number) }
 {
@@ -30,13 +30,13 @@ pub fn whole_of(number: Number) -> Option<i64>
 /// The bits of an infinite double.
 const INFINITE: u64 = 0x7FF0_0000_0000_0000;
 
-/// The bits of -0.0, of which the sign alone is set.
+/// The bits of -0.0: only the sign is set.
 const SIGN: u64 = 0x8000_0000_0000_0000;
 
 /// 1 is 10 ^ 6176 units.
 const ONE: u64 = 6176;
 
-/// By the double that is equal.
+/// The code by the equal double.
 fn double_code(number: Number) -> Option<i64>
     ensures { result ≡ double_code_of (value_of number) }
 {
@@ -47,7 +47,7 @@ fn double_code(number: Number) -> Option<i64>
     }
 }
 
-/// Of a decimal128, by the halves of its bits.
+/// The code of a decimal128 by the equal double, from the halves of its bits.
 fn decimal128_code(low: u64, high: u64) -> Option<i64>
     ensures { result ≡ double_code_of (decimal128_value low high) }
 {
@@ -62,7 +62,7 @@ fn decimal128_code(low: u64, high: u64) -> Option<i64>
     double_part(negative, coefficient(low, high), biased_exponent(high))
 }
 
-/// Of a double, by its bits.
+/// The code of a double, from its bits.
 fn code_of_double(bits: u64) -> i64
     ensures { double_code_of (double_value bits) ≡ Some result }
 {
@@ -74,7 +74,7 @@ fn code_of_double(bits: u64) -> i64
     }
 }
 
-/// With its sign.
+/// The number with its sign.
 fn signed(negative: bool, n: u64) -> i64
     requires { n < 2 ^ 63 }
     ensures { result ≡ signed_of negative n }
@@ -85,7 +85,7 @@ fn signed(negative: bool, n: u64) -> i64
 /// The least number of more than 53 bits.
 const TOO_PRECISE: u64 = 0x0020_0000_0000_0000;
 
-/// Of a number times 10 ^ exponent units.
+/// The code by the equal double for a number times 10 ^ exponent units.
 fn double_part(negative: bool, number: u128, exponent: u64) -> Option<i64>
     requires number { number < 2 ^ 113 }
     requires exponent { exponent < 2 ^ 14 }
@@ -113,7 +113,7 @@ fn double_bits(odd: u64, twos: u64) -> u64
     exponent * 0x0010_0000_0000_0000 + (odd << shift)
 }
 
-/// By a power of ten.
+/// The code with a power of ten.
 fn scaled_code(number: Number, power: u32) -> Option<i64>
     ensures { result ≡ scaled_code_of power (value_of number) }
 {
@@ -131,7 +131,7 @@ fn scaled_code(number: Number, power: u32) -> Option<i64>
     }
 }
 
-/// Of a double, by its bits.
+/// The code of a double with a power of ten, from its bits.
 fn scaled_double(bits: u64, power: u64) -> Option<i64>
     requires { power < 2 ^ 32 }
     ensures { result ≡ scaled_code_of power (double_value bits) }
@@ -158,7 +158,7 @@ fn scaled_double(bits: u64, power: u64) -> Option<i64>
 /// The most that an odd number of 64 bits is shifted.
 const MOST_SHIFT: u64 = 63;
 
-/// Of a number times 2 ^ twos and 5 ^ fives units.
+/// The whole number for a number times 2 ^ twos and 5 ^ fives units.
 fn whole_part(negative: bool, number: u128, twos: u64, fives: u64) -> Option<i64>
     requires number { number < 2 ^ 113 }
     requires twos { twos < 2 ^ 60 }
@@ -174,7 +174,7 @@ fn whole_part(negative: bool, number: u128, twos: u64, fives: u64) -> Option<i64
     within_64(negative, (odd.odd as u128) << (odd.twos - ONE))
 }
 
-/// With its sign, where it is within 64 bits.
+/// The number with its sign, if it is within 64 bits.
 fn within_64(negative: bool, n: u128) -> Option<i64>
     ensures { result ≡ within_64_of negative n }
 {

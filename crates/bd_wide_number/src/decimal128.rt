@@ -6,14 +6,14 @@ ghost use Rattle.bd_wide_number.specs.Decimal128.{biased_exponent as biased_expo
 /// The least coefficient of more than 34 digits.
 const TOO_LARGE: u128 = 10_000_000_000_000_000_000_000_000_000_000_000;
 
-/// The five bits after the sign: 31 for what is no number, and 30 for what is infinite.
+/// The five bits after the sign: 31 for NaN, and 30 for an infinity.
 pub fn five_bits(high: u64) -> u64
     ensures { result ≡ five_bits_of high }
 {
     high / 0x0400_0000_0000_0000 % 32
 }
 
-/// The coefficient, which is 0 where it has more than 34 digits.
+/// The coefficient; 0 if it has more than 34 digits.
 pub fn coefficient(low: u64, high: u64) -> u128
     ensures gives { result ≡ coefficient_of low high }
     ensures below { result < 10 ^ 34 }
@@ -27,7 +27,7 @@ pub fn coefficient(low: u64, high: u64) -> u128
     }
 }
 
-/// The exponent of ten, and 6176.
+/// The exponent of ten, plus 6176.
 pub fn biased_exponent(high: u64) -> u64
     ensures gives { result ≡ biased_exponent_of high }
     ensures below { result < 2 ^ 14 }

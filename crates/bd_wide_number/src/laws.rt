@@ -4,7 +4,7 @@ ghost use Rattle.std.specs.Prelude.{◌≡◌, ◌<◌, ◌≤◌, ◌↔◌, �
 ghost use Rattle.bd_wide_number.specs.Code.{code_value, number_code};
 ghost use Rattle.bd_wide_number.specs.Value.{IsEqual, IsLess, Value, double_value, finite, has_sign, infinite_bits, least_double, one, signed};
 
-/// Two codes, both by doubles or both by one power of ten, are in the order of the numbers.
+/// Two codes, both by doubles or both with one power of ten, are in the order of their numbers.
 pub fn codes_rise()
     ensures less { (k : Option ℕ) (a b : Value) (c d : ℤ) → number_code k a ≡ Some c
         → number_code k b ≡ Some d → ((c <ℤ d) ↔ IsLess a b) }
@@ -12,13 +12,13 @@ pub fn codes_rise()
         → number_code k b ≡ Some d → ((c ≡ d) ↔ IsEqual a b) }
 {}
 
-/// Numbers that are equal have the same code, or none.
+/// Equal numbers have the same code, or none.
 pub fn equal_numbers_have_one_code()
     ensures { (k : Option ℕ) (a b : Value) → IsEqual a b
         → number_code k a ≡ number_code k b }
 {}
 
-/// Of a double the code is its bits, and a number has a code only where a double is equal.
+/// The code of a double is its bits, and a number has a code only if a double equals it.
 pub fn code_is_of_the_equal_double()
     ensures bits { (bits : ℕ) → bits % 2 ^ 63 ≤ infinite_bits
         → number_code None (double_value bits) ≡ Some (signed (has_sign bits) (bits % 2 ^ 63)) }
@@ -28,8 +28,8 @@ pub fn code_is_of_the_equal_double()
         → (bits : ℕ) × (bits < 2 ^ 64) × IsEqual a (double_value bits) }
 {}
 
-/// A code stands for the number: by a power of ten it is that many times it, and by a double it is its bits, which rise with
-/// what they stand for.
+/// A code represents its number: with a power of ten it is the number times that power, and by a double it is the double's bits,
+/// which are in the order of the doubles.
 pub fn codes_mean_numbers()
     ensures means_number { (negative : Bool) (size : ℕ) (c : ℤ)
         → number_code None (finite negative size) ≡ Some c
@@ -40,7 +40,7 @@ pub fn codes_mean_numbers()
     ensures rise { (c d : ℤ) → c <ℤ d → code_value c <ℤ code_value d }
 {}
 
-/// What the bits of 1, -1, 0.1, the least and the greatest double stand for, in units of 2 ^ -1074.
+/// The values of the bits of 1, -1, 0.1, the least and the greatest double, in units of 2 ^ -1074.
 #[tactic(auto, unfolding(crate::specs::Value::magnitude))]
 pub fn samples_of_doubles()
     ensures one { code_value (pos 4607182418800017408) ≡ pos (2 ^ 1074) }

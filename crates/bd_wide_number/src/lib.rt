@@ -1,6 +1,6 @@
-//! The numbers of BSON, what they are worth, and the whole numbers that `bsonwide order` writes for them.
+//! The numbers of BSON, their values, and the whole numbers that `bsonwide order` writes for them.
 //!
-//! What each is worth, and the order of that: `specs/Value.antt`; which whole number it becomes: `specs/Code.antt`.
+//! The value of each number, and the order of values: `specs/Value.antt`; the whole number that it becomes: `specs/Code.antt`.
 //!
 //! An example, which `bd_wide_tests` proves and runs as `examples::code`:
 //!
@@ -11,7 +11,7 @@
 //! assert!(rt; whole_of(half) == None);
 //! ```
 //!
-//! - `number`: what a number of BSON is.
+//! - `number`: the numbers of BSON.
 //! - `decimal128`: the parts of a decimal128.
 //! - `odd`: numbers as an odd number times a power of two (`specs/inside/Odd.antt`).
 //! - `code`: `code_of` for numbers at a path, `whole_of` for all others.

@@ -1,6 +1,6 @@
 //! The numbers of BSON.
 
-/// A number, as its bytes have it.
+/// A number by its bytes.
 #[derive(Clone, Copy)]
 pub enum Number {
     /// An int32 or an int64.

@@ -11,7 +11,7 @@ pub(crate) struct Odd {
     pub twos: u64,
 }
 
-/// A number times 2 ^ twos and 5 ^ fives, in units of 5 ^ 6176; none where it is no number of 64 bits times a power of two.
+/// A number times 2 ^ twos and 5 ^ fives, in units of 5 ^ 6176; None if it is not a 64-bit number times a power of two.
 pub(crate) fn odd_part(number: u128, twos: u64, fives: u64) -> Option<Odd>
     requires number { (0 < number) × (number < 2 ^ 113) }
     requires twos { twos < 2 ^ 60 }
@@ -27,10 +27,10 @@ pub(crate) fn odd_part(number: u128, twos: u64, fives: u64) -> Option<Odd>
     stripped(number, twos, fives - 6176)
 }
 
-/// Above this 5 ^ n is above each number of 113 bits.
+/// For a greater n, 5 ^ n is above each number of 113 bits.
 const MOST_FIVES: u64 = 48;
 
-/// A number divided by 5 ^ n, where it can be.
+/// A number divided by 5 ^ n, if it is divisible.
 fn divided(number: u128, n: u64) -> Option<u128>
     requires { (0 < number) × (number < 2 ^ 113) }
     ensures is { IfSome result (λ q. q * 5 ^ n ≡ number) }
@@ -63,10 +63,10 @@ fn stripped(number: u128, twos: u64, n: u64) -> Option<Odd>
     })
 }
 
-/// Above this 5 ^ n has more than 64 bits.
+/// For a greater n, 5 ^ n has more than 64 bits.
 const MOST_FIVES_OF_64: u64 = 27;
 
-/// A number times 5 ^ n, where that has 64 bits.
+/// A number times 5 ^ n, if that has 64 bits.
 fn multiplied(number: u128, n: u64) -> Option<u64>
     requires { 0 < number }
     ensures gives { SomeIff result (number * 5 ^ n < 2 ^ 64) (number * 5 ^ n) }

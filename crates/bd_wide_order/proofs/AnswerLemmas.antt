@@ -1,4 +1,4 @@
--- What a renumbered request selects of renumbered documents.
+-- What a renumbered request selects from renumbered documents.
 use Rattle.std.proofs.Common.{◌≡◌, ℕ, zero, suc, List, [], ◌∷◌, refl, ap, ap₂, ◌∙◌, Option, Some, None}
 use Rattle.std.specs.Prelude.{option_map, slice_get, slice_index_or}
 use Rattle.std.specs.List.{AllByRecursion as Each, cons_option}
@@ -43,7 +43,7 @@ module _ (c : Codes) where
   documents_stay ds [] = refl
   documents_stay ds (p ∷ ps) = one (slice_get (renumber_documents c ds) p) (slice_get ds p) (documents_at (renumber_documents c ds) ps) (documents_at ds ps) (got ds p) (documents_stay ds ps)
 
-  -- every place has a document of such numbers; past the last it has no field
+  -- every place has a document of such numbers; after the last it has no field
   is_of : (ds : List Doc) (p : ℕ) → Each (λ d. IsOf c (doc (fields_of d))) ds → IsOf c (document_at ds p)
   is_of [] p are = tt
   is_of (d ∷ ds) zero are = are.0

@@ -1,4 +1,4 @@
--- A renumbered filter matches a renumbered value where it matched the value.
+-- A renumbered filter matches a renumbered value if it matched the value.
 use Rattle.std.proofs.Common.{◌≡◌, ℕ, List, [], ◌∷◌, ◌++◌, map, length, refl, sym, ap, ap₂, ◌∙◌, Bool, cond, not, Some, None, ◌||◌, ◌&&◌}
 use Rattle.std.specs.Prelude.{ℤ, IsTrue, option_map, is_some, ◌==◌}
 use Rattle.std.proofs.lemmas.{List.length-map, List.Elements.recursion_from_All}
@@ -108,7 +108,7 @@ module _ (c : Codes) where
   any_value_stays : (f e : Tree → Bool) → ((t : Tree) → IsOf c t → f (r t) ≡ e t) → (es : List End) → Each (EndIsOf c) es → list_any (is_value f) (map re es) ≡ list_any (is_value e) es
   any_value_stays f e same es a = any_map (is_value f) (is_value e) re (EndIsOf c) (value_stays f e same) es a
 
-  -- a test of the elements
+  -- a test on the elements
   any_element_stays : (f e : Tree → Bool) → ((t : Tree) → IsOf c t → f (r t) ≡ e t) → (t : Tree) → IsOf c t → list_any f (elements_in (r t)) ≡ list_any e (elements_in t)
   any_element_stays f e same t a = ap (list_any f) (elements_stay t) ∙ any_map f e r (IsOf c) same (elements_in t) (elements_are_of t a)
 

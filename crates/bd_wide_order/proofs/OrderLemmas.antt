@@ -1,4 +1,4 @@
--- The order of values knows numbers by their order alone, at each path.
+-- The order of values depends on numbers only by their order at each path.
 use Rattle.std.proofs.Common.{◌≡◌, List, [], ◌∷◌, refl, sym, ap, ap₂, ◌∙◌, subst, arith, ℕ, Ordering, Less, Equal, Greater, nat_cmp}
 use Rattle.std.specs.Prelude.{IsTrue, ℤ, ◌<ℤ◌, ◌≤ℤ◌}
 use Rattle.std.specs.Ordering.{int_cmp, ordering_then, is_eq}
@@ -23,7 +23,7 @@ same m n h i = omega (arith, ints)
 alike : (n : ℤ) → int_cmp n n ≡ Equal
 alike n = grind (arith, ints)
 
--- only where the first two decide nothing does the third count
+-- the third comparison counts only if the first two decide nothing
 within : (o p r s : Ordering) → (p ≡ Equal → ordering_then o r ≡ ordering_then o s) → ordering_then o (ordering_then p r) ≡ ordering_then o (ordering_then p s)
 within Less p r s h = refl
 within Greater p r s h = refl
@@ -39,7 +39,7 @@ module _ (c : Code) (up : IsIncreasing c) where
       (λ (l : n <ℤ m). greater (c.becomes m) (c.becomes n) (up n m q p l) ∙ sym (greater m n l))
       (λ (i : m ≤ℤ n). ap (λ k. int_cmp (c.becomes m) (c.becomes k)) (sym (same m n h i)) ∙ alike (c.becomes m) ∙ sym (alike m) ∙ ap (int_cmp m) (same m n h i)))
 
-  -- two numbers, by whatever makes them values
+  -- two numbers, of any integer types
   two : (m n : ℤ) → IsTrue (c.occurs m) → IsTrue (c.occurs n) → cmp (leaf (int64 (c.becomes m))) (leaf (int64 (c.becomes n))) ≡ cmp (leaf (int64 m)) (leaf (int64 n))
   two m n p q = ap (λ o. ordering_then o (ordering_then Equal (ordering_then Equal Equal))) (numbers m n p q)
 
@@ -91,7 +91,7 @@ class_stays c (leaf _) = refl
 pub classes_stay : (c d : Codes) (a b : Tree) → class_cmp (renumber c a) (renumber d b) ≡ class_cmp a b
 classes_stay c d a b = ap₂ nat_cmp (class_stays c a) (class_stays d b)
 
--- of two pairs the values are looked at where the names are one
+-- the values of two pairs are compared if the names are equal
 pairs_stay : (c : Codes) (m n : List ℕ) (a b : Tree) → (m ≡ n → cmp (renumber (under m c) a) (renumber (under n c) b) ≡ cmp a b)
     → pair_cmp m (renumber (under m c) a) n (renumber (under n c) b) ≡ pair_cmp m a n b
 pairs_stay c m n a b h =

@@ -1,4 +1,4 @@
--- Cursors that have the same places left, and tokens that go on at the same marks, give the same pages.
+-- Cursors with the same remaining places, and tokens with the same positions, have the same pages.
 use Rattle.std.proofs.Common.{◌≡◌, ℕ, ◌+◌, List, [], ◌∷◌, take, drop, length, min, refl, sym, ap, ap₂, ◌∙◌, Option, Some, None}
 use Rattle.std.specs.Prelude.{option_map, slice_index_or}
 use Rattle.bd_cursor_model.specs.Answer.{Position, Selection, answer, is_empty, rest}
@@ -13,7 +13,7 @@ given_is : (t : Option PositionedToken) → given_by t ≡ given_at (position_of
 given_is None = refl
 given_is (Some t) = refl
 
--- the token after some places, by the mark before them
+-- the position of the token after some places depends on the position before them
 token_stays : (d e : List ℕ) (t u : Option PositionedToken) → position_of t ≡ position_of u → (ps : List ℕ) → position_of (token_after d t ps) ≡ position_of (token_after e u ps)
 token_stays d e t u same [] = same
 token_stays d e t u same (p ∷ ps) =

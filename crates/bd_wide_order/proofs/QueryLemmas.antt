@@ -1,4 +1,4 @@
--- The filter that a renumbered query is, is the renumbered filter.
+-- The filter of a renumbered query is the renumbered filter.
 use Rattle.std.proofs.Common.{◌≡◌, ℕ, zero, suc, ◌+◌, ◌-◌, List, [], ◌∷◌, ◌++◌, map, refl, sym, ap, ap₂, ◌∙◌, Bool, true, false, cond, ◌||◌, Result, Ok, Err}
 use Rattle.std.specs.Prelude.{decimal, length, nat_le, nat_lt, ◌&&◌}
 use Rattle.std.specs.{List.list_any, Option.ok_or, Str.bytes_eq}
@@ -25,7 +25,7 @@ use Rattle.bd_cursor_request.specs.declared.results.Refused.TheVariants as reaso
 use Rattle.bd_wide_order.specs.Renumber.{Codes, below, renumber, renumber_items, renumber_fields, renumber_filter, renumber_filters, renumber_operator, renumber_operators}
 use Rattle.bd_wide_order.specs.Query.{pair_value, plain_operand, operand, query_fields, query_members, query_items, query_member, query_value, query_operators, query_inverse, query_element, renumber_query, renumber_request}
 
--- ---- reading, and what is made of what was read
+-- ---- reading, and functions of what was read
 
 read_twice : {A B C : Type 0} (f : B → C) (h : A → B) (x : Result A Refusal) → read_as f (read_as h x) ≡ read_as (λ a. f (h a)) x
 read_twice f h (Ok x) = refl
@@ -44,11 +44,11 @@ inner_stays : {A B : Type 0} (h : A → B) (depth_left : ℕ) (x : Result A Refu
 inner_stays h zero x y e = refl
 inner_stays h (suc depth_left) x y e = e
 
--- a part read as something, of which a part renumbered is read as that renumbered
+-- if a renumbered part is read as the renumbered result of the part, so are the functions of both
 read_on : {A B C D : Type 0} (f : A → B) (k : C → D) (h : A → C) (i : B → D) → ((a : A) → i (f a) ≡ k (h a)) → (x : Result A Refusal) (y : Result B Refusal) → y ≡ read_as f x → read_as i y ≡ read_as k (read_as h x)
 read_on f k h i e x y same = ap (read_as i) same ∙ read_twice i f x ∙ read_same (λ a. i (f a)) (λ a. k (h a)) e x ∙ sym (read_twice k h x)
 
--- the path that a text is has the names that stand between its dots
+-- the path in a text has the names between its dots
 names_are : (text : List ℕ) (path : Names) → path_of text ≡ Ok path → path ≡ components_of text
 names_are text path is = go (nat_lt most_names (length (components_of text))) (list_any (bytes_eq []) (components_of text)) is
   where
@@ -148,7 +148,7 @@ module _ (c : Codes) where
   operator_stays name_kinds.Unknown depth_left t a b = refl
   operator_stays (name_kinds.Logical l) depth_left t a b = refl
 
-  -- ---- the first name of what was renumbered
+  -- ---- the first name of a renumbered document
 
   first_operator_stays : (fs : Fields) → first_is_operator (query_operators c fs) ≡ first_is_operator fs
   first_operator_stays no_fields = refl
@@ -162,7 +162,7 @@ module _ (c : Codes) where
   fields_form_stays no_fields = refl
   fields_form_stays (field n t fs) = refl
 
-  -- the value of a path, of which the first name is an operator, or is not
+  -- the value of a path, whose first name is an operator or not
   path_chosen : (b : Bool) (depth_left : ℕ) (fs : Fields) → first_is_operator fs ≡ b
       → operators_of depth_left (query_operators c fs) ≡ read_as (map (renumber_operator c)) (operators_of depth_left fs)
       → path_operators depth_left (cond b (doc (query_operators c fs)) (doc (renumber_fields c fs))) ≡ read_as (map (renumber_operator c)) (cond b (operators_of depth_left fs) (Ok (equals (doc fs) ∷ [])))

@@ -22,7 +22,7 @@ each_chosen : {A : Type 0} (Q : A → Type 0) (b : Bool) (xs ys : List A) → (b
 each_chosen Q true xs ys p q = p refl
 each_chosen Q false xs ys p q = q
 
--- a test of what a list was mapped to, and of what it is
+-- a test on the images of a list, and on the list itself
 pub any_map : {A B : Type 0} (f : B → Bool) (e : A → Bool) (h : A → B) (Q : A → Type 0) → ((x : A) → Q x → f (h x) ≡ e x) → (xs : List A) → Each Q xs
     → list_any f (map h xs) ≡ list_any e xs
 any_map f e h Q same [] p = refl
@@ -58,7 +58,7 @@ index_some name = go (is_index name)
     go true e = refl
     go false e = e
 
--- ---- what is gathered from a renumbered value is what was gathered from it, mapped
+-- ---- what is collected from a renumbered value is what is collected from the value, mapped
 
 pub record Carries {A B : Type 0} (end : Codes) (h : A → B) (from : Collecting A) (to : Collecting B) : Type 0 where
   pub at_end : (t : Tree) → to.at_end (renumber end t) ≡ map h (from.at_end t)
@@ -118,7 +118,7 @@ module _ {A B : Type 0} (end : Codes) (h : A → B) (from : Collecting A) (to : 
     indexed c (item t ts) (Some zero) rest lead = collects c t rest (lead refl)
     indexed c (item t ts) (Some (suc i)) rest lead = indexed c ts (Some i) rest lead
 
--- ---- what is gathered has a property that each value with such numbers has
+-- ---- what is collected has a property that each value with such numbers has
 
 pub record Gives {A : Type 0} (end : Codes) (Q : A → Type 0) (from : Collecting A) : Type 0 where
   pub at_end : (t : Tree) → IsOf end t → Each Q (from.at_end t)

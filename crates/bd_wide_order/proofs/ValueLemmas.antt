@@ -1,4 +1,4 @@
--- Codes are in the order of what they are worth, and worth what they stand for.
+-- Codes are in the order of their values, and their values are those of their numbers.
 use Rattle.std.proofs.Common.{◌/◌, ◌%◌, ap₂, cond, eqb, subst, ◌≡◌, ℕ, zero, suc, ◌+◌, ◌-◌, ◌*◌, ◌^◌, ◌<◌, ◌≤◌, arith, refl, sym, ap, ◌∙◌, Bool, true, false, Option, None, Some, ℤ, pos, negsuc, neg_ℤ, ◌*ℤ◌, ◌<ℤ◌}
 use Rattle.std.proofs.lemmas.Int.{ints}
 use Rattle.std.proofs.Math.Nat.{eq_of_mul-eq-mul_right, mul-lt-mul_of_pos_right, mul_assoc, one-le-pow, zero-mul}
@@ -55,7 +55,7 @@ worth_rises (Some power) c d l = times_rise (10 ^ (6176 - power)) (some_power po
 pub values_rise : (powers : Names → Option ℕ) → AreIncreasing (values_at powers)
 values_rise powers = λ path m n p q l. worth_rises (powers path) m n l
 
--- ---- what a code by a power of ten is worth
+-- ---- the value of a code with a power of ten
 
 signed_times : (s : Bool) (n u : ℕ) → signed s n *ℤ pos u ≡ signed s (n * u)
 signed_times true zero u = rw zero-mul refl
@@ -83,7 +83,7 @@ pub code_worths : (power : Option ℕ) → IfSome power (λ k. k ≤ 6176) → (
 code_worths None l negative size c is = code_means_number negative size c is
 code_worths (Some power) l negative size c is = scaled_worth power l negative size c is
 
--- ---- what the bits of a double are worth, by IEEE 754
+-- ---- the value of the bits of a double, by IEEE 754
 
 spelled_is : (x t b : ℕ) → t < 2 ^ 52 → b ≡ x * 2 ^ 52 + t → magnitude b ≡ spelled x t
 unfolding magnitude

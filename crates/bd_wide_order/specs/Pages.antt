@@ -1,4 +1,4 @@
--- What a request to a dump gives, page by page. Only the digests of its tokens are left out: they are those of the bytes
+-- The answer to a request to a dump, page by page. Only the digests of its tokens are left out: they are those of the bytes
 -- of the dump and of the text of the request.
 use Rattle.std.specs.Prelude.{◌≡◌, ℕ, Bool, List, [], ◌∷◌, Option, option_map}
 use Rattle.bd_cursor_model.specs.Answer.{Position}
@@ -10,7 +10,7 @@ pub record Page : Type 0 where
   pub position : Option Position
   pub ends : Bool
 
--- the position in an answer that a token has, if there is a token
+-- the position of a token in an answer, if there is a token
 abbrev pub position_of : Option PositionedToken → Option Position
 position_of token = option_map (λ t. t.position) token
 
@@ -36,12 +36,12 @@ cursor_at q position = record {
   remaining = remaining_after q.selection (token_at q position);
 }
 
--- the pages of a request by sizes in turn, from the start of its answer or after a position
+-- the pages of a request with sizes in turn, from the start of its answer or after a position
 abbrev pub pages : Query → Option Position → List ℕ → List Page
 pages q position sizes = pages_from (cursor_at q position) sizes
 
 -- Two requests, each to its dump, have one answer: they select the same document numbers in the same order,
--- and from the start and after each position they give the same pages.
+-- and from the start and after each position they have the same pages.
 pub record HaveOneAnswer (q r : Query) : Type 0 where
   pub selection : q.selection ≡ r.selection
   pub pages_alike : (position : Option Position) (sizes : List ℕ) → pages q position sizes ≡ pages r position sizes

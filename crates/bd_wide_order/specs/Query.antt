@@ -1,4 +1,4 @@
--- The document of a query with another number in place of each number that it compares by,
+-- The document of a query with another number in place of each number that it compares with,
 -- depending on the path.
 -- The operands of `$size`, `$exists` and `$type` stay;
 -- inside a value that is compared as a whole these names are ordinary names.
@@ -14,7 +14,7 @@ use Rattle.bd_cursor_request.specs.Request.{Request}
 use Rattle.bd_wide_order.specs.Renumber.{FilterNeeds, Codes, SortsReadAlike, below, renumber, renumber_fields}
 use Rattle.bd_wide_order.specs.Renumber.{renumber_filter}
 
--- the value of a pair of a query, by its name: filters for `$and` and its kin, else what a path is asked
+-- the value of a pair of a query, by its name: filters for `$and`, `$or` and `$nor`, otherwise the value for a path
 abbrev pub pair_value : NameKind → Tree → Tree → Tree
 pair_value (name_kinds.Logical l) members value = members
 pair_value w members value = value
@@ -52,7 +52,7 @@ abbrev mutual
   query_items c no_items = no_items
   query_items c (item t ts) = item (query_member c t) (query_items c ts)
 
-  -- one member of `$and`, `$or` or `$nor`, a filter of its own, with other numbers
+  -- one member of `$and`, `$or` or `$nor`, which is a filter, with other numbers
   pub query_member : Codes → Tree → Tree
   query_member c (doc fs) = doc (query_fields c fs)
   query_member c t = t
@@ -82,17 +82,17 @@ abbrev mutual
       if has_value_form fs then doc (query_operators c fs) else doc (query_fields c fs)
   query_element c t = t
 
--- the document of a query, with another number in place of each number that it compares by
+-- the document of a query, with another number in place of each number that it compares with
 abbrev pub renumber_query : Codes → Doc → Doc
 renumber_query c d = pairs_of (query_fields c (fields_of d))
 
 -- ---- requests
 
--- The filter and the sort of a request keep to paths that read alike,
--- and the filter to numbers that may occur there.
+-- The filter and the sort of a request use only paths that read alike,
+-- and the filter only numbers that may occur there.
 abbrev pub RequestNeeds : Codes → Request → Type 0
 RequestNeeds c r = FilterNeeds c r.filter × SortsReadAlike c r.sorts
 
--- the request with a renumbered filter, and with another text, to which its tokens are tied
+-- the request with a renumbered filter, and with another text for the digest of its tokens
 abbrev pub renumber_request : Codes → List ℕ → Request → Request
 renumber_request c text r = record r { filter = renumber_filter c r.filter; text = text }

@@ -29,7 +29,7 @@ under name c = λ names. c (name ∷ names)
 abbrev pub below : Names → Codes → Codes
 below path c = λ names. c (path ++ names)
 
--- Of two numbers that may occur, the lesser one becomes the lesser one.
+-- Of two numbers that may occur, the lesser number gets the lesser code.
 abbrev pub IsIncreasing : Code → Type 0
 IsIncreasing c = (m n : ℤ) → IsTrue (c.occurs m) → IsTrue (c.occurs n) → m <ℤ n →
     c.becomes m <ℤ c.becomes n
@@ -62,7 +62,7 @@ SortsReadAlike c ss = All (λ s. ReadsAlike c s.path) ss
 
 -- ---- values
 
--- an int32 or an int64 as the int64 that the code makes of it;
+-- an int32 or an int64 as the int64 that its code is;
 -- any other scalar stays, a date and a timestamp too
 abbrev pub renumber_scalar : Code → Scalar → Scalar
 renumber_scalar c (int32 n) = int64 (c.becomes n)
@@ -73,7 +73,7 @@ renumber_scalar c s = s
 abbrev pub scope_name : List ℕ
 scope_name = codes "$scope"
 
--- a value, with each number in it; names stay, and so do dates and timestamps
+-- a value with each number in it replaced; names stay, and so do dates and timestamps
 abbrev mutual
   -- a value with another number in place of each int32 and int64, at any level
   pub renumber : Codes → Tree → Tree
@@ -130,10 +130,10 @@ DocumentsAreOf c ds = All (λ d. IsOf c (doc (fields_of d))) ds
 
 -- ---- filters
 
--- A filter, with each value that it compares by: its numbers have the codes of the path that it asks, and of their
--- own names below that. A size is a count of elements, and stays.
+-- A filter, with each value that it compares with: the numbers have the codes of the filter's path, and of their
+-- own names below it. A size is a count of elements, and stays.
 abbrev mutual
-  -- a filter with other numbers in the values that it compares by
+  -- a filter with other numbers in the values that it compares with
   pub renumber_filter : Codes → Filter → Filter
   renumber_filter c (all_of fs) = all_of (renumber_filters c fs)
   renumber_filter c (some_of fs) = some_of (renumber_filters c fs)
@@ -163,28 +163,28 @@ abbrev mutual
   renumber_operators c no_operators = no_operators
   renumber_operators c (operator o os) = operator (renumber_operator c o) (renumber_operators c os)
 
--- The types have both int32 and int64 among them, or neither.
+-- The types include both int32 and int64, or neither.
 abbrev pub TakeNumbersAlike : List Kind → Type 0
 TakeNumbersAlike ks =
     list_any (λ k. is_kind k kinds.Int32) ks ≡ list_any (λ k. is_kind k kinds.Int64) ks
 
--- Each path of a filter reads alike, each number that it compares by may occur there, and no `$type` tells int32 from
--- int64.
+-- Each path of a filter reads alike, each number that it compares with may occur there, and no `$type` distinguishes int32
+-- from int64.
 abbrev mutual
-  -- A filter asks only what renumbering keeps: paths that read alike, numbers that may occur there,
-  -- and no `$type` that tells int32 from int64.
+  -- A filter depends only on what renumbering preserves: paths that read alike, numbers that may occur there,
+  -- and no `$type` that distinguishes int32 from int64.
   pub FilterNeeds : Codes → Filter → Type 0
   FilterNeeds c (all_of fs) = FiltersNeed c fs
   FilterNeeds c (some_of fs) = FiltersNeed c fs
   FilterNeeds c (none_of fs) = FiltersNeed c fs
   FilterNeeds c (at_path path os) = ReadsAlike c path × OperatorsNeed (below path c) os
 
-  -- Each of the filters asks only what renumbering keeps.
+  -- Each of the filters depends only on what renumbering preserves.
   pub FiltersNeed : Codes → Filters → Type 0
   FiltersNeed c no_filters = Unit {0}
   FiltersNeed c (filter f fs) = FilterNeeds c f × FiltersNeed c fs
 
-  -- An operator asks only what renumbering keeps.
+  -- An operator depends only on what renumbering preserves.
   pub OperatorNeeds : Codes → Operator → Type 0
   OperatorNeeds c (equals v) = IsOf c v
   OperatorNeeds c (compares r v) = IsOf c v
@@ -197,7 +197,7 @@ abbrev mutual
   OperatorNeeds c (has_element os) = OperatorsNeed c os
   OperatorNeeds c (has_document fs) = FiltersNeed c fs
 
-  -- Each of the operators of a path asks only what renumbering keeps.
+  -- Each of the operators of a path depends only on what renumbering preserves.
   pub OperatorsNeed : Codes → Operators → Type 0
   OperatorsNeed c no_operators = Unit {0}
   OperatorsNeed c (operator o os) = OperatorNeeds c o × OperatorsNeed c os

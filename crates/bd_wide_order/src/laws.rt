@@ -19,8 +19,8 @@ ghost use Rattle.bd_wide_order.specs.Renumber.{AreIncreasing, FilterNeeds, Codes
 ghost use Rattle.bd_wide_order.specs.Renumber.{ReadsAlike, SortsReadAlike, below, renumber, renumber_documents, renumber_filter};
 ghost use Rattle.bd_wide_order.specs.Values.{code_worth, values_at};
 
-/// Values are in the same order, a path reaches the same in them, they have the same keys, sorts order them alike, and a filter
-/// matches the same, if each of their numbers, and of the filter's, becomes another one, in the same order at each path.
+/// If each number in values, and in a filter, is replaced by another, in the same order at each path: then the values have the same
+/// order, a path reaches the same in them, they have the same keys, sorts order them alike, and the filter matches the same.
 #[tactic(auto, using(crate::proofs::OrderLemmas::order_stays, crate::proofs::ReachLemmas::reach_stays, crate::proofs::ReachLemmas::keys_stay, crate::proofs::ReachLemmas::sorts_stay, crate::proofs::MatchLemmas::match_stays))]
 pub fn numbers_matter_by_order()
     ensures order { (c : Codes) → AreIncreasing c → (a b : Tree) → IsOf c a → IsOf c b →
@@ -38,7 +38,7 @@ pub fn numbers_matter_by_order()
 {}
 
 /// A path reads alike if none of its names is an index, and each path does if no index leads to other codes: so if all numbers
-/// have one code.
+/// have the same code.
 #[tactic(auto, using(crate::proofs::ReachLemmas::passing_over, crate::proofs::ReachLemmas::without_indexes))]
 pub fn paths_read_alike()
     ensures without_indexes { (c : Codes) (path : Names) → list_any is_index path ≡ false →
@@ -46,8 +46,8 @@ pub fn paths_read_alike()
     ensures passing_over { (c : Codes) → PassOverIndexes c → (path : Names) → ReadsAlike c path }
 {}
 
-/// A query in which each value that it compares by is renumbered is the renumbered filter, or it is refused for the reason and at
-/// the place where the query is. So is a request.
+/// A query in which each value that it compares with is renumbered means the renumbered filter, or it is refused for the same
+/// reason and at the same place as the query. The same is true of a request.
 #[tactic(auto, using(crate::proofs::QueryLemmas::query_read, crate::proofs::QueryLemmas::request_read))]
 pub fn queries_are_renumbered()
     ensures filter { (c : Codes) (query : Doc) →
@@ -59,7 +59,7 @@ pub fn queries_are_renumbered()
 {}
 
 /// A renumbered request to renumbered documents has the answer of the request to the documents: the same places, and at each
-/// place the renumbered document. What bytes spell either, and what text the request has, are no matter.
+/// place the renumbered document. It does not matter which bytes spell the documents, nor which text the request has.
 pub fn answers_stay()
     ensures answer { (c : Codes) → AreIncreasing c → (r : Request) → RequestNeeds c r →
         (ds : List Doc) → DocumentsAreOf c ds → (bytes new text : List ℕ) →
@@ -70,7 +70,7 @@ pub fn answers_stay()
         ≡ renumber_documents c (documents_at ds places) }
 {}
 
-/// A code is worth the number that it stands for, and the bits of a double are worth the double of IEEE 754 that they are.
+/// A code has the value of its number, and the bits of a double have the value of this double by IEEE 754.
 #[tactic(auto, using(crate::proofs::ValueLemmas::bits_worth, crate::proofs::ValueLemmas::code_worths))]
 pub fn codes_are_worth_their_numbers()
     ensures codes { (power : Option ℕ) → IfSome power (λ k. k ≤ 6176) →
@@ -81,8 +81,8 @@ pub fn codes_are_worth_their_numbers()
         HasValue (of_bits binary64 bits) (has_sign bits) (magnitude (bits % 2 ^ 63)) (2 ^ 1074) }
 {}
 
-/// Over documents with codes by doubles at some paths, and by a power of ten at each of the others, a request has the answer that
-/// it has by value: that of the request over the documents whose numbers are what the codes are worth.
+/// Over documents with codes by doubles at some paths, and with a power of ten at each of the others, a request has its answer
+/// by value: that of the request over the documents whose numbers are the values of the codes.
 pub fn ordered_dumps_answer_by_value()
     ensures { (powers : Names → Option ℕ) (r : Request) → let c = values_at powers in
         RequestNeeds c r → (ds : List Doc) (bytes new text : List ℕ) →

@@ -1,15 +1,15 @@
-//! Queries and sorts know numbers by their order alone.
+//! Queries and sorts depend on numbers only by their order.
 //!
-//! Put other numbers in place of those of a dump, in the same order, and of those that a request compares by: its answer stays.
-//! Numbers need to be in the same order at each path alone, since numbers at different paths are never compared. So `bsonfind`,
-//! which reads no doubles, answers over documents with doubles once whole numbers stand for them in their order.
+//! Replace the numbers of a dump by others in the same order, and the numbers that a request compares with too: the answer stays
+//! the same. Numbers need the same order only within each path, since numbers at different paths are never compared. So `bsonfind`,
+//! which reads no doubles, answers over documents with doubles once whole numbers in their order replace them.
 //!
 //! - `specs/Renumber.antt`: values, documents and filters with other numbers.
 //! - `specs/Query.antt`: the documents of queries with other numbers, and requests.
-//! - `specs/Values.antt`: what the codes of `bd_wide_number` are worth.
-//! - `specs/Pages.antt`: what a request gives, page by page.
-//! - `laws`: that order, keys, sorts, matches and answers stay; the law of values; which paths read alike; and that each query has
-//!   a renumbered one.
+//! - `specs/Values.antt`: the values of the codes of `bd_wide_number`.
+//! - `specs/Pages.antt`: the answer to a request, page by page.
+//! - `laws`: order, keys, sorts, matches and answers stay the same; the law of values; which paths read alike; and that each query
+//!   has a renumbered one.
 #![tactic(auto)]
 
 mod laws;

@@ -2,7 +2,7 @@
 use bd_wide_number::{Number, code_of, whole_of};
 use std::process::Abort;
 
-// The code by the double that is equal; a power of ten, and the code by it; the number as a whole one.
+// The code by the equal double; a power of ten, and the code with it; the number as a whole number.
 fn row(
     rt: &impl Abort,
     number: Number,
@@ -87,7 +87,7 @@ fn whole_numbers(rt: HostRuntime) {
     row!(rt; Number::Whole(i64::MIN) => Some(-0x43e0_0000_0000_0000), (0, Some(i64::MIN)), Some(i64::MIN));
     // the greatest
     row!(rt; Number::Whole(9223372036854775807) => None, (0, Some(9223372036854775807)), Some(9223372036854775807));
-    // the greatest of which a thousand times fits
+    // the greatest that fits when multiplied by a thousand
     row!(rt; Number::Whole(9223372036854775) => None, (3, Some(9223372036854775000)), Some(9223372036854775));
     // one more
     row!(rt; Number::Whole(9223372036854776) => Some(0x4340_624d_d2f1_a9fc), (3, None), Some(9223372036854776));
@@ -99,7 +99,7 @@ fn whole_numbers(rt: HostRuntime) {
 fn decimals(rt: HostRuntime) {
     // 9.99
     row!(rt; Number::Decimal128(0x0000_0000_0000_03e7, 0x303c_0000_0000_0000) => None, (2, Some(999)), None);
-    // 9.99 by one place
+    // 9.99 times 10
     row!(rt; Number::Decimal128(0x0000_0000_0000_03e7, 0x303c_0000_0000_0000) => None, (1, None), None);
     // -9.990
     row!(rt; Number::Decimal128(0x0000_0000_0000_2706, 0xb03a_0000_0000_0000) => None, (2, Some(-999)), None);
@@ -147,7 +147,7 @@ fn decimals_more(rt: HostRuntime) {
     row!(rt; Number::Decimal128(1, 0x6000_0000_0000_0000) => Some(0), (2, Some(0)), Some(0));
     // NaN
     row!(rt; Number::Decimal128(0, 0x7c00_0000_0000_0000) => Some(i64::MIN), (2, None), None);
-    // NaN that signals
+    // a signaling NaN
     row!(rt; Number::Decimal128(1, 0xfe00_0000_0000_0000) => Some(i64::MIN), (2, None), None);
     // Infinity
     row!(rt; Number::Decimal128(0, 0x7800_0000_0000_0000) => Some(0x7ff0_0000_0000_0000), (2, None), None);

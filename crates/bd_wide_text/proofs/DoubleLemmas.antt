@@ -1,4 +1,4 @@
--- What `ryu` gives of a double is its text, laid out anew; and the words of the doubles that have no digits.
+-- The text from `ryu` for a double is its text, laid out again; and the fixed texts of the doubles that have no digits.
 use Rattle.std.proofs.Common.{◌≡◌, ◌≢◌, ◌<◌, ◌≤◌, ℕ, zero, suc, ◌+◌, ◌-◌, ◌*◌, ◌/◌, ◌%◌, ◌^◌, ◌==◌, ℤ, Bool, true, false, cond, not, T, IsTrue, List, [], ◌∷◌, ◌++◌, length, drop, get_or, refl, sym, ap, ◌∙◌, subst, inl, inr, arith, true≢false, codes, pos, ne_eqb, Some, Result, Ok, Err, OnOk, append_assoc, rules}
 use Rattle.std.proofs.lemmas.List.{get_or_append_left}
 use Rattle.std.proofs.lemmas.Str.Parse.{digit_at}
@@ -18,7 +18,7 @@ use Rattle.bd_wide_text.specs.Layout.{Adds}
 use Rattle.bd_wide_text.specs.Double.{IsTextOf, IsDoubleText}
 use Rattle.bd_wide_text.specs.inside.LaidOutAnew.{AreParts, IsLaidOutAnew, IsSized}
 
--- ---- words
+-- ---- fixed texts
 
 pub zero_word : (bits : ℕ) → bits ≡ 0 → IsDoubleText bits (codes "0.0")
 unfolding IsTextOf of_bits
@@ -45,7 +45,7 @@ is_nan_text (fin s m k) e = absurd (true≢false (sym e))
 pub nan_word : (bits : ℕ) → 0x7FF0_0000_0000_0000 < bits % 0x8000_0000_0000_0000 → IsDoubleText bits (codes "NaN")
 nan_word bits above = is_nan_text (of_bits binary64 bits) (sym (nan_bits_is binary64 bits) ∙ nan_bits_above binary64 bits ∙ lt-ltb _ _ above)
 
--- ---- what is left is a number
+-- ---- all other doubles are numbers
 
 by_sign : (s : Bool) → cond s 0x8000_0000_0000_0000 0 + 0 + 0 ≡ cond s 0x8000_0000_0000_0000 0
 by_sign true = refl
@@ -132,7 +132,7 @@ unsigned x text laid parses short none = by_sign_of laid.0 laid.2 where
       let here : text ≡ text_of p = is ∙ laid.3.1 in
       (parts_of p text here laid.3.2 laid.3.3 short, nearest_of p false x text here laid.3.2 parses)
 
--- a text with one
+-- a text with a sign
 pub signed : (x : Float) (text : List ℕ) → IsLaidOutNumber 16 4 text → parse_float binary64 text ≡ Some x → length text ≤ 25 → (get_or text 0 0 == 45) ≡ true
     → AreParts (drop 1 text) (scan (drop 1 text)) × (nearest binary64 true (scan (drop 1 text)) ≡ x)
 signed x text laid parses short none = by_sign_of laid.0 laid.2 where

@@ -1,4 +1,4 @@
--- A number laid out anew is the number that it was.
+-- A number laid out again is the same number.
 use Rattle.std.proofs.Common.{◌≡◌, ◌≢◌, ◌<◌, ◌≤◌, ℕ, zero, suc, ◌+◌, ◌-◌, ◌*◌, ◌/◌, ◌%◌, ◌^◌, ◌==◌, Bool, true, false, cond, List, [], ◌∷◌, ◌++◌, length, take, drop, get_or, refl, sym, ap, ◌∙◌, subst, inl, inr, arith, append-nil, append_assoc, length-append, length-take, length-drop, take-append-drop, take_at, drop_at, codes, pos, negsuc, ltb, eq-eqb, ne_eqb}
 use Rattle.std.proofs.lemmas.Bool.{cases_lt}
 use Rattle.std.proofs.lemmas.Fmt.{decimal_is_IsNumeral_wide}
@@ -26,7 +26,7 @@ use Rattle.bd_wide_text.specs.inside.LaidOutAnew.{AreParts, IsNumberOf, IsLaidOu
 pub same_tens : (s : Bool) (w i j k l : ℕ) → i + l ≡ k + j → round binary64 s (w * 10 ^ i) (10 ^ j) ≡ round binary64 s (w * 10 ^ k) (10 ^ l)
 same_tens s w i j k l e = round_same binary64 s _ _ _ _ (ten_to_pos j) (ten_to_pos l) (tens_eq w i l k j e)
 
--- ---- a text of few digits is of a number that `decimal` writes whole
+-- ---- `decimal` writes a number of few digits completely
 
 onto_grows : (k n : ℕ) (acc : List ℕ) → length acc ≤ length (digits_onto k 10 false n acc)
 onto_grows zero n acc = omega arith
@@ -164,7 +164,7 @@ near size p parts none =
       down = (λ i. length p.fraction + cond (sign i) (digits_value 10 p.exponent) 0) ∙ omega arith;
     }
 
--- the number without an exponent, by another way to write its digits
+-- the number without an exponent, with its digits written in another way
 near_number : (size : List ℕ) (p : Parts) → AreNear size p → (s : Bool) (w i j : ℕ) → digits_of p ≡ w * 10 ^ i → (k l : ℕ) → k + length p.fraction ≡ i + l
     → round binary64 s (w * 10 ^ k) (10 ^ l) ≡ nearest binary64 s p
 near_number size p is s w i j worth k l e =

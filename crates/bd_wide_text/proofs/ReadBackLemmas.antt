@@ -1,4 +1,4 @@
--- The text of a double reads back as it.
+-- The text of a double is read back as the double.
 use Rattle.std.proofs.Common.{◌≡◌, ◌<◌, ◌≤◌, ℕ, zero, suc, ◌+◌, ◌-◌, ◌*◌, ◌^◌, ◌==◌, ◌&&◌, ℤ, Bool, true, false, cond, T, List, [], ◌∷◌, ◌++◌, length, take, drop, get_or, slice_range, refl, sym, ap, ◌∙◌, subst, inl, inr, arith, true≢false, codes, pos, negsuc, ltb, eqb, eqb-true, ne_eqb, eq-eqb, Some, append-nil, append_assoc, length-append, length-take, length-drop, take_at, drop_at, take-append-drop, add-zero}
 use Rattle.std.proofs.lemmas.Bool.{cases_lt}
 use Rattle.std.proofs.lemmas.List.{length-replicate, replicate-append-replicate, get_or-append-add}
@@ -113,7 +113,7 @@ scan_scientific d (f ∷ ds) exponent negative all some e =
     (signed_tail (d ∷ 46 ∷ (f ∷ ds)) n negative exponent (omega arith) some e) in
     rw test whole
 
--- ---- a numeral that is scanned whole is read
+-- ---- a numeral that is scanned completely is read
 
 first_digit : (ds rest : List ℕ) → AllDigits 10 ds → 0 < length ds → (eqb (get_or (ds ++ rest) 0 0) 45 ≡ false) × (eqb (get_or (ds ++ rest) 0 0) 43 ≡ false)
 first_digit [] rest h l = absurd (omega arith)
@@ -219,7 +219,7 @@ reads_small s digits k all =
     reads_plain s (48 ∷ []) fraction one (AllDigits-append (zeros k) digits (AllDigits-zeros k) all) (omega arith)
     ∙ (λ i. Some (round binary64 s ((mul-one (digits_value 10 (48 ∷ fraction)) ∙ value) i) (10 ^ ((add-zero (length fraction) ∙ long) i))))
 
--- ---- powers of ten that no double has
+-- ---- powers of ten beyond the doubles
 
 by_sign : (s : Bool) (a c : ℕ) (x y : Float) → round binary64 false a c ≡ x → neg x ≡ y → round binary64 s a c ≡ cond s y x
 by_sign false a c x y is other = is
@@ -264,7 +264,7 @@ not_tiny s digits k all far t m g is =
     let clash : cond s (fin true 0 (pos 0)) (fin false 0 (pos 0)) ≡ fin t (suc m) g = sym (by_sign s _ _ (fin false 0 (pos 0)) (fin true 0 (pos 0)) (sym low.0) refl) ∙ is in
     zero_clash s t m g clash
 
--- ---- all of them
+-- ---- all powers of ten
 
 reads_digits : (s : Bool) (d : ℕ) (ds : List ℕ) (power : ℤ) → AllDigits 10 (d ∷ ds) → 48 < d → (t : Bool) (m : ℕ) (g : ℤ) → nearest_double s (d ∷ ds) power ≡ fin t (suc m) g
     → parse_float binary64 (sign_text s ++ laid_out (d ∷ ds) power) ≡ Some (nearest_double s (d ∷ ds) power)

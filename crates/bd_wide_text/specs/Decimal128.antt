@@ -20,7 +20,7 @@ scientific_string digits biased =
     if nat_lt places (length digits) then take (length digits - places) digits ++ (codes "." ++ drop (length digits - places) digits)
     else codes "0." ++ (zeros (places - length digits) ++ digits)))
 
--- the text of a decimal128 without its sign, by the two halves of its bits; it is no NaN
+-- the text of a decimal128 without its sign, by the two halves of its bits; it is not NaN
 unfoldable pub decimal128_size : ℕ → ℕ → List ℕ
 decimal128_size low high = if five_bits high == 30 then codes "Infinity"
     else scientific_string (decimal (coefficient_of low high)) (biased_exponent high)

@@ -1,4 +1,4 @@
--- The text of a double, as bsondump and Go's driver lay it out.
+-- The text of a double, with the layout of bsondump and Go's driver.
 use Rattle.std.specs.Prelude.{◌≡◌, ◌<◌, ℕ, zero, suc, ◌+◌, ◌-◌, ◌*◌, ◌^◌, ◌==◌, Bool, List, ◌++◌, length, take, drop, slice_index, nat_lt, if◌then◌else◌, codes, decimal, ℤ, pos, negsuc}
 use Rattle.std.specs.Fmt.{sign_text}
 use Rattle.std.specs.Str.Parse.{AllDigits, digits_value}
@@ -16,19 +16,19 @@ pub record AreSignificant (digits : List ℕ) : Type 0 where
 abbrev pub padded : List ℕ → List ℕ
 padded digits = if length digits == 1 then codes "0" ++ digits else digits
 
--- the digits with a point after the first n, and at least one digit behind it
+-- the digits with a point after the first n, and at least one digit after it
 abbrev pub plain : List ℕ → ℕ → List ℕ
 plain digits n = if nat_lt n (length digits) then take n digits ++ (codes "." ++ drop n digits)
     else digits ++ (zeros (n - length digits) ++ codes ".0")
 
--- The layout of a number by its digits and the power of ten that the first of them is worth. Below -4 and above 5 the power
--- is written. `negsuc k` is the power -(k + 1), so that k zeros stand between the point and the digits.
+-- The layout of a number by its digits and the power of ten of the first digit. Below -4 and above 5 the power
+-- is written. `negsuc k` is the power -(k + 1), with k zeros between the point and the digits.
 unfoldable pub laid_out : List ℕ → ℤ → List ℕ
 laid_out digits (pos e) = if nat_lt 5 e then mantissa digits ++ (codes "E+" ++ padded (decimal e)) else plain digits (e + 1)
 laid_out digits (negsuc k) = if nat_lt 3 k then mantissa digits ++ (codes "E-" ++ padded (decimal (k + 1)))
     else codes "0." ++ (zeros k ++ digits)
 
--- the double that is nearest to the number with these digits; the first of them is worth that power of ten
+-- the double that is nearest to the number with these digits; the first digit has that power of ten
 unfoldable pub nearest_double : Bool → List ℕ → ℤ → Float
 nearest_double negative digits (pos e) = round binary64 negative (digits_value 10 digits * 10 ^ (e + 1)) (10 ^ length digits)
 nearest_double negative digits (negsuc k) = round binary64 negative (digits_value 10 digits) (10 ^ (k + length digits))

@@ -1,4 +1,4 @@
-//! The text of a decimal128. `NoMemory` may leave a prefix of it.
+//! The text of a decimal128. On `NoMemory` a prefix of it may remain.
 
 ghost use Rattle.std.specs.Prelude.{◌≡◌, ◌<◌, ◌≤◌, ◌^◌, ◌++◌, length, OnErr, OnOk};
 ghost use Rattle.std.specs.Io.{StartsWith};

@@ -1,4 +1,4 @@
-//! The text of a double. `NoMemory` may leave a prefix of it.
+//! The text of a double. On `NoMemory` a prefix of it may remain.
 
 ghost use Rattle.std.specs.Prelude.{◌≡◌, ◌<◌, ◌≤◌, ◌≢◌, ◌==◌, ◌++◌, length, OnErr, OnOk, IfSome, IfNone, slice_index};
 ghost use Rattle.std.specs.Io.{StartsWith};
@@ -28,10 +28,10 @@ pub fn write_double(bits: u64, out: &mut Vec<u8>) -> Result<(), NoMemory>
 /// The bits of an infinite double.
 const INFINITE: u64 = 0x7FF0_0000_0000_0000;
 
-/// The bits of -0.0, of which the sign alone is set.
+/// The bits of -0.0: only the sign is set.
 const SIGN: u64 = 0x8000_0000_0000_0000;
 
-/// The text of a double that is zero, infinite or no number; none of any other.
+/// The text of a double that is zero, infinite or NaN; None for any other.
 fn word(bits: u64) -> Option<&'static [u8]>
     ensures word { IfSome result (λ w. IsDoubleText bits w.now) }
     ensures number { IfNone result (IsSized (of_bits binary64 bits)) }
@@ -71,7 +71,7 @@ fn write_number(bits: u64, out: &mut Vec<u8>) -> Result<(), NoMemory>
     write_size(size, out)
 }
 
-/// Whether a minus stands before the number.
+/// Whether there is a minus before the number.
 fn has_sign(text: &[u8]) -> bool
     ensures { result ≡ (slice_index text.now 0 == 45) }
 {
@@ -81,7 +81,7 @@ fn has_sign(text: &[u8]) -> bool
     }
 }
 
-/// Appends the number of which `ryu` gave the text without its sign.
+/// Appends the number for its text from `ryu` without the sign.
 fn write_size(size: &[u8], out: &mut Vec<u8>) -> Result<(), NoMemory>
     requires { AreParts size.now (scan size.now) }
     ensures ok { OnOk result (Adds (IsLaidOutAnew (scan size.now)) out.old.items out.new.items) }
@@ -104,7 +104,7 @@ fn write_size(size: &[u8], out: &mut Vec<u8>) -> Result<(), NoMemory>
     }
 }
 
-/// Appends digits in two runs, of which the first is worth the power of ten that two texts have.
+/// Appends digits in two runs; `sign` and `power` are the power of ten of the first digit.
 #[tactic(auto, using(bd_value::proofs::PrefixLemmas::prefixes))]
 fn write_scientific(
     digits: &[u8],
@@ -126,7 +126,7 @@ fn write_scientific(
     out.extend_from_slice(power)
 }
 
-/// Appends a number below 1: as it is, or where more than three zeros stand before its digits, with the power of ten.
+/// Appends a number below 1: as it is, or with the power of ten if there are more than three zeros before its digits.
 fn write_small(
     size: &[u8],
     fraction: &[u8],
@@ -146,8 +146,8 @@ fn write_small(
     write_scientific(&fraction[zeros..], b"", b"E-", power, out)
 }
 
-/// Appends a number of 1 or more, whose whole digits are so many without the zeros at their end: as it is, or where more
-/// than six digits stand before the point, with the power of ten.
+/// Appends a number of 1 or more, which has `count` whole digits without their trailing zeros: as it is, or with the power of ten
+/// if there are more than six digits before the point.
 fn write_large(
     size: &[u8],
     whole: &[u8],
@@ -173,7 +173,7 @@ fn write_large(
     }
 }
 
-/// How many zeros stand before the other digits.
+/// How many zeros come before the other digits.
 fn zeros_before(fraction: &[u8]) -> usize
     ensures { AreZerosBefore fraction.now result }
 {
@@ -185,7 +185,7 @@ fn zeros_before(fraction: &[u8]) -> usize
     fraction.len()
 }
 
-/// How many digits there are without the zeros at their end.
+/// How many digits there are without the trailing zeros.
 fn without_zeros(whole: &[u8]) -> usize
     requires { (0 < length whole.now) × (slice_index whole.now 0 ≢ 48) }
     ensures { AreZerosAfter whole.now result }

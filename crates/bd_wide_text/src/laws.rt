@@ -6,7 +6,7 @@ ghost use Rattle.std.specs.Float.Ieee.{of_bits};
 ghost use Rattle.std.specs.Float.Parse.{parse_float};
 ghost use Rattle.bd_wide_text.specs.Double.{IsDoubleText};
 
-/// The text of each double reads back as it.
+/// The text of each double is read back as the double.
 pub fn double_text_reads_back()
     ensures { (bits : ℕ) (text : List ℕ) → bits < 2 ^ 64 → IsDoubleText bits text
         → parse_float binary64 text ≡ Some (of_bits binary64 bits) }

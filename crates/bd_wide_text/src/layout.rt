@@ -1,4 +1,4 @@
-//! What both texts are made of. `NoMemory` may leave a prefix of what is appended.
+//! The common parts of both texts. On `NoMemory` a prefix of what is appended may remain.
 
 ghost use Rattle.std.specs.Prelude.{◌≡◌, ◌<◌, ◌++◌, length, OnErr, OnOk};
 ghost use Rattle.std.specs.Io.{StartsWith};
@@ -6,7 +6,7 @@ ghost use Rattle.bd_wide_text.specs.Layout.{mantissa, zeros as zeros_of};
 
 use bd_value::NoMemory;
 
-/// Appends the first of two runs of digits, and a point and all others where there are others.
+/// Appends the first digit of two runs of digits, and if there are others, a point and the others.
 #[tactic(auto, using(bd_value::proofs::PrefixLemmas::prefixes))]
 pub(crate) fn write_mantissa(digits: &[u8], more: &[u8], out: &mut Vec<u8>) -> Result<(), NoMemory>
     requires { 0 < length digits.now }
@@ -23,7 +23,7 @@ pub(crate) fn write_mantissa(digits: &[u8], more: &[u8], out: &mut Vec<u8>) -> R
     out.extend_from_slice(more)
 }
 
-/// Appends so many zeros.
+/// Appends `count` zeros.
 #[tactic(auto, using(bd_value::proofs::PrefixLemmas::prefixes))]
 pub(crate) fn write_zeros(count: usize, out: &mut Vec<u8>) -> Result<(), NoMemory>
     ensures ok { OnOk result (out.new.items ≡ out.old.items ++ zeros_of count) }

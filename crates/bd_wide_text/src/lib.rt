@@ -1,4 +1,4 @@
-//! The texts of doubles and of decimal128, as Extended JSON v2 has them.
+//! The texts of doubles and of decimal128 in Extended JSON v2.
 //!
 //! Which texts these are: `specs/Double.antt` and `specs/Decimal128.antt`; how digits are laid out: `specs/Layout.antt`.
 //!
@@ -12,8 +12,8 @@
 //!
 //! - `double`: `write_double`, by the digits that `ryu` finds (`specs/inside/LaidOutAnew.antt`).
 //! - `decimal128`: `write_decimal128`.
-//! - `layout`: what both write.
-//! - `laws`: that the text of a double reads back as it.
+//! - `layout`: what both use.
+//! - `laws`: the text of a double is read back as the double.
 #![tactic(auto)]
 
 mod decimal128;

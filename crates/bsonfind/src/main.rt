@@ -13,27 +13,27 @@ use std::os::fd::AsRawFd;
 use std::process::ExitCode;
 use std::{env, fs, io};
 
-/// The order of the process's words, without the name of the program.
+/// The command in the process's arguments, without the name of the program.
 fn order(rt: &HostRuntime) -> Result<Order, WordsFault> {
     let words = match env::args(rt) {
         Ok(words) => words,
         Err(error) if error.kind() == io::ErrorKind::OutOfMemory => {
             return Err(WordsFault::NoMemory);
         }
-        // A word that is not UTF-8 names nothing that is taken.
+        // An argument that is not UTF-8 is never accepted.
         Err(_) => return Err(WordsFault::Usage),
     };
     let words: Vec<String> = words.skip(1).collect(rt.alloc())?;
     parse_words(rt.alloc(), &words)
 }
 
-/// How many bytes the system is asked for at once. It answers with what there is.
+/// How many bytes are requested from the system at once. It returns what is available.
 const BUFFER: usize = 65_536;
 
-/// What waits to be written to standard output.
+/// The buffer of standard output.
 type Waiting = RefCell<OutputBuffer<SystemOutput<Stdout>>>;
 
-/// Tells why there is no order to be carried out.
+/// Reports why there is no command to run.
 fn refuse(rt: &HostRuntime, fault: &WordsFault, output_buffer: &Waiting) -> Status {
     let writer = rt.stderr();
     let mut out = SystemOutput::new(BufferedOutput { output_buffer });
@@ -41,7 +41,7 @@ fn refuse(rt: &HostRuntime, fault: &WordsFault, output_buffer: &Waiting) -> Stat
     report(fault, &mut out, &mut err)
 }
 
-/// Carries out an order over the input that its file is.
+/// Runs a command over the input in its file.
 fn run<F: Read + Drop>(rt: &HostRuntime, order: &Order, reader: F, output_buffer: &Waiting) -> Status {
     let alloc = rt.alloc();
     let file = FlushingInput { reader, output_buffer };
@@ -50,7 +50,7 @@ fn run<F: Read + Drop>(rt: &HostRuntime, order: &Order, reader: F, output_buffer
     };
     let mut file = BufferedInput::new(file);
     let reader = rt.reader();
-    // They are read in blocks as it is.
+    // They are read in blocks anyway.
     let mut commands = SystemInput::new(FlushingInput { reader, output_buffer });
     let writer = rt.stderr();
     let mut out = SystemOutput::new(BufferedOutput { output_buffer });
@@ -58,7 +58,7 @@ fn run<F: Read + Drop>(rt: &HostRuntime, order: &Order, reader: F, output_buffer
     bd_cli::run(alloc, order, &mut file, &mut commands, &mut out, &mut err)
 }
 
-/// Tells an error, and of which file. Where standard error fails too, the status tells it alone.
+/// Reports an error, and of which file. If standard error fails too, only the status reports it.
 fn report_error(rt: &HostRuntime, message: &str, file: &str) -> Status {
     let mut err = SystemOutput::new(rt.stderr());
     for part in ["bsonfind: ", message, file, "\n"] {
@@ -69,7 +69,7 @@ fn report_error(rt: &HostRuntime, message: &str, file: &str) -> Status {
     Status::Failed
 }
 
-/// Does what the process's words say.
+/// Runs the command in the process's arguments.
 fn execute(rt: &HostRuntime, output_buffer: &Waiting) -> Status {
     let order = match order(rt) {
         Ok(order) => order,
@@ -86,15 +86,15 @@ fn execute(rt: &HostRuntime, output_buffer: &Waiting) -> Status {
     let Ok(opened) = fs::open(rt, file) else {
         return report_error(rt, "cannot open ", file);
     };
-    // The number of standard input, which was closed: commands would be read from the end of the file.
+    // This is the file number of standard input, which was closed: commands would be read from the end of the file.
     if opened.as_raw_fd() == 0 && matches!(&order, Order::Serve { .. }) {
         return report_error(rt, ReadFault::Device.words(), "");
     }
     run(rt, &order, opened, output_buffer)
 }
 
-/// Does what the process's words say, up to the last byte of standard output. A loss of which the run did not learn is told
-/// here; nothing else was told then.
+/// Runs the command in the process's arguments, up to the last byte of standard output. A loss that the run did not notice is
+/// reported here; nothing else was reported then.
 fn status(rt: &HostRuntime) -> Status {
     let system = SystemOutput::new(rt.stdout());
     let output_buffer = RefCell::new(OutputBuffer::new(rt.alloc(), system));

@@ -1,4 +1,4 @@
-//! `bsonwide`: a filter that makes a dump one that `bsonfind` reads, over the system's files and standard streams.
+//! `bsonwide`: a filter that makes a dump readable for `bsonfind`, over the system's files and standard streams.
 #![tactic(auto)]
 
 use bd_cli_args::WordsFault;
@@ -12,21 +12,21 @@ use std::io::{BufReader, Read, Stdout};
 use std::process::ExitCode;
 use std::{env, fs, io};
 
-/// The order of the process's words, without the name of the program.
+/// The command in the process's arguments, without the name of the program.
 fn order(rt: &HostRuntime) -> Result<Order, WordsFault> {
     let words = match env::args(rt) {
         Ok(words) => words,
         Err(error) if error.kind() == io::ErrorKind::OutOfMemory => {
             return Err(WordsFault::NoMemory);
         }
-        // A word that is not UTF-8 names nothing that is taken.
+        // An argument that is not UTF-8 is never accepted.
         Err(_) => return Err(WordsFault::Usage),
     };
     let words: Vec<String> = words.skip(1).collect(rt.alloc())?;
     parse_words(rt.alloc(), &words)
 }
 
-/// What the process's words say is done, and to which file.
+/// The filter in the process's arguments, and its file.
 fn filter(rt: &HostRuntime) -> Result<(Filter, String), WordsFault> {
     match order(rt)? {
         Order::Mask { file } => Ok((Filter::Mask, file)),
@@ -38,13 +38,13 @@ fn filter(rt: &HostRuntime) -> Result<(Filter, String), WordsFault> {
     }
 }
 
-/// How many bytes the system is asked for at once. It answers with what there is.
+/// How many bytes are requested from the system at once. It returns what is available.
 const BUFFER: usize = 65_536;
 
-/// What waits to be written to standard output.
+/// The buffer of standard output.
 type Waiting = RefCell<OutputBuffer<SystemOutput<Stdout>>>;
 
-/// Tells why there is no order to be carried out.
+/// Reports why there is no command to run.
 fn refuse(rt: &HostRuntime, fault: WordsFault, output_buffer: &Waiting) -> Status {
     let writer = rt.stderr();
     let mut out = SystemOutput::new(BufferedOutput { output_buffer });
@@ -52,7 +52,7 @@ fn refuse(rt: &HostRuntime, fault: WordsFault, output_buffer: &Waiting) -> Statu
     report(fault, &mut out, &mut err)
 }
 
-/// Filters the input that a file is.
+/// Filters the input in a file.
 fn run<F: Read + Drop>(
     rt: &HostRuntime,
     filter: &Filter,
@@ -71,7 +71,7 @@ fn run<F: Read + Drop>(
     bd_wide_cli::run(alloc, filter, &mut file, &mut out, &mut err)
 }
 
-/// Tells an error, and of which file. Where standard error fails too, the status tells it alone.
+/// Reports an error, and of which file. If standard error fails too, only the status reports it.
 fn report_error(rt: &HostRuntime, message: &str, file: &str) -> Status {
     let mut err = SystemOutput::new(rt.stderr());
     for part in ["bsonwide: ", message, file, "\n"] {
@@ -82,7 +82,7 @@ fn report_error(rt: &HostRuntime, message: &str, file: &str) -> Status {
     Status::Failed
 }
 
-/// Does what the process's words say.
+/// Runs the command in the process's arguments.
 fn execute(rt: &HostRuntime, output_buffer: &Waiting) -> Status {
     let (filter, file) = match filter(rt) {
         Ok(both) => both,
@@ -97,8 +97,8 @@ fn execute(rt: &HostRuntime, output_buffer: &Waiting) -> Status {
     run(rt, &filter, opened, output_buffer)
 }
 
-/// Does what the process's words say, up to the last byte of standard output. A loss of which the run did not learn is told
-/// here; nothing else was told then.
+/// Runs the command in the process's arguments, up to the last byte of standard output. A loss that the run did not notice is
+/// reported here; nothing else was reported then.
 fn status(rt: &HostRuntime) -> Status {
     let system = SystemOutput::new(rt.stdout());
     let output_buffer = RefCell::new(OutputBuffer::new(rt.alloc(), system));

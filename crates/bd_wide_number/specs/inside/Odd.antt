@@ -1,4 +1,4 @@
--- Numbers as an odd number times a power of two: a means of proof.
+-- Numbers as an odd number times a power of two: used only in proofs.
 use Rattle.std.specs.Prelude.{◌≡◌, ◌≢◌, ◌<◌, ◌≤◌, ℕ, ◌+◌, ◌*◌, ◌%◌, ◌^◌}
 use Rattle.bd_wide_number.specs.declared.odd.Odd.{Odd}
 

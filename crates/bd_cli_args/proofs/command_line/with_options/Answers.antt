@@ -4,7 +4,7 @@ use Rattle.clap.specs.{Simple.App, Simple.with_rule, Walk.Text, Words.app_of}
 use Rattle.bd_cli_args.specs.CommandLine.{option_rule, with_options}
 use Rattle.bd_cli_args.proofs.command_line.with_options.Goals as goal
 
--- one option is added, and the others are still to come
+-- one option is added, and the others remain
 added : (app more whole : App) (rows : List (Bor Text × Bool)) (i : ℕ) (row : Bor Text × Bool) → i < length rows
     → more ≡ with_rule app (option_rule (get_or rows i row).0.now (get_or rows i row).1)
     → with_options app (map (λ o. (o.0.now, o.1)) (drop i rows)) ≡ whole

@@ -4,7 +4,7 @@ use Rattle.clap.specs.{Simple.App, Simple.with_subcommand, Walk.Text, Words.app_
 use Rattle.bd_cli_args.specs.FileCommands.{file_app, with_file_commands}
 use Rattle.bd_cli_args.proofs.file_commands.with_file_commands.Goals as goal
 
--- one command is added, and the others are still to come
+-- one command is added, and the others remain
 added : (app more whole : App) (names : List (Bor Text)) (i : ℕ) (name : Bor Text) → i < length names
     → more ≡ with_subcommand app (file_app (get_or names i name).now).top
     → with_file_commands app (map (λ name. name.now) (drop i names)) ≡ whole

@@ -6,7 +6,7 @@ use Rattle.bd_cli_service.specs.Reply.{documents_value}
 use Rattle.bd_cli_service.proofs.MemberLemmas.{rest_of_array}
 use Rattle.bd_cli_service.proofs.member.write_documents.Given as goal
 
--- what is written, and what is still to come, is the whole text
+-- the text so far, and the rest of it
 abbrev pub invariant-loop-place : goal.invariant-loop-place
 invariant-loop-place l = record {
   whole : l.out.items ++ rest_of_array (documents l.dump) l.later (drop l.place-index l.places)

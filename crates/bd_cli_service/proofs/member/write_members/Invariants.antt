@@ -7,7 +7,7 @@ use Rattle.bd_cli_service.specs.Reply.{member_pair}
 use Rattle.bd_cli_service.proofs.MemberLemmas.{rest_of_object}
 use Rattle.bd_cli_service.proofs.member.write_members.Given as goal
 
--- what is written, and what is still to come, is the whole text
+-- the text so far, and the rest of it
 abbrev pub invariant-loop-name : goal.invariant-loop-name
 invariant-loop-name l = record {
   whole : l.out.items ++ rest_of_object (map member_pair (drop l.name-index l.members))

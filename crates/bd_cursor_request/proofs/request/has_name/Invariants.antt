@@ -3,7 +3,7 @@ use Rattle.std.specs.{List.list_any, Str.bytes_eq}
 use Rattle.bd_cursor_request.specs.Request.{pair_names}
 use Rattle.bd_cursor_request.proofs.request.has_name.Given as goal
 
--- what is left decides
+-- the remaining names decide
 abbrev pub invariant-loop-next : goal.invariant-loop-next
 invariant-loop-next g l = list_any (bytes_eq l.name) (pair_names (g.N.Reading.remaining l.remaining)) ≡ list_any (bytes_eq l.name) (pair_names (g.N.Reading.remaining l.fn.pairs))
 

@@ -4,7 +4,7 @@ use Rattle.bd_cursor_request.specs.Request.{sort_pairs}
 use Rattle.bd_cursor_request.proofs.RequestLemmas.{joined}
 use Rattle.bd_cursor_request.proofs.request.read_pairs.Given as goal
 
--- what was read, and what is left to read, are all
+-- the paths read so far, with the remaining ones, are all
 abbrev pub invariant-loop-next : goal.invariant-loop-next
 invariant-loop-next g l = joined (sort_paths l.sort.items) (sort_pairs (g.N.Reading.remaining l.remaining)) ≡ sort_pairs (g.N.Reading.remaining l.fn.pairs)
 

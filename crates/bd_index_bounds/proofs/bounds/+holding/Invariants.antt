@@ -2,7 +2,7 @@ use Rattle.std.proofs.Common.{◌≡◌, drop, map}
 use Rattle.bd_index_bounds.specs.{Bounds.intersection, Bounds.union, BoundsView.keys_within}
 use Rattle.bd_index_bounds.proofs.bounds.+holding.Given as goal
 
--- what is left decides
+-- the remaining parts decide
 abbrev pub invariant-all_contain-loop-part : goal.invariant-all_contain-loop-part
 invariant-all_contain-loop-part g l =
     intersection (map keys_within (drop l.part-index l.parts)) (g.N.Reading.tree l.key) ≡ intersection (map keys_within l.parts) (g.N.Reading.tree l.key)

@@ -6,7 +6,7 @@ use Rattle.bd_index_bounds.specs.BoundsView.{parts_bounds}
 use Rattle.bd_index_bounds.proofs.FilterBoundsLemmas.{some_parts}
 use Rattle.bd_index_bounds.proofs.filter_bounds.+bounding.Given as goal
 
--- the bounds so far, and those of the members that are left
+-- the bounds so far, and those of the remaining members
 abbrev pub invariant-all_bounds-loop-filter : goal.invariant-all_bounds-loop-filter
 invariant-all_bounds-loop-filter l =
     conjunction l.index.multikey (parts_bounds l.parts.items) (all_bounds (filters_from (map filter_tree (drop l.filter-index l.filters))) (component_names l.index.path.now) l.index.multikey)

@@ -1,6 +1,6 @@
 use Rattle.std.proofs.Common.{◌≡◌, ◌++◌, drop, map, string_bytes}
 use Rattle.bd_wide_args.proofs.command_line.copied.Given as goal
 
--- with those that are still to come they are all
+-- with the remaining texts they are all
 abbrev pub invariant-loop-text : goal.invariant-loop-text
 invariant-loop-text l = map string_bytes l.all.items ++ map (λ text. text.now) (drop l.text-index l.texts) ≡ map (λ text. text.now) l.texts
