@@ -68,7 +68,7 @@ def crates() -> Iterator[tuple[str, str]]:
 
 
 def files_of(crate: str, pattern: str) -> list[Path]:
-    return sorted(it for it in (ROOT / "crates" / crate).glob(pattern) if it.name != "Lib.antt")
+    return sorted(it for it in (ROOT / "crates" / crate).glob(pattern) if it.name not in ("Lib.antt", "inside.antt"))
 
 
 def comment_above(lines: list[str], at: int, mark: str) -> str:

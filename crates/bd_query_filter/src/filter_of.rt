@@ -194,8 +194,8 @@ fn read_operator<N: Reading>(
     operand: N,
 ) -> Result<Operator, Stop>
     ensures { ReadsPart operator_tree result
-        (operator_of (name_kind_of name.now) (N.tree operand) (not_operator depth_left (N.tree operand))
-        (element_operator depth_left (N.tree operand))) }
+        (operator_of (name_kind_of name.now) (N.tree operand)
+        (not_operator depth_left (N.tree operand)) (element_operator depth_left (N.tree operand))) }
 {
     match NameKind::from_name(name) {
         NameKind::Plain(plain) => plain_operator(alloc, plain, operand),
