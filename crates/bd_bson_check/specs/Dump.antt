@@ -2,8 +2,8 @@
 use Rattle.std.specs.Prelude.{◌≡◌, ◌≤◌, ◌+◌, ◌||◌, ℕ, List, [], ◌∷◌, ◌++◌, length, take, drop, nat_lt, if◌then◌else◌}
 use Rattle.std.specs.Prelude.{Option, Some, None, Result, Ok, Err}
 use Rattle.std.specs.Int.{w32, from_le_bytes}
-use Rattle.bd_value.specs.{Limits.longest_document, Limits.longest_input, Tree.Doc, Tree.pairs_in}
-use Rattle.bd_bson_view.specs.{Spelling.IsDocument, Sound.meaning, declared.raw.RawDoc.RawDoc}
+use Rattle.bd_value.specs.{Limits.longest_document, Limits.longest_input, Tree.Doc}
+use Rattle.bd_bson_view.specs.{Spelling.IsDocument, Raw.document_pairs, declared.raw.RawDoc.RawDoc}
 use Rattle.bd_bson_check.specs.{Fault.Fault, FirstFault.first_fault, declared.fault.FaultKind.FaultKind}
 
 -- the length that a document states: its first four bytes as a number, least byte first; below 2^32
@@ -33,7 +33,7 @@ frame_fault base bytes = framed_fault base bytes (frame_length bytes)
 -- The document at this offset, as a view, and the offset after it; None at the end of the bytes.
 abbrev pub IsNext : List ℕ → ℕ → Option (RawDoc × ℕ) → Type 0
 IsNext bytes at None = drop at bytes ≡ []
-IsNext bytes at (Some p) = (prefix : List ℕ) × IsDocument (pairs_in (meaning p.0.sound)) prefix
+IsNext bytes at (Some p) = (prefix : List ℕ) × IsDocument (document_pairs p.0) prefix
     × (drop at bytes ≡ prefix ++ drop p.1 bytes) × (at + length prefix ≡ p.1) × (p.1 ≤ length bytes)
 
 -- The bytes are these documents, one after the other with nothing between.

@@ -2,10 +2,10 @@
 
 ghost use Rattle.std.specs.Prelude.{◌≡◌, ◌≤◌, ◌<◌, ◌+◌, length, drop, slice_range, option_map, suc, IfOk, IfErr, IfSome, MatchResult, Ok, Err, Some, None, [], if◌then◌else◌};
 ghost use Rattle.bd_value.specs.Limits.{longest_input};
-ghost use Rattle.bd_value.specs.Tree.{Doc, pairs_in};
+ghost use Rattle.bd_value.specs.Tree.{Doc};
 ghost use Rattle.bd_value.specs.View.{pairs};
 ghost use Rattle.bd_bson_view.specs.Spelling.{IsDocument};
-ghost use Rattle.bd_bson_view.specs.Sound.{meaning};
+ghost use Rattle.bd_bson_view.specs.Raw.{document_pairs, document_source};
 ghost use Rattle.bd_bson_check.specs.Fault.{GivesItem, ReportsFault, IsWantOfMemory};
 ghost use Rattle.bd_bson_check.specs.FirstFault.{skip_typed, skip_element, skip_elements, skip_body, skip_code_scope, skip_nested, skip_document, first_fault};
 ghost use Rattle.bd_bson_check.specs.Dump.{frame_length, frame_fault, IsNext};
@@ -31,8 +31,8 @@ pub fn check_document<'a>(
     number: u32,
 ) -> Result<RawDoc<'a>, Fault>
     requires { base + length bytes.now ≤ longest_input }
-    ensures spelled { IfOk result (λ d. IsDocument (pairs_in (meaning d.sound)) bytes.now) }
-    ensures same_source { IfOk result (λ d. d.bytes.now ≡ bytes.now) }
+    ensures spelled { IfOk result (λ d. IsDocument (document_pairs d) bytes.now) }
+    ensures same_source { IfOk result (λ d. document_source d ≡ bytes.now) }
     ensures first { MatchResult result (λ _.
         first_fault base bytes.now ≡ None) (ReportsFault number (first_fault base bytes.now)) }
 {
@@ -118,7 +118,7 @@ pub fn next_document<'a>(
     requires short { length bytes.now ≤ longest_input }
     ensures next { IfOk result (IsNext bytes.now at) }
     ensures same_source { IfOk result (λ o.
-        IfSome o (λ p. p.0.bytes.now ≡ slice_range bytes.now at p.1)) }
+        IfSome o (λ p. document_source p.0 ≡ slice_range bytes.now at p.1)) }
     ensures fault { IfErr result (ReportsFault number (frame_fault at (drop at bytes.now))) }
 {
     let Some(frame) = next_frame(alloc, bytes, at, number)? else {

@@ -2,8 +2,9 @@
 
 ghost use Rattle.std.specs.Prelude.{◌≡◌, ◌≤◌, ◌<◌, Some, length, slice_get};
 ghost use Rattle.bd_value.specs.Limits.{longest_input};
-ghost use Rattle.bd_value.specs.Tree.{Tree, pairs_in};
-ghost use Rattle.bd_bson_view.specs.Sound.{IsAt, IsPlace, meaning};
+ghost use Rattle.bd_value.specs.Tree.{Tree};
+ghost use Rattle.bd_bson_view.specs.Raw.{document_pairs, document_source, value_source, value_tree};
+ghost use Rattle.bd_bson_view.specs.Sound.{IsAt, IsPlace};
 ghost use Rattle.bd_bson_dump.specs.Starts.{AreAt, AreAt-prop};
 
 use bd_bson_view::{At, RawDoc, RawValue};
@@ -37,9 +38,8 @@ impl Dump {
     /// The document with that number. It takes no memory.
     pub fn document(&self, n: u32) -> RawDoc<'_>
         requires { n < length (documents self.now) }
-        ensures document { slice_get (documents self.now) n
-            ≡ Some (pairs_in (meaning result.sound)) }
-        ensures same_source { result.bytes.now ≡ bytes_of self.now }
+        ensures document { slice_get (documents self.now) n ≡ Some (document_pairs result) }
+        ensures same_source { document_source result ≡ bytes_of self.now }
     {
         self.reads.set(self.reads.get().saturating_add(1));
         RawDoc::at(&self.bytes, self.starts[n as usize] as usize)
@@ -50,8 +50,8 @@ impl Dump {
     pub fn value_at(&self, at: At) -> RawValue<'_>
         requires { IsPlace (bytes_of self.now) at }
         ensures value { (tree : Tree) →
-            IsAt (bytes_of self.now) at tree → meaning result.sound ≡ tree }
-        ensures same_source { result.bytes.now ≡ bytes_of self.now }
+            IsAt (bytes_of self.now) at tree → value_tree result ≡ tree }
+        ensures same_source { value_source result ≡ bytes_of self.now }
     {
         self.value_reads
             .set(self.value_reads.get().saturating_add(1));
