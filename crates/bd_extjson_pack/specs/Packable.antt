@@ -1,12 +1,11 @@
 -- Which lines are packed, and as what.
-use Rattle.std.specs.Prelude.{◌≡◌, ◌≢◌, ◌≤◌, ◌<◌, ℕ, List, [], ◌∷◌, length, false, None, IsUtf8}
+use Rattle.std.specs.Prelude.{◌≡◌, ◌≤◌, ◌<◌, ℕ, List, [], ◌∷◌, length, false, None, IsUtf8}
 use Rattle.bd_value.specs.{Limits.longest_document, Tree.depth, Fits.Fits, Tree.Tree, Tree.Doc}
 use Rattle.bd_value.specs.{Tree.doc, Tree.fields_of, Fits.has_zero, Fits.zero_in}
 use Rattle.bd_bson_write.specs.TreeBytes.{bytes_of}
 use Rattle.bd_extjson_wrapper.specs.Wrapper.{wrapper_of}
 use Rattle.bd_extjson.specs.{Read.ReadsAs, Laws.IsPlain}
-use Rattle.bd_extjson_fault.specs.{JsonFault.IsPlaced, JsonFault.ReportsBadUtf8, TextFault.text_fault}
-use Rattle.bd_extjson_fault.specs.declared.json_fault.JsonFaultKind.TheVariants as kinds
+use Rattle.bd_extjson_fault.specs.TextFault.{text_fault}
 use Rattle.bd_extjson_pack.specs.declared.line.LineFault.{LineFault}
 use Rattle.bd_extjson_pack.specs.declared.line.LineFault.TheVariants as faults
 
@@ -18,16 +17,10 @@ plain d = bytes_of (doc (fields_of d))
 abbrev pub IsPackable : List ℕ → Doc → Type 0
 IsPackable line d = ReadsAs line d × (length (plain d) ≤ longest_document)
 
--- The line is not a document, or its document is too long.
+-- The line is no document, and this is the fault of its text; or the line is too long.
 abbrev pub IsBad : List ℕ → LineFault → Type 0
-IsBad line (faults.Unread f) = (f.kind ≢ kinds.NoMemory) × ((d : Doc) → ReadsAs line d → ⊥)
-    × IsPlaced (length line) f × ReportsBadUtf8 line f
+IsBad line (faults.Unread f) = ((d : Doc) → ReadsAs line d → ⊥) × (f ≡ text_fault line)
 IsBad line faults.TooLong = (d : Doc) × ReadsAs line d × (longest_document < length (plain d))
-
--- the fault that is reported for a line that is not a document is the fault of its text
-abbrev pub ReportsFault : List ℕ → LineFault → Type 0
-ReportsFault line (faults.Unread f) = f ≡ text_fault line
-ReportsFault line faults.TooLong = Unit {0}
 
 -- A value of at most `depth_left` levels that is read back from its canonical text:
 -- it fits, its text is that of no other value, and no `cstring` contains a zero.

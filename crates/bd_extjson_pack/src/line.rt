@@ -1,7 +1,7 @@
 //! A line as the bytes of the document that it is.
 ghost use Rattle.std.specs.Prelude.{◌≡◌, ◌++◌, IfOk, IfSome, OnErr, None, Ok};
 ghost use Rattle.bd_value.specs.Tree.{Doc};
-ghost use Rattle.bd_extjson_pack.specs.Packable.{plain, IsPackable, IsBad, ReportsFault};
+ghost use Rattle.bd_extjson_pack.specs.Packable.{plain, IsPackable, IsBad};
 
 use crate::tokens::spell_line;
 use bd_bson_write::{WriteFault, write_document};
@@ -55,7 +55,6 @@ impl Packer {
         ensures packed { result ≡ Ok None →
             (d : Doc) × IsPackable line.now d × (out.new.items ≡ out.old.items ++ plain d) }
         ensures bad { IfOk result (λ o. IfSome o (λ f. IsBad line.now f × (out.new ≡ out.old))) }
-        ensures fault { IfOk result (λ o. IfSome o (ReportsFault line.now)) }
         ensures err { OnErr result (out.new.items ≡ out.old.items) }
     {
         // For nearly every line the bytes come straight from its tokens. The others are read again, by a tree.
@@ -80,7 +79,6 @@ fn pack_tree(
     ensures packed { result ≡ Ok None →
         (d : Doc) × IsPackable line.now d × (out.new.items ≡ out.old.items ++ plain d) }
     ensures bad { IfOk result (λ o. IfSome o (λ f. IsBad line.now f × (out.new ≡ out.old))) }
-    ensures fault { IfOk result (λ o. IfSome o (ReportsFault line.now)) }
     ensures err { OnErr result (out.new.items ≡ out.old.items) }
 {
     let document = match read_doc_with(alloc, line, scratch) {
