@@ -140,7 +140,7 @@ abbrev mutual
   operator_bounds (operator o os) rest multikey =
       conjunction multikey (bounds_at o rest multikey) (operator_bounds os rest multikey)
 
-  -- the bounds of one operator of a path; if the index's path goes on,
+  -- the bounds of one operator of a path; if the index's path continues,
   -- only a filter in `$elemMatch` gives any
   pub bounds_at : Operator → Option Names → Bool → KeyBounds
   bounds_at o None multikey = None
