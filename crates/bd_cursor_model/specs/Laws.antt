@@ -58,7 +58,7 @@ found_in r ds = filter_map (slice_get ds) (answer (selection_over r ds))
 abbrev pub part_request : {A : Type 0} → DocumentRequest A → ℕ → DocumentRequest A
 part_request r limit = record r { skip = 0; limit = limit }
 
--- The limit for a part is enough: it has none;
+-- The limit of a part is enough: the part has none;
 -- or the request has one too, and skip plus limit is at most the part's limit.
 abbrev pub IsEnough : {A : Type 0} → DocumentRequest A → ℕ → Type 0
 IsEnough r limit = limit ≢ 0 → (r.limit ≢ 0) × (r.skip + r.limit ≤ limit)

@@ -122,7 +122,7 @@ abbrev pub has_index : List IndexKey → Option (List ℕ) → Bool
 has_index indexes None = true
 has_index indexes (Some path) = list_any (is_on path) indexes
 
--- whether no cursor can be opened: 64 are open, or the number 2^63 - 1 was given
+-- whether no cursor can be opened: 64 are open, or the number 2^63 - 1 was assigned
 abbrev pub is_full : State → Bool
 is_full s = not (nat_lt (length s.cursors) most_cursors) || nat_lt (2 ^ 63 - 1) s.next_id
 

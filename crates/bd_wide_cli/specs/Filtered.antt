@@ -73,7 +73,7 @@ refusal_words refusals.TooDeep = codes "too deep"
 refusal_words refusals.NotWhole = codes "not a whole number of 64 bits"
 refusal_words refusals.NoDouble = codes "no double equals it"
 
--- the place of a refused number, by the byte offset of its element in the
+-- where a refused number is, by the byte offset of its element in the
 -- dump and by its path, and why it is refused
 abbrev pub found_text : ℕ → List ℕ → Found → List ℕ
 found_text start path found = codes ", byte " ++ (decimal (start + found.at)

@@ -47,7 +47,7 @@ fn write_refusal(
     Ok(())
 }
 
-/// Appends the place of a refused number, and why it is refused.
+/// Appends where a refused number is, and why it is refused.
 fn write_found(start: u64, path: &[u8], found: Found, out: &mut Vec<u8>) -> Result<(), NoMemory>
     ensures { OnOk result (out.new.items ≡ out.old.items ++ found_text start path.now found) }
 {
