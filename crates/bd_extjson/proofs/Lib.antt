@@ -7,3 +7,10 @@ pub mod MemberLemmas
 pub mod TreeJsonLemmas
 pub mod TextLemmas
 pub mod ReadLemmas
+pub mod ByteLemmas
+pub mod StringLemmas
+pub mod ScalarLemmas
+pub mod PartLemmas
+pub mod ValueLemmas
+pub mod ValueFaultLemmas
+pub mod DocumentFaultLemmas

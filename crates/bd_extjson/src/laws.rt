@@ -1,11 +1,12 @@
 //! The texts determine plain documents, and are read back.
-ghost use Rattle.std.specs.Prelude.{◌≡◌, ◌==◌, ◌≤◌, ℕ, List, All, false};
+ghost use Rattle.std.specs.Prelude.{◌≡◌, ◌==◌, ◌≤◌, ◌↔◌, ℕ, List, All, None, false};
 ghost use Rattle.bd_value.specs.Limits.{most_levels};
 ghost use Rattle.bd_value.specs.Tree.{depth, Doc, Tree, doc, fields_of};
 ghost use Rattle.bd_value.specs.Fits.{Fits, FitsTypes, zero_in};
 ghost use Rattle.bd_value.specs.View.{pairs};
 ghost use Rattle.bd_extjson.specs.Laws.{IsPlain};
 ghost use Rattle.bd_extjson.specs.Read.{ReadsAs};
+ghost use Rattle.bd_extjson_fault.specs.TextFault.{first_fault};
 ghost use Rattle.bd_extjson_text.specs.Text.{text};
 
 use bd_value::{Document, document_fits};
@@ -56,4 +57,11 @@ pub fn reads_what_fits()
 #[tactic(auto, using(crate::proofs::TextLemmas::text_line))]
 pub fn texts_are_lines()
     ensures { (t : Tree) → FitsTypes t → All (λ b. (b == 10) ≡ false) (text t) }
+{}
+
+/// A text has no fault exactly where it is a document: what the definition of the first fault lets pass is what is read, and the
+/// other way.
+#[tactic(auto, using(crate::proofs::DocumentFaultLemmas::no_fault_where_read))]
+pub fn document_or_fault()
+    ensures { (text : List ℕ) → (first_fault text ≡ None) ↔ ((d : Doc) × ReadsAs text d) }
 {}

@@ -27,6 +27,7 @@ pub use bd_extjson_text::{
 pub use bd_extjson_wrapper::{Trouble, Wrapper};
 pub use json::Scratch;
 pub use laws::{
-    document_reads_back, reads_back, reads_what_fits, text_determines_document, texts_are_lines,
+    document_or_fault, document_reads_back, reads_back, reads_what_fits, text_determines_document,
+    texts_are_lines,
 };
 pub use read::{bare_number, read_doc, read_doc_with, read_wrapper, wrapper_named};
