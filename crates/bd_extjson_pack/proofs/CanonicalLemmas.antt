@@ -21,7 +21,7 @@ use Rattle.std.proofs.{lemmas.Bool.or_parts, lemmas.Bool.or_from, lemmas.Bool.an
 use Rattle.std.proofs.{lemmas.Bool.Decides.nat_tests, lemmas.Grind.flat_map-append, lemmas.Str.digit_value_digit}
 use Rattle.std.proofs.{lemmas.Int.Digits.digits_value_more, lemmas.List.length-take-le, lemmas.List.get_or-take, lemmas.List.length-map}
 use Rattle.std.proofs.{lemmas.Fmt.decimal-digits_value, lemmas.Fmt.decimal_is_IsNumeral, lemmas.Slice.Eq.bytes_eq-Decides}
-use Rattle.bd_extjson_text.proofs.JsonStringLemmas.{escaped-plain, escaped-digits}
+use Rattle.bd_extjson_text.proofs.JsonStringLemmas.{escaped-plain, escaped-digits, IsQuiet}
 use Rattle.bd_extjson.proofs.ReadBackLemmas.{document_back}
 use Rattle.bd_extjson_pack.specs.Packable.{plain, IsPackable, IsCanonical, AreCanonical, AreCanonicalFields}
 use Rattle.hex.specs.{Hex.encode_lower, Hex.decode_sized, declared.FromHexError.FromHexError}
@@ -273,13 +273,6 @@ pub pieces_put : (into old decoded plain one new encoded : List ℕ) (byte : ℕ
     → new ≡ one ++ plain → new ≡ into ++ (decoded ++ (byte ∷ plain))
 pieces_put into old decoded plain one new encoded byte a b c d = rw (d, b, a, c) (simp append_assoc)
 
-pub all_more : (bs : List ℕ) (i : ℕ) → i < length bs → all_ascii_digits (take i bs) ≡ true → is_ascii_digit (get_or bs i 0) ≡ true → all_ascii_digits (take (suc i) bs) ≡ true
-all_more [] i lt all one = absurd (omega arith)
-all_more (b ∷ bs) zero lt all one = rw one refl
-all_more (b ∷ bs) (suc i) lt all one =
-    let both = and_parts (is_ascii_digit b) (all_ascii_digits (take i bs)) all in
-    rw (both.0, all_more bs i (omega arith) both.1 one) refl
-
 pub hex_is : {A E : Type 0} (r : Result A E) (digits written bytes : List ℕ) → is_err r ≡ false → OnOk r (written ≡ encode_lower bytes) → bytes_eq digits written ≡ true → digits ≡ hex_text bytes
 unfolding hex_text
 hex_is (Ok _) digits written bytes well hex same = (bytes_eq-Decides digits written).0 same ∙ hex
@@ -298,33 +291,24 @@ id_fits s bytes e =
 
 -- ---- digits
 
-pub digits_read : (text rest bytes : List ℕ) (n count : ℕ) → bytes ≡ text → count ≤ length bytes → digits_value 10 (take count bytes) ≡ n → all_ascii_digits (take count bytes) ≡ true → n < 2 ^ 64
-    → 0 < count → (1 < count → get_or bytes 0 0 ≡ 48 → ⊥) → rest ≡ drop count text → text ≡ decimal n ++ rest
-digits_read text rest bytes n count same within value all small some lead remaining =
+pub digits_read : (text rest bytes : List ℕ) (n count : ℕ) → bytes ≡ text → count ≤ length bytes → count ≡ 0 + prefix_len is_ascii_digit (drop 0 bytes) → count ≤ 19
+    → n ≡ (0 * 10 ^ (count - 0) + digits_value 10 (slice_range bytes 0 count)) % 2 ^ 64
+    → 0 < count → (1 < count → get_or bytes 0 0 ≡ 48 → ⊥) → rest ≡ drop count text → (text ≡ decimal n ++ rest) × (n < 2 ^ 64)
+digits_read text rest bytes n count same within run few is some lead remaining =
     let d = take count bytes in
     let long : length d ≡ count = length-take-le count bytes within in
+    let all : AllDigits 10 d = AllDigits-digits_len bytes count (omega (arith, run)) in
+    let small : digits_value 10 d < 2 ^ 64 = short_fits d all (omega (arith, long)) in
+    let until : count - 0 ≡ count = omega arith in
+    let run_is : slice_range bytes 0 count ≡ d = ap (λ k. take k bytes) until in
+    let value : digits_value 10 d ≡ n = omega (arith, small, is, ap (digits_value 10) run_is) in
     let first : get_or d 0 0 ≡ get_or bytes 0 0 = get_or-take count bytes 0 0 (omega arith) in
     let alone : get_or d 0 0 ≡ 48 → length d ≡ 1 = λ e. elim (cases_lt 1 count) [
       | inl more ↦ absurd (lead more (sym first ∙ e))
-      | inr few ↦ omega (arith, long)
+      | inr single ↦ omega (arith, long)
     ] in
-    let back = decimal-digits_value digits_model d all (omega (arith, long)) alone (omega (arith, value)) in
-    sym (take-append-drop count text) ∙ ap₂ (λ (x y : List ℕ). x ++ y) (ap (take count) (sym same) ∙ sym back ∙ ap decimal value) (sym remaining)
-
--- one more digit
-pub digit_more : (bs : List ℕ) (i n m d next : ℕ) → i < length bs → digits_value 10 (take i bs) ≡ n → all_ascii_digits (take i bs) ≡ true
-    → is_ascii_digit (get_or bs i 0) ≡ true → m ≡ n * 10 → d ≡ get_or bs i 0 - 48 → next ≡ m + d
-    → (i + 1 ≤ length bs) × (digits_value 10 (take (i + 1) bs) ≡ next) × (all_ascii_digits (take (i + 1) bs) ≡ true)
-digit_more bs i n m d next lt value all one times digit sum =
-    let low : 48 ≤ get_or bs i 0 = grind arith in
-    let high : get_or bs i 0 ≤ 57 = grind arith in
-    let digit_is = digit_value_digit (get_or bs i 0) (low, high) in
-    let step = digits_value_more 10 bs i lt in
-    let after : i + 1 ≡ suc i = omega arith in (
-      omega arith,
-      step ∙ omega (arith, value, times, digit, sum, digit_is),
-      ap (λ k. all_ascii_digits (take k bs)) after ∙ all_more bs i lt all one,
-    )
+    let back = decimal-digits_value (numerals_by_value (AllDigits 10) tells_digits) d all (omega (arith, long)) alone small in
+    (sym (take-append-drop count text) ∙ ap₂ (λ (x y : List ℕ). x ++ y) (ap (take count) (sym same) ∙ sym back ∙ ap decimal value) (sym remaining), omega (arith, value, small))
 
 escaped-decimal : (n : ℕ) → n < 2 ^ 64 → escaped (decimal n) ≡ decimal n
 escaped-decimal n small = escaped-digits (decimal n) (decimal_is_IsNumeral n small).0.1
@@ -341,68 +325,14 @@ unfolding quoted escape_byte
 negative_read text inside digits rest after zero z a m b small c some same = absurd (omega arith)
 negative_read text inside digits rest after (suc n) z a m b small c some same = rw (a, m, b, c, ← same, escaped-decimal (suc n) small, append_assoc (decimal (suc n)) (34 ∷ []) after) refl
 
--- ---- the test, lane by lane
-
-tested : (a b c : Bool) → top 7 (bit_or (bit_or (cond a 255 0) (cond b 255 0)) (cond c 255 0)) ≡ ((a || b) || c)
-tested true true true = refl
-tested true true false = refl
-tested true false true = refl
-tested true false false = refl
-tested false true true = refl
-tested false true false = refl
-tested false false true = refl
-tested false false false = refl
-
-each_tested : (v : List ℕ) → map (λ x. top 7 (bit_or (bit_or (cond (eqb x 34) 255 0) (cond (eqb x 92) 255 0)) (cond (ltb x 32) 255 0))) v ≡ map needs_escape v
-each_tested [] = refl
-each_tested (x ∷ v) = ap₂ (λ b bs. b ∷ bs) (tested (eqb x 34) (eqb x 92) (ltb x 32)) (each_tested v)
-
-abbrev equal : ℕ → ℕ → ℕ
-equal a b = cond (eqb a b) 255 0
-
-abbrev below : ℕ → ℕ → ℕ
-below a b = cond (ltb a b) 255 0
-
-pub stops_mask : (v : List ℕ) → length v ≡ 32 → mask_l (map (top 7) (zip2 bit_or
-    (zip2 bit_or (zip2 equal v (replicate 32 34)) (zip2 equal v (replicate 32 92))) (zip2 below v (replicate 32 32)))) % 2 ^ 64 ≡ mask_l (map needs_escape v)
-stops_mask v long =
-    let quotes = zip2_splat equal v 32 34 long in
-    let slashes = zip2_splat equal v 32 92 long in
-    let controls = zip2_splat below v 32 32 long in
-    let both = zip2_of_maps bit_or _ _ v quotes slashes in
-    let all = zip2_of_maps bit_or _ _ v both controls in
-    ap (λ ms. mask_l ms % 2 ^ 64) (ap (map (top 7)) all ∙ map-map (top 7) _ v ∙ each_tested v) ∙ mask_l-mod (map needs_escape v) 64 (omega (arith, length-map v needs_escape, long))
-
 -- ---- bytes before the first that needs an escape
 
 none_any : (p : ℕ → Bool) (xs : List ℕ) → ((k : ℕ) → k < length xs → p (get_or xs k 0) ≡ false) → list_any p xs ≡ false
 none_any p [] quiet = refl
 none_any p (x ∷ xs) quiet = rw (quiet 0 (omega arith)) (none_any p xs (λ k lt. quiet (suc k) (omega arith)))
 
--- The first n bytes of the text need no escape in JSON.
-abbrev pub IsQuiet : List ℕ → ℕ → Type 0
-IsQuiet text n = (k : ℕ) → k < n → needs_escape (get_or text k 0) ≡ false
-
 -- among bytes that each need no escape, none needs one
 pub quiet_prefix : (text bytes : List ℕ) (n : ℕ) → bytes ≡ text → n ≤ length bytes → IsQuiet bytes n → list_any needs_escape (take n text) ≡ false
 quiet_prefix text bytes n same le quiet =
     let long = length-take-le n bytes le in
     rw (← same) (none_any needs_escape (take n bytes) (λ k lt. ap needs_escape (get_or-take n bytes k 0 (omega (arith, long))) ∙ quiet k (omega (arith, long))))
-
-module _ (text : List ℕ) (i : ℕ) (depth_left : i + 32 ≤ length text) (before : IsQuiet text i) where
-  pub all_quiet : mask_l (map needs_escape (chunk i 32 text)) ≡ 0 → IsQuiet text (i + 32)
-  all_quiet none k lt = elim (cases_lt k i) [
-    | inl less ↦ before k less
-    | inr more ↦ none_from_empty_mask needs_escape text i 32 0 depth_left none k (omega (arith, more)) lt
-  ]
-
-  -- the first byte that needs an escape is one of the chunk, and those before it need none
-  pub stops_within : (r : ℕ) → 0 < mask_l (map needs_escape (chunk i 32 text)) → r ≡ count_trailing_zeros 64 (mask_l (map needs_escape (chunk i 32 text))) → (r ≤ 32) × IsQuiet text (i + r)
-  stops_within r some counted =
-      let long = length-chunk i 32 text depth_left in
-      let first : r ≡ prefix_len (λ x. not (needs_escape x)) (chunk i 32 text) = counted ∙ trailing_mask_l needs_escape 64 (chunk i 32 text) (omega (arith, long)) some in
-      let quiet : IsQuiet text (i + r) = λ k lt. elim (cases_lt k i) [
-        | inl less ↦ before k less
-        | inr more ↦ run_in_chunk_fails needs_escape text i 32 r 0 depth_left first k (omega (arith, more)) lt
-      ] in
-      (omega (arith, first, prefix_len-le-length (λ x. not (needs_escape x)) (chunk i 32 text), long), quiet)

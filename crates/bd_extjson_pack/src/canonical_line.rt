@@ -1,15 +1,14 @@
 //! The bytes of a document straight from its canonical text, as `dump` writes it. If a line is spelled in another way, or is
 //! not a document, the result is only None.
-ghost use Rattle.std.specs.Prelude.{◌≡◌, ◌<◌, ◌≤◌, ◌++◌, ◌∷◌, [], ℕ, List, length, false, None, IfSome, ◌^◌, string_bytes, decimal, get_or, map, IsTrue};
+ghost use Rattle.std.specs.Prelude.{◌≡◌, ◌<◌, ◌≤◌, ◌++◌, ◌∷◌, [], ℕ, List, length, false, None, IfSome, ◌^◌, string_bytes, decimal, get_or, IsTrue};
 ghost use Rattle.bd_value.specs.Limits.{longest_document};
 ghost use Rattle.bd_value.specs.Tree.{Tree, Doc, leaf, doc, array, fields_of, items_of};
 ghost use Rattle.bd_bson_view.specs.Spelling.{element};
 ghost use Rattle.bd_bson_write.specs.TreeBytes.{bytes_of};
 ghost use Rattle.bd_extjson_wrapper.specs.Wrapper.{wrapper_of};
-ghost use Rattle.bd_extjson_text.specs.Text.{text as text_of, items_text, fields_text, needs_escape, escape_byte, escaped, quoted, hex_text};
+ghost use Rattle.bd_extjson_text.specs.Text.{text as text_of, items_text, fields_text, escape_byte, escaped, quoted, hex_text};
 ghost use Rattle.bd_extjson_pack.specs.Packable.{plain, IsPackable, IsCanonical, AreCanonical, AreCanonicalFields};
 ghost use Rattle.std.specs.Fmt.{signed_decimal};
-ghost use Rattle.std.specs.Simd.Lanes.{mask_l};
 ghost use Rattle.bd_value.specs.Fits.{AreBytes, IsId, has_zero};
 ghost use Rattle.bd_value.specs.Tree as trees;
 
@@ -19,10 +18,11 @@ use crate::elements::{
 };
 use base64::engine::general_purpose::STANDARD;
 use bd_bson_write::{append_label, begin_body, end_body};
+use bd_extjson_text::plain_length;
 use bd_extjson_wrapper::id_of_text;
 use bd_value::{Kind, MOST_LEVELS};
+use core::dec2flt::read_digits;
 use std::alloc::Global;
-use std::simd::prelude::*;
 
 /// Appends the document that all of the text is.
 pub(crate) fn append_canonical(text: &str, out: &mut Vec<u8>) -> Option<()>
@@ -270,59 +270,6 @@ fn plain_run<'a>(text: &'a str) -> Option<(&'a str, &'a str)>
     text.split_at_checked(plain_length(text.as_bytes()))
 }
 
-/// How many bytes need no escape, up to the first that does.
-#[inline(always)]
-fn plain_length(text: &[u8]) -> usize
-    ensures within { result ≤ length text.now }
-    ensures plain { (k : ℕ) → k < result → needs_escape (get_or text.now k 0) ≡ false }
-{
-    let mut passed = 0;
-    while text.len() - passed >= STEP {
-        let found = stops(u8x32::from_slice(&text[passed..]));
-        if found != 0 {
-            return passed + found.trailing_zeros() as usize;
-        }
-        passed += STEP;
-    }
-    plain_length_from(text, passed)
-}
-
-/// The same, one byte after the other, if the first `passed` bytes were examined.
-#[inline(always)]
-fn plain_length_from(text: &[u8], passed: usize) -> usize
-    requires within { passed ≤ length text.now }
-    requires plain { (k : ℕ) → k < passed → needs_escape (get_or text.now k 0) ≡ false }
-    ensures within { result ≤ length text.now }
-    ensures plain { (k : ℕ) → k < result → needs_escape (get_or text.now k 0) ≡ false }
-{
-    let mut passed = passed;
-    while passed < text.len() && !needs_escape(text[passed]) {
-        passed += 1;
-    }
-    passed
-}
-
-/// How many bytes are examined together.
-const STEP: usize = 32;
-
-/// A bit for each byte that must be escaped in a string, the lowest for the first.
-#[inline(always)]
-fn stops(bytes: u8x32) -> u64
-    ensures { result ≡ mask_l (map needs_escape bytes) }
-{
-    (bytes.simd_eq(u8x32::splat(b'"'))
-        | bytes.simd_eq(u8x32::splat(b'\\'))
-        | bytes.simd_lt(u8x32::splat(32))).to_bitmask()
-}
-
-/// Whether a byte must be escaped in a string.
-#[inline(always)]
-fn needs_escape(b: u8) -> bool
-    ensures { result ≡ needs_escape b }
-{
-    b == b'"' || b == b'\\' || b < 32
-}
-
 /// An Int32, and what follows it.
 #[inline(always)]
 fn int32<'a>(text: &'a str) -> Option<(i32, &'a str)>
@@ -359,15 +306,9 @@ fn digits<'a>(text: &'a str) -> Option<(u64, &'a str)>
     ensures { IfSome result (λ p. (text.now ≡ decimal p.0 ++ p.1.now) × (p.0 < 2 ^ 64)) }
 {
     let bytes = text.as_bytes();
-    let mut n: u64 = 0;
-    let mut count = 0;
-    while count < bytes.len() && bytes[count].is_ascii_digit() {
-        n = n
-            .checked_mul(10)?
-            .checked_add(u64::from(bytes[count] - b'0'))?;
-        count += 1;
-    }
-    if !is_led_well(bytes, count) {
+    let (count, n) = read_digits(bytes, 0, 0);
+    // More of them may be no number of 64 bits, and are none of 63.
+    if count > 19 || !is_led_well(bytes, count) {
         return None;
     }
     let (_, rest) = text.split_at_checked(count)?;

@@ -1,5 +1,5 @@
 -- Text that is written into a buffer: the first bytes after a write, and that those before it are unchanged.
-use Rattle.std.proofs.Common.{◌≡◌, ℕ, ◌+◌, ◌-◌, ◌<◌, ◌≤◌, Bool, false, List, [], ◌∷◌, ◌++◌, length, take, drop, refl, sym, ap, ap₂, ◌∙◌, arith, append_assoc, append-nil}
+use Rattle.std.proofs.Common.{◌≡◌, ℕ, ◌+◌, ◌-◌, ◌<◌, ◌≤◌, Bool, false, List, [], ◌∷◌, ◌++◌, length, take, drop, refl, sym, ap, ap₂, ◌∙◌, arith, append_assoc, append-nil, drop-drop}
 use Rattle.std.proofs.Math.Seq.{take-append-add, take-append_seam}
 use Rattle.std.proofs.lemmas.List.{take-take, take_all, drop_all, length-take, length-take-le, length-drop, length-append, take-append-drop}
 use Rattle.std.proofs.lemmas.Slice.{take-put_mid}
@@ -7,6 +7,7 @@ use Rattle.std.specs.Prelude.{Result, Ok, Err, IsErr}
 use Rattle.bd_extjson_text.specs.Buffer.{Appends}
 use Rattle.std.specs.List.{list_any}
 use Rattle.std.proofs.lemmas.List.Folds.{list_any-append}
+use Rattle.std.proofs.lemmas.Bool.{or_parts}
 use borrow.Rule.Slice.PartMut.{put_mid}
 
 -- the first bytes of a text and what follows it, up to beyond the text
@@ -115,3 +116,12 @@ last end at start out new x whole (Err e) after unchanged is written = splits en
 -- if no byte of two texts passes, none of the texts joined passes
 pub none_of_two : (p : ℕ → Bool) (xs ys zs : List ℕ) → zs ≡ xs ++ ys → list_any p xs ≡ false → list_any p ys ≡ false → list_any p zs ≡ false
 none_of_two p xs ys zs is one two = ap (list_any p) is ∙ list_any-append p xs ys ∙ rw (one, two) refl
+
+-- nor does one of a text of whose first and last bytes, which are all of it, none does
+pub none_of_ends : (p : ℕ → Bool) (text : List ℕ) (between size : ℕ) → between ≤ size → list_any p (take size text) ≡ false → list_any p (drop between text) ≡ false → list_any p text ≡ false
+none_of_ends p text between size near low high =
+    let k = size - between in
+    let there : between + k ≡ size = omega arith in
+    let parts = sym (list_any-append p (take k (drop between text)) (drop k (drop between text))) ∙ ap (list_any p) (take-append-drop k (drop between text)) ∙ high in
+    let back : drop k (drop between text) ≡ drop size text = rw drop-drop (ap (λ n. drop n text) there) in
+    none_of_two p (take size text) (drop size text) text (sym (take-append-drop size text)) low (ap (list_any p) (sym back) ∙ (or_parts _ _ parts).1)

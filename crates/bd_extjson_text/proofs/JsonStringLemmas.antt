@@ -1,8 +1,8 @@
 -- Strings: bytes that need no escape are written as they are, such as digits and the symbols of bytes.
 use Rattle.std.proofs.Common.{◌≡◌, ℕ, suc, ◌+◌, ◌-◌, ◌<◌, ◌≤◌, Bool, true, false, cond, List, [], ◌∷◌, ◌++◌, length, take, drop, get_or, Some, None, refl, sym, ap, ap₂}
 use Rattle.std.proofs.Common.{◌∙◌, subst, arith, add-one, drop-cons, append-nil, append_assoc, length-drop, ◌^◌, ℤ, pos, negsuc, decimal, zero, ◌*◌, ◌/◌, ◌%◌, replicate}
-use Rattle.std.proofs.Common.{slice_index, Option, inl, inr}
-use Rattle.std.specs.Prelude.{nat_lt, option_map}
+use Rattle.std.proofs.Common.{slice_index, Option, inl, inr, eqb, ltb, not, bit_or, map}
+use Rattle.std.specs.Prelude.{nat_lt, option_map, ◌||◌}
 use Rattle.std.specs.Fmt.{signed_decimal}
 use Rattle.std.specs.Int.{w32, w64}
 use Rattle.std.specs.Int.RustNames.{FitsSigned}
@@ -10,19 +10,23 @@ use Rattle.std.specs.Int.Signed.{mag}
 use Rattle.std.specs.List.{position, position_or_len, list_any}
 use Rattle.std.specs.Str.Parse.{AllDigits}
 use Rattle.std.proofs.Math.ListN.{drop_of_length-le}
-use Rattle.std.proofs.lemmas.List.{take_all, length-take, length-drop, get_or-take, get_or-drop}
+use Rattle.std.proofs.lemmas.List.{take_all, length-drop}
 use Rattle.std.proofs.lemmas.List.Quantifiers.{position-Some}
 use Rattle.std.proofs.lemmas.Str.Parse.{digit_from_value}
 use Rattle.std.proofs.lemmas.Fmt.{decimal_is_IsNumeral}
 use Rattle.std.proofs.lemmas.Int.{ints}
-use Rattle.std.proofs.lemmas.Bool.{or_parts, cases_lt, cases_Bool}
+use Rattle.std.proofs.lemmas.Bool.{or_parts, cases_lt}
 use Rattle.std.proofs.lemmas.Bool.Decides.{nat_tests}
 use Rattle.std.proofs.lemmas.Grind.{common_steps, flat_map-append}
 use Rattle.base64.specs.Engines.{standard}
 use Rattle.base64.specs.Rfc4648.{encode_symbols, padding_len}
 use Rattle.hex.specs.Hex.{IsBytes, encode_with, lower_digits}
 use Rattle.bd_extjson_text.specs.Text.{needs_escape, escape_byte, escaped, base64_text, hex_text}
-use Rattle.std.proofs.lemmas.List.Folds.{list_any_at}
+use Rattle.std.specs.List.{prefix_len}
+use Rattle.std.proofs.{lemmas.List.Sums.prefix_len-le-length, lemmas.List.length-map}
+use Rattle.std.proofs.lemmas.Simd.{length-chunk, trailing_mask_l, mask_l-mod, zip2_splat, zip2_of_maps, map-map, run_in_chunk_fails, none_from_empty_mask}
+use lib.Count.{count_trailing_zeros}
+use lib.Lanes.{zip2, chunk, mask_l, top}
 
 pub escape_byte-plain : (b : ℕ) → needs_escape b ≡ false → escape_byte b ≡ b ∷ []
 unfolding escape_byte
@@ -194,21 +198,58 @@ module _ (p : ℕ → Bool) where
       → option_map (λ k. n + k) found ≡ position p text
   found_after n text rest found le quiet is place = rw (place, is) (sym (after n text le quiet))
 
-  -- none of these passes
-  none_of : (xs : List ℕ) (i : ℕ) → i < length xs → list_any p xs ≡ false → p (get_or xs i 0) ≡ false
-  none_of xs i lt e = elim (cases_Bool (p (get_or xs i 0))) [ inl t ↦ let f = list_any_at p xs i 0 lt t in absurd cc | inr n ↦ n ]
+-- ---- the test, lane by lane
 
-  -- nor do these, after others
-  pub more : (passed size n : ℕ) (text : List ℕ) → passed + size ≤ length text → n ≡ size → ((k : ℕ) → k < passed → p (get_or text k 0) ≡ false) → list_any p (take n (drop passed text)) ≡ false
-      → (k : ℕ) → k < passed + size → p (get_or text k 0) ≡ false
-  more passed size n text le is quiet none k lt =
-      elim (cases_lt k passed) [
-        | inl low ↦ quiet k low
-        | inr high ↦
-            let i = k - passed in
-            let there : passed + i ≡ k = omega arith in
-            let inside : i < length (take n (drop passed text)) = omega (arith, length-take n (drop passed text), length-drop passed text) in
-            let same_byte : get_or (take n (drop passed text)) i 0 ≡ get_or text k 0 = get_or-take n (drop passed text) i 0 (omega arith)
-            ∙ get_or-drop passed text i 0 ∙ ap (λ j. get_or text j 0) there in
-            ap p (sym same_byte) ∙ none_of (take n (drop passed text)) i inside none
-      ]
+tested : (a b c : Bool) → top 7 (bit_or (bit_or (cond a 255 0) (cond b 255 0)) (cond c 255 0)) ≡ ((a || b) || c)
+tested true true true = refl
+tested true true false = refl
+tested true false true = refl
+tested true false false = refl
+tested false true true = refl
+tested false true false = refl
+tested false false true = refl
+tested false false false = refl
+
+each_tested : (v : List ℕ) → map (λ x. top 7 (bit_or (bit_or (cond (eqb x 34) 255 0) (cond (eqb x 92) 255 0)) (cond (ltb x 32) 255 0))) v ≡ map needs_escape v
+each_tested [] = refl
+each_tested (x ∷ v) = ap₂ (λ b bs. b ∷ bs) (tested (eqb x 34) (eqb x 92) (ltb x 32)) (each_tested v)
+
+abbrev equal : ℕ → ℕ → ℕ
+equal a b = cond (eqb a b) 255 0
+
+abbrev below : ℕ → ℕ → ℕ
+below a b = cond (ltb a b) 255 0
+
+pub stops_mask : (v : List ℕ) → length v ≡ 32 → mask_l (map (top 7) (zip2 bit_or
+    (zip2 bit_or (zip2 equal v (replicate 32 34)) (zip2 equal v (replicate 32 92))) (zip2 below v (replicate 32 32)))) % 2 ^ 64 ≡ mask_l (map needs_escape v)
+stops_mask v long =
+    let quotes = zip2_splat equal v 32 34 long in
+    let slashes = zip2_splat equal v 32 92 long in
+    let controls = zip2_splat below v 32 32 long in
+    let both = zip2_of_maps bit_or _ _ v quotes slashes in
+    let all = zip2_of_maps bit_or _ _ v both controls in
+    ap (λ ms. mask_l ms % 2 ^ 64) (ap (map (top 7)) all ∙ map-map (top 7) _ v ∙ each_tested v) ∙ mask_l-mod (map needs_escape v) 64 (omega (arith, length-map v needs_escape, long))
+
+-- ---- bytes before the first that stops
+
+-- The first n bytes of the text need no escape in JSON.
+abbrev pub IsQuiet : List ℕ → ℕ → Type 0
+IsQuiet text n = (k : ℕ) → k < n → needs_escape (get_or text k 0) ≡ false
+
+module _ (text : List ℕ) (i : ℕ) (depth_left : i + 32 ≤ length text) (before : IsQuiet text i) where
+  pub all_quiet : mask_l (map needs_escape (chunk i 32 text)) ≡ 0 → IsQuiet text (i + 32)
+  all_quiet none k lt = elim (cases_lt k i) [
+    | inl less ↦ before k less
+    | inr more ↦ none_from_empty_mask needs_escape text i 32 0 depth_left none k (omega (arith, more)) lt
+  ]
+
+  -- the first byte that stops is one of the chunk, and those before it are quiet
+  pub stops_within : (r : ℕ) → 0 < mask_l (map needs_escape (chunk i 32 text)) → r ≡ count_trailing_zeros 64 (mask_l (map needs_escape (chunk i 32 text))) → (r ≤ 32) × IsQuiet text (i + r)
+  stops_within r some counted =
+      let long = length-chunk i 32 text depth_left in
+      let first : r ≡ prefix_len (λ x. not (needs_escape x)) (chunk i 32 text) = counted ∙ trailing_mask_l needs_escape 64 (chunk i 32 text) (omega (arith, long)) some in
+      let quiet : IsQuiet text (i + r) = λ k lt. elim (cases_lt k i) [
+        | inl less ↦ before k less
+        | inr more ↦ run_in_chunk_fails needs_escape text i 32 r 0 depth_left first k (omega (arith, more)) lt
+      ] in
+      (omega (arith, first, prefix_len-le-length (λ x. not (needs_escape x)) (chunk i 32 text), long), quiet)

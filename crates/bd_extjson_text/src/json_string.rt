@@ -1,15 +1,20 @@
 //! JSON strings: RFC 8259, section 7. Most names and texts need no escape: these are copied and examined at once.
-ghost use Rattle.std.specs.Prelude.{◌≡◌, ◌<◌, ◌≤◌, ◌+◌, ◌++◌, OnOk, OnErr, IfOk, IsTrue, string_bytes, map, if◌then◌else◌, [], ◌∷◌, length, take, false, true};
+ghost use Rattle.std.specs.Prelude.{◌≡◌, ◌<◌, ◌≤◌, ◌+◌, ◌++◌, ℕ, get_or, OnOk, OnErr, IfOk, IsTrue, string_bytes, map, if◌then◌else◌, [], ◌∷◌, length, take, false, true};
 ghost use Rattle.std.specs.Char.{digit_char};
 ghost use Rattle.std.specs.List.{list_any, position, join_with_byte};
+ghost use Rattle.std.specs.Simd.Lanes.{mask_l};
 ghost use Rattle.bd_extjson_text.specs.Buffer.{Appends};
 ghost use Rattle.bd_extjson_text.specs.Text.{needs_escape, escape_byte, escaped, quoted};
 
 use crate::buffer::{End, VALUE, grow_buffer, put, put_byte, put_byte_in, put_known, settle};
 use bd_value::NoMemory;
+use std::simd::prelude::*;
 
 /// How many bytes are examined together.
 const STEP: usize = 16;
+
+/// How many are looked at together where the first that stops is looked for.
+const LANES: usize = 32;
 
 /// Appends a string with its quotation marks: RFC 8259, section 7.
 ///
@@ -143,9 +148,9 @@ fn copy_plain(text: &[u8], buffer: &mut [u8], end: usize) -> bool
     if text.len() < 4 {
         copy_few(text, buffer, end)
     } else if text.len() < 8 {
-        copy_ends(4, text, buffer, end)
+        copy_ends::<4>(text, buffer, end)
     } else if text.len() < 16 {
-        copy_ends(8, text, buffer, end)
+        copy_ends::<8>(text, buffer, end)
     } else {
         copy_many(text, buffer, end)
     }
@@ -169,20 +174,23 @@ fn copy_few(text: &[u8], buffer: &mut [u8], end: usize) -> bool
     true
 }
 
-/// Copies a text of at least `size` and at most twice as many bytes, and returns whether none needs an escape. The first and
-/// the last `size` bytes are copied, so that each copy is of a known length.
+/// Copies a text of at least `N` and at most twice as many bytes, and tells whether none needs an escape. The first and the last `N`
+/// bytes are copied, so that each copy is of a known length.
 #[inline(always)]
-fn copy_ends(size: usize, text: &[u8], buffer: &mut [u8], end: usize) -> bool
-    requires size { (size ≤ length text.now) × (length text.now ≤ size + size) }
+fn copy_ends<const N: usize>(text: &[u8], buffer: &mut [u8], end: usize) -> bool
+    requires size { (N ≤ length text.now) × (length text.now ≤ N + N) }
     requires buffer { end + length text.now ≤ length buffer.old }
     ensures copied { take (end + length text.now) buffer.new ≡ take end buffer.old ++ text.now }
     ensures plain { IsTrue result → list_any needs_escape text.now ≡ false }
 {
-    let between = text.len() - size;
-    let (first, _) = text.split_at(size);
-    let (_, last) = text.split_at(between);
-    put(first, buffer, end);
-    put(last, buffer, end + between);
+    let Some((first, _)) = text.split_first_chunk::<N>() else {
+        unreachable!()
+    };
+    let Some((front, last)) = text.split_last_chunk::<N>() else {
+        unreachable!()
+    };
+    put_known(*first, buffer, end);
+    put_known(*last, buffer, end + front.len());
     !any_escape(first) && !any_escape(last)
 }
 
@@ -204,7 +212,7 @@ fn copy_many(text: &[u8], buffer: &mut [u8], end: usize) -> bool
         put(part, buffer, end + passed);
         passed += STEP;
     }
-    copy_ends(STEP, &text[passed..], buffer, end + passed)
+    copy_ends::<STEP>(&text[passed..], buffer, end + passed)
 }
 
 /// The same for a text that needs escapes: the bytes between two of them are copied as they are.
@@ -231,10 +239,7 @@ fn append_escaped(text: &[u8], after: usize, out: &mut Vec<u8>, end: usize) -> E
 fn first_escape(text: &[u8]) -> Option<usize>
     ensures { result ≡ position needs_escape text.now }
 {
-    let mut passed = 0;
-    while text.len() - passed >= STEP && !any_escape(&text[passed..passed + STEP]) {
-        passed += STEP;
-    }
+    let passed = plain_length(text);
     let (_, rest) = text.split_at(passed);
     match first_of_few(rest) {
         Some(place) => Some(passed + place),
@@ -247,6 +252,48 @@ fn first_of_few(text: &[u8]) -> Option<usize>
     ensures { result ≡ position needs_escape text.now }
 {
     text.iter().position(|b| needs_escape(*b))
+}
+
+/// How many bytes stand for themselves, to the first that does not.
+#[inline(always)]
+pub fn plain_length(text: &[u8]) -> usize
+    ensures within { result ≤ length text.now }
+    ensures plain { (k : ℕ) → k < result → needs_escape (get_or text.now k 0) ≡ false }
+{
+    let mut passed = 0;
+    while text.len() - passed >= LANES {
+        let found = stops(u8x32::from_slice(&text[passed..]));
+        if found != 0 {
+            return passed + found.trailing_zeros() as usize;
+        }
+        passed += LANES;
+    }
+    plain_length_from(text, passed)
+}
+
+/// The same, looking at one byte after the other, where so many were looked at.
+#[inline(always)]
+fn plain_length_from(text: &[u8], passed: usize) -> usize
+    requires within { passed ≤ length text.now }
+    requires plain { (k : ℕ) → k < passed → needs_escape (get_or text.now k 0) ≡ false }
+    ensures within { result ≤ length text.now }
+    ensures plain { (k : ℕ) → k < result → needs_escape (get_or text.now k 0) ≡ false }
+{
+    let mut passed = passed;
+    while passed < text.len() && !needs_escape(text[passed]) {
+        passed += 1;
+    }
+    passed
+}
+
+/// A bit for each byte that may not stand for itself in a string, the lowest for the first.
+#[inline(always)]
+fn stops(bytes: u8x32) -> u64
+    ensures { result ≡ mask_l (map needs_escape bytes) }
+{
+    (bytes.simd_eq(u8x32::splat(b'"'))
+        | bytes.simd_eq(u8x32::splat(b'\\'))
+        | bytes.simd_lt(u8x32::splat(32))).to_bitmask()
 }
 
 /// Writes the escape of a byte that needs one after the text.

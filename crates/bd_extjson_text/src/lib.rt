@@ -13,8 +13,8 @@
 //! - `text`: `write_node`, `write_value` and `write_doc`: a value in memory or in bytes, a value, a document; `TextBuffer`,
 //!   the buffer of a line for one node after the other.
 //! - `scalar`: a row of the conversion table each, and numbers, base64 and hexadecimal digits.
-//! - `json_string`: strings, and the names of a path.
-//! - `buffer`: text that is written into a buffer which already has the space.
+//! - `json_string`: strings, how far one needs no escape, and the names of a path.
+//! - `buffer`: text that is written into a buffer whose space was made once.
 #![tactic(auto)]
 
 mod buffer;
@@ -22,6 +22,6 @@ mod json_string;
 mod scalar;
 mod text;
 
-pub use json_string::{write_path, write_string};
+pub use json_string::{plain_length, write_path, write_string};
 pub use scalar::write_number;
 pub use text::{TextBuffer, write_doc, write_node, write_value};

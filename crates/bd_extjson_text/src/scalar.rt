@@ -31,7 +31,7 @@ macro_rules! scalar_of {
 }
 
 /// Appends the text of a scalar that is not a string. There is space for a short one.
-#[inline(never)]
+#[inline(always)]
 #[tactic(auto, unfolding(crate::specs::Text::scalar_text, crate::specs::Text::quoted, crate::specs::Text::escape_byte))]
 pub(crate) fn append_scalar<N: Reading>(node: N, out: &mut Vec<u8>, end: usize) -> End
     requires scalar { (s : trees.Scalar) × (N.tree node ≡ leaf s) }

@@ -5,17 +5,20 @@ use Rattle.bd_extjson_text.proofs.TextLemmas.{to_come}
 use Rattle.bd_extjson_text.proofs.text.+text.Given as goal
 
 abbrev pub decreases-append_node : goal.decreases-append_node
-decreases-append_node g l = 2 * tree_size (g.N.Reading.tree l.node) + 1
+decreases-append_node g l = 3 * tree_size (g.N.Reading.tree l.node) + 2
+
+abbrev pub decreases-append_holder : goal.decreases-append_holder
+decreases-append_holder g l = 3 * tree_size (g.N.Reading.tree l.node) + 1
 
 abbrev pub decreases-append_scope : goal.decreases-append_scope
-decreases-append_scope g l = 2 * tree_size (g.N.Reading.tree l.node)
+decreases-append_scope g l = 3 * tree_size (g.N.Reading.tree l.node)
 
 abbrev pub decreases-append_fields : goal.decreases-append_fields
-decreases-append_fields g l = 2 * fields_size (fields_of (g.N.Reading.remaining l.fields))
+decreases-append_fields g l = 3 * fields_size (fields_of (g.N.Reading.remaining l.fields))
 
 -- a name adds nothing to the size, so the fields of an array's elements have the size of its items
 abbrev pub decreases-append_items : goal.decreases-append_items
-decreases-append_items g l = 2 * fields_size (fields_of (g.N.Reading.remaining l.items))
+decreases-append_items g l = 3 * fields_size (fields_of (g.N.Reading.remaining l.items))
 
 -- what is written and what remains are together the whole text
 abbrev pub invariant-append_fields-loop-name : goal.invariant-append_fields-loop-name

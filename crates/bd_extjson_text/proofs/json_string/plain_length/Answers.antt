@@ -1,7 +1,7 @@
 use Rattle.std.proofs.Common.{sym, ap, arith}
 use lib.Count.{count_trailing_zeros}
-use Rattle.bd_extjson_pack.proofs.CanonicalLemmas.{all_quiet, stops_within}
-use Rattle.bd_extjson_pack.proofs.canonical_line.plain_length.Goals as goal
+use Rattle.bd_extjson_text.proofs.JsonStringLemmas.{all_quiet, stops_within}
+use Rattle.bd_extjson_text.proofs.json_string.plain_length.Goals as goal
 
 pub returns-then-found-ne0 : goal.returns-then-found-ne0
 returns-then-found-ne0 c =

@@ -1,6 +1,6 @@
 use Rattle.std.proofs.Common.{◌-◌, ◌≤◌, length}
-use Rattle.bd_extjson_pack.proofs.CanonicalLemmas.{IsQuiet}
-use Rattle.bd_extjson_pack.proofs.canonical_line.plain_length_from.Given as goal
+use Rattle.bd_extjson_text.proofs.JsonStringLemmas.{IsQuiet}
+use Rattle.bd_extjson_text.proofs.json_string.plain_length.Given as goal
 
 abbrev pub invariant-loop-passed : goal.invariant-loop-passed
 invariant-loop-passed l = (l.passed ≤ length l.text) × IsQuiet l.text l.passed
