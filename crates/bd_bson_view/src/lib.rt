@@ -1,6 +1,7 @@
 //! Values and documents in their BSON bytes, by views which guarantee that the bytes spell them.
 //!
 //! What the bytes of a document are: `specs/Spelling.antt`, after BSON 1.1. That bytes spell at most one: `specs/Unique.antt`.
+//! What contracts see of a view: `specs/Raw.antt`.
 //!
 //! An example, which `bd_bson_tests` proves and runs as `examples::raw`:
 //!

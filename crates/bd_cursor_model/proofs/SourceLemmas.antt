@@ -123,7 +123,7 @@ range_rises a u k zero = tt
 range_rises a u k (suc n) = (λ y h. let r = range_in (k + 1) n y h in before_lower a u k y (omega arith), range_rises a u (k + 1) n)
 
 range_is_source : (a : Selection) → IsSource a.count a.matches_at (range_with_len 0 a.count)
-range_is_source a = let e : a.count - 0 ≡ a.count = omega arith in let s = scan_law 0 a.count a.count a.matches_at refl refl in rw e at s
+range_is_source a = let e : a.count - 0 ≡ a.count = omega arith in let s = scan_law (record { next = 0; count = a.count }) a.count a.matches_at (refl, refl) in rw e at s
 
 of_range : (a : Selection) → IsTotalOrder a.by → IsUnsorted a → (last : Option ℕ) → filter (passes a.matches_at a.by last) (range_with_len 0 a.count) ≡ places_after a last
 of_range a o u last = batch_in_order a o (range_with_len 0 a.count) (range_is_source a) (rises_ascending (before a.by) (range_with_len 0 a.count) (range_rises a u 0 a.count)) last

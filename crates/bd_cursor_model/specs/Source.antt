@@ -3,7 +3,7 @@ use Rattle.std.specs.Prelude.{ℕ, ◌<◌, ◌≡◌, ◌≢◌, ◌-◌, ◌&&
 use Rattle.std.specs.{List.All, List.AllPairs, List.filter, List.range_with_len, declared.cmp.Ordering.Ordering}
 use Rattle.std.proofs.{Common.arith, Common.◌∙◌, Common.zero-add, lemmas.List.FromFn.get_or-range_with_len}
 use Rattle.std.proofs.{lemmas.List.FromFn.length-range_with_len}
-use Rattle.bd_cursor_model.specs.Answer.{Selection, before, ordered}
+use Rattle.bd_cursor_model.specs.{Answer.Selection, Answer.before, Answer.ordered, declared.source.Scan.Scan}
 
 -- a list of numbers of n documents in which no match is missing and none comes twice
 pub record IsSource (n : ℕ) (matches_at : ℕ → Bool) (ps : List ℕ) : Type 0 where
@@ -29,10 +29,17 @@ passes matches_at by last p = matches_at p && is_after (before by) last p
 abbrev pub places_after : Selection → Option ℕ → List ℕ
 places_after a last = filter (is_after (before a.by) last) (ordered a)
 
+-- the document numbers that a scan has yet to give, in file order
+abbrev pub scan_places : Scan → List ℕ
+scan_places scan = range_with_len scan.next (scan.count - scan.next)
+
+-- The scan has yet to give all documents, of which there are n.
+abbrev pub ScansAll : Scan → ℕ → Type 0
+ScansAll scan n = (scan.next ≡ 0) × (scan.count ≡ n)
+
 -- the numbers of all documents in file order are a source: no match is missing, and none comes twice
-pub scan_law : (next count n : ℕ) (matches_at : ℕ → Bool) → next ≡ 0 → count ≡ n →
-    IsSource n matches_at (range_with_len next (count - next))
-scan_law next count n matches_at e f = rw (e, f) (let z : n - 0 ≡ n = omega arith in rw z (record {
+pub scan_law : (scan : Scan) (n : ℕ) (matches_at : ℕ → Bool) → ScansAll scan n → IsSource n matches_at (scan_places scan)
+scan_law scan n matches_at all = rw (all.0, all.1) (let z : n - 0 ≡ n = omega arith in rw z (record {
   below = λ k d l. let m : k < n = omega (arith, length-range_with_len 0 n) in
       rw (get_or-range_with_len 0 n k d m) (omega arith);
   distinct = λ i j d a b e. let m : j < n = omega (arith, length-range_with_len 0 n) in let x =

@@ -1,7 +1,6 @@
 //! Sources of places.
-ghost use Rattle.std.specs.Prelude.{◌≡◌, ◌-◌, Bool, List, ℕ};
-ghost use Rattle.std.specs.List.{range_with_len};
-ghost use Rattle.bd_cursor_model.specs.Source.{HandsOut, IsSource, scan_law};
+ghost use Rattle.std.specs.Prelude.{Bool, List, ℕ};
+ghost use Rattle.bd_cursor_model.specs.Source.{HandsOut, IsSource, ScansAll, scan_law, scan_places};
 
 /// Returns places, which include those of all documents that match.
 pub trait PlaceSource {
@@ -30,16 +29,16 @@ pub struct Scan {
 impl Scan {
     /// A scan of n documents.
     pub fn new(count: u32) -> Scan
-        ensures { result ≡ record { next = 0; count = count } }
+        ensures { ScansAll result count }
     {
         Scan { next: 0, count }
     }
 }
 
 impl PlaceSource for Scan {
-    ghost remaining = { λ s. range_with_len s.next (s.count - s.next) };
+    ghost remaining = { scan_places };
 
-    ghost serves = { λ s n matches_at. (s.next ≡ 0) × (s.count ≡ n) };
+    ghost serves = { λ s n matches_at. ScansAll s n };
 
     fn next_place(&mut self) -> Option<u32> {
         if self.next < self.count {
@@ -51,5 +50,5 @@ impl PlaceSource for Scan {
         }
     }
 
-    ghost law = { λ s n matches_at e. scan_law s.next s.count n matches_at e.0 e.1 };
+    ghost law = { scan_law };
 }

@@ -1,6 +1,7 @@
 //! Devices that give and take bytes, with counts of calls and of failures.
 //!
-//! What contracts see of a device, before a call and after it: `specs/Devices.antt`.
+//! What contracts see of a device, before a call and after it: `specs/Devices.antt`. What they see of each kind of device:
+//! `specs/Input.antt` and `specs/Output.antt`.
 //!
 //! An example, which `bd_io_tests` proves and runs as `examples::device`:
 //!
