@@ -1,23 +1,21 @@
 //! Laws of the commands. The body of each is empty: its contract is the law.
 
-ghost use Rattle.std.specs.Prelude.{◌≡◌, ◌<◌, ◌++◌, ℕ, List, Option, None, Result, Ok, codes, slice_index};
-ghost use Rattle.std.specs.List.{All};
+ghost use Rattle.std.specs.Prelude.{◌≡◌, ◌<◌, ◌++◌, ℕ, List, Option, None, Result, Ok, slice_index};
 ghost use Rattle.bd_value.specs.{Tree.Doc};
 ghost use Rattle.bd_cursor_model.specs.{Session.State, Laws.new_state};
 ghost use Rattle.bd_io_device.specs.{declared.reading.ReadFault.ReadFault};
 ghost use Rattle.bd_bson_check.specs.Dump.{AreJoined};
 ghost use Rattle.bd_cli_args.specs.FindWords.{FindWords};
 ghost use Rattle.bd_io_lines.specs.{Lines.commands_of, Lines.text_lines, Serving.RepliesInTurn};
-ghost use Rattle.bd_cli_service.specs.Talk.{AreAlikeTexts, IsReadLine, RepliesInText};
+ghost use Rattle.bd_cli_service.specs.Talk.{RepliesInText};
 ghost use Rattle.bd_cli_files.specs.DumpAndCheck.{IsOutputOfCheck, IsOutputOfDump};
 ghost use Rattle.bd_cli_files.specs.Output.{Transcript, lines};
-ghost use Rattle.bd_cli_files.specs.Pack.{AreAlike, IsOutputOfPack, PacksLines};
+ghost use Rattle.bd_cli_files.specs.Pack.{IsOutputOfPack, PacksLines};
 ghost use Rattle.bd_cli_files.specs.declared.pack.BadLine.{BadLine};
-ghost use Rattle.bd_cli_find.specs.{Asking.ReadsText, Find.IsOutputOfFind};
+ghost use Rattle.bd_cli_find.specs.Find.{IsOutputOfFind};
 
-/// Each input has one output, and each list of bytes has an output: so for `dump` and `check`, and for `find` with any options. For
-/// `pack` and `find` there is one output except for the kind and the offset of the fault in a line, or in a query or a sort, that
-/// is no document. `serve` has one text of replies to each text of commands, except for such a fault of a command.
+/// One thing is shown of each input, and of each list of bytes there is something to show; so also for `check`, for `pack`, and
+/// for `find`, of each words. `serve` has one text of replies to each text of commands.
 pub fn prints_one_thing()
     ensures one { (bytes : List ℕ) (fault : Option ReadFault) (output other : Transcript) →
         IsOutputOfDump bytes fault output → IsOutputOfDump bytes fault other → output ≡ other }
@@ -27,35 +25,25 @@ pub fn prints_one_thing()
         IsOutputOfCheck bytes fault output → IsOutputOfCheck bytes fault other → output ≡ other }
     ensures checked_some { (bytes : List ℕ) →
         (output : Transcript) × IsOutputOfCheck bytes None output }
-    ensures found_one { (words : FindWords) (query sort : Doc) (input : Result (List ℕ) ReadFault)
-        (output other : Transcript) → ReadsText (codes "query") words.query (Ok query) →
-        ReadsText (codes "sort") words.sort (Ok sort) →
-        IsOutputOfFind words input output → IsOutputOfFind words input other → output ≡ other }
-    ensures found_alike { (words : FindWords)
-        (input : Result (List ℕ) ReadFault) (output other : Transcript) →
-        IsOutputOfFind words input output → IsOutputOfFind words input other →
-        (output.out ≡ other.out) × (output.status ≡ other.status) }
+    ensures found_one { (words : FindWords) (input : Result (List ℕ) ReadFault)
+        (output other : Transcript) → IsOutputOfFind words input output →
+        IsOutputOfFind words input other → output ≡ other }
     ensures found_some { (words : FindWords) (bytes : List ℕ) →
         ((i : ℕ) → slice_index bytes i < 256) →
         (output : Transcript) × IsOutputOfFind words (Ok bytes) output }
-    ensures packed_one { (text : List ℕ) (ds es : List Doc) (bad other : Option BadLine) →
+    ensures packed_one { (input : Result (List ℕ) ReadFault) (output other : Transcript) →
+        IsOutputOfPack input output → IsOutputOfPack input other → output ≡ other }
+    // The documents of a text, and its bad line, are determined too.
+    ensures lines_one { (text : List ℕ) (ds es : List Doc) (bad other : Option BadLine) →
         PacksLines 1 (text_lines text) ds bad → PacksLines 1 (text_lines text) es other →
-        (ds ≡ es) × AreAlike bad other }
-    ensures packed_alike { (input : Result (List ℕ) ReadFault) (output other : Transcript) →
-        IsOutputOfPack input output → IsOutputOfPack input other → (output.out ≡ other.out)
-        × (output.status ≡ other.status) }
+        (ds ≡ es) × (bad ≡ other) }
     ensures packed_some { (text : List ℕ) →
         (output : Transcript) × IsOutputOfPack (Ok text) output }
-    ensures served_one { (bytes : List ℕ) (ds : List Doc)
-        (commands replies other : List ℕ) (s t : State) → All IsReadLine (commands_of commands) →
-        RepliesInTurn (RepliesInText bytes ds) new_state (commands_of commands) replies s →
-        RepliesInTurn (RepliesInText bytes ds) new_state (commands_of commands) other t →
-        (replies ≡ other) × (s ≡ t) }
-    ensures served_alike { (bytes : List ℕ)
+    ensures served_one { (bytes : List ℕ)
         (ds : List Doc) (commands replies other : List ℕ) (s t : State) →
         RepliesInTurn (RepliesInText bytes ds) new_state (commands_of commands) replies s →
         RepliesInTurn (RepliesInText bytes ds) new_state (commands_of commands) other t →
-        AreAlikeTexts (commands_of commands) replies other × (s ≡ t) }
+        (replies ≡ other) × (s ≡ t) }
 {}
 
 /// For each input `check` and `dump` have the same status: there is a document with a fault exactly if there is a first fault.

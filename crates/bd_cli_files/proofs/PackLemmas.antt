@@ -1,26 +1,25 @@
--- The output of `pack` is determined, except for the kind and the offset of a fault.
+-- What `pack` shows is determined.
 use Rattle.std.proofs.Common.{◌≡◌, ◌≤◌, ◌<◌, ℕ, suc, ◌+◌, List, [], ◌∷◌, ◌++◌, length, take, drop, get_or, Bool, true, false, Option, Some, None, refl, sym, ap, ◌∙◌, subst, append_assoc, append-nil}
 use Rattle.std.proofs.Common.{arith, inl, inr, decimal, Ok, length-append, length-take-le, rules, add-one, Result, Err, ap₂, true≢false}
-use Rattle.std.proofs.{lemmas.Bool.cases_lt, lemmas.Bool.Decides.nat_tests, lemmas.Str.utf8_valid_len_le, lemmas.List.Splits.slice_split_at, lemmas.List.Splits.slice_split_none, lemmas.Grind.flat_map-append, Math.Seq.drop-cons}
+use Rattle.std.proofs.{lemmas.Bool.cases_lt, lemmas.Bool.Decides.nat_tests, lemmas.List.Splits.slice_split_at, lemmas.List.Splits.slice_split_none, lemmas.Grind.flat_map-append, Math.Seq.drop-cons}
 use Rattle.std.proofs.lemmas.List.{get_or-take, get_or_default, take-append-drop}
-use Rattle.std.specs.Prelude.{◌⊎◌, ◌↔◌, ◌==◌, option_map}
-use Rattle.std.specs.{List.All, List.flat_map, Str.Lossy.utf8_valid_len}
+use Rattle.std.specs.Prelude.{◌⊎◌, ◌==◌, option_map}
+use Rattle.std.specs.{List.All, List.flat_map}
 use Rattle.bd_value.specs.{Limits.longest_document, Limits.most_reads, Tree.Doc}
 use Rattle.memchr.specs.Find.{IsFirstByte, is_byte}
 use Rattle.bd_extjson.specs.Read.{ReadsAs, reading}
-use Rattle.bd_extjson_fault.specs.{JsonFault.IsPlaced, JsonFault.ReportsBadUtf8, declared.json_fault.JsonFault.JsonFault}
+use Rattle.bd_extjson_fault.specs.TextFault.{text_fault}
 use Rattle.bd_extjson_pack.specs.Packable.{plain, IsPackable, IsBad}
 use Rattle.bd_extjson_pack.specs.declared.line.LineFault.{LineFault}
 use Rattle.bd_cli_files.specs.{declared.output.OutputFault.OutputFault, declared.output.OutputFault.TheVariants.NoMemory, declared.output.OutputFault.TheVariants.Unwritten, declared.pack.BadLine.BadLine}
 use Rattle.bd_cli_files.specs.{declared.pack.Packing.Packing, declared.output.Status.Status, declared.output.Status.TheVariants.Failed}
 use Rattle.bd_cli_files.specs.Output.{stop_words, PrintsOrRunsOut, ReportsMessage, Transcript, error_line, no_memory, wrong_line, wrong_status}
-use Rattle.bd_cli_files.specs.Pack.{IsOutputOfPack, PacksLines, bad_line_text, pack_output, IsPacking, StopsPacking, remaining_size, lines_remaining, objects_packed, AreAlike}
+use Rattle.bd_cli_files.specs.Pack.{IsOutputOfPack, PacksLines, bad_line_text, pack_output, IsPacking, StopsPacking, remaining_size, lines_remaining, objects_packed}
 use Rattle.bd_io_device.proofs.DevicesLemmas.{takes_both}
 use Rattle.bd_cli_files.proofs.OutputLemmas.{all_output, stop_output, write_fails_piece, prefix_taken}
 use Rattle.bd_io_lines.specs.Lines.{is_empty_line, text_lines}
 use Rattle.bd_io_device.specs.Devices.{WriteFailsWithin, TakesText, Writer, between}
 use Rattle.bd_io_device.specs.declared.reading.ReadFault.{ReadFault}
-use Rattle.bd_extjson_fault.specs.declared.json_fault.JsonFaultKind.TheVariants as kinds
 use Rattle.bd_extjson_pack.specs.declared.line.LineFault.TheVariants as faults
 
 -- a line is one document
@@ -29,27 +28,28 @@ read_once line d e p q = cc
 
 -- and it is not a bad line
 good_or_bad : (line : List ℕ) (d : Doc) (fault : LineFault) → IsPackable line d → IsBad line fault → ⊥
-good_or_bad line d (faults.Unread f) good bad = bad.1 d good.0
+good_or_bad line d (faults.Unread f) good bad = bad.0 d good.0
 good_or_bad line d faults.TooLong good (e, is, long) =
     let same = read_once line e d is good.0 in
     let longer : longest_document < length (plain d) = subst (λ (x : Doc). longest_document < length (plain x)) same long in
     let short = good.1 in omega arith
 
-alike_faults : (line : List ℕ) (f g : LineFault) → IsBad line f → IsBad line g → (f ≡ faults.TooLong) ↔ (g ≡ faults.TooLong)
-alike_faults line (faults.Unread f) (faults.Unread g) p q = (λ e. absurd cc, λ e. absurd cc)
-alike_faults line (faults.Unread f) faults.TooLong p (d, is, long) = absurd (p.1 d is)
-alike_faults line faults.TooLong (faults.Unread g) (d, is, long) q = absurd (q.1 d is)
-alike_faults line faults.TooLong faults.TooLong p q = (λ e. e, λ e. e)
+-- of a bad line one fault is reported
+faults_once : (line : List ℕ) (f g : LineFault) → IsBad line f → IsBad line g → f ≡ g
+faults_once line (faults.Unread f) (faults.Unread g) p q = ap faults.Unread (p.1 ∙ sym q.1)
+faults_once line (faults.Unread f) faults.TooLong p (d, is, long) = absurd (p.0 d is)
+faults_once line faults.TooLong (faults.Unread g) (d, is, long) q = absurd (q.0 d is)
+faults_once line faults.TooLong faults.TooLong p q = refl
 
-alike_ends : (bad other same there : Option BadLine) → bad ≡ same → other ≡ there → AreAlike same there → AreAlike bad other
-alike_ends bad other same there p q a = subst (λ (b : Option BadLine). AreAlike b other) (sym p) (subst (λ (b : Option BadLine). AreAlike same b) (sym q) a)
+abbrev bad_line : ℕ → LineFault → Option BadLine
+bad_line number fault = Some (record { number = number; fault = fault })
 
 blank_or_not : {A : Type 0} (b : _) → b ≡ true → b ≡ false → A
 blank_or_not b p q = absurd (true≢false (sym p ∙ q))
 
 pub packs_once : (number : ℕ) (lines : List (List ℕ)) (ds es : List Doc) (bad other : Option BadLine) → PacksLines number lines ds bad
-    → PacksLines number lines es other → (ds ≡ es) × AreAlike bad other
-packs_once number [] ds es bad other p q = (p.0 ∙ sym q.0, alike_ends bad other None None p.1 q.1 tt)
+    → PacksLines number lines es other → (ds ≡ es) × (bad ≡ other)
+packs_once number [] ds es bad other p q = (p.0 ∙ sym q.0, p.1 ∙ sym q.1)
 packs_once number (line ∷ lines) ds es bad other (inl p) (inl q) = packs_once (suc number) lines ds es bad other p.1 q.1
 packs_once number (line ∷ lines) ds es bad other (inl p) (inr (inl q)) = blank_or_not _ p.0 q.0
 packs_once number (line ∷ lines) ds es bad other (inl p) (inr (inr q)) = blank_or_not _ p.0 q.0
@@ -61,20 +61,13 @@ packs_once number (line ∷ lines) ds es bad other (inr (inl (full, (d, xs, good
 packs_once number (line ∷ lines) ds es bad other (inr (inr p)) (inl q) = blank_or_not _ q.0 p.0
 packs_once number (line ∷ lines) ds es bad other (inr (inr (full, (fault, is, none, end)))) (inr (inl (also, (e, ys, fine, split, q)))) = absurd (good_or_bad line e fault fine is)
 packs_once number (line ∷ lines) ds es bad other (inr (inr (full, (f, is, none, end)))) (inr (inr (also, (g, was, nothing, there)))) =
-    (none ∙ sym nothing, alike_ends bad other (Some (record { number = number; fault = f })) (Some (record { number = number; fault = g })) end there (refl, alike_faults line f g is was))
+    (none ∙ sym nothing, end ∙ ap (bad_line number) (faults_once line f g is was) ∙ sym there)
 
-same_status : (bad other : Option BadLine) → AreAlike bad other → wrong_status (option_map bad_line_text bad) ≡ wrong_status (option_map bad_line_text other)
-same_status None None a = refl
-same_status None (Some b) a = absurd a
-same_status (Some b) None a = absurd a
-same_status (Some b) (Some c) a = refl
-
-pub packed_alike : (input : Result (List ℕ) ReadFault) (s t : Transcript) → IsOutputOfPack input s → IsOutputOfPack input t → (s.out ≡ t.out) × (s.status ≡ t.status)
-packed_alike (Ok text) s t (ds, bad, packs, prints) (es, other, packed, showed) =
+pub packed_once : (input : Result (List ℕ) ReadFault) (s t : Transcript) → IsOutputOfPack input s → IsOutputOfPack input t → s ≡ t
+packed_once (Ok text) s t (ds, bad, packs, prints) (es, other, packed, showed) =
     let same = packs_once 1 (text_lines text) ds es bad other packs packed in
-    let out : s.out ≡ t.out = ap (λ (x : Transcript). x.out) prints ∙ ap (flat_map plain) same.0 ∙ ap (λ (x : Transcript). x.out) (sym showed) in
-    (out, ap (λ (x : Transcript). x.status) prints ∙ same_status bad other same.1 ∙ ap (λ (x : Transcript). x.status) (sym showed))
-packed_alike (Err fault) s t p q = (ap (λ (x : Transcript). x.out) (p ∙ sym q), ap (λ (x : Transcript). x.status) (p ∙ sym q))
+    prints ∙ ap₂ pack_output same.0 same.1 ∙ sym showed
+packed_once (Err fault) s t p q = p ∙ sym q
 
 -- ---- all lines are packed in some way
 
@@ -93,10 +86,8 @@ packs_some number (line ∷ lines) = by_blank (is_empty_line line) refl (packs_s
 
     by_reading : (o : Option Doc) → reading line ≡ o → is_empty_line line ≡ false → HasPacking (suc number) lines → HasPacking number (line ∷ lines)
     by_reading None none full rest =
-        let fault : JsonFault = record { kind = kinds.Syntax; at = utf8_valid_len line } in
-        let offset_is : IsPlaced (length line) fault = record { inside = utf8_valid_len_le line; whole = λ e. absurd cc; memory = λ e. absurd cc } in
-        let bytes : ReportsBadUtf8 line fault = record { kind = λ _. refl; at = λ _. refl } in
-        ([], Some (record { number = number; fault = faults.Unread fault }), inr (inr (full, (faults.Unread fault, (λ e. cc, λ d is. cc, offset_is, bytes), refl, refl))))
+        let fault = faults.Unread (text_fault line) in
+        ([], Some (record { number = number; fault = fault }), inr (inr (full, (fault, (λ d is. cc, refl), refl, refl))))
     by_reading (Some d) is full rest = short d full is rest (cases_lt longest_document (length (plain d)))
 
     by_blank : (b : Bool) → is_empty_line line ≡ b → HasPacking (suc number) lines → HasPacking number (line ∷ lines)

@@ -1,5 +1,5 @@
 -- What `pack` prints for an input, and what a run of it did.
-use Rattle.std.specs.Prelude.{◌≡◌, ◌⊎◌, ◌↔◌, ℕ, suc, List, [], ◌∷◌, ◌++◌, length, codes, decimal, IsTrue, IsFalse}
+use Rattle.std.specs.Prelude.{◌≡◌, ◌⊎◌, ℕ, suc, List, [], ◌∷◌, ◌++◌, length, codes, decimal, IsTrue, IsFalse}
 use Rattle.std.specs.Prelude.{Option, Some, None, Result, Ok, Err, option_map}
 use Rattle.std.specs.List.{flat_map}
 use Rattle.bd_value.specs.Tree.{Doc}
@@ -54,13 +54,6 @@ abbrev pub IsOutputOfPack : Result (List ℕ) ReadFault → Transcript → Type 
 IsOutputOfPack (Ok text) output =
     (ds : List Doc) × (bad : Option BadLine) × PacksLines 1 (text_lines text) ds bad × (output ≡ pack_output ds bad)
 IsOutputOfPack (Err fault) output = output ≡ refusal_output (read_words fault)
-
--- Both are the same bad line, or None. If the line is no document,
--- the kind and the offset of the fault may differ.
-abbrev pub AreAlike : Option BadLine → Option BadLine → Type 0
-AreAlike None None = Unit {0}
-AreAlike (Some a) (Some b) = (a.number ≡ b.number) × ((a.fault ≡ faults.TooLong) ↔ (b.fault ≡ faults.TooLong))
-AreAlike _ _ = ⊥
 
 -- `pack` ran: its input was read, completely or not, and its output was printed.
 abbrev pub PacksInput : Over Reader → Over Writer → Over Writer → Status → Type 0

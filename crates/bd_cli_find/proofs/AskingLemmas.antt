@@ -3,11 +3,11 @@ use Rattle.std.proofs.Common.{◌≡◌, ◌≢◌, ◌⊎◌, ◌++◌, ℕ, Li
 use Rattle.std.specs.Prelude.{string_bytes}
 use Rattle.bd_value.specs.Tree.{Doc}
 use Rattle.bd_io_device.specs.Devices.{Over, Writer}
-use Rattle.bd_cursor_request.specs.{Refused.IsRefusedPart, Refused.Reason, Refused.bad_filter, Refused.plain, Refused.reason_of, Refused.refused_words, declared.results.Refused.Refused}
+use Rattle.bd_cursor_request.specs.{Refused.IsRefusedPart, Refused.Reason, Refused.bad_filter, Refused.plain, Refused.reason_of, Refused.refused_words, Refused.then_part, declared.results.Refused.Refused}
 use Rattle.bd_query_filter.specs.{Fault.refusal_of, declared.fault.FilterFault.FilterFault}
 use Rattle.bd_cli_args.specs.FindWords.{FindWords}
 use Rattle.bd_cli_files.specs.{Output.ReportsMessage, Output.error_line, Output.no_memory, declared.output.Status.Status, declared.output.Status.TheVariants.Failed}
-use Rattle.bd_cli_find.specs.Asking.{RequestsInWords, ReadsText, ReportsAskingFault, ReportsReason, ReportsRefusal, page_of, refusal_text, refused_option, refused_text}
+use Rattle.bd_cli_find.specs.Asking.{ReportsAskingFault, ReportsReason, ReportsRefusal, document_in, page_of, refusal_text, refused_option, refused_text, requested_by}
 use Rattle.bd_cli_find.specs.declared.asking.AskingFault.{AskingFault}
 use Rattle.bd_cli_find.specs.declared.asking.AskingFault.TheVariants as faults
 use Rattle.bd_cursor_request.specs.declared.results.Refused.TheVariants as reasons
@@ -34,15 +34,21 @@ pub explain_refusal : (err : Over Writer) (reason : Reason) (status : Status) �
 explain_refusal err (plain refused) status reported = inl reported
 explain_refusal err (bad_filter r) status reported = reported
 
-module _ (words : FindWords) (query : Doc) where
-  pub sort_refused : (fault : AskingFault) → ReadsText (codes "query") words.query (Ok query) → ReportsAskingFault (ReadsText (codes "sort") words.sort) fault
-      → ReportsAskingFault (RequestsInWords words) fault
-  sort_refused faults.NoMemory q none = tt
-  sort_refused (faults.Refused r) q none = inr (query, q, inl (refused_text (reason_of r), none, refl))
-  sort_refused (faults.Message m) q none = inr (query, q, inl (string_bytes m, none, refl))
+-- what stands on a part that is refused is refused with its message
+part_refused : {Given Wanted : Type 0} (part : Result Given (List ℕ)) (next : Given → Result Wanted (List ℕ)) (fault : AskingFault)
+    → ReportsAskingFault part fault → ReportsAskingFault (then_part part next) fault
+part_refused part next faults.NoMemory is = tt
+part_refused part next (faults.Refused r) is = rw is refl
+part_refused part next (faults.Message m) is = rw is refl
 
-  pub page_refused : (sort : Doc) (fault : AskingFault) → ReadsText (codes "query") words.query (Ok query) → ReadsText (codes "sort") words.sort (Ok sort)
-      → ReportsAskingFault (λ reported. page_of words query sort ≡ reported) fault → ReportsAskingFault (RequestsInWords words) fault
-  page_refused sort faults.NoMemory q s none = tt
-  page_refused sort (faults.Refused r) q s none = inr (query, q, inr (sort, s, none))
-  page_refused sort (faults.Message m) q s none = inr (query, q, inr (sort, s, none))
+module _ (words : FindWords) where
+  pub query_refused : (fault : AskingFault) → ReportsAskingFault (document_in (codes "query") words.query) fault → ReportsAskingFault (requested_by words) fault
+  query_refused = part_refused (document_in (codes "query") words.query) (λ query. then_part (document_in (codes "sort") words.sort) (λ sort. page_of words query sort))
+
+  pub sort_refused : (query : Doc) (fault : AskingFault) → document_in (codes "query") words.query ≡ Ok query
+      → ReportsAskingFault (document_in (codes "sort") words.sort) fault → ReportsAskingFault (requested_by words) fault
+  sort_refused query fault q none = rw q (part_refused (document_in (codes "sort") words.sort) (page_of words query) fault none)
+
+  pub page_refused : (query sort : Doc) (fault : AskingFault) → document_in (codes "query") words.query ≡ Ok query
+      → document_in (codes "sort") words.sort ≡ Ok sort → ReportsAskingFault (page_of words query sort) fault → ReportsAskingFault (requested_by words) fault
+  page_refused query sort fault q s none = rw (q, s) none

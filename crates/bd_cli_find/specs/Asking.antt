@@ -1,12 +1,11 @@
 -- What the options of `find` request, or why they are refused.
-use Rattle.std.specs.Prelude.{◌≡◌, ◌≢◌, ◌⊎◌, ℕ, nat_le, Bool, true, List, [], ◌++◌, length, codes, Option, Some, None}
-use Rattle.std.specs.Prelude.{Result, Ok, Err, if◌then◌else◌, string_bytes}
-use Rattle.std.specs.List.{join_with_byte}
+use Rattle.std.specs.Prelude.{◌≡◌, ◌⊎◌, ℕ, nat_le, Bool, true, List, [], ◌++◌, codes, Option, Some, None}
+use Rattle.std.specs.Prelude.{Result, Ok, Err, IsErr, if◌then◌else◌, string_bytes}
+use Rattle.std.specs.{List.join_with_byte, Option.ok_or}
 use Rattle.bd_value.specs.{Limits.greatest_count, Tree.Doc}
-use Rattle.bd_extjson_fault.specs.{JsonFault.IsPlaced, JsonFault.ReportsBadUtf8, JsonFault.json_fault_words}
-use Rattle.bd_extjson_fault.specs.{declared.json_fault.JsonFault.JsonFault}
+use Rattle.bd_extjson_fault.specs.{JsonFault.json_fault_words, TextFault.text_fault, declared.json_fault.JsonFault.JsonFault}
 use Rattle.bd_extjson_text.specs.Text.{quoted}
-use Rattle.bd_extjson.specs.Read.{ReadsAs, reading}
+use Rattle.bd_extjson.specs.Read.{reading}
 use Rattle.bd_path.specs.{Path.path_fault_words, declared.path.PathFault.PathFault}
 use Rattle.bd_query_filter.specs.Fault.{Refusal, filter_fault_words}
 use Rattle.bd_cursor_request.specs.{declared.results.Refused.Refused, declared.token.Token.Token}
@@ -17,7 +16,6 @@ use Rattle.bd_io_device.specs.Devices.{Over, Writer}
 use Rattle.bd_cli_files.specs.{Output.ReportsMessage, Output.error_line, Pack.byte_text, declared.output.Status.Status}
 use Rattle.bd_cli_files.specs.declared.output.Status.TheVariants.{Failed}
 use Rattle.bd_cli_find.specs.{declared.asking.Asking.Asking, declared.asking.AskingFault.AskingFault}
-use Rattle.bd_extjson_fault.specs.declared.json_fault.JsonFaultKind.TheVariants as kinds
 use Rattle.bd_cursor_request.specs.declared.results.Refused.TheVariants as reasons
 use Rattle.bd_cli_find.specs.declared.asking.AskingFault.TheVariants as faults
 
@@ -56,15 +54,10 @@ abbrev pub refused_text : Reason → List ℕ
 refused_text (bad_filter r) = refusal_text r
 refused_text (plain refused) = refused_option refused ++ refused_words refused
 
--- The text of a query or a sort is this document, or it is not a document, and this is the message of a fault;
--- without a text it is `{}`. No definition says that the fault is that of the text.
-abbrev pub ReadsText : List ℕ → Option (List ℕ) → Result Doc (List ℕ) → Type 0
-ReadsText name None (Ok d) = d ≡ []
-ReadsText name None (Err message) = ⊥
-ReadsText name (Some text) (Ok d) = ReadsAs text d
-ReadsText name (Some text) (Err message) = (reading text ≡ None)
-    × ((f : JsonFault) × IsPlaced (length text) f × ReportsBadUtf8 text f × (f.kind ≢ kinds.NoMemory)
-    × (message ≡ json_fault_text name f))
+-- the document of a query or a sort, or the message of the fault of its text; without a text it is `{}`
+abbrev pub document_in : List ℕ → Option (List ℕ) → Result Doc (List ℕ)
+document_in name None = Ok []
+document_in name (Some text) = ok_or (reading text) (json_fault_text name (text_fault text))
 
 -- whether the size of a batch is at most 2,147,483,647
 abbrev pub fits_batch : Option ℕ → Bool
@@ -90,36 +83,30 @@ page_of words query sort =
     then_part (error_as refused_text (after_part words.after)) (λ token.
     Ok (record { request = request; batch = words.batch; token = token })))))
 
--- A part has a value, for which `IsRest` holds; or it is refused with a message, for which `IsRefused` holds.
-abbrev pub IsRefusedOr : {Given : Type 0} → (List ℕ → Type 0) →
-    (Result Given (List ℕ) → Type 0) → (Given → Type 0) → Type 0
-IsRefusedOr {Given} IsRefused IsPart IsRest = ((message : List ℕ) × IsPart (Err message) × IsRefused message)
-    ⊎ ((given : Given) × IsPart (Ok given) × IsRest given)
-
 -- What the options of `find` request, or the message of the first refusal:
 -- of the query's text, the sort's text, then the rest.
-abbrev pub RequestsInWords : FindWords → Result PageRequest (List ℕ) → Type 0
-RequestsInWords words requested = IsRefusedOr (λ message. requested ≡ Err message) (ReadsText (codes "query") words.query) (λ query.
-    IsRefusedOr (λ message. requested ≡ Err message) (ReadsText (codes "sort") words.sort) (λ sort.
-    page_of words query sort ≡ requested))
+abbrev pub requested_by : FindWords → Result PageRequest (List ℕ)
+requested_by words =
+    then_part (document_in (codes "query") words.query) (λ query.
+    then_part (document_in (codes "sort") words.sort) (λ sort. page_of words query sort))
 
 -- The options of `find` are refused, whatever the file contains.
 abbrev pub RequestsNothing : FindWords → Type 0
-RequestsNothing words = (w : PageRequest) → ¬ (RequestsInWords words (Ok w))
+RequestsNothing words = IsErr (requested_by words)
 
 -- the request of an `Asking` in memory
 abbrev pub page_request_of : Asking → PageRequest
 page_request_of a = record { request = request_view a.request; batch = a.size; token = a.token }
 
 -- The fault reports the message with which the part is refused, or that memory ran out.
-abbrev pub ReportsAskingFault : {Given : Type 0} → (Result Given (List ℕ) → Type 0) → AskingFault → Type 0
-ReportsAskingFault IsPart faults.NoMemory = Unit {0}
-ReportsAskingFault IsPart (faults.Refused refused) = IsPart (Err (refused_text (reason_of refused)))
-ReportsAskingFault IsPart (faults.Message message) = IsPart (Err (string_bytes message))
+abbrev pub ReportsAskingFault : {Given : Type 0} → Result Given (List ℕ) → AskingFault → Type 0
+ReportsAskingFault part faults.NoMemory = Unit {0}
+ReportsAskingFault part (faults.Refused refused) = part ≡ Err (refused_text (reason_of refused))
+ReportsAskingFault part (faults.Message message) = part ≡ Err (string_bytes message)
 
 -- The fault reports the reason for which the part is refused, or that memory ran out.
 abbrev pub ReportsReason : {Given : Type 0} → Result Given Reason → AskingFault → Type 0
-ReportsReason part fault = ReportsAskingFault (λ reported. error_as refused_text part ≡ reported) fault
+ReportsReason part fault = ReportsAskingFault (error_as refused_text part) fault
 
 -- The line of the refusal was written; for a filter it may say instead that memory ran out.
 abbrev pub ReportsRefusal : Over Writer → Reason → Status → Type 0

@@ -14,7 +14,7 @@ use Rattle.bd_io_device.specs.{Devices.Over, Devices.Reader, Devices.Writer, Dev
 use Rattle.bd_io_device.specs.{declared.reading.ReadFault.ReadFault}
 use Rattle.bd_bson_check.specs.{Fault.Fault, Dump.IsDumpScan}
 use Rattle.bd_cli_args.specs.FindWords.{FindWords}
-use Rattle.bd_cli_find.specs.Asking.{RequestsInWords, IsRefusedOr, PageRequest, refused_text}
+use Rattle.bd_cli_find.specs.Asking.{PageRequest, refused_text, requested_by}
 use Rattle.bd_cursor_sort.specs.Selection.{query_to, selection_for}
 use Rattle.bd_cli_files.specs.{Input.ReadsInput, declared.output.Status.Status}
 use Rattle.bd_cli_files.specs.declared.output.Status.TheVariants.{Done, Failed}
@@ -119,8 +119,12 @@ IsOutputOf (Ok w) (Ok bytes) output = IsOutputOfBytes w bytes output
 
 -- This is the output of `find` for its options and an input.
 abbrev pub IsOutputOfFind : FindWords → Result (List ℕ) ReadFault → Transcript → Type 0
-IsOutputOfFind words input output =
-    (requested : Result PageRequest (List ℕ)) × RequestsInWords words requested × IsOutputOf requested input output
+IsOutputOfFind words input output = IsOutputOf (requested_by words) input output
+
+-- The file was read if something is asked for; it was not read if the options are refused.
+abbrev pub ReadsIfRequested : Result PageRequest (List ℕ) → Over Reader → Result (List ℕ) ReadFault → Type 0
+ReadsIfRequested (Ok w) file input = ReadsInput file input
+ReadsIfRequested (Err message) file input = file.after ≡ file.before
 
 -- `find` ran: its input was read unless an option is refused, and its output was printed;
 -- or memory ran out before, and nothing was read.
@@ -129,7 +133,7 @@ FindsDocuments words file out err status =
     ((file.after ≡ file.before) × (out.after ≡ out.before)
     × ReportsMessage err (error_line no_memory) Failed status)
     ⊎ ((input : Result (List ℕ) ReadFault) × (output : Transcript)
-    × IsRefusedOr (λ message. file.after ≡ file.before) (RequestsInWords words) (λ w. ReadsInput file input)
+    × ReadsIfRequested (requested_by words) file input
     × IsOutputOfFind words input output × PrintsInput input out err output status)
 
 -- the request of a filter, a sort, a skip and a limit, in terms of documents instead of their numbers

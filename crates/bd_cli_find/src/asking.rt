@@ -8,8 +8,8 @@ ghost use Rattle.bd_cursor_request.specs.Refused.{reason_of, refused_words, erro
 ghost use Rattle.bd_cursor_request.specs.Request.{named_index, request_of, request_view};
 ghost use Rattle.bd_cli_args.specs.FindWords.{find_words_of};
 ghost use Rattle.bd_cli_files.specs.Output.{error_line};
-ghost use Rattle.bd_cli_find.specs.Asking.{RequestsInWords, ReadsText, ReportsAskingFault, ReportsReason, ReportsRefusal, after_part, batch_part};
-ghost use Rattle.bd_cli_find.specs.Asking.{fits_batch, index_fault_text, json_fault_text, page_of, page_request_of, refusal_text, refused_option};
+ghost use Rattle.bd_cli_find.specs.Asking.{ReportsAskingFault, ReportsReason, ReportsRefusal, after_part, batch_part, document_in};
+ghost use Rattle.bd_cli_find.specs.Asking.{fits_batch, index_fault_text, json_fault_text, page_of, page_request_of, refusal_text, refused_option, requested_by};
 ghost use Rattle.bd_cli_find.specs.declared.asking.AskingFault.TheVariants.{NoMemory as no_memory};
 
 use bd_cli_args::FindOptions;
@@ -59,12 +59,12 @@ impl From<AllocError> for AskingFault {
 /// What the options of `find` request. Without a query all documents match; without a sort they are in file order.
 pub(crate) fn read_asking(alloc: Global, options: &FindOptions) -> Result<Asking, AskingFault>
     ensures asking { IfOk result (λ a.
-        RequestsInWords (find_words_of options.now) (Ok (page_request_of a))) }
+        requested_by (find_words_of options.now) ≡ Ok (page_request_of a)) }
     ensures fits { IfOk result (λ a. fits_batch a.size ≡ true) }
     ensures index { IfOk result (λ a.
         option_map (λ path. string_bytes path.text) a.index ≡ (find_words_of options.now).index) }
     ensures fault { IfErr result
-        (ReportsAskingFault (RequestsInWords (find_words_of options.now))) }
+        (ReportsAskingFault (requested_by (find_words_of options.now))) }
 {
     let query = read_text(alloc, "query", &options.query)?;
     let sort = read_text(alloc, "sort", &options.sort)?;
@@ -83,8 +83,8 @@ fn read_page(
     ensures fits { IfOk result (λ a. fits_batch a.size ≡ true) }
     ensures index { IfOk result (λ a.
         option_map (λ path. string_bytes path.text) a.index ≡ (find_words_of options.now).index) }
-    ensures fault { IfErr result (ReportsAskingFault (λ reported.
-        page_of (find_words_of options.now) (pairs query) (pairs sort) ≡ reported)) }
+    ensures fault { IfErr result (ReportsAskingFault
+        (page_of (find_words_of options.now) (pairs query) (pairs sort))) }
 {
     let request = read_request(alloc, query, sort, options)?;
     check_batch(options.batch)?;
@@ -101,9 +101,9 @@ fn read_page(
 /// The document of a query or a sort, named by `name`; without a text it has no pairs.
 fn read_text(alloc: Global, name: &str, text: &Option<String>) -> Result<Document, AskingFault>
     ensures document { IfOk result (λ d.
-        ReadsText name.now (option_map string_bytes text.now) (Ok (pairs d))) }
+        document_in name.now (option_map string_bytes text.now) ≡ Ok (pairs d)) }
     ensures fault { IfErr result
-        (ReportsAskingFault (ReadsText name.now (option_map string_bytes text.now))) }
+        (ReportsAskingFault (document_in name.now (option_map string_bytes text.now))) }
 {
     let Some(text) = text else {
         return Ok(Document::new(alloc));
@@ -172,8 +172,8 @@ fn read_index(alloc: Global, text: &Option<String>) -> Result<Option<Path>, Aski
     ensures path { OnOk result (named_index (option_map string_bytes text.now) ≡ Ok tt) }
     ensures text { IfOk result (λ index.
         option_map (λ path. string_bytes path.text) index ≡ option_map string_bytes text.now) }
-    ensures fault { IfErr result (ReportsAskingFault (λ reported.
-        error_as index_fault_text (named_index (option_map string_bytes text.now)) ≡ reported)) }
+    ensures fault { IfErr result (ReportsAskingFault
+        (error_as index_fault_text (named_index (option_map string_bytes text.now)))) }
 {
     let Some(text) = text else {
         return Ok(None);

@@ -10,7 +10,7 @@ ghost use Rattle.bd_io_lines.specs.Lines.{text_lines};
 ghost use Rattle.bd_path.specs.Sort.{SortPath};
 ghost use Rattle.bd_cli_args.specs.FindWords.{FindWords};
 ghost use Rattle.bd_cli_find.specs.Find.{IsReadBack, IsOutputOfFind, document_request, documents_output};
-ghost use Rattle.bd_cli_find.specs.Asking.{RequestsInWords, PageRequest};
+ghost use Rattle.bd_cli_find.specs.Asking.{PageRequest, requested_by};
 ghost use Rattle.bd_cli_files.specs.{Output.Transcript, Output.lines, Pack.PacksLines};
 ghost use Rattle.bd_extjson_pack.specs.Packable.{plain};
 
@@ -25,7 +25,7 @@ pub fn parts_print_the_whole()
         ≡ lines (documents_output f ss skip limit (flat_map (λ ds. ds) parts)) }
     ensures printed { (words : FindWords)
         (w : PageRequest) (ds : List Doc) (bytes : List ℕ) (output : Transcript) →
-        words.batch ≡ None → words.after ≡ None → RequestsInWords words (Ok w) →
+        words.batch ≡ None → words.after ≡ None → requested_by words ≡ Ok w →
         IsDumpScan ds None bytes → IsOutputOfFind words (Ok bytes) output → output.out ≡ lines
         (documents_output w.request.filter w.request.sorts w.request.skip w.request.limit ds) }
     ensures joined { (f : Filter) (ss : List SortPath) (most : ℕ) (parts : List (List Doc)) →

@@ -1,29 +1,30 @@
--- A command read as a call, and a line read as a call.
-use Rattle.std.proofs.Common.{◌≡◌, ℕ, List, Result, Ok, Err, refl, sym, inl, Option, Some, None}
-use Rattle.std.specs.Prelude.{IfErr, IfOk}
+-- A line read as a call, and why it is none.
+use Rattle.std.proofs.Common.{◌≡◌, ℕ, List, Result, Ok, refl, Option, Some, None}
 use Rattle.bd_value.specs.Tree.{Doc}
-use Rattle.bd_bson_dump.specs.{Collection.bytes_of, Collection.documents, declared.collection.Dump.Dump}
 use Rattle.bd_cli_command.specs.{Command.Command, CommandOf.command_of}
-use Rattle.bd_extjson.specs.Read.{ReadsAs}
-use Rattle.bd_cli_service.specs.{Talk.call_of, Talk.IsCallIn, declared.call.Call.Call, declared.call.CallFault.CallFault}
-use Rattle.bd_cli_service.specs.ServiceView.{RefusesLine, RefusesPart, session_call}
+use Rattle.bd_cursor_request.specs.Refused.{error_as, then_part}
+use Rattle.bd_cli_service.specs.Reply.{ReportedRefusal, command_refusal}
+use Rattle.bd_cli_service.specs.{Talk.call_in, Talk.call_of, Talk.document_call, Talk.document_in, declared.call.CallFault.CallFault}
+use Rattle.bd_cli_service.specs.ServiceView.{RefusesPart}
 use Rattle.bd_cli_service.specs.declared.call.CallFault.TheVariants as faults
 
-pub call_in_line : (dump : Dump) (line : List ℕ) (d : Doc) (command : Command) (result : Result Call CallFault)
-    → ReadsAs line d → command_of d ≡ Ok command
-    → IfOk result (λ c. call_of (bytes_of dump) (documents dump) command ≡ Ok (session_call dump c))
-    → IfOk result (λ c. IsCallIn (bytes_of dump) (documents dump) line (Ok (session_call dump c)))
-call_in_line dump line d command (Ok c) reads is h =
-    inl (d, reads, rw is (sym h))
-call_in_line dump line d command (Err f) reads is h = tt
+-- what stands on a part that is refused is refused for its reason
+part_refused : {A B : Type 0} (part : Result A ReportedRefusal) (next : A → Result B ReportedRefusal) (fault : CallFault)
+    → RefusesPart part fault → RefusesPart (then_part part next) fault
+part_refused part next faults.NoMemory is = tt
+part_refused part next (faults.Refused why) is = rw is refl
 
-pub fault_in_line : (dump : Dump) (line : List ℕ) (d : Doc) (command : Command) (result : Result Call CallFault)
-    → ReadsAs line d → command_of d ≡ Ok command
-    → IfErr result (RefusesPart (call_of (bytes_of dump) (documents dump) command)) → IfErr result (RefusesLine dump line)
-fault_in_line dump line d command (Ok c) reads is h = tt
-fault_in_line dump line d command (Err faults.NoMemory) reads is h = tt
-fault_in_line dump line d command (Err (faults.Refused why)) reads is h =
-    inl (d, reads, rw is (sym h))
+module _ (bytes : List ℕ) (ds : List Doc) (line : List ℕ) where
+  pub document_refused : (fault : CallFault) → RefusesPart (document_in line) fault → RefusesPart (call_in bytes ds line) fault
+  document_refused = part_refused (document_in line) (document_call bytes ds)
+
+  pub command_refused : (d : Doc) (fault : CallFault) → document_in line ≡ Ok d → RefusesPart (error_as command_refusal (command_of d)) fault
+      → RefusesPart (call_in bytes ds line) fault
+  command_refused d fault reads refused = rw reads (part_refused (error_as command_refusal (command_of d)) (call_of bytes ds) fault refused)
+
+  pub call_refused : (d : Doc) (command : Command) (fault : CallFault) → document_in line ≡ Ok d → command_of d ≡ Ok command
+      → RefusesPart (call_of bytes ds command) fault → RefusesPart (call_in bytes ds line) fault
+  call_refused d command fault reads is refused = rw (reads, is) refused
 
 pub none_read : {A : Type 0} (o : Option A) → ((x : A) → o ≡ Some x → ⊥) → o ≡ None
 none_read None never = refl

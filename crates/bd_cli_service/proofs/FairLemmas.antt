@@ -1,7 +1,7 @@
 -- The request in a line has a total order and a limit that can be counted.
 use Rattle.std.proofs.Common.{◌≡◌, ◌≤◌, ℕ, Bool, true, cond, List, Option, Some, None, Result, Ok, Err, refl, subst, arith}
 use Rattle.std.proofs.{lemmas.Bool.leb-true, lemmas.Cmp.on_total}
-use Rattle.std.specs.Prelude.{◌&&◌, IfOk, nat_le, option_and_then}
+use Rattle.std.specs.Prelude.{◌&&◌, IfOk, nat_le}
 use Rattle.std.specs.{Option.ok_or, Result.result_ok}
 use Rattle.bd_value.specs.{Limits.greatest_count, Tree.Doc}
 use Rattle.bd_cursor_model.specs.Session.{Call, drop_call, explain_call, find_call, most_given, resume_call}
@@ -17,7 +17,7 @@ use Rattle.bd_cursor_request.specs.Request.{Request, named_index, request_with, 
 use Rattle.bd_cli_service.specs.Reply.{command_refusal, path_refusal, session_refusal, ReportedRefusal}
 use Rattle.bd_cursor_sort.specs.Selection.{query_to}
 use Rattle.bd_cursor.specs.{Explanation.explanation_for, SessionView.make_of, SessionView.positioned_token}
-use Rattle.bd_cli_service.specs.Talk.{call_of, document_call, hint_path, search_of, way_by}
+use Rattle.bd_cli_service.specs.Talk.{call_in, call_of, document_call, document_in, hint_path, line_call, search_of, way_by}
 use Rattle.bd_cursor_request.specs.declared.results.Refused.TheVariants as reasons
 
 -- a call that searches has a fair request
@@ -65,11 +65,12 @@ module _ (bytes : List ℕ) (ds : List Doc) where
   call_fair (kills_cursor id) = tt
   call_fair (explains f) = after_search f (λ r. explain_call (hint_path f.hint) (explanation_for ds r (way_by f.hint))) (λ r counted. tt)
 
-  pub line_fair : (o : Option Doc) (call : Call) → option_and_then (λ d. result_ok (document_call bytes ds d)) o ≡ Some call → RequestsFairly call
-  line_fair (Some d) call e =
-      go (document_call bytes ds d) (after_any (error_as command_refusal (command_of d)) (call_of bytes ds) call_fair) e
+  document_fair : (d : Doc) → IsFairPart (document_call bytes ds d)
+  document_fair d = after_any (error_as command_refusal (command_of d)) (call_of bytes ds) call_fair
+
+  pub line_fair : (line : List ℕ) (call : Call) → line_call bytes ds line ≡ Some call → RequestsFairly call
+  line_fair line call = go (call_in bytes ds line) (after_any (document_in line) (document_call bytes ds) document_fair)
     where
       go : (part : Result Call ReportedRefusal) → IsFairPart part → result_ok part ≡ Some call → RequestsFairly call
       go (Ok c) fair is = subst RequestsFairly (let same : c ≡ call = cc in same) fair
       go (Err why) fair is = absurd (let h : ⊥ = cc in h)
-  line_fair None call e = absurd (let h : ⊥ = cc in h)

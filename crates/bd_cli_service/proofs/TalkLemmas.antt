@@ -1,27 +1,17 @@
 -- A talk is the calls among its lines, with their replies.
-use Rattle.std.proofs.Common.{◌≡◌, ◌==◌, ℕ, Bool, true, false, cond, List, [], ◌∷◌, ◌++◌, map, Option, Some, None, Result, Ok, Err, refl, sym, ap, ◌∙◌, inl, inr, ap₂}
+use Rattle.std.proofs.Common.{◌≡◌, ◌==◌, ℕ, Bool, true, false, cond, List, [], ◌∷◌, ◌++◌, map, Option, Some, None, Result, Ok, Err, refl, sym, ap, ◌∙◌, ap₂}
 use Rattle.std.proofs.lemmas.List.{map-append}
-use Rattle.std.specs.Prelude.{option_and_then, unwrap_or}
+use Rattle.std.specs.Prelude.{unwrap_or}
 use Rattle.std.specs.{List.cons_option, Result.result_ok}
 use Rattle.bd_value.specs.Tree.{Doc}
 use Rattle.bd_cursor_model.specs.Session.{Call, GivenBatch, PositionedToken, Query, State, find_call, gave, next_call, resume_call, state_after, opened}
 use Rattle.bd_cursor_model.specs.{Answer.answer, Answer.rest, Laws.batch_in, Laws.batch_to, Laws.batches_to, Laws.new_state, Laws.replies, Laws.state_after_all}
 use Rattle.bd_cursor_model.proofs.SessionLemmas.{find_gives, resume_gives}
-use Rattle.bd_extjson.specs.Read.{reading}
 use Rattle.bd_cli_service.specs.Reply.{LineReply, ReportedRefusal, opens}
-use Rattle.bd_cli_service.specs.Talk.{document_call, IsCallIn, reply_to, reply_output, state_then, OpensInTalk, PrintsInTurn, Talks, batch_is_output, batches_output, calls_in, given_in}
+use Rattle.bd_cli_service.specs.Talk.{call_in, reply_to, reply_output, state_then, OpensInTalk, PrintsInTurn, Talks, batch_is_output, batches_output, calls_in, given_in}
 use Rattle.bd_cli_service.specs.Talk.{line_call}
 use Rattle.bd_cli_service.proofs.FairLemmas.{line_fair}
 use Rattle.bd_cursor_model.specs.Session as machine
-
--- ---- the call of a line
-
-call_is : (bytes : List ℕ) (ds : List Doc) (line : List ℕ) (part : Result Call ReportedRefusal) → IsCallIn bytes ds line part
-    → line_call bytes ds line ≡ result_ok part
-call_is bytes ds line part (inl (d, reads, is)) =
-    ap (λ (o : Option Doc). option_and_then (λ d. result_ok (document_call bytes ds d)) o) reads ∙ ap (λ (p : Result Call ReportedRefusal). result_ok p) (sym is)
-call_is bytes ds line part (inr (none, (f, placed, utf8, kind, is))) =
-    ap (λ (o : Option Doc). option_and_then (λ d. result_ok (document_call bytes ds d)) o) none ∙ ap (λ (p : Result Call ReportedRefusal). result_ok p) (sym is)
 
 -- ---- one line
 
@@ -82,8 +72,8 @@ state_after_talk bytes ds s (line ∷ lines) [] t h = absurd h
 state_after_talk bytes ds s (line ∷ lines) (r ∷ rs) t (mid, a, talks) =
     let o = line_call bytes ds line in
     let cs = calls_in bytes ds lines in
-    let call = call_is bytes ds line a.part a.reads in
-    let mid_is : mid ≡ state_at s o = a.moves ∙ moved s a.part ∙ ap (λ (x : Option Call). state_at s x) (sym call) in
+    let part = call_in bytes ds line in
+    let mid_is : mid ≡ state_at s o = a.moves ∙ moved s part in
     state_after_talk bytes ds mid lines rs t talks ∙ ap (λ (x : State). state_after_all x cs) mid_is ∙ sym (state_all s o cs)
 
 -- the batches in replies to lines are those of their calls
@@ -96,11 +86,10 @@ batches_of_talk bytes ds id s (line ∷ lines) [] t h = absurd h
 batches_of_talk bytes ds id s (line ∷ lines) (r ∷ rs) t (mid, a, talks) =
     let o = line_call bytes ds line in
     let cs = calls_in bytes ds lines in
-    let call = call_is bytes ds line a.part a.reads in
-    let mid_is : mid ≡ state_at s o = a.moves ∙ moved s a.part ∙ ap (λ (x : Option Call). state_at s x) (sym call) in
+    let part = call_in bytes ds line in
+    let mid_is : mid ≡ state_at s o = a.moves ∙ moved s part in
     let first : batch_is_output id o r ≡ map (batch_reply_output ds) (given_by_call id s o) =
-    ap₂ (λ (x : Option Call) (y : LineReply). batch_is_output id x y) call a.reports ∙ part_output ds id s a.part
-    ∙ ap (λ (x : Option Call). map (batch_reply_output ds) (given_by_call id s x)) (sym call) in
+    ap (λ (x : LineReply). batch_is_output id o x) a.reports ∙ part_output ds id s part in
     let later = batches_of_talk bytes ds id mid lines rs t talks
     ∙ ap (λ (x : State). map (batch_reply_output ds) (batches_to id cs (replies x cs))) mid_is in
     ap₂ (λ (x y : List LineReply). x ++ y) first later
@@ -134,8 +123,7 @@ opening_of : (bytes : List ℕ) (ds : List Doc) (call : Call) (id : ℕ) (lines 
 opening_of bytes ds call id lines rs o =
     let cs = calls_in bytes ds o.earlier in
     let s_is = state_after_talk bytes ds new_state o.earlier o.replies o.before o.begins in
-    let part_is : result_ok o.opened.part ≡ Some call = sym (call_is bytes ds o.line o.opened.part o.opened.reads) ∙ o.requests in
-    let whole : o.opened.part ≡ Ok call = ok_of o.opened.part call part_is in
+    let whole : call_in bytes ds o.line ≡ Ok call = ok_of (call_in bytes ds o.line) call o.requests in
     let reported : opens id ≡ reply_output ds (machine.reply o.before call) = o.opened.reports ∙ ap (λ (p : Result Call ReportedRefusal). reply_to ds o.before p) whole in
     let after_is : o.after ≡ state_after (state_after_all new_state cs) call =
     o.opened.moves ∙ ap (λ (p : Result Call ReportedRefusal). state_then o.before p) whole ∙ ap (λ (x : State). state_after x call) s_is in
@@ -152,7 +140,7 @@ talks_give_the_answer bytes ds q hint id lines rs o =
     let opening = opening_of bytes ds (find_call q hint) id lines rs o in
     record {
       given = batches_to id (calls_in bytes ds lines) (replies (state_after (state_after_all new_state opening.earlier) (find_call q hint)) (calls_in bytes ds lines));
-      in_turn = find_gives opening.earlier (calls_in bytes ds lines) q hint id (line_fair bytes ds (reading o.line) (find_call q hint) o.requests) opening.opens_it;
+      in_turn = find_gives opening.earlier (calls_in bytes ds lines) q hint id (line_fair bytes ds o.line (find_call q hint) o.requests) opening.opens_it;
       output = opening.output;
     }
 
@@ -162,6 +150,6 @@ talks_give_the_rest bytes ds q hint t id lines rs o =
     let opening = opening_of bytes ds (resume_call q hint t) id lines rs o in
     record {
       given = batches_to id (calls_in bytes ds lines) (replies (state_after (state_after_all new_state opening.earlier) (resume_call q hint t)) (calls_in bytes ds lines));
-      in_turn = resume_gives opening.earlier (calls_in bytes ds lines) q hint t id (line_fair bytes ds (reading o.line) (resume_call q hint t) o.requests) opening.opens_it;
+      in_turn = resume_gives opening.earlier (calls_in bytes ds lines) q hint t id (line_fair bytes ds o.line (resume_call q hint t) o.requests) opening.opens_it;
       output = opening.output;
     }

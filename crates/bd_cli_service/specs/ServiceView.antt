@@ -11,7 +11,7 @@ use Rattle.bd_cursor_request.specs.{Request.token_part, declared.results.Refused
 use Rattle.bd_cli_service.specs.Reply.{LineReply, ReportedRefusal, line_reply, reply_text, reported_refusal}
 use Rattle.bd_cli_service.specs.declared.{call.Call.Call, call.CallFault.CallFault, reply.Reply.Reply}
 use Rattle.bd_cli_service.specs.declared.{service.Service.Service}
-use Rattle.bd_cli_service.specs.Talk.{Answers, reply_output, IsCallIn}
+use Rattle.bd_cli_service.specs.Talk.{Answers, reply_output}
 use Rattle.bd_cursor_sort.specs.Selection.{query_of}
 use Rattle.bd_cursor_model.specs.Session as machine
 use Rattle.bd_cursor_request.specs.declared.results.Refused.TheVariants as reasons
@@ -77,8 +77,3 @@ MayRunOut (gets_more id batch) = ⊥
 MayRunOut (kills_cursor id) = ⊥
 MayRunOut (resumes token f) = (t : Token) × (token_part token ≡ Ok t)
 MayRunOut _ = Unit {0}
-
--- The line is no call for this reason, or memory ran out.
-abbrev pub RefusesLine : Dump → List ℕ → CallFault → Type 0
-RefusesLine dump line faults.NoMemory = Unit {0}
-RefusesLine dump line (faults.Refused why) = IsCallIn (bytes_of dump) (documents dump) line (Err (reported_refusal why))

@@ -1,7 +1,7 @@
 -- A session over lines: the call in a line, the replies to lines, and the laws about them.
-use Rattle.std.specs.Prelude.{◌≡◌, ◌≢◌, ◌⊎◌, ◌==◌, ℕ, List, [], ◌∷◌, ◌++◌, length, map, if◌then◌else◌, Option, Some}
-use Rattle.std.specs.Prelude.{None, option_and_then, option_map, Result, Ok, Err}
-use Rattle.std.specs.{List.filter_map, List.flat_map, List.zip, Result.result_ok, Str.IsUtf8}
+use Rattle.std.specs.Prelude.{◌≡◌, ◌==◌, ℕ, List, [], ◌∷◌, ◌++◌, map, if◌then◌else◌, Option, Some}
+use Rattle.std.specs.Prelude.{option_map, Result, Ok, Err}
+use Rattle.std.specs.{List.filter_map, List.flat_map, List.zip, Option.ok_or, Result.result_ok}
 use Rattle.bd_value.specs.Tree.{Doc}
 use Rattle.bd_cursor_model.specs.Laws.{GivesInTurn, new_state}
 use Rattle.bd_cursor_model.specs.Session.{Call, GivenBatch, Query, State, drop_call, explain_call, find_call, gave, kill_call}
@@ -18,10 +18,9 @@ use Rattle.bd_cli_command.specs.Command.{finds, gets_more, kills_cursor, resumes
 use Rattle.bd_cli_command.specs.CommandOf.{command_of}
 use Rattle.bd_cli_service.specs.Reply.{LineReply, ReportedRefusal, command_refusal, done, explains, gives, json_refusal, makes}
 use Rattle.bd_cli_service.specs.Reply.{opens, path_refusal, refuses, reply_text, session_refusal}
-use Rattle.bd_extjson_fault.specs.{JsonFault.IsPlaced, JsonFault.ReportsBadUtf8, declared.json_fault.JsonFault.JsonFault}
-use Rattle.bd_extjson.specs.Read.{ReadsAs, reading}
+use Rattle.bd_extjson_fault.specs.TextFault.{text_fault}
+use Rattle.bd_extjson.specs.Read.{reading}
 use Rattle.bd_bson_dump.specs.Collection.{documents_at}
-use Rattle.bd_extjson_fault.specs.declared.json_fault.JsonFaultKind.TheVariants as json
 use Rattle.bd_cursor_model.specs.Session as machine
 use Rattle.bd_cli_command.specs.Command as commands
 use Rattle.bd_cursor_request.specs.declared.results.Refused.TheVariants as reasons
@@ -78,12 +77,13 @@ reply_output ds machine.foreign_token = refuses (session_refusal (plain reasons.
 reply_output ds machine.token_place = refuses (session_refusal (plain reasons.TokenPlace))
 reply_output ds machine.out_of_range = refuses (session_refusal (plain reasons.Range))
 
--- The call in a line, or why there is none. If a line is no document, a fault is reported;
--- if it is UTF-8, no definition says which one.
-abbrev pub IsCallIn : List ℕ → List Doc → List ℕ → Result Call ReportedRefusal → Type 0
-IsCallIn bytes ds line part = ((d : Doc) × ReadsAs line d × (part ≡ document_call bytes ds d)) ⊎ ((reading line ≡ None)
-    × ((f : JsonFault) × IsPlaced (length line) f × ReportsBadUtf8 line f × (f.kind ≢ json.NoMemory)
-    × (part ≡ Err (json_refusal f))))
+-- the document that a line is, or the fault of its text
+abbrev pub document_in : List ℕ → Result Doc ReportedRefusal
+document_in line = ok_or (reading line) (json_refusal (text_fault line))
+
+-- the call in a line, or why there is none
+abbrev pub call_in : List ℕ → List Doc → List ℕ → Result Call ReportedRefusal
+call_in bytes ds line = then_part (document_in line) (document_call bytes ds)
 
 -- the reply to a line: that of the session to its call, or the refusal of a line that is no call
 abbrev pub reply_to : List Doc → State → Result Call ReportedRefusal → LineReply
@@ -95,48 +95,29 @@ abbrev pub state_then : State → Result Call ReportedRefusal → State
 state_then s (Ok call) = state_after s call
 state_then s (Err why) = s
 
--- A session over a dump of these bytes, which are these documents, may answer the line with this reply,
+-- A session over a dump of these bytes, which are these documents, answers the line with this reply,
 -- and its state becomes t.
 pub record Answers (bytes : List ℕ) (ds : List Doc) (s : State) (line : List ℕ)
     (r : LineReply) (t : State) : Type 0 where
-  pub part : Result Call ReportedRefusal
-  pub reads : IsCallIn bytes ds line part
-  pub reports : r ≡ reply_to ds s part
-  pub moves : t ≡ state_then s part
+  pub reports : r ≡ reply_to ds s (call_in bytes ds line)
+  pub moves : t ≡ state_then s (call_in bytes ds line)
 
 -- The state is unchanged.
 abbrev pub IsUnchanged : State → State → Type 0
 IsUnchanged s t = t ≡ s
 
--- The session may answer the line with this text, and its state becomes t.
+-- The session answers the line with this text, and its state becomes t.
 abbrev pub RepliesInText : List ℕ → List Doc → State → List ℕ → List ℕ → State → Type 0
 RepliesInText bytes ds s line text t = (r : LineReply) × Answers bytes ds s line r t × (text ≡ reply_text r)
 
 -- Over a dump of these bytes, which are these documents:
--- these lines may have these replies in turn, and the state becomes t.
+-- these lines have these replies in turn, and the state becomes t.
 abbrev pub Talks : List ℕ → List Doc → State → List (List ℕ) → List LineReply → State → Type 0
 Talks bytes ds s [] [] t = t ≡ s
 Talks bytes ds s [] (r ∷ rs) t = ⊥
 Talks bytes ds s (line ∷ lines) [] t = ⊥
 Talks bytes ds s (line ∷ lines) (r ∷ rs) t =
     (mid : State) × Answers bytes ds s line r mid × Talks bytes ds mid lines rs t
-
--- Two replies to a line are the same; or the line is UTF-8 and not a document, and each reports a fault of it.
-abbrev pub AreAlike : List ℕ → LineReply → LineReply → Type 0
-AreAlike line r s = (r ≡ s) ⊎ (IsUtf8 line × (reading line ≡ None)
-    × (f : JsonFault) × (g : JsonFault) × (r ≡ refuses (json_refusal f)) × (s ≡ refuses (json_refusal g)))
-
--- Two texts of replies to these lines are alike:
--- they differ at most in the faults of lines that are not documents.
-abbrev pub AreAlikeTexts : List (List ℕ) → List ℕ → List ℕ → Type 0
-AreAlikeTexts [] text other = (text ≡ []) × (other ≡ [])
-AreAlikeTexts (line ∷ lines) text other =
-    (r : LineReply) × (s : LineReply) × (rest : List ℕ) × (more : List ℕ) × AreAlike line r s
-    × AreAlikeTexts lines rest more × (text ≡ reply_text r ++ 10 ∷ rest) × (other ≡ reply_text s ++ 10 ∷ more)
-
--- If the line is UTF-8, it is a document.
-abbrev pub IsReadLine : List ℕ → Type 0
-IsReadLine line = IsUtf8 line → (d : Doc) × ReadsAs line d
 
 -- replies as a text, each on its own line
 abbrev pub reply_lines : List LineReply → List ℕ
@@ -145,7 +126,7 @@ reply_lines (r ∷ rs) = reply_text r ++ 10 ∷ reply_lines rs
 
 -- the call in a line, if any
 abbrev pub line_call : List ℕ → List Doc → List ℕ → Option Call
-line_call bytes ds line = option_and_then (λ d. result_ok (document_call bytes ds d)) (reading line)
+line_call bytes ds line = result_ok (call_in bytes ds line)
 
 -- the calls in lines, in order; lines without a call are left out
 abbrev pub calls_in : List ℕ → List Doc → List (List ℕ) → List Call

@@ -28,8 +28,8 @@ pub fn texts_are_talks()
         (rs : List LineReply) × Talks bytes ds s lines rs t × (text ≡ reply_lines rs) }
 {}
 
-/// Each line may have a reply, in each state. So the replies to some lines are a prefix of replies to all of them: replies that end
-/// early are a prefix of a complete text.
+/// Each line has a reply, in each state. So what was replied to some lines is a prefix of what is replied to all of them: replies
+/// that were cut short are a prefix of a whole text.
 pub fn replies_go_on()
     ensures { (bytes : List ℕ)
         (ds : List Doc) (s : State) (lines later : List (List ℕ)) (text : List ℕ) (t : State) →

@@ -5,15 +5,14 @@ ghost use Rattle.bd_value.specs.{View.pairs};
 ghost use Rattle.bd_cursor_model.specs.{Answer.answer, Laws.new_state};
 ghost use Rattle.bd_bson_dump.specs.Collection.{bytes_of, documents};
 ghost use Rattle.bd_bson_dump.specs.declared.collection.Dump.{Dump};
-ghost use Rattle.bd_extjson.specs.Read.{ReadsAs};
 ghost use Rattle.bd_cursor_request.specs.Refused.{error_as};
 ghost use Rattle.bd_cursor.specs.SessionView.{dump_of};
 ghost use Rattle.bd_io_lines.specs.Serving.{RunsOutAt};
 ghost use Rattle.bd_cli_command.specs.{Command.command_tree, CommandOf.command_of};
 ghost use Rattle.bd_cli_service.specs.Reply.{command_refusal, line_reply};
-ghost use Rattle.bd_cli_service.specs.ServiceView.{IsAnswered, IsPerformed, KeepsState, RefusesLine, RefusesPart, RepliesTo};
+ghost use Rattle.bd_cli_service.specs.ServiceView.{IsAnswered, IsPerformed, KeepsState, RefusesPart, RepliesTo};
 ghost use Rattle.bd_cli_service.specs.ServiceView.{service_dump, service_state, session_call};
-ghost use Rattle.bd_cli_service.specs.Talk.{Answers, IsCallIn};
+ghost use Rattle.bd_cli_service.specs.Talk.{Answers, call_in, document_in};
 
 use crate::call::{Call, CallFault, call_of};
 use crate::reply::{LineRefusal, Reply, write_reply};
@@ -85,8 +84,9 @@ impl Replier for Service {
 /// The call in a line.
 fn read_call(alloc: Global, line: &[u8]) -> Result<Call, CallFault>
     ensures call { (dump : Dump) → IfOk result (λ c.
-        IsCallIn (bytes_of dump) (documents dump) line.now (Ok (session_call dump c))) }
-    ensures fault { (dump : Dump) → IfErr result (RefusesLine dump line.now) }
+        call_in (bytes_of dump) (documents dump) line.now ≡ Ok (session_call dump c)) }
+    ensures fault { (dump : Dump) → IfErr result
+        (RefusesPart (call_in (bytes_of dump) (documents dump) line.now)) }
 {
     let document = read_line(alloc, line)?;
     let command = command_in(alloc, &document)?;
@@ -95,8 +95,8 @@ fn read_call(alloc: Global, line: &[u8]) -> Result<Call, CallFault>
 
 /// The document in a line.
 fn read_line(alloc: Global, line: &[u8]) -> Result<Document, CallFault>
-    ensures document { IfOk result (λ d. ReadsAs line.now (pairs d)) }
-    ensures fault { (dump : Dump) → IfErr result (RefusesLine dump line.now) }
+    ensures document { IfOk result (λ d. document_in line.now ≡ Ok (pairs d)) }
+    ensures fault { IfErr result (RefusesPart (document_in line.now)) }
 {
     match read_doc(alloc, line) {
         Ok(document) => Ok(document),

@@ -1,7 +1,7 @@
-use Rattle.std.proofs.Common.{Ok, Err, [], List, ℕ, refl, inl, inr, subst}
+use Rattle.std.proofs.Common.{Ok, Err, [], List, ℕ, refl, sym, inl, inr, subst, true≢false}
 use Rattle.std.specs.Prelude.{string_bytes}
 use Rattle.bd_cursor_request.specs.Refused.{reason_of}
-use Rattle.bd_cli_find.specs.Asking.{page_request_of, refused_text}
+use Rattle.bd_cli_find.specs.Asking.{refused_text}
 use Rattle.bd_cli_find.proofs.AskingLemmas.{explain_refusal}
 use Rattle.bd_cli_files.specs.Output.{ReportsMessage, error_line, refusal_output}
 use Rattle.bd_cli_files.specs.declared.output.Status.TheVariants.{Failed}
@@ -18,8 +18,8 @@ returns-in-Err-Message-clause-found g c =
     inr (
       Ok [],
       refusal_output message,
-      inl (message, none, refl),
-      (Err message, none, refl),
+      rw none refl,
+      rw none refl,
       finds.refusal_is_output (g.O.Output.state c.args.out.now) (g.O.Output.state c.args.out.now) (g.E.Output.state c.args.err.now)
           (g.E.Output.state c.report_error.new.err) _ message (inl reported),
     )
@@ -33,8 +33,8 @@ returns-in-Err-Refused-clause-found g c =
     inr (
       Ok [],
       refusal_output message,
-      inl (message, none, refl),
-      (Err message, none, refl),
+      rw none refl,
+      rw none refl,
       finds.refusal_is_output (g.O.Output.state c.args.out.now) (g.O.Output.state c.args.out.now) (g.E.Output.state c.args.err.now)
           (g.E.Output.state c.report_refused.new.err) _ message (explain_refusal err why c.report_refused.result c.report_refused.ensures),
     )
@@ -42,33 +42,31 @@ returns-in-Err-Refused-clause-found g c =
 pub returns-in-Ok-read_input-clause-found : goal.returns-in-Ok-read_input-clause-found
 returns-in-Ok-read_input-clause-found g c =
     let s = c.find_in.ensures in
-    let w = page_request_of c.in-Ok.asking in
     inr (
       Ok c.in-Ok-read_input.bytes.items,
       s.0,
-      inr (w, c.in-Ok.ensures.asking, c.in-Ok-read_input.ensures.input),
-      (Ok w, c.in-Ok.ensures.asking, s.1),
+      rw c.in-Ok.ensures.asking c.in-Ok-read_input.ensures.input,
+      rw c.in-Ok.ensures.asking s.1,
       s.2,
     )
 
 pub returns-in-Ok-read_input-clause-unread : goal.returns-in-Ok-read_input-clause-unread
-returns-in-Ok-read_input-clause-unread g c none = absurd (none (page_request_of c.in-Ok.asking) c.in-Ok.ensures.asking)
+returns-in-Ok-read_input-clause-unread g c none = let taken = rw c.in-Ok.ensures.asking at none in absurd (true≢false (sym taken))
 
 pub returns-in-Err-clause-found : goal.returns-in-Err-clause-found
 returns-in-Err-clause-found g c =
-    let w = page_request_of c.in-Ok.asking in
     let words = read_words c.in-Err.fault in
     inr (
       Err c.in-Err.fault,
       refusal_output words,
-      inr (w, c.in-Ok.ensures.asking, c.in-Err.ensures.input),
-      (Ok w, c.in-Ok.ensures.asking, refl),
+      rw c.in-Ok.ensures.asking c.in-Err.ensures.input,
+      rw c.in-Ok.ensures.asking refl,
       runs.refused (g.O.Output.state c.args.out.now) (g.E.Output.state c.args.err.now)
           (g.E.Output.state c.report_read_fault.new.err) _ _ c.report_read_fault.ensures,
     )
 
 pub returns-in-Err-clause-unread : goal.returns-in-Err-clause-unread
-returns-in-Err-clause-unread g c none = absurd (none (page_request_of c.in-Ok.asking) c.in-Ok.ensures.asking)
+returns-in-Err-clause-unread g c none = let taken = rw c.in-Ok.ensures.asking at none in absurd (true≢false (sym taken))
 
 pub returns-in-Err-NoMemory-clause-stops_reading : goal.returns-in-Err-NoMemory-clause-stops_reading
 returns-in-Err-NoMemory-clause-stops_reading g c = (0, [], c.args.input.now, zero_reads c.args.input.now, inl refl)

@@ -1,5 +1,6 @@
-use Rattle.std.proofs.Common.{rules, refl, inr, ◌≢◌}
+use Rattle.std.proofs.Common.{rules, Err, ap, sym, ◌≢◌}
 use Rattle.bd_extjson.specs.Read.{reading}
+use Rattle.bd_cli_service.specs.Reply.{json_refusal}
 use Rattle.bd_cli_service.proofs.CallLemmas.{none_read}
 use Rattle.bd_extjson_fault.specs.declared.json_fault.JsonFaultKind.TheVariants as json
 use Rattle.bd_cli_service.proofs.service.read_line.Goals as goal
@@ -8,4 +9,4 @@ pub returns-in_default : goal.returns-in_default
 returns-in_default c =
     let other : c.in-Err.fault.kind ≢ json.NoMemory = search rules in
     let none = none_read (reading c.args.line.now) (c.in-Err.ensures.none other) in
-    record { document = tt; fault = λ dump. inr (none, (c.in-Err.fault, c.in-Err.ensures.place, c.in-Err.ensures.utf8, other, refl)) }
+    record { document = tt; fault = rw none (ap (λ f. Err (json_refusal f)) (sym (c.in-Err.ensures.fault other))) }
