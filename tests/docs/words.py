@@ -33,7 +33,8 @@ WORDS = {
     "held": ("buffered, contents, node_tree", "bd_bson_stream bd_bson_tests bd_cli_args bd_wide_args"),
     # An operator of a filter, and what is said of a value of the JSON kit, holds or does not.
     "hold holds": ("contains, buffers", "bd_query bd_query_filter bd_index_bounds bd_wide_order bd_extjson bd_cursor_request"),
-    "told tells tell untold": ("reports, reported, explain", ""),
+    # A lemma of the kit.
+    "told tells tell untold": ("reports, reported, explain", "tells_digits"),
     "shown shows show": ("output, prints", ""),
     "stands stand": ("meaning, is_at", ""),
     # An index is walked.
@@ -48,7 +49,7 @@ WORDS = {
     "gather gathers gathered gathering gatherer": ("buffer, collect", ""),
     # A document's number in its dump is its place; so is where a digit is, and where a filter breaks a rule.
     "place places placed": ("offset, index, path", "bd_bson_dump bd_cursor* bd_index* bd_cli_service* bd_cli_find bd_wide_order bd_wide_cli bd_wide_tests bd_wide_text "
-                            "bd_query_filter bd_query_tests bd_growth_tests IsPlace IsPlaced document_place next_place"),
+                            "bd_query_filter bd_query_tests bd_growth_tests IsPlace document_place next_place place_texts"),
 }
 # Labels of clauses that are gone, and what to write.
 LABELS = {

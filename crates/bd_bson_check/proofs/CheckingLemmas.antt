@@ -4,7 +4,7 @@ use Rattle.std.proofs.Common.{Bool, true, false, Bor, take, inl, inr, codes, opt
 use Rattle.bd_bson_check.specs.declared.fault.FaultKind.TheVariants.{TooDeep, NameUnended}
 use Rattle.bd_bson_check.specs.FirstFault.{◌>>=◌, within, skip_name, skip_string, skip_code_frame, label, fault, Nested, skip_typed, skip_element, skip_elements, skip_body}
 use Rattle.bd_bson_check.specs.FirstFault.{skip_code_scope, skip_nested, skip_value}
-use Rattle.bd_bson_check.specs.{Fault.Fault, Fault.found_fault, Fault.longer, Fault.ReportsStop, Fault.FailsAtItem, declared.fault.Stop.Stop}
+use Rattle.bd_bson_check.specs.{Fault.Fault, inside.Fault.found_fault, Fault.longer, inside.Fault.ReportsStop, inside.Fault.FailsAtItem, declared.fault.Stop.Stop}
 use Rattle.bd_bson_view.specs.{declared.raw_parts.ElementType.ElementType, declared.raw_parts.Holder.Holder, Spelling.type_at, declared.raw_parts.ElementType.TheVariants.Kept}
 use Rattle.bd_bson_check.proofs.FirstFaultLemmas.{IsBytes, NestedTakes, element_takes, element_shrinks, nested_takes, elements_nil}
 use Rattle.std.specs.{List.position, Str.is_utf8}

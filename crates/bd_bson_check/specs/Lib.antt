@@ -1,3 +1,4 @@
 pub mod Dump
 pub mod Fault
 pub mod FirstFault
+pub mod inside

@@ -6,7 +6,8 @@ ghost use Rattle.bd_value.specs.Tree.{Doc};
 ghost use Rattle.bd_value.specs.View.{pairs};
 ghost use Rattle.bd_bson_view.specs.Spelling.{IsDocument};
 ghost use Rattle.bd_bson_view.specs.Raw.{document_pairs, document_source};
-ghost use Rattle.bd_bson_check.specs.Fault.{GivesItem, ReportsFault, IsWantOfMemory};
+ghost use Rattle.bd_bson_check.specs.Fault.{ReportsFault, IsWantOfMemory};
+ghost use Rattle.bd_bson_check.specs.inside.Fault.{GivesItem};
 ghost use Rattle.bd_bson_check.specs.FirstFault.{skip_typed, skip_element, skip_elements, skip_body, skip_code_scope, skip_nested, skip_document, first_fault};
 ghost use Rattle.bd_bson_check.specs.Dump.{frame_length, frame_fault, IsNext};
 

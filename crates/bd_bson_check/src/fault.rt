@@ -1,7 +1,8 @@
 //! Why bytes are not a document, and where.
 
 ghost use Rattle.std.specs.Prelude.{◌≡◌, [], IfOk, string_bytes};
-ghost use Rattle.bd_bson_check.specs.Fault.{Fault as Where, longer, fault_words, ReportsStop, IsOf, IsWantOfMemory};
+ghost use Rattle.bd_bson_check.specs.Fault.{Fault as Where, longer, fault_words, IsWantOfMemory};
+ghost use Rattle.bd_bson_check.specs.inside.Fault.{ReportsStop, IsOf};
 ghost use Rattle.bd_bson_check.specs.FirstFault.{label};
 
 use std::alloc::{AllocError, Global};

@@ -7,7 +7,7 @@ ghost use Rattle.std.specs.Prelude.{◌≡◌, ◌≤◌, ◌<◌, ◌+◌, ◌^
 ghost use Rattle.std.specs.List.{list_any};
 ghost use Rattle.std.specs.Simd.Lanes.{mask_l};
 ghost use Rattle.std.specs.Str.{is_utf8};
-ghost use Rattle.bd_bson_check.specs.Fault.{GivesItem};
+ghost use Rattle.bd_bson_check.specs.inside.Fault.{GivesItem};
 ghost use Rattle.bd_bson_check.specs.FirstFault.{skip_number, skip_zero, text_at, skip_name, skip_string, skip_frame, skip_fixed, skip_boolean, skip_binary, skip_regex, skip_code_frame, Nested, skip_element, skip_value};
 
 use crate::fault::{FaultKind, Skipped, Stop, fault_at};

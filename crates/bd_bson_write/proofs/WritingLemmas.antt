@@ -134,8 +134,8 @@ is_text s utf8 short = (utf8, omega (arith, string_length s, short))
 element_size : (t : Tree) (name value : List ℕ) → length (element t name value) ≡ length name + (length value + 2)
 element_size t name value = omega (arith, length-append name (0 ∷ value))
 
-place_name : (n : ℕ) → n < 2 ^ 64 → IsName (decimal n)
-place_name n small = is_name (decimal n) (IsUtf8-from_ascii (decimal n) (IsAscii-decimal n small)) (decimal_no_zero n small)
+index_name : (n : ℕ) → n < 2 ^ 64 → IsName (decimal n)
+index_name n small = is_name (decimal n) (IsUtf8-from_ascii (decimal n) (IsAscii-decimal n small)) (decimal_no_zero n small)
 
 can_spell : (s : Scalar) → ScalarFits IsUtf8 s → zero_in_scalar s ≡ false → length (scalar_bytes s) ≤ longest_document → CanSpell s
 can_spell (trees.int32 z) fits none short = fits
@@ -174,16 +174,16 @@ mutual
       let others = fields_spelled fs fits.1.1 b.1 (omega (arith, short, size, one)) in
       (bytes_of t, fields_bytes fs, is_name name fits.0 a.0, first, others, refl)
 
-  items_spelled : (place : ℕ) (ts : Items) → ItemsFit IsUtf8 ts → zero_in_items ts ≡ false
-      → place + length (items_bytes place ts) ≤ longest_document → AreItems ts (items_bytes place ts)
-  items_spelled place no_items fits none short = refl
-  items_spelled place (item t ts) fits none short =
+  items_spelled : (index : ℕ) (ts : Items) → ItemsFit IsUtf8 ts → zero_in_items ts ≡ false
+      → index + length (items_bytes index ts) ≤ longest_document → AreItems ts (items_bytes index ts)
+  items_spelled index no_items fits none short = refl
+  items_spelled index (item t ts) fits none short =
       let b = or_parts (zero_in t) (zero_in_items ts) none in
-      let size = length-append (element t (decimal place) (bytes_of t)) (items_bytes (suc place) ts) in
-      let one = element_size t (decimal place) (bytes_of t) in
+      let size = length-append (element t (decimal index) (bytes_of t)) (items_bytes (suc index) ts) in
+      let one = element_size t (decimal index) (bytes_of t) in
       let first = spelled t fits.0 b.0 (omega (arith, short, size, one)) in
-      let others = items_spelled (suc place) ts fits.1 b.1 (omega (arith, short, size, one)) in
-      (decimal place, bytes_of t, items_bytes (suc place) ts, place_name place (omega (arith, short)), first, others, refl)
+      let others = items_spelled (suc index) ts fits.1 b.1 (omega (arith, short, size, one)) in
+      (decimal index, bytes_of t, items_bytes (suc index) ts, index_name index (omega (arith, short)), first, others, refl)
 
 -- the bytes that are written for a document are that document, if it fits its types
 pub plainly_spells : (d : Doc) (bytes : List ℕ) → Fits (doc (fields_of d)) → SpellsPlainly d bytes → IsDocument d bytes

@@ -55,7 +55,7 @@ pub fn write_document(alloc: Global, document: &Document) -> Result<Vec<u8>, Wri
 /// # Errors
 /// `NoMemory`: memory ran out, and `out` is unchanged.
 pub fn begin_body(out: &mut Vec<u8>) -> Result<usize, NoMemory>
-    ensures place { IfOk result (λ at. at ≡ length out.old.items) }
+    ensures offset { IfOk result (λ at. at ≡ length out.old.items) }
     ensures begun { OnOk result (out.new.items ≡ out.old.items ++ number 0) }
     ensures unchanged { OnErr result (out.new.items ≡ out.old.items) }
 {

@@ -7,7 +7,8 @@ ghost use Rattle.bd_value.specs.View.{view_of};
 ghost use Rattle.bd_value.specs.Tree.{fields_of, items_of, values_of, HasNoParts};
 ghost use Rattle.bd_value.specs.Fits.{zero_in_leaf, has_zero, zero_in, zero_in_fields, zero_in_items};
 ghost use Rattle.bd_bson_view.specs.Spelling.{type_byte as byte_of, number, long, string, data_of, framed, element, IsName, IsValue, AreFields, AreItems};
-ghost use Rattle.bd_bson_write.specs.TreeBytes.{OverrunsLimit, leaf_bytes, LeafSpells, bytes_of, fields_bytes, items_bytes};
+ghost use Rattle.bd_bson_write.specs.TreeBytes.{OverrunsLimit, bytes_of, fields_bytes, items_bytes};
+ghost use Rattle.bd_bson_write.specs.inside.TreeBytes.{leaf_bytes, LeafSpells};
 
 use bd_bson_view::type_byte;
 use bd_value::{Kind, LONGEST_DOCUMENT, NoMemory, Reading, Scalar};
@@ -98,12 +99,12 @@ fn append_items<N: Reading>(items: N::Rest, out: &mut Vec<u8>) -> Result<(), Wri
 {
     let at = out.len();
     write_number(0, out)?;
-    let mut place: u32 = 0;
+    let mut index: u32 = 0;
     let mut rest = items;
     while let Some(next) = N::next(&rest) {
         let mut digits = itoa::Buffer::new();
-        append_element(digits.format(place), next.1, out)?;
-        place += 1;
+        append_element(digits.format(index), next.1, out)?;
+        index += 1;
         rest = next.2;
     }
     out.extend_from_slice(b"\0")?;

@@ -14,7 +14,7 @@ ghost use Rattle.bd_cli_files.specs.Pack.{IsOutputOfPack, PacksLines};
 ghost use Rattle.bd_cli_files.specs.declared.pack.BadLine.{BadLine};
 ghost use Rattle.bd_cli_find.specs.Find.{IsOutputOfFind};
 
-/// One thing is shown of each input, and of each list of bytes there is something to show; so also for `check`, for `pack`, and
+/// One thing is printed for each input, and for each list of bytes there is something to print; so also for `check`, for `pack`, and
 /// for `find`, of each words. `serve` has one text of replies to each text of commands.
 pub fn prints_one_thing()
     ensures one { (bytes : List ℕ) (fault : Option ReadFault) (output other : Transcript) →

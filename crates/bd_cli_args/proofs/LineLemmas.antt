@@ -21,7 +21,8 @@ use Rattle.clap.proofs.{OnLiterals.clap_on_literals, WalkLemmas.first_value-rows
 use Rattle.bd_cli_args.specs.CommandLine.{OrderView, GivesOrder, meant, check, dump, pack, serve, fault_for, find_app, find_words_in}
 use Rattle.bd_cli_args.specs.FileCommands.{explain_refusal, file_app}
 use Rattle.bd_cli_args.specs.CommandLine.{commands, is_help_line, is_serve_of_input, line_app, order_of, ordered_by, parser_refusal, serves_input, IsFileCommand, is_file_word}
-use Rattle.bd_cli_args.specs.CommandLine.{is_serve_input_line, number_read}
+use Rattle.bd_cli_args.specs.CommandLine.{number_read}
+use Rattle.bd_cli_args.specs.inside.CommandLine.{is_serve_input_line}
 use Rattle.bd_cli_args.specs.declared.order.WordsFault.TheVariants.{NoMemory, Usage}
 use Rattle.bd_cli_args.specs.{declared.order.Order.Order, declared.order.WordsFault.WordsFault}
 use Rattle.bd_cli_args.proofs.FaultLemmas.{SameExplained, given_first, is_plain, level-sound, same-entered, same-fault}

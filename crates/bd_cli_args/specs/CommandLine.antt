@@ -1,6 +1,6 @@
 -- The command lines that `bsonfind` accepts, by the parser's own definition,
 -- and the command that each one means.
-use Rattle.std.specs.Prelude.{◌≡◌, ◌==◌, ◌⊎◌, ◌&&◌, ℕ, List, [], ◌∷◌, Bool, true, false, not, if◌then◌else◌, map}
+use Rattle.std.specs.Prelude.{◌≡◌, ◌==◌, ◌⊎◌, ℕ, List, [], ◌∷◌, Bool, true, false, not, if◌then◌else◌, map}
 use Rattle.std.specs.Prelude.{slice_get, codes, String, string_bytes, Option, Some, None, option_map, option_and_then}
 use Rattle.std.specs.{Prelude.unwrap_or, Prelude.Result, Prelude.MatchResult, Option.option_map_or, Option.option_or}
 use Rattle.std.specs.Map.{lookup}
@@ -126,13 +126,6 @@ GivesOrder answer order = MatchResult answer (λ o. meant o ≡ order) (λ f. f 
 -- whether the first argument is `help`
 abbrev pub is_help_line : List Text → Bool
 is_help_line words = option_map_or (λ word. bytes_eq word (codes "help")) (slice_get words 0) false
-
--- whether the arguments are `serve -` or `serve -- -`, which are refused before they are parsed
-abbrev pub is_serve_input_line : List Text → Bool
-is_serve_input_line (command ∷ file ∷ []) = bytes_eq command (codes "serve") && bytes_eq file (codes "-")
-is_serve_input_line (command ∷ escape ∷ file ∷ []) =
-    bytes_eq command (codes "serve") && (bytes_eq escape (codes "--") && bytes_eq file (codes "-"))
-is_serve_input_line _ = false
 
 -- whether an argument may be FILE, or follow `--index` or `--after`:
 -- if it has two bytes or more, it does not begin with a hyphen

@@ -1,3 +1,4 @@
 pub mod CommandLine
 pub mod FileCommands
 pub mod FindWords
+pub mod inside

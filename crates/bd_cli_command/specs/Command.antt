@@ -1,8 +1,9 @@
 -- What a command means, with texts as their bytes and documents as their pairs; and why a document is no command.
 use Rattle.std.specs.Prelude.{ℕ, Bool, List, string_bytes, codes}
 use Rattle.bd_value.specs.{Tree.Doc, View.pairs}
-use Rattle.bd_cli_command.specs.declared.command.{Command.Command as CommandInMemory, FindCommand.FindCommand as FindInMemory}
-use Rattle.bd_cli_command.specs.declared.{command.Hint.Hint as HintInMemory, field.HintForm.HintForm}
+use Rattle.bd_cli_command.specs.declared.command.{Command.Command as CommandInMemory}
+use Rattle.bd_cli_command.specs.declared.command.{FindCommand.FindCommand as FindInMemory}
+use Rattle.bd_cli_command.specs.declared.{command.Hint.Hint as HintInMemory}
 use Rattle.bd_cli_command.specs.declared.command.{CommandFault.CommandFault}
 
 -- how documents are searched (`use`): by any index that serves, by a scan, or by the index on a path
@@ -35,12 +36,6 @@ abbrev pub hint_tree : HintInMemory → Hint
 hint_tree HintInMemory.Auto = any_way
 hint_tree HintInMemory.Scan = by_scan
 hint_tree (HintInMemory.Index path) = by_index (string_bytes path)
-
--- the meaning of the field `use`, with a borrowed path
-abbrev pub hint_read : HintForm → Hint
-hint_read HintForm.Auto = any_way
-hint_read HintForm.Scan = by_scan
-hint_read (HintForm.Index path) = by_index path.now
 
 -- the search of a command in memory
 abbrev pub find_tree : FindInMemory → FindCommand

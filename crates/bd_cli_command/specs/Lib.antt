@@ -1,3 +1,4 @@
 pub mod Command
 pub mod CommandOf
 pub mod Field
+pub mod inside

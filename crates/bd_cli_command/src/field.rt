@@ -2,7 +2,7 @@
 
 ghost use Rattle.std.specs.Prelude.{◌≡◌, option_map};
 ghost use Rattle.bd_value.specs.View.{pairs, tree_of};
-ghost use Rattle.bd_cli_command.specs.Command.{hint_read};
+ghost use Rattle.bd_cli_command.specs.inside.Command.{hint_read};
 ghost use Rattle.bd_cli_command.specs.Field.{command_fields, command_names, count_field, document_field, entry_of, find_fields, fits_field};
 ghost use Rattle.bd_cli_command.specs.Field.{hint_field, index_field, text_field, truth_field};
 

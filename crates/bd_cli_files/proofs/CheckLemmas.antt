@@ -14,8 +14,10 @@ use Rattle.bd_bson_dump.specs.CheckResults.{check_results_at, check_results, Beg
 use Rattle.bd_bson_dump.proofs.CheckResultLemmas.{none_at, turn_at, last_at, as_scan}
 use Rattle.bd_cli_files.specs.{Input.StopsInside, Input.StreamsInput, declared.dump_and_check.Ending.Ending, declared.output.OutputFault.OutputFault}
 use Rattle.bd_cli_files.specs.{declared.output.Status.Status, declared.output.Status.TheVariants.Failed}
-use Rattle.bd_cli_files.specs.DumpAndCheck.{ChecksInput, ChecksWithinLimit, check_message, check_status, check_output, check_result_line, check_result_lines, AreVisited, WriteFailsAtCheckResult, IsTextOf, StopsScan}
-use Rattle.bd_cli_files.specs.DumpAndCheck.{ScansDocuments, check_texts, more_visited, none_visited, AreCheckResults, IsOutputOfCheck, IsOutputOfDump}
+use Rattle.bd_cli_files.specs.DumpAndCheck.{ChecksInput, ChecksWithinLimit, check_message, check_status, check_output, check_result_line, check_result_lines, WriteFailsAtCheckResult}
+use Rattle.bd_cli_files.specs.inside.DumpAndCheck.{AreVisited, IsTextOf, StopsScan}
+use Rattle.bd_cli_files.specs.DumpAndCheck.{more_visited, none_visited, AreCheckResults, IsOutputOfCheck, IsOutputOfDump}
+use Rattle.bd_cli_files.specs.inside.DumpAndCheck.{ScansDocuments, check_texts}
 use Rattle.bd_cli_files.specs.Output.{ReportsMessage, error_line, stop_words, Transcript, fault_text, wrong_status}
 use Rattle.bd_cli_files.specs.declared.output.OutputFault.TheVariants.{NoMemory, Unwritten}
 use Rattle.bd_cli_files.proofs.ScanLemmas.{faulty_append, faulty_count, known_whole, rest_of, visited_frames}

@@ -1,4 +1,4 @@
--- What `pack` shows is determined.
+-- What `pack` prints is determined.
 use Rattle.std.proofs.Common.{◌≡◌, ◌≤◌, ◌<◌, ℕ, suc, ◌+◌, List, [], ◌∷◌, ◌++◌, length, take, drop, get_or, Bool, true, false, Option, Some, None, refl, sym, ap, ◌∙◌, subst, append_assoc, append-nil}
 use Rattle.std.proofs.Common.{arith, inl, inr, decimal, Ok, length-append, length-take-le, rules, add-one, Result, Err, ap₂, true≢false}
 use Rattle.std.proofs.{lemmas.Bool.cases_lt, lemmas.Bool.Decides.nat_tests, lemmas.List.Splits.slice_split_at, lemmas.List.Splits.slice_split_none, lemmas.Grind.flat_map-append, Math.Seq.drop-cons}
@@ -14,7 +14,8 @@ use Rattle.bd_extjson_pack.specs.declared.line.LineFault.{LineFault}
 use Rattle.bd_cli_files.specs.{declared.output.OutputFault.OutputFault, declared.output.OutputFault.TheVariants.NoMemory, declared.output.OutputFault.TheVariants.Unwritten, declared.pack.BadLine.BadLine}
 use Rattle.bd_cli_files.specs.{declared.pack.Packing.Packing, declared.output.Status.Status, declared.output.Status.TheVariants.Failed}
 use Rattle.bd_cli_files.specs.Output.{stop_words, PrintsOrRunsOut, ReportsMessage, Transcript, error_line, no_memory, wrong_line, wrong_status}
-use Rattle.bd_cli_files.specs.Pack.{IsOutputOfPack, PacksLines, bad_line_text, pack_output, IsPacking, StopsPacking, remaining_size, lines_remaining, objects_packed}
+use Rattle.bd_cli_files.specs.Pack.{IsOutputOfPack, PacksLines, bad_line_text, pack_output, objects_packed}
+use Rattle.bd_cli_files.specs.inside.Pack.{IsPacking, StopsPacking, remaining_size, lines_remaining}
 use Rattle.bd_io_device.proofs.DevicesLemmas.{takes_both}
 use Rattle.bd_cli_files.proofs.OutputLemmas.{all_output, stop_output, write_fails_piece, prefix_taken}
 use Rattle.bd_io_lines.specs.Lines.{is_empty_line, text_lines}

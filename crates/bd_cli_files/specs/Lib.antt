@@ -2,3 +2,4 @@ pub mod DumpAndCheck
 pub mod Input
 pub mod Output
 pub mod Pack
+pub mod inside

@@ -1,7 +1,7 @@
 -- What a run writes: the text on standard output, the text on standard error, and the exit status.
 use Rattle.std.specs.Prelude.{◌≡◌, ◌⊎◌, ℕ, List, [], ◌∷◌, ◌++◌, codes, decimal, Option, Some, None, Result, Ok}
 use Rattle.std.specs.Prelude.{Err}
-use Rattle.std.specs.{Borrow.Bor, List.join_with_byte}
+use Rattle.std.specs.{List.join_with_byte}
 use Rattle.bd_value.specs.Tree.{Doc, doc, fields_of}
 use Rattle.bd_io_device.specs.Devices.{WriteFailsWithin, Over, TakesPrefix, TakesText, Writer}
 use Rattle.bd_io_device.specs.declared.reading.ReadFault.{ReadFault}
@@ -74,11 +74,6 @@ wrong_status (Some message) = Failed
 abbrev pub output_before : List ℕ → Option (List ℕ) → List ℕ → Transcript
 output_before out wrong counts = record { out = out; err = wrong_line wrong ++ counts; status = wrong_status wrong }
 
--- the bytes of a borrowed text, if any
-abbrev pub reported_bytes : Option (Bor (List ℕ)) → Option (List ℕ)
-reported_bytes None = None
-reported_bytes (Some text) = Some text.now
-
 -- ---- what was written
 
 -- The writer took the message, and the status is the expected one; or a write failed, and the status is 1.
@@ -112,13 +107,3 @@ PrintsInput (Err fault) out err output status = PrintsOutput out err output stat
 abbrev pub StopsWithin : Over Writer → List ℕ → OutputFault → Type 0
 StopsWithin out text NoMemory = TakesPrefix out text
 StopsWithin out text Unwritten = WriteFailsWithin out text
-
--- Nothing of the text was written, because memory ran out; or a write failed after a prefix of it.
-abbrev pub StopsWriting : List ℕ → Over Writer → OutputFault → Type 0
-StopsWriting text out NoMemory = out.after ≡ out.before
-StopsWriting text out Unwritten = WriteFailsWithin out text
-
--- The writer took the text, or writing it was stopped.
-abbrev pub Writes : {A : Type 0} → List ℕ → Over Writer → Result A OutputFault → Type 0
-Writes text out (Ok x) = TakesText out text
-Writes text out (Err stopped) = StopsWriting text out stopped

@@ -3,15 +3,13 @@ use Rattle.std.specs.Prelude.{◌≡◌, ◌⊎◌, ℕ, suc, List, [], ◌∷�
 use Rattle.std.specs.Prelude.{Option, Some, None, Result, Ok, Err, option_map}
 use Rattle.std.specs.List.{flat_map}
 use Rattle.bd_value.specs.Tree.{Doc}
-use Rattle.bd_io_device.specs.Devices.{Over, Reader, TakesText, Writer, read_words}
+use Rattle.bd_io_device.specs.Devices.{Over, Reader, Writer, read_words}
 use Rattle.bd_io_device.specs.declared.reading.ReadFault.{ReadFault}
 use Rattle.bd_extjson_fault.specs.{JsonFault.json_fault_words, declared.json_fault.JsonFaultKind.JsonFaultKind}
 use Rattle.bd_extjson_pack.specs.{Packable.plain, Packable.IsPackable, Packable.IsBad, declared.line.LineFault.LineFault}
 use Rattle.bd_io_lines.specs.Lines.{is_empty_line, text_lines}
 use Rattle.bd_cli_files.specs.{Input.ReadsInput, declared.output.Status.Status, declared.pack.BadLine.BadLine}
-use Rattle.bd_cli_files.specs.{declared.pack.Packing.Packing}
-use Rattle.bd_cli_files.specs.declared.{output.OutputFault.OutputFault}
-use Rattle.bd_cli_files.specs.Output.{PrintsInput, StopsWithin, Transcript, output_before, refusal_output}
+use Rattle.bd_cli_files.specs.Output.{PrintsInput, Transcript, output_before, refusal_output}
 use Rattle.bd_extjson_fault.specs.declared.json_fault.JsonFaultKind.TheVariants as kinds
 use Rattle.bd_extjson_pack.specs.declared.line.LineFault.TheVariants as faults
 
@@ -60,28 +58,3 @@ abbrev pub PacksInput : Over Reader → Over Writer → Over Writer → Status �
 PacksInput file out err status =
     (input : Result (List ℕ) ReadFault) × (output : Transcript) × ReadsInput file input × IsOutputOfPack input output
     × PrintsInput input out err output status
-
--- ---- line by line
-
--- the lines that remain to be packed; None is the end of the text
-abbrev pub lines_remaining : Option (List ℕ) → List (List ℕ)
-lines_remaining None = []
-lines_remaining (Some text) = text_lines text
-
--- how much remains to be packed: less after each line, and 0 at the end of the text
-abbrev pub remaining_size : Option (List ℕ) → ℕ
-remaining_size None = 0
-remaining_size (Some text) = suc (length text)
-
--- The writer took the BSON of the documents before the first bad line,
--- and that line and their count are these.
-abbrev pub IsPacking : List ℕ → Over Writer → Packing → Type 0
-IsPacking text out packing =
-    (ds : List Doc) × PacksLines 1 (text_lines text) ds packing.bad × (packing.count ≡ length ds)
-    × TakesText out (flat_map plain ds)
-
--- Writing the BSON of the documents before the first bad line was stopped.
-abbrev pub StopsPacking : List ℕ → Over Writer → OutputFault → Type 0
-StopsPacking text out stopped =
-    (ds : List Doc) × (bad : Option BadLine) × PacksLines 1 (text_lines text) ds bad
-    × StopsWithin out (flat_map plain ds) stopped

@@ -7,10 +7,13 @@ ghost use Rattle.bd_value.specs.Tree.{pairs_in};
 ghost use Rattle.bd_io_device.specs.Devices.{WriteFailsWithin, TakesText, over};
 ghost use Rattle.bd_bson_view.specs.Sound.{meaning};
 ghost use Rattle.bd_bson_check.specs.Fault.{fault_view};
-ghost use Rattle.bd_cli_files.specs.DumpAndCheck.{ChecksInput, DumpsInput, MeetsFault, StopsScan, Texts};
-ghost use Rattle.bd_cli_files.specs.DumpAndCheck.{ScansDocuments, check_message, check_status, check_texts, dump_texts, ending_words, objects_found};
+ghost use Rattle.bd_cli_files.specs.DumpAndCheck.{ChecksInput, DumpsInput};
+ghost use Rattle.bd_cli_files.specs.inside.DumpAndCheck.{MeetsFault, StopsScan, Texts};
+ghost use Rattle.bd_cli_files.specs.DumpAndCheck.{check_message, check_status, objects_found};
+ghost use Rattle.bd_cli_files.specs.inside.DumpAndCheck.{ScansDocuments, check_texts, dump_texts, ending_words};
 ghost use Rattle.bd_cli_files.specs.Input.{ReadsNoFurther};
-ghost use Rattle.bd_cli_files.specs.Output.{ReportsMessage, Writes, error_line, no_memory, wrong_line, wrong_status};
+ghost use Rattle.bd_cli_files.specs.Output.{ReportsMessage, error_line, no_memory, wrong_line, wrong_status};
+ghost use Rattle.bd_cli_files.specs.inside.Output.{Writes};
 ghost use Rattle.bd_cli_files.specs.declared.output.Status.TheVariants.{Failed};
 
 use crate::input::LIMITS;

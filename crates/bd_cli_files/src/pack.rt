@@ -5,8 +5,10 @@ ghost use Rattle.bd_value.specs.Limits.{longest_input};
 ghost use Rattle.bd_io_device.specs.Devices.{over};
 ghost use Rattle.bd_io_lines.specs.Lines.{text_lines};
 ghost use Rattle.bd_cli_files.specs.Input.{ReadsNoFurther};
-ghost use Rattle.bd_cli_files.specs.Output.{PrintsOrRunsOut, ReportsMessage, Transcript, error_line, no_memory, reported_bytes, wrong_line, wrong_status};
-ghost use Rattle.bd_cli_files.specs.Pack.{IsPacking, IsOutputOfPack, PacksInput, StopsPacking, bad_line_text, remaining_size, line_fault_text, lines_remaining, objects_packed};
+ghost use Rattle.bd_cli_files.specs.Output.{PrintsOrRunsOut, ReportsMessage, Transcript, error_line, no_memory, wrong_line, wrong_status};
+ghost use Rattle.bd_cli_files.specs.inside.Output.{reported_bytes};
+ghost use Rattle.bd_cli_files.specs.Pack.{IsOutputOfPack, PacksInput, bad_line_text, line_fault_text, objects_packed};
+ghost use Rattle.bd_cli_files.specs.inside.Pack.{IsPacking, StopsPacking, remaining_size, lines_remaining};
 ghost use Rattle.bd_cli_files.specs.declared.output.Status.TheVariants.{Failed};
 
 use crate::input::read_input;

@@ -7,7 +7,8 @@ use Rattle.bd_cursor_request.specs.{Refused.IsRefusedPart, Refused.Reason, Refus
 use Rattle.bd_query_filter.specs.{Fault.refusal_of, declared.fault.FilterFault.FilterFault}
 use Rattle.bd_cli_args.specs.FindWords.{FindWords}
 use Rattle.bd_cli_files.specs.{Output.ReportsMessage, Output.error_line, Output.no_memory, declared.output.Status.Status, declared.output.Status.TheVariants.Failed}
-use Rattle.bd_cli_find.specs.Asking.{ReportsAskingFault, ReportsReason, ReportsRefusal, document_in, page_of, refusal_text, refused_option, refused_text, requested_by}
+use Rattle.bd_cli_find.specs.Asking.{document_in, page_of, refusal_text, refused_option, refused_text, requested_by}
+use Rattle.bd_cli_find.specs.inside.Asking.{ReportsAskingFault, ReportsReason, ReportsRefusal}
 use Rattle.bd_cli_find.specs.declared.asking.AskingFault.{AskingFault}
 use Rattle.bd_cli_find.specs.declared.asking.AskingFault.TheVariants as faults
 use Rattle.bd_cursor_request.specs.declared.results.Refused.TheVariants as reasons
@@ -34,7 +35,7 @@ pub explain_refusal : (err : Over Writer) (reason : Reason) (status : Status) �
 explain_refusal err (plain refused) status reported = inl reported
 explain_refusal err (bad_filter r) status reported = reported
 
--- what stands on a part that is refused is refused with its message
+-- what needs a part that is refused is refused with its message
 part_refused : {Given Wanted : Type 0} (part : Result Given (List ℕ)) (next : Given → Result Wanted (List ℕ)) (fault : AskingFault)
     → ReportsAskingFault part fault → ReportsAskingFault (then_part part next) fault
 part_refused part next faults.NoMemory is = tt

@@ -16,7 +16,8 @@ use Rattle.bd_bson_check.proofs.DumpLemmas.{document_frame, frame_inside}
 use Rattle.bd_cursor.specs.SessionView.{IsRefusedCall, Steps, position_of, positioned_token, state_of}
 use Rattle.bd_cursor.specs.declared.session.Session.{Session}
 use Rattle.bd_cursor_request.specs.{Refused.plain, Refused.reason_of, declared.results.Refused.Refused, declared.token.Token.Token}
-use Rattle.bd_cli_find.specs.Find.{remaining_over, AwaitsFirst, IsOpenedOn, IsReady, before_first, cursor_for, places_from}
+use Rattle.bd_cli_find.specs.Find.{remaining_over, cursor_for, places_from}
+use Rattle.bd_cli_find.specs.inside.Find.{AwaitsFirst, IsOpenedOn, IsReady, before_first}
 use Rattle.bd_cli_find.specs.Asking.{fits_batch}
 use Rattle.bd_cursor_request.specs.declared.results.Refused.TheVariants as reasons
 

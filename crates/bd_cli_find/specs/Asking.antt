@@ -1,23 +1,20 @@
 -- What the options of `find` request, or why they are refused.
-use Rattle.std.specs.Prelude.{◌≡◌, ◌⊎◌, ℕ, nat_le, Bool, true, List, [], ◌++◌, codes, Option, Some, None}
-use Rattle.std.specs.Prelude.{Result, Ok, Err, IsErr, if◌then◌else◌, string_bytes}
+use Rattle.std.specs.Prelude.{ℕ, nat_le, Bool, true, List, [], ◌++◌, codes, Option, Some, None}
+use Rattle.std.specs.Prelude.{Result, Ok, Err, IsErr, if◌then◌else◌}
 use Rattle.std.specs.{List.join_with_byte, Option.ok_or}
 use Rattle.bd_value.specs.{Limits.greatest_count, Tree.Doc}
-use Rattle.bd_extjson_fault.specs.{JsonFault.json_fault_words, TextFault.text_fault, declared.json_fault.JsonFault.JsonFault}
+use Rattle.bd_extjson_fault.specs.{JsonFault.json_fault_words, TextFault.text_fault}
+use Rattle.bd_extjson_fault.specs.{declared.json_fault.JsonFault.JsonFault}
 use Rattle.bd_extjson_text.specs.Text.{quoted}
 use Rattle.bd_extjson.specs.Read.{reading}
 use Rattle.bd_path.specs.{Path.path_fault_words, declared.path.PathFault.PathFault}
 use Rattle.bd_query_filter.specs.Fault.{Refusal, filter_fault_words}
 use Rattle.bd_cursor_request.specs.{declared.results.Refused.Refused, declared.token.Token.Token}
-use Rattle.bd_cursor_request.specs.Refused.{Reason, bad_filter, plain, reason_of, refused_words, then_part, error_as}
-use Rattle.bd_cursor_request.specs.Request.{Request, named_index, request_of, request_view, token_part}
+use Rattle.bd_cursor_request.specs.Refused.{Reason, bad_filter, plain, refused_words, then_part, error_as}
+use Rattle.bd_cursor_request.specs.Request.{Request, named_index, request_of, token_part}
 use Rattle.bd_cli_args.specs.FindWords.{FindWords}
-use Rattle.bd_io_device.specs.Devices.{Over, Writer}
-use Rattle.bd_cli_files.specs.{Output.ReportsMessage, Output.error_line, Pack.byte_text, declared.output.Status.Status}
-use Rattle.bd_cli_files.specs.declared.output.Status.TheVariants.{Failed}
-use Rattle.bd_cli_find.specs.{declared.asking.Asking.Asking, declared.asking.AskingFault.AskingFault}
+use Rattle.bd_cli_files.specs.{Pack.byte_text}
 use Rattle.bd_cursor_request.specs.declared.results.Refused.TheVariants as reasons
-use Rattle.bd_cli_find.specs.declared.asking.AskingFault.TheVariants as faults
 
 -- what the options of `find` request: a request, the size of the batch, and the token that it resumes after
 pub record PageRequest : Type 0 where
@@ -93,23 +90,3 @@ requested_by words =
 -- The options of `find` are refused, whatever the file contains.
 abbrev pub RequestsNothing : FindWords → Type 0
 RequestsNothing words = IsErr (requested_by words)
-
--- the request of an `Asking` in memory
-abbrev pub page_request_of : Asking → PageRequest
-page_request_of a = record { request = request_view a.request; batch = a.size; token = a.token }
-
--- The fault reports the message with which the part is refused, or that memory ran out.
-abbrev pub ReportsAskingFault : {Given : Type 0} → Result Given (List ℕ) → AskingFault → Type 0
-ReportsAskingFault part faults.NoMemory = Unit {0}
-ReportsAskingFault part (faults.Refused refused) = part ≡ Err (refused_text (reason_of refused))
-ReportsAskingFault part (faults.Message message) = part ≡ Err (string_bytes message)
-
--- The fault reports the reason for which the part is refused, or that memory ran out.
-abbrev pub ReportsReason : {Given : Type 0} → Result Given Reason → AskingFault → Type 0
-ReportsReason part fault = ReportsAskingFault (error_as refused_text part) fault
-
--- The line of the refusal was written; for a filter it may say instead that memory ran out.
-abbrev pub ReportsRefusal : Over Writer → Reason → Status → Type 0
-ReportsRefusal err (plain refused) status = ReportsMessage err (error_line (refused_text (plain refused))) Failed status
-ReportsRefusal err (bad_filter r) status = ReportsMessage err (error_line (refusal_text r)) Failed status
-    ⊎ ReportsMessage err (error_line (codes "no memory")) Failed status

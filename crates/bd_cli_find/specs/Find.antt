@@ -1,14 +1,14 @@
 -- What `find` prints for its options and an input, and what a run of it did.
-use Rattle.std.specs.Prelude.{◌≡◌, ◌≤◌, ◌<◌, ℕ, nat_lt, true, List, [], length, option_map, Option, Some, None, Result}
+use Rattle.std.specs.Prelude.{◌≡◌, ℕ, nat_lt, List, [], length, option_map, Option, Some, None, Result}
 use Rattle.std.specs.Prelude.{Ok, Err, codes, if◌then◌else◌, ◌⊎◌, Bool, ◌∷◌, ◌++◌}
-use Rattle.std.specs.{Prelude.drop, Prelude.decimal, List.All, Str.bytes_eq}
-use Rattle.bd_value.specs.{Limits.greatest_count, Tree.Doc, Tree.doc, Tree.fields_of}
+use Rattle.std.specs.{Prelude.drop, Prelude.decimal, Str.bytes_eq}
+use Rattle.bd_value.specs.{Tree.Doc, Tree.doc, Tree.fields_of}
 use Rattle.bd_cursor_model.specs.Answer.{answer, rest, at_most, is_empty}
-use Rattle.bd_cursor_model.specs.Session.{IndexKey, OpenCursor, Query, State, cursor_of, has_index, PositionedToken, token_after}
+use Rattle.bd_cursor_model.specs.Session.{OpenCursor, Query, PositionedToken, token_after}
 use Rattle.bd_cursor_model.specs.Laws.{DocumentRequest}
-use Rattle.bd_cursor.specs.{Access.Way, Access.by_none, Access.by_one, SessionView.position_of, SessionView.positioned_token}
-use Rattle.bd_cursor_request.specs.{declared.results.Refused.Refused, declared.token.Token.Token, Results.positioned_text}
-use Rattle.bd_cursor_request.specs.Refused.{IsRefusedPart, Reason, plain}
+use Rattle.bd_cursor.specs.{SessionView.position_of, SessionView.positioned_token}
+use Rattle.bd_cursor_request.specs.{declared.token.Token.Token, Results.positioned_text}
+use Rattle.bd_cursor_request.specs.Refused.{Reason, plain}
 use Rattle.bd_bson_dump.specs.Collection.{documents_at}
 use Rattle.bd_io_device.specs.{Devices.Over, Devices.Reader, Devices.Writer, Devices.read_words}
 use Rattle.bd_io_device.specs.{declared.reading.ReadFault.ReadFault}
@@ -18,7 +18,8 @@ use Rattle.bd_cli_find.specs.Asking.{PageRequest, refused_text, requested_by}
 use Rattle.bd_cursor_sort.specs.Selection.{query_to, selection_for}
 use Rattle.bd_cli_files.specs.{Input.ReadsInput, declared.output.Status.Status}
 use Rattle.bd_cli_files.specs.declared.output.Status.TheVariants.{Done, Failed}
-use Rattle.bd_cli_files.specs.Output.{PrintsInput, ReportsMessage, Transcript, error_line, lines, fault_text, no_memory, refusal_output}
+use Rattle.bd_cli_files.specs.Output.{PrintsInput, ReportsMessage, Transcript, error_line, lines, fault_text, no_memory}
+use Rattle.bd_cli_files.specs.Output.{refusal_output}
 use Rattle.bd_extjson_text.specs.Text.{text}
 use Rattle.bd_path.specs.Sort.{SortPath, sort_cmp}
 use Rattle.bd_query_filter.specs.{Filter.Filter, FilterMatch.matches}
@@ -36,35 +37,6 @@ places_from q (Some t) = if bytes_eq t.digest q.digest
 -- an open cursor with these document numbers remaining
 abbrev pub cursor_for : ℕ → Query → Option Token → List ℕ → OpenCursor
 cursor_for id q token ps = record { id = id; digest = q.digest; token = option_map positioned_token token; remaining = ps }
-
--- the state of a session in which no cursor was opened
-abbrev pub before_first : List IndexKey → State
-before_first indexes = record { indexes = indexes; next_id = 1; cursors = [] }
-
--- by the named index; without one by a scan
-abbrev pub index_way : Option (List ℕ) → Way
-index_way None = by_none
-index_way (Some path) = by_one path
-
--- No cursor was opened yet, and the named index exists.
-pub record AwaitsFirst (s : State) (hint : Option (List ℕ)) : Type 0 where
-  pub index_keys : List IndexKey
-  pub is_unopened : s ≡ before_first index_keys
-  pub is_there : has_index index_keys hint ≡ true
-
--- A cursor was opened whose remaining documents are those requested; or it is refused, or memory ran out.
-abbrev pub IsOpenedOn : Query → Option Token → State → Result ℕ Refused → Type 0
-IsOpenedOn q token s (Ok id) =
-    (ps : List ℕ) × (places_from q token ≡ Ok ps) × (cursor_of id s.cursors ≡ Some (cursor_for id q token ps))
-IsOpenedOn q token s (Err refused) = IsRefusedPart (places_from q token) refused
-
--- The cursor is open, and its remaining numbers are those of documents of the dump,
--- no more than one batch may have.
-pub record IsReady (s : State) (id : ℕ) (count : ℕ) : Type 0 where
-  pub cursor : OpenCursor
-  pub is_there : cursor_of id s.cursors ≡ Some cursor
-  pub inside : All (λ p. p < count) cursor.remaining
-  pub few : length cursor.remaining ≤ greatest_count
 
 -- what remains after the first batch; nothing without a size
 abbrev pub remaining_over : Option ℕ → List ℕ → List ℕ

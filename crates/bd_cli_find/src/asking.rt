@@ -8,8 +8,10 @@ ghost use Rattle.bd_cursor_request.specs.Refused.{reason_of, refused_words, erro
 ghost use Rattle.bd_cursor_request.specs.Request.{named_index, request_of, request_view};
 ghost use Rattle.bd_cli_args.specs.FindWords.{find_words_of};
 ghost use Rattle.bd_cli_files.specs.Output.{error_line};
-ghost use Rattle.bd_cli_find.specs.Asking.{ReportsAskingFault, ReportsReason, ReportsRefusal, after_part, batch_part, document_in};
-ghost use Rattle.bd_cli_find.specs.Asking.{fits_batch, index_fault_text, json_fault_text, page_of, page_request_of, refusal_text, refused_option, requested_by};
+ghost use Rattle.bd_cli_find.specs.Asking.{after_part, batch_part, document_in};
+ghost use Rattle.bd_cli_find.specs.inside.Asking.{ReportsAskingFault, ReportsReason, ReportsRefusal};
+ghost use Rattle.bd_cli_find.specs.Asking.{fits_batch, index_fault_text, json_fault_text, page_of, refusal_text, refused_option, requested_by};
+ghost use Rattle.bd_cli_find.specs.inside.Asking.{page_request_of};
 ghost use Rattle.bd_cli_find.specs.declared.asking.AskingFault.TheVariants.{NoMemory as no_memory};
 
 use bd_cli_args::FindOptions;

@@ -11,8 +11,10 @@ ghost use Rattle.bd_cursor.specs.{Access.way_of, SessionView.dump_of, SessionVie
 ghost use Rattle.bd_cursor_request.specs.declared.results.Refused.TheVariants.{NoMemory as memory};
 ghost use Rattle.bd_cli_files.specs.Output.{PrintsOrRunsOut, StopsWithin, ReportsMessage, error_line, lines, no_memory};
 ghost use Rattle.bd_cli_files.specs.declared.output.Status.TheVariants.{Done, Failed};
-ghost use Rattle.bd_cli_find.specs.Asking.{fits_batch, page_request_of};
-ghost use Rattle.bd_cli_find.specs.Find.{AwaitsFirst, IsOpenedOn, IsReady, end_words, find_count_line, index_way, batch_output};
+ghost use Rattle.bd_cli_find.specs.Asking.{fits_batch};
+ghost use Rattle.bd_cli_find.specs.inside.Asking.{page_request_of};
+ghost use Rattle.bd_cli_find.specs.Find.{end_words, find_count_line, batch_output};
+ghost use Rattle.bd_cli_find.specs.inside.Find.{AwaitsFirst, IsOpenedOn, IsReady, index_way};
 ghost use Rattle.bd_cli_find.specs.Find.{output_of_dump, token_words};
 
 use crate::asking::{Asking, report_refused};

@@ -1,4 +1,4 @@
--- Each line has a reply, so a talk can go on.
+-- Each line has a reply, so a talk can continue.
 use Rattle.std.proofs.Common.{◌≡◌, ℕ, List, [], ◌∷◌, ◌++◌, refl}
 use Rattle.bd_value.specs.Tree.{Doc}
 use Rattle.bd_cursor_model.specs.Session.{State}

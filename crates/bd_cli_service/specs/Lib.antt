@@ -1,3 +1,4 @@
 pub mod Reply
 pub mod ServiceView
 pub mod Talk
+pub mod inside

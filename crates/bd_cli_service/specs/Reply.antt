@@ -1,10 +1,10 @@
 -- The replies of a session, and the document that is printed for each.
-use Rattle.std.specs.Prelude.{ℕ, pos, Bool, true, false, List, [], ◌∷◌, Option, codes, map, option_map, string_bytes}
-use Rattle.std.specs.{Borrow.Bor, List.join_with_byte}
-use Rattle.bd_value.specs.Tree.{Doc, Pair, Tree, array, doc, fields_of, items_of, leaf}
+use Rattle.std.specs.Prelude.{ℕ, pos, Bool, true, false, List, [], ◌∷◌, Option, codes, map, option_map}
+use Rattle.std.specs.{List.join_with_byte}
+use Rattle.bd_value.specs.Tree.{Doc, Tree, array, doc, fields_of, items_of, leaf}
 use Rattle.bd_extjson_text.specs.Text.{text}
 use Rattle.bd_cursor_model.specs.Session.{IndexCounts}
-use Rattle.bd_bson_dump.specs.Collection.{documents, documents_at}
+use Rattle.bd_bson_dump.specs.Collection.{documents_at}
 use Rattle.bd_extjson_fault.specs.{declared.json_fault.JsonFault.JsonFault, declared.json_fault.JsonFaultKind.JsonFaultKind}
 use Rattle.bd_extjson_fault.specs.JsonFault.{json_fault_number, json_fault_words}
 use Rattle.bd_path.specs.{Path.path_fault_number, Path.path_fault_words, declared.path.PathFault.PathFault}
@@ -15,10 +15,9 @@ use Rattle.bd_cursor_request.specs.{Token.token_text, declared.results.Batch.Bat
 use Rattle.bd_cursor.specs.Explanation.{explain_doc}
 use Rattle.bd_cli_command.specs.{Command.command_fault_number, Command.command_fault_words}
 use Rattle.bd_cli_command.specs.{declared.command.CommandFault.CommandFault}
-use Rattle.bd_cli_service.specs.declared.{member.Field.Field, reply.LineRefusal.LineRefusal, reply.Reply.Reply}
+use Rattle.bd_cli_service.specs.declared.{reply.LineRefusal.LineRefusal, reply.Reply.Reply}
 use Rattle.bd_value.specs.Tree as trees
 use Rattle.bd_extjson_fault.specs.declared.json_fault.JsonFaultKind.TheVariants as json
-use Rattle.bd_cli_service.specs.declared.member.Field.TheVariants as fields
 use Rattle.bd_cli_service.specs.declared.reply.LineRefusal.TheVariants as refusals
 use Rattle.bd_cli_service.specs.declared.reply.Reply.TheVariants as replies
 
@@ -137,17 +136,3 @@ line_reply ds (replies.Gave batch) = given_reply ds batch
 line_reply ds (replies.Made m) = makes (made_counts m)
 line_reply ds (replies.Explained e) = explains (explain_doc e)
 line_reply ds (replies.Refused refusal) = refuses (reported_refusal refusal)
-
--- the value that a field of a reply in memory represents
-abbrev pub reply_value : Field → Tree
-reply_value fields.Null = leaf trees.null
-reply_value (fields.Truth b) = leaf (trees.boolean b)
-reply_value (fields.Number n) = leaf (trees.int32 (pos n))
-reply_value (fields.Count n) = count_value n
-reply_value (fields.Text s) = leaf (trees.text s.now)
-reply_value (fields.Names names) = leaf (trees.text (join_with_byte 46 (map string_bytes names.now)))
-reply_value (fields.Documents dump places) = documents_value (documents_at (documents dump.now) places.now)
-
--- the name and the value of a field of a reply in memory
-abbrev pub member_pair : Bor (List ℕ) × Field → Pair
-member_pair m = (m.0.now, reply_value m.1)

@@ -9,7 +9,7 @@ ghost use Rattle.bd_cursor.specs.Access.{way_of};
 ghost use Rattle.bd_cli_service.specs.Reply.{path_refusal, session_refusal};
 ghost use Rattle.bd_cursor_request.specs.Refused.{error_as};
 ghost use Rattle.bd_cursor_request.specs.Request.{named_index, request_view, token_part};
-ghost use Rattle.bd_cli_service.specs.ServiceView.{MayRunOut, RefusesPart, session_call};
+ghost use Rattle.bd_cli_service.specs.inside.ServiceView.{MayRunOut, RefusesPart, session_call};
 ghost use Rattle.bd_cli_service.specs.declared.call.CallFault.TheVariants.{NoMemory as no_memory};
 ghost use Rattle.bd_cli_service.specs.Talk.{call_of, hint_path, search_of, way_by};
 

@@ -5,7 +5,8 @@ ghost use Rattle.std.specs.Io.{StartsWith};
 ghost use Rattle.bd_value.specs.Tree.{boolean, doc, fields_of, leaf};
 ghost use Rattle.bd_bson_dump.specs.Collection.{documents, document_at, documents_at};
 ghost use Rattle.bd_extjson_text.specs.Text.{member, quoted, text};
-ghost use Rattle.bd_cli_service.specs.Reply.{documents_value, member_pair, reply_value};
+ghost use Rattle.bd_cli_service.specs.Reply.{documents_value};
+ghost use Rattle.bd_cli_service.specs.inside.Reply.{member_pair, reply_value};
 
 use bd_bson_dump::Dump;
 use bd_extjson_text::{write_node, write_number, write_path, write_string};

@@ -8,7 +8,8 @@ ghost use Rattle.bd_cursor_request.specs.Token.{token_text};
 ghost use Rattle.bd_cursor_request.specs.Results.{made_counts, text_or_null};
 ghost use Rattle.bd_cursor.specs.Explanation.{plan_name, explain_doc};
 ghost use Rattle.bd_cli_service.specs.Reply.{explains, filter_refusal, given_reply, json_fault_byte, json_refusal, line_reply, makes, refuses};
-ghost use Rattle.bd_cli_service.specs.Reply.{reply_text, reply_value, reported_refusal};
+ghost use Rattle.bd_cli_service.specs.Reply.{reply_text, reported_refusal};
+ghost use Rattle.bd_cli_service.specs.inside.Reply.{reply_value};
 
 use crate::member::{Field, write_members};
 use bd_bson_dump::Dump;

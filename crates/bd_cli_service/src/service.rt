@@ -10,8 +10,10 @@ ghost use Rattle.bd_cursor.specs.SessionView.{dump_of};
 ghost use Rattle.bd_io_lines.specs.Serving.{RunsOutAt};
 ghost use Rattle.bd_cli_command.specs.{Command.command_tree, CommandOf.command_of};
 ghost use Rattle.bd_cli_service.specs.Reply.{command_refusal, line_reply};
-ghost use Rattle.bd_cli_service.specs.ServiceView.{IsAnswered, IsPerformed, KeepsState, RefusesPart, RepliesTo};
-ghost use Rattle.bd_cli_service.specs.ServiceView.{service_dump, service_state, session_call};
+ghost use Rattle.bd_cli_service.specs.ServiceView.{KeepsState, RepliesTo};
+ghost use Rattle.bd_cli_service.specs.inside.ServiceView.{IsAnswered, IsPerformed, RefusesPart};
+ghost use Rattle.bd_cli_service.specs.ServiceView.{service_dump, service_state};
+ghost use Rattle.bd_cli_service.specs.inside.ServiceView.{session_call};
 ghost use Rattle.bd_cli_service.specs.Talk.{Answers, call_in, document_in};
 
 use crate::call::{Call, CallFault, call_of};

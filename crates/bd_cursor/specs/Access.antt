@@ -5,7 +5,8 @@ use Rattle.std.specs.Prelude.{◌≡◌}
 use Rattle.std.specs.{Str.bytes_eq, Cmp.Lexicographic.pointwise}
 use Rattle.bd_value.specs.Tree.{Doc, leaf}
 use Rattle.bd_cursor_model.specs.Session.{IndexKey, is_on}
-use Rattle.bd_path.specs.{Sort.SortPath, Reach.Names, Path.components_of, declared.sort.Dir.Dir, PathNames.names_of, PathNames.path_text}
+use Rattle.bd_path.specs.{Sort.SortPath, Reach.Names, Path.components_of, declared.sort.Dir.Dir, PathNames.names_of}
+use Rattle.bd_path.specs.{PathNames.path_text}
 use Rattle.bd_path.specs.{Sort.sort_paths}
 use Rattle.bd_query_filter.specs.{Filter.Filter, Filter.filter_tree}
 use Rattle.bd_index_bounds.specs.{Bounds.KeyBounds, Bounds.bounds, BoundsView.bounds_view}
@@ -130,8 +131,3 @@ abbrev pub IsAccessOf : Dump → Request → Access → Type 0
 IsAccessOf dump r ways.Scan = Unit {0}
 IsAccessOf dump r (ways.Bounded index keys) = HasMatchesWithin dump r index.now (bounds_view keys)
 IsAccessOf dump r (ways.Walk index dir) = HasSortOrder dump r index.now dir
-
--- The access path in memory is this one, and leads to all documents that match the request.
-pub record Reaches (dump : Dump) (r : Request) (path : AccessPath) (access : Access) : Type 0 where
-  pub is : access_path access ≡ path
-  pub leads : IsAccessOf dump r access

@@ -1,3 +1,4 @@
 pub mod Access
 pub mod Explanation
 pub mod SessionView
+pub mod inside

@@ -1,16 +1,15 @@
 -- A session as the state of the machine.
-use Rattle.std.specs.Prelude.{◌≡◌, ◌-◌, ℕ, Bool, List, drop, length, map, option_map, Option, Some, None}
+use Rattle.std.specs.Prelude.{◌≡◌, ◌-◌, ℕ, Bool, List, drop, map, option_map, Option, Some, None}
 use Rattle.std.specs.Prelude.{Result, Ok, Err}
 use Rattle.std.specs.List.{cons_option, filter, range_with_len}
 use Rattle.bd_value.specs.Tree.{Doc}
 use Rattle.bd_cursor_model.specs.Answer.{Selection, Position, at_most}
-use Rattle.bd_cursor_model.specs.Session.{remaining_after, open_reply, Query, Call, GivenBatch, IndexKey, PositionedToken, OpenCursor}
-use Rattle.bd_cursor_model.specs.Session.{Reply, State, changed_by, explain_call, make_call, reply, state_after, with_open}
+use Rattle.bd_cursor_model.specs.Session.{Call, GivenBatch, IndexKey, PositionedToken, OpenCursor}
+use Rattle.bd_cursor_model.specs.Session.{Reply, State, explain_call, make_call, reply, state_after}
 use Rattle.bd_cursor_model.specs.Session.{explained, foreign_token, gave, index_there, made, no_cursor, no_index, opened}
 use Rattle.bd_cursor_model.specs.Session.{out_of_range, token_place, too_many_cursors, too_many_indexes}
 use Rattle.bd_bson_dump.specs.{declared.collection.Dump.Dump, Collection.documents}
-use Rattle.bd_query_filter.specs.{Filter.filter_tree, declared.filter.Filter.Filter}
-use Rattle.bd_cursor_sort.specs.Selection.{matches_at_of, query_of}
+use Rattle.bd_cursor_sort.specs.Selection.{query_of}
 use Rattle.bd_cursor.specs.{declared.cursor.ScanPosition.ScanPosition, Access.Way, Access.by_one, Access.way_of}
 use Rattle.bd_cursor.specs.{Access.index_key, Explanation.explanation_of, Explanation.index_counts}
 use Rattle.bd_cursor.specs.{declared.access.Choice.Choice, declared.cursor.Cursor.Cursor}
@@ -34,10 +33,6 @@ positioned_token t = record { position = position_of t; digest = t.digest }
 abbrev pub scan_remaining : ℕ → (ℕ → Bool) → ScanPosition → List ℕ
 scan_remaining count matches_at a =
     at_most a.most (cons_option a.found (drop a.skip (filter matches_at (range_with_len a.next (count - a.next)))))
-
--- the matches of a filter in a dump that a scanning cursor has yet to return
-abbrev pub scan_remaining_in : Dump → Filter → ScanPosition → List ℕ
-scan_remaining_in dump filter a = scan_remaining (length (documents dump)) (matches_at_of (documents dump) (filter_tree filter)) a
 
 -- the document numbers that remain for a cursor in memory
 abbrev pub places_remaining : Selection → Remainder → List ℕ
@@ -136,14 +131,3 @@ pub record IsRefused (why : Refused) (call : Call) (old new : Session) : Type 0 
 abbrev pub Steps : {A : Type 0} → (A → Reply) → Call → Session → Result A Refused → Session → Type 0
 Steps as_reply call old (Ok v) new = IsStep (as_reply v) call old new
 Steps as_reply call old (Err why) new = IsRefused why call old new
-
--- The machine allows this index to be created.
-abbrev pub IsGranted : Session → IndexKey → Type 0
-IsGranted s i = reply (state_of s) (make_of (documents (dump_of s)) i) ≡ made (index_counts (documents (dump_of s)) i)
-
--- The call opens a cursor on what remains of a request after a token,
--- if the index that it names exists and one more cursor may be open.
-pub record IsOpening (call : Call) (s : State) (q : Query) (hint : Option (List ℕ))
-    (t : Option PositionedToken) : Type 0 where
-  pub replies : reply s call ≡ open_reply s hint
-  pub opens : changed_by (opened s.next_id) call s ≡ with_open s q.digest t (remaining_after q.selection t)

@@ -12,7 +12,8 @@ ghost use Rattle.bd_query_filter.specs.Filter.{filter_tree};
 ghost use Rattle.bd_index.specs.IndexView.{AreIndexesOf, IsIndexOf};
 ghost use Rattle.bd_path.specs.{PathNames.path_text, Sort.sort_paths};
 ghost use Rattle.bd_cursor_sort.specs.Selection.{matches_at_of, selection_of};
-ghost use Rattle.bd_cursor.specs.Access.{IsAccessOf, Reaches, access_of, access_path, first_bounded, first_walked, index_key};
+ghost use Rattle.bd_cursor.specs.Access.{IsAccessOf, access_of, access_path, first_bounded, first_walked, index_key};
+ghost use Rattle.bd_cursor.specs.inside.Access.{Reaches};
 ghost use Rattle.bd_cursor.specs.Access.{index_key_bounds, named_access, scanned, serving_bounds, walk_dir, way_of};
 
 use bd_bson_dump::Dump;

@@ -10,7 +10,8 @@ ghost use Rattle.bd_query_filter.specs.Filter.{filter_tree};
 ghost use Rattle.bd_index.specs.IndexView.{AreIndexesOf};
 ghost use Rattle.bd_cursor_sort.specs.Selection.{matches_at_of, query_of, selection_of};
 ghost use Rattle.bd_value.specs.Tree.{Doc};
-ghost use Rattle.bd_cursor.specs.SessionView.{given_batch, positioned_token, open_cursor, places_remaining, scan_remaining, scan_remaining_in};
+ghost use Rattle.bd_cursor.specs.SessionView.{given_batch, positioned_token, open_cursor, places_remaining, scan_remaining};
+ghost use Rattle.bd_cursor.specs.inside.SessionView.{scan_remaining_in};
 
 use crate::access::{Access, Choice, PlaceList};
 use crate::session::DigestedDump;

@@ -42,7 +42,8 @@ impl Session {
     ghost use Rattle.bd_bson_dump.specs.Collection.{documents};
     ghost use Rattle.bd_index.specs.IndexView.{IsIndexOf};
     ghost use Rattle.bd_cursor.specs.Access.{index_key};
-    ghost use Rattle.bd_cursor.specs.SessionView.{IsGranted, IsOpening, IsRefusedCall, Steps, dump_of, given_batch, positioned_token, path_index_key};
+    ghost use Rattle.bd_cursor.specs.SessionView.{IsRefusedCall, Steps, dump_of, given_batch, positioned_token, path_index_key};
+    ghost use Rattle.bd_cursor.specs.inside.SessionView.{IsGranted, IsOpening};
     ghost use Rattle.bd_cursor.specs.SessionView.{explain_request, hint_of, make_index, make_of, state_of};
     ghost use Rattle.bd_cursor.specs.Explanation.{explain_doc};
     ghost use Rattle.bd_cursor_request.specs.Results.{made_counts};

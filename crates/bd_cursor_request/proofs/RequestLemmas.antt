@@ -4,7 +4,7 @@ use Rattle.std.proofs.Common.{inr}
 use Rattle.bd_value.specs.Tree as trees
 use Rattle.bd_value.specs.Tree.{Doc, Tree, leaf, doc, fields_of, pairs_of-fields_of, AreParts}
 use Rattle.bd_cursor_request.specs.Request.{direction_number, sort_written, direction_of, are_distinct, pair_names, sort_of, sort_pairs}
-use Rattle.bd_cursor_request.specs.{Refused.IsRefusedAs, declared.results.Refused.Refused}
+use Rattle.bd_cursor_request.specs.{inside.Refused.IsRefusedAs, declared.results.Refused.Refused}
 use Rattle.std.specs.Prelude.{nat_le}
 use Rattle.std.proofs.lemmas.Bool.{le-leb}
 use Rattle.bd_path.specs.Sort.{SortPath}

@@ -2,3 +2,4 @@ pub mod Refused
 pub mod Request
 pub mod Results
 pub mod Token
+pub mod inside

@@ -54,10 +54,6 @@ then_part (Err why) next = Err why
 abbrev pub error_as : {A Why Explained : Type 0} → (Why → Explained) → Result A Why → Result A Explained
 error_as explain part = result_map_both (λ x. x) explain part
 
--- It is refused for this reason, and `Holds` is true; or memory ran out.
-abbrev pub IsRefusedAs : Refused → Refused → Type 0 → Type 0
-IsRefusedAs refused reason Holds = (refused ≡ reasons.NoMemory) ⊎ ((refused ≡ reason) × Holds)
-
 -- It is refused for the reason of this part; or memory ran out.
 abbrev pub IsRefusedPart : {A : Type 0} → Result A Reason → Refused → Type 0
 IsRefusedPart part refused = (refused ≡ reasons.NoMemory) ⊎ (part ≡ Err (reason_of refused))

@@ -8,7 +8,7 @@ use Rattle.bd_path.proofs.SortLemmas.{sort_total}
 use Rattle.bd_cursor_model.specs.{Answer.before, Laws.IsStrictOrder}
 use Rattle.bd_cursor_model.proofs.AnswerLemmas.{before_strict}
 use Rattle.bd_bson_dump.specs.Collection.{document_at}
-use Rattle.bd_cursor_sort.specs.{Sorting.pivot_cmp, Sorting.pivot_keys, Selection.order_of_keys}
+use Rattle.bd_cursor_sort.specs.{inside.Sorting.pivot_cmp, inside.Sorting.pivot_keys, Selection.order_of_keys}
 
 -- the order of documents by their sort keys is total, with ties
 pub keys_total : (ds : List Doc) (ss : List SortPath) → IsTotalOrder (order_of_keys ds ss)

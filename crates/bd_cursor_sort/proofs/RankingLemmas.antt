@@ -11,8 +11,8 @@ use Rattle.bd_path.specs.{Sort.SortPath, Sort.dir_cmp, Sort.sort_key, declared.s
 use Rattle.bd_path.proofs.SortLemmas.{dir_total}
 use Rattle.bd_cursor_model.specs.Answer.{before}
 use Rattle.bd_bson_dump.specs.Collection.{document_at}
-use Rattle.bd_cursor_sort.specs.Ranking.{AreRanked, Keyed, keyed, keyed_cmp, keyed_row, next_rank, place_of, ranks_from, rows_cmp}
-use Rattle.bd_cursor_sort.specs.{Sorting.AreFirst, Selection.order_of_keys, declared.ranking.Ranked.Ranked, declared.ranking.Row.Row}
+use Rattle.bd_cursor_sort.specs.inside.Ranking.{AreRanked, Keyed, keyed, keyed_cmp, keyed_row, next_rank, place_of, ranks_from, rows_cmp}
+use Rattle.bd_cursor_sort.specs.{inside.Sorting.AreFirst, Selection.order_of_keys, declared.ranking.Ranked.Ranked, declared.ranking.Row.Row}
 use Rattle.bd_cursor_sort.proofs.PivotLemmas.{keys_total}
 use Rattle.bd_value.specs.Tree as trees
 

@@ -13,7 +13,7 @@ use Rattle.bd_cursor_model.proofs.StableLemmas.{apart_left, insert_all_append, r
 use Rattle.bd_cursor_model.proofs.OrderLemmas.{Apart, In, Rises, in_at, not_both, filter_apart}
 use Rattle.bd_cursor_model.proofs.SourceLemmas.{permuted_apart, sorted_rises, batch_sorted, below_more, pairs_apart, batch_in_order}
 use Rattle.bd_path.proofs.SortLemmas.{sort_total}
-use Rattle.bd_cursor_sort.specs.{Sorting.AreFirst, Sorting.IsEnd, Sorting.is_before_pivot, Sorting.has_enough, Sorting.IsPivot, Sorting.pivot_place, Selection.matches_at_of, Selection.order_of_keys}
+use Rattle.bd_cursor_sort.specs.{inside.Sorting.AreFirst, inside.Sorting.IsEnd, inside.Sorting.is_before_pivot, inside.Sorting.has_enough, inside.Sorting.IsPivot, inside.Sorting.pivot_place, Selection.matches_at_of, Selection.order_of_keys}
 use Rattle.bd_cursor_sort.specs.{Selection.selection_for, Selection.selection_of, declared.pivot.Pivot.Pivot}
 use Rattle.bd_path.specs.{Sort.SortPath, Sort.sort_paths}
 use Rattle.bd_value.specs.Tree.{Doc}

@@ -1,3 +1,2 @@
-pub mod Ranking
 pub mod Selection
-pub mod Sorting
+pub mod inside

@@ -13,9 +13,9 @@
 //! ```
 //!
 //! - `sorting`: which documents match, and the places of any source in order: `specs/Selection.antt`, what a request selects
-//!   from a dump, and `specs/Sorting.antt`.
-//! - `ranking`: documents sorted by one path after the other: `specs/Ranking.antt`.
-//! - `pivot`: a document that others are compared with: `specs/Sorting.antt`.
+//!   from a dump, and `specs/inside/Sorting.antt`.
+//! - `ranking`: documents sorted by one path after the other: `specs/inside/Ranking.antt`.
+//! - `pivot`: a document that others are compared with: `specs/inside/Sorting.antt`.
 //! - `sort_key`: the key of a document on a path, compared by its prefix first (`bd_index_prefix`).
 #![tactic(auto)]
 

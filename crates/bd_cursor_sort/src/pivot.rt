@@ -4,7 +4,7 @@ ghost use Rattle.std.specs.Prelude.{◌≡◌, ◌<◌, IfOk, List, length};
 ghost use Rattle.std.specs.Ordering.{nat_cmp, ordering_then};
 ghost use Rattle.bd_bson_dump.specs.Collection.{documents, document_at};
 ghost use Rattle.bd_path.specs.Sort.{SortPath, sort_paths};
-ghost use Rattle.bd_cursor_sort.specs.Sorting.{IsPivot, pivot_cmp, pivots_in};
+ghost use Rattle.bd_cursor_sort.specs.inside.Sorting.{IsPivot, pivot_cmp, pivots_in};
 ghost use Rattle.bd_cursor_sort.specs.Selection.{order_of_keys};
 
 use crate::sort_key::SortKey;

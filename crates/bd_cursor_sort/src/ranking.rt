@@ -8,9 +8,9 @@ ghost use Rattle.bd_bson_dump.specs.Collection.{documents};
 ghost use Rattle.bd_path.specs.Sort.{SortPath, sort_paths};
 ghost use Rattle.bd_path.specs.PathNames.{names_of};
 ghost use Rattle.bd_cursor_model.specs.Answer.{before};
-ghost use Rattle.bd_cursor_sort.specs.Ranking.{AreRanked, keyed, keyed_cmp, keyed_row, next_rank, place_of, ranks_from, rows_cmp};
+ghost use Rattle.bd_cursor_sort.specs.inside.Ranking.{AreRanked, keyed, keyed_cmp, keyed_row, next_rank, place_of, ranks_from, rows_cmp};
 ghost use Rattle.bd_cursor_sort.specs.Selection.{order_of_keys};
-ghost use Rattle.bd_cursor_sort.specs.Sorting.{AreFirst};
+ghost use Rattle.bd_cursor_sort.specs.inside.Sorting.{AreFirst};
 
 use crate::sort_key::SortKey;
 use bd_bson_dump::Dump;

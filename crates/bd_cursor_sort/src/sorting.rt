@@ -8,7 +8,7 @@ ghost use Rattle.bd_bson_dump.specs.Collection.{documents};
 ghost use Rattle.bd_query_filter.specs.Filter.{filter_tree};
 ghost use Rattle.bd_path.specs.Sort.{SortPath, sort_paths};
 ghost use Rattle.bd_cursor_sort.specs.Selection.{matches_at_of, order_of_keys, selection_of};
-ghost use Rattle.bd_cursor_sort.specs.Sorting.{AreFirst, IsEnd, IsPivot, has_enough, is_before_pivot, pivot_place};
+ghost use Rattle.bd_cursor_sort.specs.inside.Sorting.{AreFirst, IsEnd, IsPivot, has_enough, is_before_pivot, pivot_place};
 
 use crate::pivot::Pivot;
 use crate::ranking::first_in_order;

@@ -58,7 +58,7 @@ white_space x =
 
 -- ---- a text that is split
 
--- the text is the front and the rest, and both are UTF-8 if it is
+-- the text is the prefix and the rest, and both are UTF-8 if it is
 abbrev pub Split : List ℕ → List ℕ → List ℕ → Type 0
 Split text prefix rest = (text ≡ prefix ++ rest) × (IsUtf8 text → IsUtf8 prefix × IsUtf8 rest)
 
@@ -101,7 +101,7 @@ split_word prefix (c ∷ r) e = (
       ),
 )
 
--- behind an ASCII byte
+-- after an ASCII byte
 pub split_ascii : (text prefix rest : List ℕ) (c : ℕ) → c < 128 → text ≡ prefix ++ c ∷ rest → Split text (prefix ++ c ∷ []) rest
 split_ascii text prefix rest c small e =
     let moved : text ≡ (prefix ++ c ∷ []) ++ rest = e ∙ sym (append_assoc prefix (c ∷ []) rest) in
@@ -116,13 +116,13 @@ split_ascii text prefix rest c small e =
           )),
     )
 
--- a text is split behind its first byte, which is ASCII
+-- a text is split after its first byte, which is ASCII
 pub split_one : (c : ℕ) (t : List ℕ) → c < 128 → Split (c ∷ t) (c ∷ []) t
 split_one c t small = split_ascii (c ∷ t) [] t c small refl
 
 -- ---- white space
 
--- white space at the front of a text, which any text may follow
+-- white space at the start of a text, which any text may follow
 pub record White (text rest : List ℕ) : Type 0 where
   pub prefix : List ℕ
   pub split : Split text prefix rest
@@ -138,7 +138,7 @@ white_ends x =
     let P : ℕ → Type 0 = λ y. is_white y ≡ true → is_operator y || is_space y ≡ true in
     unless P 32 x (λ e. refl) (λ e1. unless P 9 x (λ e. refl) (λ e2. unless P 10 x (λ e. refl) (λ e3. unless P 13 x (λ e. refl) (λ e4 e. absurd (false≢true (rw (e1, e2, e3, e4) at e))))))
 
--- the second pass goes past white space
+-- the second pass skips white space
 pub white_passed : (text : List ℕ) → White text (beyond_white text)
 unfolding beyond_all lex
 white_passed [] = record { prefix = []; split = split_none []; skips = λ any. refl; ends = λ any e. e; stays = λ any. refl }
@@ -158,7 +158,7 @@ white_passed (x ∷ xs) = go (is_white x) refl (white_passed xs)
 pub white_tokens : (p : Place) (text : List ℕ) → tokens_from p text ≡ tokens_from p (beyond_white text)
 white_tokens p text = let w = white_passed text in ap (tokens_from p) w.split.0 ∙ ap (punctuate p) (w.skips (beyond_white text))
 
--- no white space is behind white space
+-- no white space is after white space
 pub white_stops : (text : List ℕ) → begins is_white (beyond_white text) ≡ false
 unfolding beyond_all
 white_stops [] = refl
@@ -177,7 +177,7 @@ colon_first (x ∷ xs) h = cases_byte P x (λ e. refl) (λ e. refl) (λ e. refl)
     P : ℕ → Type 0
     P y = is_white y ≡ false → begins_colon (lex between (y ∷ xs)) ≡ (y == 58)
 
--- the lexer finds a colon next exactly where one is behind white space
+-- the lexer finds a colon next exactly if one is after white space
 pub colon_next : (text : List ℕ) → begins_colon (lex between text) ≡ begins (λ b. b == 58) (beyond_white text)
 colon_next text = let w = white_passed text in
     ap begins_colon (ap (lex between) w.split.0 ∙ w.skips (beyond_white text)) ∙ colon_first (beyond_white text) (white_stops text)

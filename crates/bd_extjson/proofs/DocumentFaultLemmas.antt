@@ -1,4 +1,4 @@
--- A text has no fault exactly where it is read as a document.
+-- A text has no fault exactly if it is read as a document.
 use Rattle.std.proofs.Common.{◌≡◌, ◌==◌, ◌&&◌, ◌↔◌, inl, inr, refl, sym, ap, ap₂, ◌∙◌, subst, not, ℕ, suc, Bool, true, false, List, [], ◌∷◌, ◌++◌, length, Option, Some, None, Ok, Err, arith}
 use Rattle.std.proofs.Common.{is_some}
 use Rattle.std.specs.Prelude.{option_and_then, if◌then◌else◌}
@@ -37,7 +37,7 @@ abbrev Reads : List ℕ → Beyond → Type 0
 Reads text (Ok rest) = (j : Json) × (json text ≡ Some j) × ValueIs most_brackets text j
 Reads text (Err stop) = json text ≡ None
 
--- the value, if no token is behind it
+-- the value, if no token is after it
 abbrev last_of : Option (Json × List Token) → Option Json
 last_of o = option_and_then (λ p. if_last p.0 p.1) o
 
@@ -54,7 +54,7 @@ module _ (text : List ℕ) (utf8 : is_utf8 text ≡ true) where
   text_values : Meets (ValueIs most_brackets) most_brackets text (beyond_value most_brackets text)
   text_values = value_meets ValueIs most_brackets flat_value deep_value most_brackets (omega arith) text
 
-  -- the value that was passed, and the tokens behind it
+  -- the value that was passed, and the tokens after it
   value_is : (rest : List ℕ) (a : Passed json_tokens depth (ValueIs most_brackets) most_brackets text rest) → value most_brackets (tokens text) ≡ Some (a.value, tokens_from after_value rest)
   value_is rest a = ap (value most_brackets) (ap (tokens_from fresh) a.split.0 ∙ a.read fresh refl rest a.here) ∙ value-json_tokens a.value most_brackets (tokens_from after_value rest) a.shallow
 
@@ -86,7 +86,7 @@ module _ (text : List ℕ) (utf8 : is_utf8 text ≡ true) where
 
 -- ---- the law
 
--- what the fields of a value and its document tell of a text
+-- what the fields of a value and its document say of a text
 some_reading : (text : List ℕ) (j : Json) → json text ≡ Some j → is_some (reading text) ≡ is_some (option_and_then document (wrap most_levels j))
 some_reading text j is = some_map pairs_of (option_and_then document (option_and_then (wrap most_levels) (json text)))
     ∙ ap (λ o. is_some (option_and_then document (option_and_then (wrap most_levels) o))) is
@@ -120,13 +120,13 @@ fault_agrees text = by_utf8 (is_utf8 text) refl
     by_utf8 true e = ap is_none (of_utf8 text e) ∙ after (beyond_text text) (text_reads text e)
     by_utf8 false e = let n = no_utf8 text e in n.0 ∙ sym (no_reading text n.1)
 
--- one option is none exactly where the other is some
+-- one option is none exactly if the other is some
 iff_from_tests : {A B : Type 0} (o : Option A) (r : Option B) → is_none o ≡ is_some r → (o ≡ None) ↔ ((b : B) × (r ≡ Some b))
 iff_from_tests None None e = absurd (true≢false e)
 iff_from_tests None (Some b) e = (λ n. (b, refl), λ s. refl)
 iff_from_tests (Some a) None e = (λ n. not_found a (sym n), λ s. not_found s.0 s.1)
 iff_from_tests (Some a) (Some b) e = absurd (false≢true e)
 
--- a text has no fault exactly where it is a document
+-- a text has no fault exactly if it is a document
 pub no_fault_where_read : (text : List ℕ) → (first_fault text ≡ None) ↔ ((d : Doc) × ReadsAs text d)
 no_fault_where_read text = iff_from_tests (first_fault text) (reading text) (fault_agrees text)

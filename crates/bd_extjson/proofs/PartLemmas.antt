@@ -1,4 +1,4 @@
--- Parts in brackets that the second pass goes past are those that the lexer of the kit makes tokens of.
+-- Parts in brackets that the second pass skips are those that the lexer of the kit makes tokens of.
 use Rattle.std.proofs.Common.{◌≡◌, ◌<◌, ◌≤◌, ◌==◌, ◌&&◌, ◌⊎◌, inl, inr, refl, sym, ap, ◌∙◌, subst, cond, not, ℕ, zero, suc, Bool, true, false, List, [], ◌∷◌, ◌++◌, length, drop, Option, Some, None, Ok, Err, arith}
 use Rattle.std.proofs.Common.{append_assoc, length-append}
 use Rattle.std.specs.Prelude.{IsUtf8, if◌then◌else◌, nat_eq}
@@ -48,7 +48,7 @@ word_word t =
     (either_word (head t == 110) (literal ascii.null_text tokens.null t) (number_before t (after_number t)) (literal_word ascii.null_text t tokens.null tt)
     (number_word t (after_number t))))
 
--- tokens after a value that end what it stands in, other than by this byte, or are no JSON
+-- tokens after a value that end what it is in, other than by this byte, or are no JSON
 abbrev pub Stuck : ℕ → List Token → Type 0
 Stuck c [] = Unit {0}
 Stuck c (tokens.bad ∷ ts) = Unit {0}
@@ -179,7 +179,7 @@ record NextAt (c : ℕ) (mid rest : List ℕ) : Type 0 where
   ends : (any : List ℕ) → is_end (prefix ++ any) ≡ true
   read : (p : Place) (any : List ℕ) → tokens_from p (prefix ++ any) ≡ tokens_from p (c ∷ any)
 
--- a byte that ends what a value stands in, or parts it
+-- a byte that ends what a value is in, or parts it
 pub record Delimiter (c : ℕ) : Type 0 where
   pub small : c < 128
   pub operates : is_operator c ≡ true
@@ -350,7 +350,7 @@ module _ {J : Type 0} (c : ℕ) (t : Token) (NoParts : List Token → Type 0) (s
       go more (Ok mid) (inl a) = of_passed more mid a (beyond_white mid) refl
       go more (Ok mid) (inr (e, h)) = of_wrong mid e h (beyond_white mid) refl
 
-  -- what stands behind the opening bracket
+  -- what is after the opening bracket
   pub record Group (inside rest : List ℕ) : Type 0 where
     pub prefix : List ℕ
     pub list : List J
@@ -390,7 +390,7 @@ module _ {J : Type 0} (c : ℕ) (t : Token) (NoParts : List Token → Type 0) (s
         means = λ u. rw (e, eq-eqb c c refl) tt;
       }
 
-  -- the second pass goes past the groups that the lexer makes tokens of
+  -- the second pass skips the groups that the lexer makes tokens of
   pub group_meets : (inside : List ℕ) → MeetsGroup inside (beyond_group (λ b. b == c) part inside)
   unfolding beyond_group
   group_meets inside = of_white (beyond_white inside) refl

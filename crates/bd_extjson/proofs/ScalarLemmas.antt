@@ -1,4 +1,4 @@
--- A value without brackets that the second pass goes past is one that the grammar of the kit reads.
+-- A value without brackets that the second pass skips is one that the grammar of the kit reads.
 use Rattle.std.proofs.Common.{◌≡◌, ◌<◌, ◌≤◌, ◌==◌, ◌||◌, ◌+◌, ◌⊎◌, inl, inr, refl, sym, ap, ap₂, ◌∙◌, subst, cond, not, ℕ, zero, suc, Bool, true, false, List, [], ◌∷◌, ◌++◌, length, take, drop, Option, Some, None, Ok, Err, arith}
 use Rattle.std.proofs.Common.{append_assoc}
 use Rattle.std.specs.Prelude.{option_and_then, IsUtf8, if◌then◌else◌, codes, nat_eq}
@@ -24,11 +24,11 @@ use Rattle.bd_extjson_fault.proofs.NumberLemmas.{number_agrees}
 use Rattle.bd_extjson.proofs.ByteLemmas.{tokens_from, is_end, colon_next, unless, Other, cases_byte, Split, split_word, split_ascii}
 use Rattle.bd_extjson.proofs.StringLemmas.{MeetsString, StringAt, string_meets}
 
--- no value is at the front of the text
+-- no value is at the start of the text
 abbrev pub Fails : ℕ → List ℕ → Type 0
 Fails level text = (p : Place) → may_begin p ≡ true → value level (tokens_from p text) ≡ None
 
--- A value is at the front of the text, up to the rest: it is the same before any other text that may follow it.
+-- A value is at the start of the text, up to the rest: it is the same before any other text that may follow it.
 pub record Passed {J : Type 0} (spell : J → List Token) (height : J → ℕ) (P : List ℕ → J → Type 0) (level : ℕ) (text rest : List ℕ) : Type 0 where
   pub prefix : List ℕ
   pub value : J
@@ -132,7 +132,7 @@ word_token after_key may t j e ls = absurd (false≢true may)
 
 -- ---- numbers
 
--- what is passed to is behind so many bytes of the text
+-- what is passed to is after that number of bytes of the text
 abbrev Tail : List ℕ → Option (List ℕ) → Type 0
 Tail t None = Unit {0}
 Tail t (Some rest) = (k : ℕ) × (rest ≡ drop k t)
@@ -177,14 +177,14 @@ number_tail t =
     let d = either_drop (head t == 45) t in
     tail_bind after_exponent exponent_tail t _ (tail_bind after_fraction fraction_tail t _ (tail_then after_whole whole_tail t d.0 (after_minus t) d.1))
 
--- ---- what a value is, behind white space
+-- ---- what a value is, after white space
 
 -- a number with its bytes
 abbrev pub NumberAt : List ℕ → List ℕ → Type 0
 NumberAt here s = (rest : List ℕ) × (beyond_number here ≡ Ok rest) × (here ≡ s ++ rest) × (begins (λ b. b == 34) here ≡ false) × (opens_object here ≡ false)
     × (opens_array here ≡ false)
 
--- each part stands for one of the list
+-- each part means one of the list
 abbrev pub Pairs : {J : Type 0} → (List ℕ → J → Type 0) → List (List ℕ) → List J → Type 0
 Pairs Q [] [] = Unit {0}
 Pairs Q [] (j ∷ js) = ⊥
@@ -201,7 +201,7 @@ abbrev pub members_of : List (List ℕ × Json) → kit.Members
 members_of [] = kit.no_members
 members_of (m ∷ ms) = kit.member m.0 m.1 (members_of ms)
 
--- a member has that name, and what stands behind its colon that value
+-- a member has that name, and what is after its colon that value
 abbrev pub Member : (List ℕ → Json → Type 0) → List ℕ → List ℕ × Json → Type 0
 Member P text m = (name_in (quoted_name text) ≡ m.0) × ((after : List ℕ) × (beyond_name text ≡ Ok after) × P after m.1)
 
@@ -227,7 +227,7 @@ pub record ObjectAt (P : List ℕ → Json → Type 0) (part : List ℕ → Beyo
   pub utf8 : IsUtf8 bytes
   pub alone : tokens_from fresh bytes ≡ json_tokens (kit.object ms)
 
--- what a text that begins with a value, and with no white space, shows of it; P is what the texts of its parts show
+-- what a text that begins with a value, and with no white space, says of it; P is what the texts of its parts say
 abbrev pub Shape : (List ℕ → Json → Type 0) → (List ℕ → Beyond) → List ℕ → Json → Type 0
 Shape P part here kit.null = (t : List ℕ) × (here ≡ 110 ∷ t)
 Shape P part here (kit.boolean b) = (t : List ℕ) × ((here ≡ 116 ∷ t) ⊎ (here ≡ 102 ∷ t))

@@ -1,4 +1,4 @@
--- A string that the second pass goes past is one that the lexer of the kit reads.
+-- A string that the second pass skips is one that the lexer of the kit reads.
 use Rattle.std.proofs.Common.{◌≡◌, ◌<◌, ◌≤◌, ◌==◌, ◌&&◌, ◌+◌, ◌*◌, inl, inr, refl, sym, ap, ◌∙◌, cond, nat_lt, ℕ, zero, suc, Bool, true, false, List, [], ◌∷◌, ◌++◌, length, Option, Some, None, Ok, Err, arith}
 use Rattle.std.proofs.Common.{append_assoc, length-append}
 use Rattle.std.specs.Prelude.{option_and_then, option_map, if◌then◌else◌}
@@ -14,7 +14,7 @@ use Rattle.bd_extjson.proofs.ByteLemmas.{unless}
 
 -- ---- escapes
 
--- the number of four hexadecimal digits, and what stands after them
+-- the number of four hexadecimal digits, and what is after them
 abbrev four : List ℕ → Option (ℕ × List ℕ)
 four [] = None
 four (a ∷ []) = None
@@ -63,12 +63,12 @@ unit_agrees (s ∷ u ∷ t) = elim (cases_Bool (s == 92)) [
   | inr e ↦ rw e refl
 ]
 
--- what such an escape stands for, with the text after it
+-- what such an escape means, with the text after it
 abbrev after_unit : Option (ℕ × List ℕ) → Option (List ℕ)
 after_unit o = option_and_then (λ p. cond (is_high_surrogate p.0) (content (after_high p.0) p.1)
     (cond (is_low_surrogate p.0) None (prepend (encode_utf8 p.0) (content plain p.1)))) o
 
--- what it stands for behind a high surrogate
+-- what it means after a high surrogate
 abbrev after_low : ℕ → Option (ℕ × List ℕ) → Option (List ℕ)
 after_low h o = option_and_then (λ p. cond (is_low_surrogate p.0) (prepend (encode_utf8 (surrogate_pair h p.0)) (content plain p.1)) None) o
 
@@ -99,7 +99,7 @@ content_low h (s ∷ u ∷ a ∷ b ∷ c ∷ d ∷ t) = elim (cases_Bool ((s == 
     go None = refl
     go (Some u) = refl
 
--- the digits of such an escape, which stand for the same in any text
+-- the digits of such an escape, which mean the same in any text
 record UnitAt (t : List ℕ) (u : ℕ) (rest : List ℕ) : Type 0 where
   digits : List ℕ
   whole : t ≡ digits ++ rest
@@ -111,7 +111,7 @@ passes_class true s x xs k = refl
 passes_class false true x xs k = refl
 passes_class false false x xs k = refl
 
--- the lexer goes on in a string behind a byte that is no quotation mark and no backslash
+-- the lexer continues in a string after a byte that is no quotation mark and no backslash
 pub skip_byte : (x : ℕ) (xs : List ℕ) → (x == 34) ≡ false → (x == 92) ≡ false → lex in_string (x ∷ xs) ≡ lex in_string xs
 unfolding lex
 skip_byte x xs q b = rw (q, b) (passes_class (is_operator x) (is_space x) x xs (λ m. lex m xs))
@@ -200,7 +200,7 @@ skip_escape : (b : ℕ) (t : List ℕ) → lex in_string (92 ∷ b ∷ t) ≡ le
 unfolding lex
 skip_escape b t = refl
 
--- an escape of four digits, and what is behind it
+-- an escape of four digits, and what is after it
 record EscapeAt (t : List ℕ) (u : ℕ) (rest : List ℕ) : Type 0 where
   digits : List ℕ
   whole : t ≡ 92 ∷ 117 ∷ digits
@@ -316,7 +316,7 @@ character_meets x t q = unless P 92 x (λ q. escape_meets t) (λ e q. plain_or_n
       some = omega arith;
     })
 
--- ---- the rest of a string behind its first quotation mark
+-- ---- the rest of a string after its first quotation mark
 
 -- the rest of a string, which is the same before any text
 pub record StringAt (text rest : List ℕ) : Type 0 where
@@ -365,7 +365,7 @@ string_from (suc n) (x ∷ t) le = unless P 34 x closed (going (string_from n))
         go (Err stop) e = e
         go (Ok mid) c = longer (x ∷ t) mid c _ (more mid (omega (arith, le, shorter (x ∷ t) mid c)))
 
--- the second pass goes past the strings that the lexer reads
+-- the second pass skips the strings that the lexer reads
 pub string_meets : (text : List ℕ) → MeetsString text (beyond_string text)
 unfolding beyond_string
 string_meets text = string_from (length text) text (omega arith)

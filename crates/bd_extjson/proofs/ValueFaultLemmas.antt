@@ -1,4 +1,4 @@
--- A value that is JSON has no fault exactly where it stands for a value.
+-- A value that is JSON has no fault exactly if it means a value.
 use Rattle.std.proofs.Common.{◌≡◌, ◌≤◌, ◌==◌, ◌||◌, ◌&&◌, ◌-◌, ◌⊎◌, ◌↔◌, inl, inr, refl, sym, ap, ap₂, ◌∙◌, subst, not, ℕ, zero, suc, Bool, true, false, List, [], ◌∷◌, ◌++◌, map, length, take, drop, Option, Some, None, Ok, Err, arith}
 use Rattle.std.proofs.Common.{append-nil, length-append, is_some}
 use Rattle.std.specs.Prelude.{option_and_then, option_map, IsUtf8, if◌then◌else◌, nat_lt, ℤ}
@@ -33,7 +33,7 @@ is_plain_object (kit.object kit.no_members) = true
 is_plain_object (kit.object (kit.member n j ms)) = is_none (wrapper_of n)
 is_plain_object _ = false
 
--- what the text of a value tells of what it stands for
+-- what the text of a value says of what it means
 pub record ValueIs (level : ℕ) (text : List ℕ) (j : Json) : Type 0 where
   pub fault : (depth_left : ℕ) → is_none (value_fault level depth_left text) ≡ is_some (wrap depth_left j)
   pub string : is_string text ≡ is_some (as_str j)
@@ -45,7 +45,7 @@ none_or : {A : Type 0} (a b : Option A) → is_none (option_or a b) ≡ (is_none
 none_or None b = refl
 none_or (Some x) b = refl
 
--- a value that is mapped is there exactly where it was
+-- a value that is mapped is there exactly if it was
 pub some_map : {A B : Type 0} (f : A → B) (o : Option A) → is_some (option_map f o) ≡ is_some o
 some_map f None = refl
 some_map f (Some x) = refl
@@ -199,7 +199,7 @@ two_no_document wrappers.Code j t (Some wrappers.Scope) i u kit.no_members = wit
 two_no_document wrappers.Scope j t (Some wrappers.Code) i u kit.no_members = with_scope_no_document (as_str i) t
 two_no_document _ j t _ i u _ = refl
 
--- a value is read as a document exactly where it is read, and is an object without a wrapper's name first
+-- a value is read as a document exactly if it is read, and is an object without a wrapper's name first
 pub wrap_plain : (d : ℕ) (j : Json) → is_some (option_and_then document (wrap d j)) ≡ (is_some (wrap d j) && is_plain_object j)
 wrap_plain d kit.null = refl
 wrap_plain d (kit.boolean b) = refl
@@ -241,7 +241,7 @@ wrap_plain d (kit.object (kit.member n j ms)) = by_name (wrapper_of n) refl
     by_name None e = rw e (plain_or d (add_field n (wrap (d - 1) j) (wrap_fields (d - 1) ms)))
     by_name (Some w) e = rw e (wrapped_no_document w ms ∙ sym (and_right (is_some (wrapped d w j (wrap (d - 1) j) ms)) false refl))
 
--- no document stands where no level is left
+-- there is no document if no level is left
 shallow_plain : (j : Json) → is_some (option_and_then document (wrap 0 j)) ≡ false
 shallow_plain kit.null = refl
 shallow_plain (kit.boolean b) = refl
@@ -305,7 +305,7 @@ code_of (Some wrappers.Code) e = refl
 code_of None e = absurd (false≢true e)
 code_of (Some _) e = absurd (false≢true e)
 
--- a fault that is looked for is none exactly where the test is passed
+-- a fault that is looked for is none exactly if the test is passed
 pub none_if : {A : Type 0} (b : Bool) (x : A) → is_none (if b then None else Some x) ≡ b
 none_if true x = refl
 none_if false x = refl
@@ -341,7 +341,7 @@ module _ (level : ℕ) (here : List ℕ) where
   abbrev Agrees : ℕ → List (List ℕ) → Wrapper → List ℕ × Json → List (List ℕ × Json) → Type 0
   Agrees d texts w m ms = is_none (code_fault (value_fault level) d here (map part_of texts)) ≡ is_some (wrapped d w m.1 (wrap (d - 1) m.1) (members_of ms))
 
-  -- a member of an object, whose name is that wrapper or none, and whose value is what its text shows
+  -- a member of an object, whose name is that wrapper or none, and whose value is what its text says
   record PartIs (t : List ℕ) (v : Option Wrapper) (j : Json) : Type 0 where
     after : List ℕ
     same : part_of t ≡ (v, after)

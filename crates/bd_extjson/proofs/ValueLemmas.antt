@@ -1,4 +1,4 @@
--- A value that the second pass goes past is one that the grammar of the kit reads.
+-- A value that the second pass skips is one that the grammar of the kit reads.
 use Rattle.std.proofs.Common.{◌≡◌, ◌<◌, ◌≤◌, ◌==◌, ◌-◌, inl, inr, refl, sym, ap, ap₂, ◌∙◌, subst, ℕ, zero, suc, Bool, true, false, List, [], ◌∷◌, ◌++◌, length, take, Option, Some, None, Ok, Err, arith}
 use Rattle.std.proofs.Common.{append_assoc, append-nil, length-append}
 use Rattle.json.specs.Find.{as_str}
@@ -100,7 +100,7 @@ more_items level j ts low none (suc n) =
 abbrev member_spell : List ℕ × Json → List Token
 member_spell m = tokens.key m.0 ∷ json_tokens m.1
 
--- how many brackets stand inside a member
+-- how many brackets are inside a member
 abbrev member_height : List ℕ × Json → ℕ
 member_height m = depth m.1
 
@@ -275,7 +275,7 @@ brace after_comma may inside = refl
 brace after_value may inside = absurd (false≢true may)
 brace after_key may inside = absurd (false≢true may)
 
--- no token is behind a value at which the text ends
+-- no token is after a value at which the text ends
 pub after_none : tokens_from after_value [] ≡ []
 unfolding lex punctuate
 after_none = refl
@@ -445,7 +445,7 @@ white_meets Q R level text r is = go r
           means = λ u. is a.value a.shallow (a.means (w.split.1 u).1);
         })
 
--- ---- any value, with so many brackets
+-- ---- any value, with at most n brackets
 
 module _ (R : ℕ → List ℕ → Json → Type 0) (most : ℕ)
     (flat_is : (P : List ℕ → Json → Type 0) (part : List ℕ → Beyond) (text : List ℕ) (j : Json) → depth j ≤ 0 → Shape P part (beyond_white text) j → R 0 text j)

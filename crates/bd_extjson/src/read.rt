@@ -7,7 +7,7 @@ ghost use Rattle.json.specs.Value.{value_view};
 ghost use Rattle.bd_value.specs.Limits.{most_levels};
 ghost use Rattle.bd_value.specs.Tree.{Doc, Tree, pairs_of, fields_of, items_of};
 ghost use Rattle.bd_value.specs.View.{tree_of, pairs};
-ghost use Rattle.bd_extjson_fault.specs.JsonFault.{IsPlaced, ReportsBadUtf8};
+ghost use Rattle.bd_extjson_fault.specs.JsonFault.{IsLocated, ReportsBadUtf8};
 ghost use Rattle.bd_extjson_fault.specs.TextFault.{text_fault};
 ghost use Rattle.bd_extjson_fault.specs.declared.json_fault.JsonFaultKind.TheVariants as faults;
 ghost use Rattle.bd_extjson_wrapper.specs.WholeNumber.{whole_64};
@@ -37,7 +37,7 @@ pub fn read_doc(alloc: Global, text: &[u8]) -> Result<Document, JsonFault>
     // A text that is a document is read, unless memory runs out.
     ensures none { IfErr result (λ f. f.kind ≢ faults.NoMemory →
         (d : Doc) → ReadsAs text.now d → ⊥) }
-    ensures place { IfErr result (IsPlaced (length text.now)) }
+    ensures offset { IfErr result (IsLocated (length text.now)) }
     ensures utf8 { IfErr result (ReportsBadUtf8 text.now) }
     // Which fault is reported, and at which byte, is a function of the text.
     ensures fault { IfErr result (λ f. f.kind ≢ faults.NoMemory → f ≡ text_fault text.now) }
@@ -55,7 +55,7 @@ pub fn read_doc_with(
     ensures found { IfOk result (λ d. ReadsAs text.now (pairs d)) }
     ensures none { IfErr result (λ f. f.kind ≢ faults.NoMemory →
         (d : Doc) → ReadsAs text.now d → ⊥) }
-    ensures place { IfErr result (IsPlaced (length text.now)) }
+    ensures offset { IfErr result (IsLocated (length text.now)) }
     ensures utf8 { IfErr result (ReportsBadUtf8 text.now) }
     ensures fault { IfErr result (λ f. f.kind ≢ faults.NoMemory → f ≡ text_fault text.now) }
 {

@@ -6,7 +6,7 @@ use Rattle.bd_extjson_wrapper.specs.Wrapper.{is_code_name, is_scope_name}
 use Rattle.bd_extjson_wrapper.specs.declared.wrapper.Wrapper.{Wrapper}
 use Rattle.bd_extjson_wrapper.specs.declared.wrapper.Wrapper.TheVariants as wrappers
 use Rattle.bd_extjson_fault.specs.JsonSyntax.{Beyond, begins, beyond_white, beyond_next, beyond_name, beyond_member, beyond_object, beyond_parts, beyond_value, opens_object, opens_array}
-use Rattle.bd_extjson_fault.specs.SecondPass.{Halts, Passes, found, found_in_scope, deeper, depth_fault}
+use Rattle.bd_extjson_fault.specs.inside.SecondPass.{Halts, Passes, found, found_in_scope, deeper, depth_fault}
 use Rattle.bd_extjson_fault.specs.TreeFault.{Finds, first_in, parts_from, parts_in, array_fault, document_fault, members_in, member_fault, name_fault, zero_fault, quoted_name, scalar_fault, value_fault, object_fault, code_fault, scope_fault, part_of, fault_at}
 use Rattle.bd_extjson_fault.proofs.PassingLemmas.{PartsGoOn, begun, part_on, part_halted, next_stopped, ended, more_passes}
 use Rattle.bd_extjson_fault.specs.declared.second_pass.Halt.{Halt}

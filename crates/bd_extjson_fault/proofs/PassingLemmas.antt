@@ -3,7 +3,7 @@ use Rattle.std.proofs.Common.{◌≡◌, ◌≤◌, ◌<◌, ◌-◌, ◌∙◌,
 use Rattle.std.specs.Prelude.{Result}
 use Rattle.bd_extjson_fault.specs.declared.skip.Stop.{Stop}
 use Rattle.bd_extjson_fault.specs.JsonSyntax.{Beyond, syntax_at, begins, beyond_items, beyond_white, beyond_next, beyond_name, beyond_member, beyond_parts, beyond_group, beyond_scalar, beyond_object, beyond_array, beyond_value, opens_object, opens_array}
-use Rattle.bd_extjson_fault.specs.SecondPass.{Passes, Halts}
+use Rattle.bd_extjson_fault.specs.inside.SecondPass.{Passes, Halts}
 use Rattle.bd_extjson_fault.specs.declared.second_pass.Halt.{Halt}
 use Rattle.bd_extjson_fault.specs.declared.second_pass.Halt.TheVariants.{NoJson, NoMemory}
 use Rattle.bd_extjson_fault.specs.declared.skip.StopKind.TheVariants.{TooDeep}

@@ -4,7 +4,7 @@ use Rattle.std.specs.Prelude.{unwrap_or}
 use Rattle.std.specs.{Str.is_utf8, Str.Lossy.utf8_valid_len}
 use Rattle.std.proofs.lemmas.Str.{IsUtf8-from_is_utf8, is_utf8-from_IsUtf8, utf8_valid_len_le}
 use Rattle.bd_value.specs.Limits.{most_brackets, most_levels}
-use Rattle.bd_extjson_fault.specs.JsonFault.{IsPlaced, ReportsBadUtf8}
+use Rattle.bd_extjson_fault.specs.JsonFault.{IsLocated, ReportsBadUtf8}
 use Rattle.bd_extjson_fault.specs.JsonSyntax.{Beyond, beyond_text}
 use Rattle.bd_extjson_fault.specs.TreeFault.{is_document, value_fault}
 use Rattle.bd_extjson_fault.specs.TextFault.{first_fault, text_fault, fault_after, tree_or_none, stop_in, kind_of_stop, kind_in_tree}
@@ -94,35 +94,35 @@ tree_whole trees.NotInProfile = λ e. cc
 tree_whole trees.NumberRange = λ e. cc
 tree_whole trees.NulInName = λ e. cc
 
-abbrev HasPlace : List ℕ → Option JsonFault → Type 0
-HasPlace text found = IsPlaced (length text) (unwrap_or found (at_end text))
+abbrev HasOffset : List ℕ → Option JsonFault → Type 0
+HasOffset text found = IsLocated (length text) (unwrap_or found (at_end text))
 
-last_placed : (text : List ℕ) (b : Bool) → HasPlace text (if b then None else Some (record { kind = kinds.NotADocument; at = 0 }))
-last_placed text true = record { inside = omega arith; whole = λ e. absurd cc; memory = λ e. absurd cc }
-last_placed text false = record { inside = omega arith; whole = λ e. refl; memory = λ e. refl }
+last_located : (text : List ℕ) (b : Bool) → HasOffset text (if b then None else Some (record { kind = kinds.NotADocument; at = 0 }))
+last_located text true = record { inside = omega arith; whole = λ e. absurd cc; memory = λ e. absurd cc }
+last_located text false = record { inside = omega arith; whole = λ e. refl; memory = λ e. refl }
 
-tree_placed : (text : List ℕ) (found : Option TreeFault) → HasPlace text (tree_or_none text found)
-tree_placed text (Some fault) = record {
+tree_located : (text : List ℕ) (found : Option TreeFault) → HasOffset text (tree_or_none text found)
+tree_located text (Some fault) = record {
   inside = omega arith;
   whole = λ e. absurd (tree_whole fault.kind e);
   memory = λ e. absurd (tree_kind fault.kind e);
 }
-tree_placed text None = last_placed text (is_document text)
+tree_located text None = last_located text (is_document text)
 
-after_placed : (text : List ℕ) (reported : Beyond) → HasPlace text (fault_after text reported)
-after_placed text (Err stop) = record {
+after_located : (text : List ℕ) (reported : Beyond) → HasOffset text (fault_after text reported)
+after_located text (Err stop) = record {
   inside = omega arith;
   whole = λ e. absurd (stop_whole stop.kind e);
   memory = λ e. absurd (stop_kind stop.kind e);
 }
-after_placed text (Ok rest) = tree_placed text (value_fault most_brackets most_levels text)
+after_located text (Ok rest) = tree_located text (value_fault most_brackets most_levels text)
 
-pub reported_placed : (text : List ℕ) → IsPlaced (length text) (text_fault text)
+pub reported_located : (text : List ℕ) → IsLocated (length text) (text_fault text)
 unfolding first_fault
-reported_placed text = go (is_utf8 text)
+reported_located text = go (is_utf8 text)
   where
-    go : (b : Bool) → HasPlace text (if b then fault_after text (beyond_text text) else Some (syntax_reported (utf8_valid_len text)))
-    go true = after_placed text (beyond_text text)
+    go : (b : Bool) → HasOffset text (if b then fault_after text (beyond_text text) else Some (syntax_reported (utf8_valid_len text)))
+    go true = after_located text (beyond_text text)
     go false = record { inside = utf8_valid_len_le text; whole = λ e. absurd cc; memory = λ e. absurd cc }
 
 pub reported_utf8 : (text : List ℕ) → ReportsBadUtf8 text (text_fault text)

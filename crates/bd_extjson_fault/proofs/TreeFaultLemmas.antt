@@ -13,7 +13,7 @@ use Rattle.bd_extjson_wrapper.specs.{Wrapper.Gives, Wrapper.only, Wrapper.pair, 
 use Rattle.bd_extjson_wrapper.specs.declared.wrapper.Trouble.TheVariants as troubles
 use Rattle.bd_extjson_wrapper.specs.declared.wrapper.Wrapper.TheVariants as wrappers
 use Rattle.bd_extjson_fault.specs.JsonSyntax.{beyond_number, beyond_natural, beyond_digits}
-use Rattle.bd_extjson_fault.specs.SecondPass.{found}
+use Rattle.bd_extjson_fault.specs.inside.SecondPass.{found}
 use Rattle.bd_extjson_fault.specs.TreeFault.{is_outside_profile, json_in, members_fault, refusal, scalar_fault, single_fault}
 use Rattle.bd_extjson_fault.specs.declared.tree_fault.TreeFault.{TreeFault}
 use Rattle.bd_extjson_fault.specs.declared.tree_fault.TreeFaultKind.{TreeFaultKind}

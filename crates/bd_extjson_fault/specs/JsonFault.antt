@@ -29,7 +29,7 @@ json_fault_words kinds.TrailingText = codes "text after the document"
 json_fault_words kinds.NoMemory = codes "no memory"
 
 -- the offset of a fault is in its text of n bytes, or at the text's end; a fault without an offset has 0
-pub record IsPlaced (size : ℕ) (fault : JsonFault) : Type 0 where
+pub record IsLocated (size : ℕ) (fault : JsonFault) : Type 0 where
   pub inside : fault.at ≤ size
   pub whole : fault.kind ≡ kinds.NotADocument → fault.at ≡ 0
   pub memory : fault.kind ≡ kinds.NoMemory → fault.at ≡ 0

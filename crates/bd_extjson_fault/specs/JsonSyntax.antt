@@ -1,7 +1,8 @@
 -- A text as JSON (RFC 8259), from left to right. Each function skips one item at the start of the text, and gives the
 -- text after it, or the first fault: its kind, and how many bytes remain from its offset to the text's end.
-use Rattle.std.specs.Prelude.{ℕ, zero, suc, ◌+◌, ◌*◌, List, [], ◌∷◌, length, drop, Bool, true, false, nat_lt, nat_le, ◌==◌, ◌||◌, ◌&&◌, if◌then◌else◌}
-use Rattle.std.specs.Prelude.{Result, Ok, Err, MatchResult, ◌≡◌, codes}
+use Rattle.std.specs.Prelude.{ℕ, zero, suc, ◌+◌, ◌*◌, List, [], ◌∷◌, length, drop, Bool, true, false, nat_lt, nat_le, ◌==◌}
+use Rattle.std.specs.Prelude.{◌||◌, ◌&&◌, if◌then◌else◌}
+use Rattle.std.specs.Prelude.{Result, Ok, Err, codes}
 use Rattle.std.specs.Char.{digit_value, is_digit}
 use Rattle.json.specs.Text.{is_high_surrogate, is_low_surrogate}
 use Rattle.bd_value.specs.Limits.{most_brackets}
@@ -21,10 +22,6 @@ abbrev pub ◌>>=◌ : {A B : Type 0} → Result A Stop → (A → Result B Stop
 -- the text cannot continue with its first byte, or it ends too soon
 abbrev pub syntax_at : {A : Type 0} → List ℕ → Result A Stop
 syntax_at text = Err (record { kind = Syntax; remaining = length text })
-
--- the view of the code's answer is that of the definition
-abbrev pub Gives : {X Y : Type 0} → (X → Y) → Result X Stop → Result Y Stop → Type 0
-Gives view answer reported = MatchResult answer (λ x. reported ≡ Ok (view x)) (λ stop. reported ≡ Err stop)
 
 -- does a byte of that kind come next?
 abbrev pub begins : (ℕ → Bool) → List ℕ → Bool

@@ -1,5 +1,5 @@
 pub mod JsonFault
 pub mod JsonSyntax
-pub mod SecondPass
 pub mod TextFault
 pub mod TreeFault
+pub mod inside

@@ -5,7 +5,7 @@ ghost use Rattle.json.specs.Json.{Json, member, no_members};
 ghost use Rattle.json.specs.Word.{after_number};
 ghost use Rattle.bd_extjson_wrapper.specs.Wrapper.{single};
 ghost use Rattle.bd_extjson_wrapper.specs.declared.wrapper.Wrapper.{Wrapper};
-ghost use Rattle.bd_extjson_fault.specs.JsonFault.{IsPlaced, ReportsBadUtf8};
+ghost use Rattle.bd_extjson_fault.specs.JsonFault.{IsLocated, ReportsBadUtf8};
 ghost use Rattle.bd_extjson_fault.specs.JsonSyntax.{beyond_number};
 ghost use Rattle.bd_extjson_fault.specs.TextFault.{text_fault};
 ghost use Rattle.bd_extjson_fault.specs.TreeFault.{members_fault};
@@ -13,9 +13,9 @@ ghost use Rattle.bd_extjson_fault.specs.declared.json_fault.JsonFaultKind.TheVar
 
 /// The fault of a text is at a byte in it, or at its end, and never that memory ran out. Bytes that are not UTF-8 are not
 /// JSON, at the first that is not.
-#[tactic(auto, using(crate::proofs::TextFaultLemmas::reported_placed, crate::proofs::TextFaultLemmas::reported_utf8, crate::proofs::TextFaultLemmas::reported_kind))]
-pub fn fault_is_placed()
-    ensures placed { (text : List ℕ) → IsPlaced (length text) (text_fault text) }
+#[tactic(auto, using(crate::proofs::TextFaultLemmas::reported_located, crate::proofs::TextFaultLemmas::reported_utf8, crate::proofs::TextFaultLemmas::reported_kind))]
+pub fn fault_is_located()
+    ensures located { (text : List ℕ) → IsLocated (length text) (text_fault text) }
     ensures utf8 { (text : List ℕ) → ReportsBadUtf8 text (text_fault text) }
     ensures kind { (text : List ℕ) → (text_fault text).kind ≢ kinds.NoMemory }
 {}

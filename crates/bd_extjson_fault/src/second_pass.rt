@@ -7,13 +7,14 @@ ghost use Rattle.std.specs.Option.{option_or};
 ghost use Rattle.std.specs.Str.{IsUtf8};
 ghost use Rattle.bd_value.specs.Limits.{most_brackets, most_levels};
 ghost use Rattle.bd_extjson_wrapper.specs.Wrapper.{is_code_name, is_scope_name};
-ghost use Rattle.bd_extjson_fault.specs.JsonFault.{IsPlaced, ReportsBadUtf8};
-ghost use Rattle.bd_extjson_fault.specs.JsonSyntax.{Gives, begins, beyond_white, beyond_word, beyond_number, beyond_scalar, beyond_next};
+ghost use Rattle.bd_extjson_fault.specs.JsonFault.{IsLocated, ReportsBadUtf8};
+ghost use Rattle.bd_extjson_fault.specs.JsonSyntax.{begins, beyond_white, beyond_word, beyond_number, beyond_scalar, beyond_next};
+ghost use Rattle.bd_extjson_fault.specs.inside.JsonSyntax.{Gives};
 ghost use Rattle.bd_extjson_fault.specs.JsonSyntax.{beyond_array, beyond_object, beyond_member, beyond_value, beyond_text, beyond_parts};
 ghost use Rattle.bd_extjson_fault.specs.TreeFault.{is_document, is_string, first_wrapper, fault_at, zero_fault, part_of};
 ghost use Rattle.bd_extjson_fault.specs.TreeFault.{Finds, scalar_fault, array_fault, object_fault, document_fault, member_fault};
 ghost use Rattle.bd_extjson_fault.specs.TreeFault.{value_fault, first_in, parts_from, code_fault, members_in, scope_fault};
-ghost use Rattle.bd_extjson_fault.specs.SecondPass.{Passes, IsWithin, found, found_in_scope, deeper, depth_fault};
+ghost use Rattle.bd_extjson_fault.specs.inside.SecondPass.{Passes, IsWithin, found, found_in_scope, deeper, depth_fault};
 ghost use Rattle.bd_extjson_fault.specs.TextFault.{text_fault, stop_in, fault_in, tree_or_none};
 ghost use Rattle.bd_extjson_fault.specs.declared.json_fault.JsonFaultKind.TheVariants as kinds;
 ghost use Rattle.bd_extjson_fault.specs.declared.second_pass.Halt.TheVariants as halts;
@@ -34,7 +35,7 @@ use std::alloc::{AllocError, Global};
 ///
 /// Call it for texts that are refused. If it finds no fault, it returns `Syntax` at the text's end.
 pub fn diagnose(alloc: Global, text: &[u8]) -> JsonFault
-    ensures place { IsPlaced (length text.now) result }
+    ensures offset { IsLocated (length text.now) result }
     ensures utf8 { ReportsBadUtf8 text.now result }
     // The fault is that of the text, unless memory runs out.
     ensures is { result.kind ≢ kinds.NoMemory → result ≡ text_fault text.now }
@@ -72,7 +73,7 @@ fn syntax_at(at: usize) -> JsonFault
 /// The fault in a text of that length.
 fn stop_in(stop: Stop, len: usize) -> JsonFault
     requires { stop.remaining ≤ len }
-    ensures placed { IsPlaced len result }
+    ensures located { IsLocated len result }
     ensures is { result ≡ stop_in len stop }
 {
     let kind = match stop.kind {
@@ -86,7 +87,7 @@ fn stop_in(stop: Stop, len: usize) -> JsonFault
 
 /// The fault in a text of that length.
 fn fault_in(fault: TreeFault, len: usize) -> JsonFault
-    ensures placed { IsPlaced len result }
+    ensures located { IsLocated len result }
     ensures is { result ≡ fault_in len fault }
 {
     let kind = match fault.kind {
@@ -192,7 +193,7 @@ impl<'a> Pass<'a> {
     fn document(&mut self) -> Result<Option<JsonFault>, Halt>
         ensures beyond { Passes result [] (beyond_text self.old.rest.now) }
         ensures within { IfErr result (IsWithin (length self.old.rest.now)) }
-        ensures place { IfOk result (λ f. IfSome f (IsPlaced (length self.old.rest.now))) }
+        ensures offset { IfOk result (λ f. IfSome f (IsLocated (length self.old.rest.now))) }
         ensures first { IfOk result (λ f. self.old.fault ≡ None
             → f ≡ tree_or_none self.old.rest.now
             (value_fault most_brackets most_levels self.old.rest.now)) }

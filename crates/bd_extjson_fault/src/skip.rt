@@ -1,6 +1,7 @@
 //! The tokens of JSON (RFC 8259), skipped one by one, with the first byte that cannot continue.
 ghost use Rattle.std.specs.Prelude.{◌≡◌, ◌<◌, ◌≤◌, ◌-◌, ◌==◌, length, drop, IfOk, MatchResult};
-ghost use Rattle.bd_extjson_fault.specs.JsonSyntax.{Gives, begins, is_decimal, beyond_all, beyond_white, beyond_word, beyond_digits};
+ghost use Rattle.bd_extjson_fault.specs.JsonSyntax.{begins, is_decimal, beyond_all, beyond_white, beyond_word, beyond_digits};
+ghost use Rattle.bd_extjson_fault.specs.inside.JsonSyntax.{Gives};
 ghost use Rattle.bd_extjson_fault.specs.JsonSyntax.{beyond_natural, beyond_fraction, beyond_number, beyond_exponent, beyond_hex};
 ghost use Rattle.bd_extjson_fault.specs.JsonSyntax.{beyond_unit, beyond_low, beyond_units, beyond_character, beyond_string, beyond_name};
 ghost use Rattle.bd_extjson_fault.specs.TreeFault.{quoted_name};

@@ -27,15 +27,15 @@ one_more_field (p ∷ ps) k t =
     let one = element p.1 p.0 (bytes_of p.1) in
     ap (λ x. one ++ x) (one_more_field ps k t) ∙ sym (append_assoc one (fields_bytes (fields_of ps)) (element t k (bytes_of t)))
 
-more_items : (place : ℕ) (ts : List Tree) (t : Tree) → items_bytes place (items_of (ts ++ t ∷ [])) ≡ items_bytes place (items_of ts) ++ element t (decimal (place + length ts)) (bytes_of t)
-more_items place [] t =
-    let here : place ≡ place + 0 = omega arith in
-    append-nil (element t (decimal place) (bytes_of t)) ∙ ap (λ n. element t (decimal n) (bytes_of t)) here
-more_items place (s ∷ ts) t =
-    let one = element s (decimal place) (bytes_of s) in
-    let next : suc place + length ts ≡ place + suc (length ts) = omega arith in
-    ap (λ x. one ++ x) (more_items (suc place) ts t ∙ ap (λ n. items_bytes (suc place) (items_of ts) ++ element t (decimal n) (bytes_of t)) next)
-    ∙ sym (append_assoc one (items_bytes (suc place) (items_of ts)) (element t (decimal (place + suc (length ts))) (bytes_of t)))
+more_items : (index : ℕ) (ts : List Tree) (t : Tree) → items_bytes index (items_of (ts ++ t ∷ [])) ≡ items_bytes index (items_of ts) ++ element t (decimal (index + length ts)) (bytes_of t)
+more_items index [] t =
+    let here : index ≡ index + 0 = omega arith in
+    append-nil (element t (decimal index) (bytes_of t)) ∙ ap (λ n. element t (decimal n) (bytes_of t)) here
+more_items index (s ∷ ts) t =
+    let one = element s (decimal index) (bytes_of s) in
+    let next : suc index + length ts ≡ index + suc (length ts) = omega arith in
+    ap (λ x. one ++ x) (more_items (suc index) ts t ∙ ap (λ n. items_bytes (suc index) (items_of ts) ++ element t (decimal n) (bytes_of t)) next)
+    ∙ sym (append_assoc one (items_bytes (suc index) (items_of ts)) (element t (decimal (index + suc (length ts))) (bytes_of t)))
 
 -- the bytes of one more element come after those before it, named by its index
 pub one_more_item : (ts : List Tree) (t : Tree) → items_bytes 0 (items_of (ts ++ t ∷ [])) ≡ items_bytes 0 (items_of ts) ++ element t (decimal (length ts)) (bytes_of t)
@@ -51,15 +51,15 @@ if_ok (Err f) x P Q e p = absurd cc
 -- a body after the four bytes of its length, which are at the reported offset
 pub body_size : {E : Type 0} (r : Result ℕ E) (at : ℕ) (Q : E → Type 0) (old body out : List ℕ) → Some at ≡ result_ok r → MatchResult r (λ x. x ≡ length old) Q
     → out ≡ (old ++ number 0) ++ body → at + 4 ≤ length out
-body_size r at Q old body out reported place is =
-    let here = if_ok r at (λ x. x ≡ length old) Q reported place in
+body_size r at Q old body out reported index is =
+    let here = if_ok r at (λ x. x ≡ length old) Q reported index in
     omega (arith, here, ap (λ xs. length xs) is, length-append (old ++ number 0) body, length-append old (number 0), number_length 0)
 
 -- a body that is ended at the offset where it began is framed
 pub ended : {E : Type 0} (r : Result ℕ E) (at : ℕ) (Q : E → Type 0) (old body out : List ℕ) → Some at ≡ result_ok r → MatchResult r (λ x. x ≡ length old) Q
     → out ≡ (old ++ number 0) ++ body → take at out ++ framed (drop (at + 4) out) ≡ old ++ framed body
-ended r at Q old body out reported place is =
-    let here = if_ok r at (λ x. x ≡ length old) Q reported place in
+ended r at Q old body out reported index is =
+    let here = if_ok r at (λ x. x ≡ length old) Q reported index in
     let whole : out ≡ old ++ (number 0 ++ body) = is ∙ append_assoc old (number 0) body in
     let size : length (old ++ number 0) ≡ at + 4 = omega (arith, here, length-append old (number 0), number_length 0) in
     let prefix : take at out ≡ old = ap (take at) whole ∙ take_at old (number 0 ++ body) at (sym here) in

@@ -23,7 +23,8 @@ use Rattle.std.proofs.{lemmas.Int.Digits.digits_value_more, lemmas.List.length-t
 use Rattle.std.proofs.{lemmas.Fmt.decimal-digits_value, lemmas.Fmt.decimal_is_IsNumeral, lemmas.Slice.Eq.bytes_eq-Decides}
 use Rattle.bd_extjson_text.proofs.JsonStringLemmas.{escaped-plain, escaped-digits, IsQuiet}
 use Rattle.bd_extjson.proofs.ReadBackLemmas.{document_back}
-use Rattle.bd_extjson_pack.specs.Packable.{plain, IsPackable, IsCanonical, AreCanonical, AreCanonicalFields}
+use Rattle.bd_extjson_pack.specs.Packable.{plain, IsPackable}
+use Rattle.bd_extjson_pack.specs.inside.Packable.{IsCanonical, AreCanonical, AreCanonicalFields}
 use Rattle.hex.specs.{Hex.encode_lower, Hex.decode_sized, declared.FromHexError.FromHexError}
 use Rattle.hex.proofs.HexLemmas.{decode_of-ok, decode_sized-ok, decode_sized-twice}
 use Rattle.bd_extjson_wrapper.proofs.WholeNumberLemmas.{digits_model}

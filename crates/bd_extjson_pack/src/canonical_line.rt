@@ -7,7 +7,8 @@ ghost use Rattle.bd_bson_view.specs.Spelling.{element};
 ghost use Rattle.bd_bson_write.specs.TreeBytes.{bytes_of};
 ghost use Rattle.bd_extjson_wrapper.specs.Wrapper.{wrapper_of};
 ghost use Rattle.bd_extjson_text.specs.Text.{text as text_of, items_text, fields_text, escape_byte, escaped, quoted, hex_text};
-ghost use Rattle.bd_extjson_pack.specs.Packable.{plain, IsPackable, IsCanonical, AreCanonical, AreCanonicalFields};
+ghost use Rattle.bd_extjson_pack.specs.Packable.{plain, IsPackable};
+ghost use Rattle.bd_extjson_pack.specs.inside.Packable.{IsCanonical, AreCanonical, AreCanonicalFields};
 ghost use Rattle.std.specs.Fmt.{signed_decimal};
 ghost use Rattle.bd_value.specs.Fits.{AreBytes, IsId, has_zero};
 ghost use Rattle.bd_value.specs.Tree as trees;
@@ -67,12 +68,12 @@ fn append_items<'a>(text: &'a str, depth_left: usize, out: &mut Vec<u8>) -> Opti
 {
     let start = begin_body(out).ok()?;
     let mut rest = after_word(text, b"[")?;
-    let mut place: u32 = 0;
+    let mut index: u32 = 0;
     let mut next = unless_ended(rest, b']');
     while let Some(at) = next {
         let mut digits = itoa::Buffer::new();
-        rest = append_next(at, digits.format(place), depth_left, out)?;
-        place = place.checked_add(1)?;
+        rest = append_next(at, digits.format(index), depth_left, out)?;
+        index = index.checked_add(1)?;
         next = after_word(rest, b",");
     }
     end_body(start, out).ok()?;

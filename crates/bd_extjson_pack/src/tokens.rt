@@ -150,11 +150,11 @@ fn append_items(
     ensures shorter { IfSome result (λ u. length reader.new < length reader.old) }
 {
     let at = begin_body(out).ok()?;
-    let mut place: u32 = 0;
+    let mut index: u32 = 0;
     while !reader.take_end_array() {
         let mut digits = itoa::Buffer::new();
-        append_next(alloc, reader, digits.format(place), depth_left, depth, out)?;
-        place = place.checked_add(1)?;
+        append_next(alloc, reader, digits.format(index), depth_left, depth, out)?;
+        index = index.checked_add(1)?;
     }
     end_body(at, out).ok()
 }

@@ -196,7 +196,7 @@ module _ (p : ℕ → Bool) where
   -- and so by its offset in the rest of the text
   pub found_after : (n : ℕ) (text rest : List ℕ) (found : Option ℕ) → n ≤ length text → ((k : ℕ) → k < n → p (get_or text k 0) ≡ false) → rest ≡ drop n text → found ≡ position p rest
       → option_map (λ k. n + k) found ≡ position p text
-  found_after n text rest found le quiet is place = rw (place, is) (sym (after n text le quiet))
+  found_after n text rest found le quiet is at = rw (at, is) (sym (after n text le quiet))
 
 -- ---- the test, lane by lane
 

@@ -13,7 +13,8 @@ use Rattle.bd_value.specs.Tree.{items_size, Fields, doc, code_scope, int32, int6
 use Rattle.bd_value.specs.Tree.{values_of, scope_of, AreParts}
 use Rattle.bd_value.specs.declared.node.Kind.TheVariants as kinds
 use Rattle.bd_value.specs.Tree as trees
-use Rattle.bd_extjson_text.specs.Text.{HasShortText, quoted, object, member, wrapper_text, base64_text, hex_text, scalar_text, text, escape_byte, escaped}
+use Rattle.bd_extjson_text.specs.Text.{quoted, object, member, wrapper_text, base64_text, hex_text, scalar_text, text, escape_byte, escaped}
+use Rattle.bd_extjson_text.specs.inside.Text.{HasShortText}
 use Rattle.bd_extjson_text.specs.Text.{items_text, fields_text}
 use Rattle.bd_extjson_text.proofs.JsonStringLemmas.{fits_32, fits_64, wider, escaped-signed_decimal, escaped-base64_text, escaped-hex_text}
 use Rattle.hex.specs.Hex.{IsBytes}

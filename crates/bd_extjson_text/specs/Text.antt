@@ -114,14 +114,3 @@ abbrev mutual
   pub fields_text : Fields → List (List ℕ)
   fields_text no_fields = []
   fields_text (field n t fs) = member n (text t) ∷ fields_text fs
-
--- A value whose text is short: it contains no other value, no text, and no bytes but an id.
-abbrev pub HasShortText : Tree → Type 0
-HasShortText (leaf (string s)) = ⊥
-HasShortText (leaf (symbol s)) = ⊥
-HasShortText (leaf (code s)) = ⊥
-HasShortText (leaf (binary k s)) = ⊥
-HasShortText (leaf (regex p o)) = ⊥
-HasShortText (leaf (db_pointer s i)) = ⊥
-HasShortText (leaf _) = Unit {0}
-HasShortText _ = ⊥

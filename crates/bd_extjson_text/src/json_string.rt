@@ -3,7 +3,7 @@ ghost use Rattle.std.specs.Prelude.{◌≡◌, ◌<◌, ◌≤◌, ◌+◌, ◌+
 ghost use Rattle.std.specs.Char.{digit_char};
 ghost use Rattle.std.specs.List.{list_any, position, join_with_byte};
 ghost use Rattle.std.specs.Simd.Lanes.{mask_l};
-ghost use Rattle.bd_extjson_text.specs.Buffer.{Appends};
+ghost use Rattle.bd_extjson_text.specs.inside.Buffer.{Appends};
 ghost use Rattle.bd_extjson_text.specs.Text.{needs_escape, escape_byte, escaped, quoted};
 
 use crate::buffer::{End, VALUE, grow_buffer, put, put_byte, put_byte_in, put_known, settle};
@@ -174,7 +174,7 @@ fn copy_few(text: &[u8], buffer: &mut [u8], end: usize) -> bool
     true
 }
 
-/// Copies a text of at least `N` and at most twice as many bytes, and tells whether none needs an escape. The first and the last `N`
+/// Copies a text of at least `N` and at most twice as many bytes, and returns whether none needs an escape. The first and the last `N`
 /// bytes are copied, so that each copy is of a known length.
 #[inline(always)]
 fn copy_ends<const N: usize>(text: &[u8], buffer: &mut [u8], end: usize) -> bool
@@ -186,11 +186,11 @@ fn copy_ends<const N: usize>(text: &[u8], buffer: &mut [u8], end: usize) -> bool
     let Some((first, _)) = text.split_first_chunk::<N>() else {
         unreachable!()
     };
-    let Some((front, last)) = text.split_last_chunk::<N>() else {
+    let Some((start, last)) = text.split_last_chunk::<N>() else {
         unreachable!()
     };
     put_known(*first, buffer, end);
-    put_known(*last, buffer, end + front.len());
+    put_known(*last, buffer, end + start.len());
     !any_escape(first) && !any_escape(last)
 }
 
@@ -242,7 +242,7 @@ fn first_escape(text: &[u8]) -> Option<usize>
     let passed = plain_length(text);
     let (_, rest) = text.split_at(passed);
     match first_of_few(rest) {
-        Some(place) => Some(passed + place),
+        Some(at) => Some(passed + at),
         None => None,
     }
 }
@@ -254,7 +254,7 @@ fn first_of_few(text: &[u8]) -> Option<usize>
     text.iter().position(|b| needs_escape(*b))
 }
 
-/// How many bytes stand for themselves, to the first that does not.
+/// How many bytes need no escape, up to the first that does.
 #[inline(always)]
 pub fn plain_length(text: &[u8]) -> usize
     ensures within { result ≤ length text.now }
@@ -271,7 +271,7 @@ pub fn plain_length(text: &[u8]) -> usize
     plain_length_from(text, passed)
 }
 
-/// The same, looking at one byte after the other, where so many were looked at.
+/// The same, one byte after the other, if the first `passed` bytes were examined.
 #[inline(always)]
 fn plain_length_from(text: &[u8], passed: usize) -> usize
     requires within { passed ≤ length text.now }
@@ -286,7 +286,7 @@ fn plain_length_from(text: &[u8], passed: usize) -> usize
     passed
 }
 
-/// A bit for each byte that may not stand for itself in a string, the lowest for the first.
+/// A bit for each byte that must be escaped in a string, the lowest for the first.
 #[inline(always)]
 fn stops(bytes: u8x32) -> u64
     ensures { result ≡ mask_l (map needs_escape bytes) }

@@ -9,8 +9,9 @@ ghost use Rattle.bd_value.specs.View.{kind_of};
 ghost use Rattle.bd_value.specs.Tree as trees;
 ghost use Rattle.bd_value.specs.Tree.{leaf, int32, int64, binary, object_id, boolean, date, timestamp, regex, db_pointer};
 ghost use Rattle.bd_value.specs.declared.node.Kind.TheVariants as kinds;
-ghost use Rattle.bd_extjson_text.specs.Buffer.{Appends};
-ghost use Rattle.bd_extjson_text.specs.Text.{HasShortText, quoted, base64_text, hex_text, scalar_text, text};
+ghost use Rattle.bd_extjson_text.specs.inside.Buffer.{Appends};
+ghost use Rattle.bd_extjson_text.specs.Text.{quoted, base64_text, hex_text, scalar_text, text};
+ghost use Rattle.bd_extjson_text.specs.inside.Text.{HasShortText};
 
 use crate::buffer::{End, VALUE, grow_buffer, put, put_byte, put_known};
 use crate::json_string::append_string;

@@ -3,7 +3,7 @@ ghost use Rattle.std.specs.Prelude.{◌≡◌, ◌<◌, ◌≤◌, ◌⊎◌, �
 ghost use Rattle.bd_value.specs.View.{kind_of, tree_of, pairs};
 ghost use Rattle.bd_value.specs.Tree.{values_of, doc, array, fields_of, items_of};
 ghost use Rattle.bd_value.specs.declared.node.Kind.TheVariants as kinds;
-ghost use Rattle.bd_extjson_text.specs.Buffer.{Appends};
+ghost use Rattle.bd_extjson_text.specs.inside.Buffer.{Appends};
 ghost use Rattle.bd_extjson_text.specs.Text.{text};
 
 use crate::buffer::{End, VALUE, grow_buffer, put_byte_in, settle};
@@ -93,7 +93,7 @@ fn append_node<N: Reading>(node: N, out: &mut Vec<u8>, end: usize) -> End
     }
 }
 
-/// Appends the text of what holds values. It stands apart, since a loop that calls it pays for the node that it hands over alone.
+/// Appends the text of a document or an array. It is a function of its own, so that a loop passes it the node alone.
 #[cycle(text)]
 #[inline(never)]
 fn append_holder<N: Reading>(node: N, out: &mut Vec<u8>, end: usize) -> End

@@ -14,8 +14,10 @@ use Rattle.bd_bson_view.specs.{Sound.IsAt, Sound.meaning, declared.views.At.At}
 use Rattle.bd_bson_dump.specs.{Collection.bytes_of, Collection.documents, declared.collection.Dump.Dump}
 use Rattle.bd_path.specs.{Key.distinct, Key.indexed_keys, Key.keys, Reach.Names}
 use Rattle.bd_path.proofs.SortLemmas.{has_a_key}
-use Rattle.bd_index.specs.Entries.{KeyAt, entries_from, entries_of, entry_cmp, is_multikey, is_same_entry, keys_at}
-use Rattle.bd_index.specs.IndexView.{IsFoundIn, IsIndexOf, KeepsDump, KeepsEntries, KeepsEntry, found_entry}
+use Rattle.bd_index.specs.Entries.{KeyAt, entries_from, entries_of, entry_cmp, is_multikey, keys_at}
+use Rattle.bd_index.specs.inside.Entries.{is_same_entry}
+use Rattle.bd_index.specs.IndexView.{IsIndexOf, KeepsDump, KeepsEntries, KeepsEntry}
+use Rattle.bd_index.specs.inside.IndexView.{IsFoundIn, found_entry}
 use Rattle.bd_index.specs.{declared.entry.Entry.Entry, declared.entry.FoundKey.FoundKey, declared.index.Index.Index}
 
 -- by a given order of keys, then by place

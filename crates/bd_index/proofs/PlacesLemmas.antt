@@ -16,7 +16,8 @@ use Rattle.bd_index_bounds.specs.declared.bounds.Bounds.TheFolds as folds
 use Rattle.bd_index_bounds.proofs.{FilterBoundsLemmas.falls_once, FilterBoundsLemmas.one_off}
 use Rattle.bd_index.specs.Entries.{KeyAt, entries_of, entry_cmp}
 use Rattle.bd_index.specs.{IndexView.IsIndexOf, IndexView.KeepsEntries, declared.entry.Entry.Entry, declared.index.Index.Index, declared.places.Span.Span}
-use Rattle.bd_index.specs.Places.{AreInOrder, CoverKeys, has_key_in, is_covered, is_in_span, pieces}
+use Rattle.bd_index.specs.Places.{has_key_in}
+use Rattle.bd_index.specs.inside.Places.{AreInOrder, CoverKeys, is_covered, is_in_span, pieces}
 use Rattle.bd_index.proofs.EntryLemmas.{all_pass, any_as_counts, any_filter, any_map, keys_rise, none_pass}
 
 -- ---- the search for a cutoff

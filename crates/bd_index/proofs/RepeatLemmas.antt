@@ -10,7 +10,7 @@ use Rattle.std.proofs.lemmas.List.Elements.{All-cons, All-filter, All-from_recur
 use Rattle.bd_value.specs.{Order.equal, Tree.Tree}
 use Rattle.bd_value.proofs.OrderLemmas.{cmp_total}
 use Rattle.bd_path.specs.Key.{distinct, with_keys}
-use Rattle.bd_index.specs.{Entries.KeyAt, Entries.entry_cmp, Entries.is_same_entry, Entries.keys_at, IndexView.found_entry, declared.entry.FoundKey.FoundKey}
+use Rattle.bd_index.specs.{Entries.KeyAt, Entries.entry_cmp, inside.Entries.is_same_entry, Entries.keys_at, inside.IndexView.found_entry, declared.entry.FoundKey.FoundKey}
 use Rattle.bd_index.proofs.EntryLemmas.{Ascends, all_pass, any_by_count, any_filter, same_between, same_laws, ties_are_same}
 
 -- ---- filters

@@ -18,7 +18,8 @@ use Rattle.bd_bson_dump.specs.{Collection.bytes_of, Collection.document_at, decl
 use Rattle.bd_path.specs.{Key.keys, Reach.Names, declared.sort.Dir.Dir, declared.sort.Dir.TheVariants.Down, declared.sort.Dir.TheVariants.Up}
 use Rattle.bd_path.specs.Sort.{dir_cmp, earlier_key, earliest_key, sort_key}
 use Rattle.bd_path.proofs.SortLemmas.{dir_total, equal_is, equal_itself, has_a_key}
-use Rattle.bd_index.specs.Entries.{AreEntries, IsRun, KeyAt, downward, entries_from, entries_of, entry_cmp, keys_at, put_down}
+use Rattle.bd_index.specs.Entries.{AreEntries, KeyAt, downward, entries_from, entries_of, entry_cmp, keys_at, put_down}
+use Rattle.bd_index.specs.inside.Entries.{IsRun}
 use Rattle.bd_index.specs.IndexView.{IsIndexOf, IsIndexOf-prop, KeepsEntry}
 use Rattle.bd_index.specs.{Walk.WalksAll, Walk.fresh_places, declared.entry.Entry.Entry, declared.index.Index.Index}
 use Rattle.bd_index.proofs.EntryLemmas.{Rises, all_pass, any_as_counts, any_map, ascends, by_total, count_stored, entry_by, entry_total, first_not_less, keys_rise, neither_less, zip_at}

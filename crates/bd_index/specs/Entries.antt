@@ -1,10 +1,10 @@
 -- The entries of an index on a path: the keys of the documents of a dump,
 -- each with the number of its document.
-use Rattle.std.specs.Prelude.{◌≡◌, ◌==◌, ◌<◌, ◌≤◌, ℕ, ◌+◌, ◌-◌, Bool, true, ◌&&◌, List, [], ◌∷◌, ◌++◌, map, count_by}
-use Rattle.std.specs.Prelude.{length, nat_lt, if◌then◌else◌, slice_index_or}
+use Rattle.std.specs.Prelude.{◌≡◌, ℕ, ◌+◌, Bool, List, [], ◌∷◌, ◌++◌, map, count_by}
+use Rattle.std.specs.Prelude.{length, nat_lt, if◌then◌else◌}
 use Rattle.std.specs.{List.list_any, List.Sorted.IsSortedBy, declared.cmp.Ordering.Ordering}
 use Rattle.std.specs.Ordering.{is_lt, nat_cmp, ordering_then}
-use Rattle.bd_value.specs.{Order.cmp, Order.equal, Tree.Tree, Tree.Doc, Tree.doc, Tree.fields_of}
+use Rattle.bd_value.specs.{Order.cmp, Tree.Tree, Tree.Doc, Tree.doc, Tree.fields_of}
 use Rattle.bd_path.specs.{Key.indexed_keys, Key.keys, Reach.Names}
 
 -- an entry: a key, and the number of its document
@@ -39,10 +39,6 @@ is_multikey path ds = list_any (λ d. has_two_keys path (doc (fields_of d))) ds
 abbrev pub entry_cmp : KeyAt → KeyAt → Ordering
 entry_cmp a b = ordering_then (cmp a.0 b.0) (nat_cmp a.1 b.1)
 
--- whether two entries are of one document and have equal keys
-abbrev pub is_same_entry : KeyAt → KeyAt → Bool
-is_same_entry a b = (a.1 == b.1) && equal a.0 b.0
-
 -- These are all entries of the documents and no others, sorted by key and then by document number.
 pub record AreEntries (sparse : Bool) (path : Names) (ds : List Doc) (es : List KeyAt) : Type 0 where
   pub same : (test : KeyAt → Bool) → count_by test es ≡ count_by test (entries_of sparse path ds)
@@ -57,11 +53,3 @@ put_down e (x ∷ xs) = if is_lt (cmp e.0 x.0) then x ∷ put_down e xs else e �
 abbrev pub downward : List KeyAt → List KeyAt
 downward [] = []
 downward (e ∷ es) = put_down e (downward es)
-
--- The entries from `start` to before `end` have equal keys, and those before them have lesser keys.
-pub record IsRun (es : List KeyAt) (start end : ℕ) : Type 0 where
-  pub some : start < end
-  pub equals : (k : ℕ) (d : KeyAt) → start ≤ k → k < end →
-      equal (slice_index_or es k d).0 (slice_index_or es (end - 1) d).0 ≡ true
-  pub below : (k : ℕ) (d : KeyAt) → k < start → is_lt
-      (cmp (slice_index_or es k d).0 (slice_index_or es (end - 1) d).0) ≡ true

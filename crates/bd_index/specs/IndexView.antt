@@ -4,13 +4,11 @@ use Rattle.std.proofs.Props.{props}
 use Rattle.std.specs.Prelude.{◌≡◌, ℕ, List, [], ◌∷◌, Bool}
 use Rattle.std.specs.{Coded.Coded-set, Coded.coded_ℕ, List.All, List.AllZip}
 use mathlib.Core.HLevel.{is_prop→PathP}
-use Rattle.bd_value.specs.Tree.{Tree}
-use Rattle.bd_bson_view.specs.{Sound.IsAt, Sound.IsAt-prop, Sound.one_is_at, Sound.meaning}
-use Rattle.bd_bson_view.specs.{declared.raw.RawValue.RawValue}
+use Rattle.bd_bson_view.specs.{Sound.IsAt, Sound.IsAt-prop, Sound.one_is_at}
 use Rattle.bd_bson_dump.specs.{Collection.bytes_of, Collection.documents, declared.collection.Dump.Dump}
 use Rattle.bd_path.specs.{PathNames.names_of, Reach.Names}
 use Rattle.bd_index.specs.Entries.{AreEntries, KeyAt, is_multikey}
-use Rattle.bd_index.specs.{declared.entry.Entry.Entry, declared.entry.FoundKey.FoundKey, declared.index.Index.Index}
+use Rattle.bd_index.specs.{declared.entry.Entry.Entry, declared.index.Index.Index}
 
 -- The entry in memory is this one: its key is in the bytes at its offset,
 -- and it has the same document number.
@@ -76,19 +74,3 @@ AreIndexesOf dump indexes = All (IsIndexOf dump) indexes
 
 pub AreIndexesOf-prop : (dump : Dump) (indexes : List Index) → IsProp (AreIndexesOf dump indexes)
 AreIndexesOf-prop dump indexes = hlevel IsIndexOf-prop
-
--- the value that a view into the bytes of a dump means
-abbrev pub raw_tree : RawValue → Tree
-raw_tree v = meaning v.sound
-
--- the bytes under a view
-abbrev pub raw_source : RawValue → List ℕ
-raw_source v = v.bytes.now
-
--- the entry of a found key: the value of the key, and its document number
-abbrev pub found_entry : FoundKey → KeyAt
-found_entry f = (meaning f.key.sound, f.place)
-
--- The found key is a view into these bytes.
-abbrev pub IsFoundIn : List ℕ → FoundKey → Type 0
-IsFoundIn bytes f = f.key.bytes.now ≡ bytes

@@ -3,3 +3,4 @@ pub mod IndexView
 pub mod Places
 pub mod Walk
 pub mod WalkRemaining
+pub mod inside

@@ -8,8 +8,10 @@ ghost use Rattle.bd_bson_dump.specs.Collection.{bytes_of, documents};
 ghost use Rattle.bd_bson_dump.specs.declared.collection.Dump.{Dump};
 ghost use Rattle.bd_path.specs.Key.{AreKeysOf, IsKeyOf, distinct, key_tree, key_trees};
 ghost use Rattle.bd_path.specs.PathNames.{names_of};
-ghost use Rattle.bd_index.specs.Entries.{KeyAt, entries_of, entry_cmp, is_multikey, is_same_entry, keys_at};
-ghost use Rattle.bd_index.specs.IndexView.{IsFoundIn, IsIndexOf, KeepsDump, KeepsEntries, found_entry, raw_source, raw_tree};
+ghost use Rattle.bd_index.specs.Entries.{KeyAt, entries_of, entry_cmp, is_multikey, keys_at};
+ghost use Rattle.bd_index.specs.inside.Entries.{is_same_entry};
+ghost use Rattle.bd_index.specs.IndexView.{IsIndexOf, KeepsDump, KeepsEntries};
+ghost use Rattle.bd_index.specs.inside.IndexView.{IsFoundIn, found_entry, raw_source, raw_tree};
 
 use crate::entry::{Entry, FoundKey};
 use bd_bson_dump::Dump;

@@ -8,9 +8,11 @@ ghost use Rattle.bd_bson_dump.specs.Collection.{bytes_of, documents};
 ghost use Rattle.bd_path.specs.PathNames.{names_of};
 ghost use Rattle.bd_index_bounds.specs.Bounds.{intersection, is_among, union};
 ghost use Rattle.bd_index_bounds.specs.BoundsView.{keys_between, keys_within, is_before};
-ghost use Rattle.bd_index.specs.Entries.{IsRun, KeyAt};
+ghost use Rattle.bd_index.specs.Entries.{KeyAt};
+ghost use Rattle.bd_index.specs.inside.Entries.{IsRun};
 ghost use Rattle.bd_index.specs.IndexView.{IsIndexOf};
-ghost use Rattle.bd_index.specs.Places.{AreInOrder, AreWithin, CoverKeys, is_covered, is_in_span, lent_bounds, pieces};
+ghost use Rattle.bd_index.specs.Places.{AreWithin, lent_bounds};
+ghost use Rattle.bd_index.specs.inside.Places.{AreInOrder, CoverKeys, is_covered, is_in_span, pieces};
 
 use crate::index::Index;
 use bd_bson_dump::Dump;

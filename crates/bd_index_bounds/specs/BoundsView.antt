@@ -1,5 +1,5 @@
 -- The set of keys that bounds in memory represent.
-use Rattle.std.specs.Prelude.{Bool, if◌then◌else◌, ◌&&◌, not, List, [], ◌∷◌, map, Option, Some, None, option_map}
+use Rattle.std.specs.Prelude.{Bool, if◌then◌else◌, ◌&&◌, not, Option, option_map}
 use Rattle.std.specs.{declared.cmp.Ordering.Ordering, Ordering.is_le, Ordering.is_lt, Ordering.nat_cmp}
 use Rattle.bd_value.specs.{Order.cmp, Order.class_of, Order.class_rank, Tree.Tree, View.tree_of}
 use Rattle.bd_index_bounds.specs.{declared.bounds.Cutoff.Cutoff, declared.bounds.Edge.Edge, declared.bounds.Bounds.Bounds}
@@ -33,8 +33,3 @@ keys_within = fold-Bounds KeySet keys_step
 -- the bounds that bounds in memory represent; None is unbounded
 abbrev pub bounds_view : Option Bounds → KeyBounds
 bounds_view b = option_map keys_within b
-
--- the intersection of bounds in memory; unbounded if there are none
-abbrev pub parts_bounds : List Bounds → KeyBounds
-parts_bounds [] = None
-parts_bounds (b ∷ bs) = Some (intersection (map keys_within (b ∷ bs)))

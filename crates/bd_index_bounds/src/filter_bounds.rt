@@ -10,7 +10,8 @@ ghost use Rattle.bd_query_filter.specs.Filter.{filter_tree, filters_from, operat
 ghost use Rattle.bd_query_filter.specs.FilterMatch.{is_array, is_related};
 ghost use Rattle.bd_index_bounds.specs.Bounds.{all_bounds, all_element_bounds, bounds, bounds_at, bounds_here, conjunction, element_bounds, is_listed};
 ghost use Rattle.bd_index_bounds.specs.Bounds.{keys_of_types, operator_bounds, rest_after, some_bounds};
-ghost use Rattle.bd_index_bounds.specs.BoundsView.{parts_bounds, bounds_view};
+ghost use Rattle.bd_index_bounds.specs.BoundsView.{bounds_view};
+ghost use Rattle.bd_index_bounds.specs.inside.BoundsView.{parts_bounds};
 
 use crate::bounds::Bounds;
 use crate::range::{

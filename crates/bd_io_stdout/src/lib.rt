@@ -19,4 +19,6 @@
 
 mod output_buffer;
 
-pub use output_buffer::{FlushingError, FlushingInput, BufferedOutput, OutputBuffer, WriteState, hand_on};
+pub use output_buffer::{
+    BufferedOutput, FlushingError, FlushingInput, OutputBuffer, WriteState, hand_on,
+};

@@ -8,7 +8,8 @@ use Rattle.bd_bson_view.specs.declared.raw_parts.Holder.TheVariants as holders
 use Rattle.bd_wide.specs.declared.find.Refusal.{Refusal}
 use Rattle.std.specs.Option.{is_some}
 use Rattle.bd_wide.specs.declared.find.Found.{Found}
-use Rattle.bd_wide.specs.Refused.{Refused, Refuses, Element, Finds, FindsLocated, first_of_two, refused_body, refused_element, refused_elements, refused_nested, refused_part, refused_scope}
+use Rattle.bd_wide.specs.Refused.{Refused, Refuses, Element, Finds, first_of_two, refused_body, refused_element, refused_elements, refused_nested, refused_part, refused_scope}
+use Rattle.bd_wide.specs.inside.Refused.{FindsLocated}
 use Rattle.bd_wide.proofs.RewriteLemmas.{path_back, shorter, first_element_nil}
 
 -- one step, by the first element

@@ -11,9 +11,9 @@ use Rattle.bd_bson_view.specs.declared.raw_parts.ElementType.TheVariants.{Kept, 
 use Rattle.bd_bson_view.specs.declared.raw_parts.Holder.{Holder}
 use Rattle.bd_bson_view.specs.declared.raw_parts.Holder.TheVariants as holders
 use Rattle.bd_bson_view.specs.{Spelling.type_at, Spelling.number, Unique.number_length}
-use Rattle.bd_wide.specs.Changes.{Stays}
+use Rattle.bd_wide.specs.inside.Changes.{Stays}
 use Rattle.bd_wide.specs.Mask.{IsMasked, masked_element, masked_others}
-use Rattle.bd_wide.specs.Masking.{HasPlain, IsFirstOf, IsPlain, MasksBody, MasksElement, MasksElements, MasksNested, MasksScoped, plain_size}
+use Rattle.bd_wide.specs.inside.Masking.{HasPlain, IsFirstOf, IsPlain, MasksBody, MasksElement, MasksElements, MasksNested, MasksScoped, plain_size}
 use Rattle.bd_wide.specs.Rewritten.{◌>>=◌, Adds, Nested, fixed, first_zero, first_element, least, part_of, path_of, scope_at, separator, size_at, AreElements, IsBody, IsElement, IsNested, IsRewritten}
 use Rattle.bd_wide.specs.declared.element.Part.TheVariants as parts
 use borrow.Rule.Slice.PartMut.{put_mid, put_same}

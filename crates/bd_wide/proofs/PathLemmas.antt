@@ -5,7 +5,8 @@ use Rattle.bd_bson_view.specs.declared.raw_parts.Holder.{Holder}
 use Rattle.bd_bson_view.specs.declared.raw_parts.Holder.TheVariants as holders
 use Rattle.bd_wide.specs.declared.element.Part.{Part}
 use Rattle.bd_wide.specs.declared.element.Part.TheVariants as parts
-use Rattle.bd_wide.specs.Changes.{IgnoresPaths, ServesAs}
+use Rattle.bd_wide.specs.Changes.{IgnoresPaths}
+use Rattle.bd_wide.specs.inside.Changes.{ServesAs}
 use Rattle.bd_wide.specs.Rewritten.{Writes, Others, Nested, Adds, first_element, part_of, path_of, separator, IsPart, IsElement, AreElements, IsBody, IsScoped, IsNested, scope_at}
 use Rattle.bd_wide.proofs.RewriteLemmas.{Turn, to_turn, from_turn, ScopeTurn, to_scope, from_scope, headed}
 

@@ -3,7 +3,8 @@ use Rattle.std.proofs.Common.{◌≡◌, ◌≤◌, ◌+◌, ap₂, zero, suc, i
 use Rattle.std.proofs.lemmas.List.{take-append-drop}
 use Rattle.bd_bson_view.specs.declared.raw_parts.ElementType.{ElementType}
 use Rattle.bd_wide.specs.declared.element.Part.TheVariants as parts
-use Rattle.bd_wide.specs.Changes.{Retypes, Stays}
+use Rattle.bd_wide.specs.Changes.{Retypes}
+use Rattle.bd_wide.specs.inside.Changes.{Stays}
 use Rattle.bd_wide.specs.Rewritten.{Writes, Others, Nested, first_element, part_of, IsElement}
 use Rattle.bd_wide.proofs.RewriteLemmas.{Comes, stepped, part_of_element}
 

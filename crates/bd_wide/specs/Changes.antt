@@ -1,35 +1,18 @@
 -- What a writer of numbers may promise, so that less has to be done.
-use Rattle.std.specs.Prelude.{◌≡◌, ◌⊎◌, ℕ, List, ◌∷◌, ◌++◌, drop, Some, None}
+use Rattle.std.specs.Prelude.{ℕ, List, ◌∷◌, ◌++◌, drop}
 use Rattle.bd_bson_view.specs.declared.raw_parts.ElementType.{ElementType}
-use Rattle.bd_wide.specs.declared.element.Change.{Change}
-use Rattle.bd_wide.specs.declared.element.Change.TheVariants as changes
-use Rattle.bd_wide.specs.declared.element.Part.TheVariants as parts
-use Rattle.bd_wide.specs.Rewritten.{Writes, part_of}
+use Rattle.bd_wide.specs.Rewritten.{Writes}
 
 -- What may be written of a number is the same at every path.
 abbrev pub IgnoresPaths : Writes → Type 0
 IgnoresPaths Is = (path other : List ℕ) (type : ElementType) (head value new : List ℕ)
     → Is path type head value new → Is other type head value new
 
--- What may be written at one path may be written at the other: they are equal, or paths are ignored.
-abbrev pub ServesAs : Writes → List ℕ → List ℕ → Type 0
-ServesAs Is path other = (path ≡ other) ⊎ IgnoresPaths Is
-
 -- An element with a number of this type may stay as it is.
 abbrev pub Leaves : Writes → ElementType → Type 0
 Leaves Is type = (path head value : List ℕ) → Is path type head value (head ++ value)
-
--- An element of this type may stay unchanged: it is not examined, or is a number that may stay.
-abbrev pub Stays : Writes → ElementType → Type 0
-Stays Is type = (part_of type ≡ None) ⊎ ((part_of type ≡ Some parts.Number) × Leaves Is type)
 
 -- An element with a number of this type may get this type byte and stay as it is otherwise.
 abbrev pub Retypes : Writes → ElementType → ℕ → Type 0
 Retypes Is type byte = (path head value : List ℕ)
     → Is path type head value (byte ∷ (drop 1 head ++ value))
-
--- This change of an element of this type may be made.
-abbrev pub Allows : Writes → ElementType → Change → Type 0
-Allows Is type changes.Nothing = Stays Is type
-Allows Is type (changes.Type byte) = (part_of type ≡ Some parts.Number) × Retypes Is type byte
-Allows Is type (changes.Part part) = part_of type ≡ Some part

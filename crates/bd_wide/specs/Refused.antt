@@ -1,6 +1,6 @@
 -- The first refused number of a document, from left to right, and where it is.
-use Rattle.std.specs.Prelude.{◌≡◌, ℕ, zero, suc, ◌+◌, ◌-◌, List, [], ◌∷◌, ◌++◌, length, take, drop, Option, Some, None, option_map, true, false, nat_lt, if◌then◌else◌}
-use Rattle.std.specs.Io.{StartsWith}
+use Rattle.std.specs.Prelude.{◌≡◌, ℕ, zero, suc, ◌+◌, ◌-◌, List, [], ◌∷◌, ◌++◌, length, take, drop, Option, Some, None}
+use Rattle.std.specs.Prelude.{option_map, true, false, nat_lt, if◌then◌else◌}
 use Rattle.bd_bson_view.specs.declared.raw_parts.ElementType.{ElementType}
 use Rattle.bd_bson_view.specs.declared.raw_parts.Holder.{Holder}
 use Rattle.bd_bson_view.specs.declared.raw_parts.Holder.TheVariants as holders
@@ -94,8 +94,3 @@ first_refused refuses bytes = if nat_lt (length bytes) 5 then None else refused_
 abbrev pub Finds : Option Refused → List ℕ → List ℕ → Option Found → Type 0
 Finds refused old new None = (refused ≡ None) × (new ≡ old)
 Finds refused old new (Some f) = refused ≡ Some (record { at = f.at; path = new; why = f.why })
-
--- This number was found to be refused, and the path is its path; if none was, the path may have grown.
-abbrev pub FindsLocated : Option Refused → List ℕ → List ℕ → Option Found → Type 0
-FindsLocated refused old new None = (refused ≡ None) × StartsWith new old
-FindsLocated refused old new (Some f) = refused ≡ Some (record { at = f.at; path = new; why = f.why })

@@ -1,5 +1,6 @@
 -- Doubles and decimal128 as the documents of Extended JSON that contain their texts.
-use Rattle.std.specs.Prelude.{◌≡◌, ◌<◌, ◌≤◌, ◌⊎◌, ℕ, zero, Bool, true, false, List, ◌∷◌, ◌++◌, length, drop, codes, None, Some, IsSome}
+use Rattle.std.specs.Prelude.{◌≡◌, ◌<◌, ◌≤◌, ◌⊎◌, ℕ, zero, Bool, true, false, List, ◌∷◌, ◌++◌, length, drop, codes, None}
+use Rattle.std.specs.Prelude.{Some, IsSome}
 use Rattle.bd_value.specs.Limits.{longest_document}
 use Rattle.bd_bson_view.specs.declared.raw_parts.ElementType.TheVariants.{Kept, Double, Decimal128}
 use Rattle.bd_bson_view.specs.{Spelling.framed, Spelling.string, Sizes.long_of}
@@ -27,10 +28,6 @@ wrapper name text = framed (2 ∷ (name ++ 0 ∷ string text))
 -- `$numberDouble` or `$numberDecimal` with its text.
 abbrev pub IsWrapper : Number → List ℕ → Type 0
 IsWrapper number new = (text : List ℕ) × IsNumberText number text × (new ≡ wrapper (wrapper_name number) text)
-
--- The bytes are the text of the number as a BSON `string`.
-abbrev pub IsStringOf : Number → List ℕ → Type 0
-IsStringOf number new = (text : List ℕ) × IsNumberText number text × (new ≡ string text)
 
 -- The bytes are an element with the document that wraps the number, under the name of another element.
 abbrev pub IsElementOf : List ℕ → Number → List ℕ → Type 0

@@ -6,7 +6,8 @@ ghost use Rattle.bd_bson_view.specs.declared.raw_parts.ElementType as element_ty
 ghost use Rattle.bd_bson_view.specs.declared.raw_parts.Holder.TheVariants as holders;
 ghost use Rattle.bd_wide.specs.Rewritten.{holder_least, least, part_of, path_of};
 ghost use Rattle.bd_wide.specs.declared.element.Part as parts;
-ghost use Rattle.bd_wide.specs.Refused.{Finds, FindsLocated, first_refused, refused_at, refused_body, refused_element, refused_elements, refused_part, refused_nested, refused_scope};
+ghost use Rattle.bd_wide.specs.Refused.{Finds, first_refused, refused_at, refused_body, refused_element, refused_elements, refused_part, refused_nested, refused_scope};
+ghost use Rattle.bd_wide.specs.inside.Refused.{FindsLocated};
 ghost use Rattle.bd_wide.specs.declared.find.Refusal as refusal;
 
 use crate::element::{Part, enter, first_element, looked_into, separator};

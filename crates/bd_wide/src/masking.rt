@@ -3,7 +3,7 @@
 ghost use Rattle.std.specs.Prelude.{◌≡◌, ◌≢◌, ◌≤◌, ◌+◌, ◌++◌, length, take, drop, OnOk, OnErr, IfSome};
 ghost use Rattle.bd_bson_view.specs.Spelling.{number};
 ghost use Rattle.bd_wide.specs.Mask.{IsMasked, masked_element, masked_others};
-ghost use Rattle.bd_wide.specs.Masking.{HasPlain, IsFirst, IsPlain, MasksBody, MasksElement, MasksElements, MasksNested, MasksScoped};
+ghost use Rattle.bd_wide.specs.inside.Masking.{HasPlain, IsFirst, IsPlain, MasksBody, MasksElement, MasksElements, MasksNested, MasksScoped};
 ghost use Rattle.bd_wide.specs.Rewritten.{Adds, IsRewritten, holder_least, least};
 
 use crate::element::{Part, first_element, looked_into};

@@ -3,7 +3,8 @@
 ghost use Rattle.std.specs.Prelude.{◌≡◌, ◌≤◌, ◌<◌, ◌+◌, ◌-◌, ◌++◌, List, ℕ, length, take, drop, vec_len, OnOk, OnErr, IfSome, IsTrue, Some};
 ghost use Rattle.std.specs.Io.{StartsWith};
 ghost use Rattle.bd_bson_view.specs.Spelling.{number};
-ghost use Rattle.bd_wide.specs.Changes.{Allows, IgnoresPaths, Leaves, Retypes, ServesAs};
+ghost use Rattle.bd_wide.specs.Changes.{IgnoresPaths, Leaves, Retypes};
+ghost use Rattle.bd_wide.specs.inside.Changes.{Allows, ServesAs};
 ghost use Rattle.bd_wide.specs.Rewritten.{least, holder_least, Adds, IsElement, IsPart, AreElements, IsBody, IsScoped, IsNested, IsRewritten, part_of, path_of, separator as separator_of, scope_at as scope_at_of};
 ghost use Rattle.bd_wide.specs.declared.element.Part.TheVariants as parts;
 ghost use Rattle.bd_bson_view.specs.declared.raw_parts.ElementType as element_type;

@@ -6,7 +6,8 @@ ghost use Rattle.bd_bson_view.specs.Sizes.{long_of};
 ghost use Rattle.bd_bson_view.specs.Spelling.{string};
 ghost use Rattle.bd_wide.specs.Refused.{first_refused};
 ghost use Rattle.bd_wide.specs.Rewritten.{Adds};
-ghost use Rattle.bd_wide.specs.Wrap.{IsElementOf, IsNumberText, IsStringOf, IsWrapped, IsWrappedDocument, IsWrapper, refuses_deepest, wrapper_name};
+ghost use Rattle.bd_wide.specs.Wrap.{IsElementOf, IsNumberText, IsWrapped, IsWrappedDocument, IsWrapper, refuses_deepest, wrapper_name};
+ghost use Rattle.bd_wide.specs.inside.Wrap.{IsStringOf};
 
 use crate::find::{Refusal, Refuser, find_refused};
 use crate::rewrite::{NumberWriter, put_number, seal, write_number, write_rewritten};

@@ -10,7 +10,8 @@ use Rattle.bd_wide_cli.specs.declared.frame.Next.{Next}
 use Rattle.bd_wide_cli.specs.declared.frame.Next.TheVariants as nexts
 use Rattle.bd_wide_cli.specs.declared.running.Stop.{Stop}
 use Rattle.bd_wide_cli.specs.declared.running.Stop.TheVariants as stops
-use Rattle.bd_wide_cli.specs.Filtered.{AreDocuments, none, more, ArePartlyFiltered, BeginsWithNone, Ends, FiltersAll, FiltersPartly, IsBadLength, IsFrame, IsNext, IsWritten, CopiesRest, PassesOn, StopsCopying, StopsDocument, StopsPassing, WritesDocument, refusal_text}
+use Rattle.bd_wide_cli.specs.Filtered.{AreDocuments, none, more, ArePartlyFiltered, BeginsWithNone, Ends, FiltersAll, FiltersPartly, IsBadLength, IsFrame, IsWritten, refusal_text}
+use Rattle.bd_wide_cli.specs.inside.Filtered.{IsNext, CopiesRest, PassesOn, StopsCopying, StopsDocument, StopsPassing, WritesDocument}
 use Rattle.bd_io_device.proofs.DevicesLemmas.{write_fails_second, takes_both, takes_none}
 
 -- the documents that were read so far, and what was written for them

@@ -1,2 +1,3 @@
 pub mod Filtered
 pub mod Output
+pub mod inside

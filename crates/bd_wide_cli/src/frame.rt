@@ -4,7 +4,7 @@ ghost use Rattle.std.specs.Prelude.{◌≡◌, ◌≤◌, ◌+◌, ◌++◌, IfO
 ghost use Rattle.std.specs.Io.KnownBytes.{Consumes};
 ghost use Rattle.std.specs.Int.{w32, from_le_bytes};
 ghost use Rattle.bd_value.specs.Limits.{longest_document};
-ghost use Rattle.bd_wide_cli.specs.Filtered.{IsNext};
+ghost use Rattle.bd_wide_cli.specs.inside.Filtered.{IsNext};
 
 use bd_io_device::{Input, Limits, ReadFault, fill, fill_after};
 use bd_value::LONGEST_DOCUMENT;

@@ -3,7 +3,8 @@
 ghost use Rattle.std.specs.Prelude.{◌≡◌, ◌<◌, ◌++◌, OnOk, decimal};
 ghost use Rattle.std.specs.Char.{digit_char};
 ghost use Rattle.bd_extjson_text.specs.Text.{escape_byte, escaped, quoted};
-ghost use Rattle.bd_wide_cli.specs.Filtered.{ReportsRefusal, found_text, refusal_text, refusal_words as words_of};
+ghost use Rattle.bd_wide_cli.specs.Filtered.{found_text, refusal_text, refusal_words as words_of};
+ghost use Rattle.bd_wide_cli.specs.inside.Filtered.{ReportsRefusal};
 
 use crate::running::Stop;
 use bd_value::NoMemory;

@@ -3,7 +3,8 @@
 ghost use Rattle.std.specs.Prelude.{◌≡◌, ◌≢◌, ◌≤◌, ◌+◌, length, IfOk, IfErr, OnOk, if◌then◌else◌};
 ghost use Rattle.bd_value.specs.Limits.{longest_input};
 ghost use Rattle.bd_io_device.specs.Devices.{over};
-ghost use Rattle.bd_wide_cli.specs.Filtered.{CopiesRest, FiltersAll, FiltersPartly, IsNext, PassesOn, StopsCopying, StopsDocument, StopsPassing, WritesDocument};
+ghost use Rattle.bd_wide_cli.specs.Filtered.{FiltersAll, FiltersPartly};
+ghost use Rattle.bd_wide_cli.specs.inside.Filtered.{CopiesRest, IsNext, PassesOn, StopsCopying, StopsDocument, StopsPassing, WritesDocument};
 ghost use Rattle.bd_wide_cli.specs.Output.{FiltersInput};
 
 use crate::filter::{Filter, write_filtered};

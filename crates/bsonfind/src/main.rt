@@ -6,7 +6,9 @@ use bd_cli_args::{Order, WordsFault, parse_words};
 use bd_cli_files::Status;
 use bd_cli_files::output::CANNOT_WRITE;
 use bd_io_device::{BufferedInput, ReadFault, SystemInput, SystemOutput, write_all};
-use bd_io_stdout::{FlushingError, FlushingInput, BufferedOutput, OutputBuffer, WriteState, hand_on};
+use bd_io_stdout::{
+    BufferedOutput, FlushingError, FlushingInput, OutputBuffer, WriteState, hand_on,
+};
 use std::cell::RefCell;
 use std::io::{BufReader, Read, Stdout};
 use std::os::fd::AsRawFd;
@@ -37,24 +39,41 @@ type Waiting = RefCell<OutputBuffer<SystemOutput<Stdout>>>;
 fn refuse(rt: &HostRuntime, fault: &WordsFault, output_buffer: &Waiting) -> Status {
     let writer = rt.stderr();
     let mut out = SystemOutput::new(BufferedOutput { output_buffer });
-    let mut err = SystemOutput::new(FlushingError { writer, output_buffer });
+    let mut err = SystemOutput::new(FlushingError {
+        writer,
+        output_buffer,
+    });
     report(fault, &mut out, &mut err)
 }
 
 /// Runs a command over the input in its file.
-fn run<F: Read + Drop>(rt: &HostRuntime, order: &Order, reader: F, output_buffer: &Waiting) -> Status {
+fn run<F: Read + Drop>(
+    rt: &HostRuntime,
+    order: &Order,
+    reader: F,
+    output_buffer: &Waiting,
+) -> Status {
     let alloc = rt.alloc();
-    let file = FlushingInput { reader, output_buffer };
+    let file = FlushingInput {
+        reader,
+        output_buffer,
+    };
     let Ok(file) = BufReader::with_capacity(alloc, BUFFER, file) else {
         return refuse(rt, &WordsFault::NoMemory, output_buffer);
     };
     let mut file = BufferedInput::new(file);
     let reader = rt.reader();
     // They are read in blocks anyway.
-    let mut commands = SystemInput::new(FlushingInput { reader, output_buffer });
+    let mut commands = SystemInput::new(FlushingInput {
+        reader,
+        output_buffer,
+    });
     let writer = rt.stderr();
     let mut out = SystemOutput::new(BufferedOutput { output_buffer });
-    let mut err = SystemOutput::new(FlushingError { writer, output_buffer });
+    let mut err = SystemOutput::new(FlushingError {
+        writer,
+        output_buffer,
+    });
     bd_cli::run(alloc, order, &mut file, &mut commands, &mut out, &mut err)
 }
 

@@ -3,7 +3,9 @@
 
 use bd_cli_args::WordsFault;
 use bd_io_device::{BufferedInput, SystemOutput, write_all};
-use bd_io_stdout::{FlushingError, FlushingInput, BufferedOutput, OutputBuffer, WriteState, hand_on};
+use bd_io_stdout::{
+    BufferedOutput, FlushingError, FlushingInput, OutputBuffer, WriteState, hand_on,
+};
 use bd_wide::read_order;
 use bd_wide_args::{Order, parse_words};
 use bd_wide_cli::{CANNOT_WRITE, Filter, Status, report};
@@ -48,7 +50,10 @@ type Waiting = RefCell<OutputBuffer<SystemOutput<Stdout>>>;
 fn refuse(rt: &HostRuntime, fault: WordsFault, output_buffer: &Waiting) -> Status {
     let writer = rt.stderr();
     let mut out = SystemOutput::new(BufferedOutput { output_buffer });
-    let mut err = SystemOutput::new(FlushingError { writer, output_buffer });
+    let mut err = SystemOutput::new(FlushingError {
+        writer,
+        output_buffer,
+    });
     report(fault, &mut out, &mut err)
 }
 
@@ -60,14 +65,20 @@ fn run<F: Read + Drop>(
     output_buffer: &Waiting,
 ) -> Status {
     let alloc = rt.alloc();
-    let file = FlushingInput { reader, output_buffer };
+    let file = FlushingInput {
+        reader,
+        output_buffer,
+    };
     let Ok(file) = BufReader::with_capacity(alloc, BUFFER, file) else {
         return refuse(rt, WordsFault::NoMemory, output_buffer);
     };
     let mut file = BufferedInput::new(file);
     let writer = rt.stderr();
     let mut out = SystemOutput::new(BufferedOutput { output_buffer });
-    let mut err = SystemOutput::new(FlushingError { writer, output_buffer });
+    let mut err = SystemOutput::new(FlushingError {
+        writer,
+        output_buffer,
+    });
     bd_wide_cli::run(alloc, filter, &mut file, &mut out, &mut err)
 }
 

@@ -1,6 +1,6 @@
 use Rattle.std.proofs.Common.{◌≡◌, ◌<◌, Ok, length, arith, sym, subst, ◌∙◌, codes}
 use Rattle.std.proofs.lemmas.{Result.err_from_is_err_and, List.nil_from_length, Bool.eqb-true, Bool.Decides.nat_tests}
-use Rattle.bd_bson_check.specs.{Fault.FailsAtItem, FirstFault.label, FirstFault.skip_element, FirstFault.skip_nested}
+use Rattle.bd_bson_check.specs.{inside.Fault.FailsAtItem, FirstFault.label, FirstFault.skip_element, FirstFault.skip_nested}
 use Rattle.bd_bson_check.proofs.check.+checking.Goals.{elements-in-Some, elements-in-None+in_ok-rest-in-None}
 use Rattle.bd_bson_check.proofs.{CheckingLemmas.reported_fails, CheckingLemmas.fails_within, FirstFaultLemmas.elements_nil}
 use Rattle.bd_bson_check.proofs.CheckingLemmas as above

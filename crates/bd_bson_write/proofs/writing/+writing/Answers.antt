@@ -80,26 +80,26 @@ append_items-append_element-requires g t c κs within =
     let less = rw c.in-Some.ensures.some at c.loop-next.invariant.fewer in
     let zero = rw c.in-Some.ensures.some at c.loop-next.invariant.zero in
     let e = c.decreases in
-    let name : has_zero c.format.result.now ≡ false = rw c.format.ensures.text (writes.decimal_no_zero c.loop-next.place (search rules)) in
+    let name : has_zero c.format.result.now ≡ false = rw c.format.ensures.text (writes.decimal_no_zero c.loop-next.index (search rules)) in
     (omega (arith, less, e), (within.0, (within.1, (name, (or_parts _ _ zero).0))))
 
 pub append_items-returns-in_err-append_element-clause-err : goal.append_items-returns-in_err-append_element-clause-err
 append_items-returns-in_err-append_element-clause-err g t c =
     let r = c.from_residual-in_err-append_element in
     let p = err_from_is_err_and r.result r.ensures.1 in
-    let name : c.format.result.now ≡ decimal c.loop-next.place = search rules in
+    let name : c.format.result.now ≡ decimal c.loop-next.index = search rules in
     let whole = rw c.in-Some.ensures.some at c.loop-next.invariant.whole in
-    let piece = element (g.N.Reading.tree c.in-Some.next.1) (decimal c.loop-next.place) (bytes_of (g.N.Reading.tree c.in-Some.next.1)) in
+    let piece = element (g.N.Reading.tree c.in-Some.next.1) (decimal c.loop-next.index) (bytes_of (g.N.Reading.tree c.in-Some.next.1)) in
     let le = writes.element_within c.args.out.now.items (items_bytes 0 (items_of (values_of (g.N.Reading.remaining c.args.items)))) c.loop-next.out.items
-    piece (items_bytes (suc c.loop-next.place) (items_of (values_of (g.N.Reading.remaining c.in-Some.next.2)))) whole in
+    piece (items_bytes (suc c.loop-next.index) (items_of (values_of (g.N.Reading.remaining c.in-Some.next.2)))) whole in
     rw (p.1, p.2) (writes.overruns_more _ _ c.in_err-append_element.field-0.0 le (rw name at c.in_err-append_element.ensures.err))
 
 pub append_items-loop-next-preserved : goal.append_items-loop-next-preserved
 append_items-loop-next-preserved g t c =
     let l = c.loop-next in
     let some = c.in-Some.ensures.some in
-    let place = l.place in
-    let name : c.format.result.now ≡ decimal place = c.format.ensures.text in
+    let index = l.index in
+    let name : c.format.result.now ≡ decimal index = c.format.ensures.text in
     let whole = rw some at l.invariant.whole in
     let spelled = rw some at l.invariant.spelled in
     let zero = rw some at l.invariant.zero in
@@ -107,11 +107,11 @@ append_items-loop-next-preserved g t c =
     let wrote = rw name at c.in_ok-append_element.ensures.ok.0 in
     let spells = rw name at c.in_ok-append_element.ensures.spells in
     let after = items_of (values_of (g.N.Reading.remaining c.in-Some.next.2)) in
-    let piece = element (g.N.Reading.tree c.in-Some.next.1) (decimal place) (bytes_of (g.N.Reading.tree c.in-Some.next.1)) in
-    let next : place + 1 ≡ suc place = omega arith in
+    let piece = element (g.N.Reading.tree c.in-Some.next.1) (decimal index) (bytes_of (g.N.Reading.tree c.in-Some.next.1)) in
+    let next : index + 1 ≡ suc index = omega arith in
     record {
-      whole = ap₂ (λ (x : List ℕ) (n : ℕ). x ++ items_bytes n after) wrote next ∙ append_assoc l.out.items piece (items_bytes (suc place) after) ∙ whole;
-      spelled = λ are. spelled (decimal place, _, _, spells.0, spells.1, subst (λ (n : ℕ). AreItems after (items_bytes n after)) next are, refl);
+      whole = ap₂ (λ (x : List ℕ) (n : ℕ). x ++ items_bytes n after) wrote next ∙ append_assoc l.out.items piece (items_bytes (suc index) after) ∙ whole;
+      spelled = λ are. spelled (decimal index, _, _, spells.0, spells.1, subst (λ (n : ℕ). AreItems after (items_bytes n after)) next are, refl);
       prefix = prefix_more _ _ _ _ l.invariant.prefix wrote;
       zero = (or_parts _ _ zero).1;
       fewer = omega (arith, less);
@@ -122,7 +122,7 @@ pub append_items-seal-requires : goal.append_items-seal-requires
 append_items-seal-requires g t c =
     let none : g.N.Reading.remaining c.loop-next.rest ≡ [] = search rules in
     let out = writes.ended c.args.out.now.items (items_bytes 0 (items_of (values_of (g.N.Reading.remaining c.args.items)))) c.loop-next.out.items _
-    c.extend_from_slice.new.self.items c.loop-next.invariant.whole (ap (λ ps. items_bytes c.loop-next.place (items_of (values_of ps))) none)
+    c.extend_from_slice.new.self.items c.loop-next.invariant.whole (ap (λ ps. items_bytes c.loop-next.index (items_of (values_of ps))) none)
     c.in_ok-extend_from_slice.ensures.items in
     let size = writes.sealed_size c.args.out.now.items _ c.extend_from_slice.new.self.items out in
     let at : c.len-at.result ≡ length c.args.out.now.items = search rules in
@@ -132,7 +132,7 @@ pub append_items-returns-clause-ok : goal.append_items-returns-clause-ok
 append_items-returns-clause-ok g t c =
     let none : g.N.Reading.remaining c.loop-next.rest ≡ [] = search rules in
     let out = writes.ended c.args.out.now.items (items_bytes 0 (items_of (values_of (g.N.Reading.remaining c.args.items)))) c.loop-next.out.items _
-    c.extend_from_slice.new.self.items c.loop-next.invariant.whole (ap (λ ps. items_bytes c.loop-next.place (items_of (values_of ps))) none)
+    c.extend_from_slice.new.self.items c.loop-next.invariant.whole (ap (λ ps. items_bytes c.loop-next.index (items_of (values_of ps))) none)
     c.in_ok-extend_from_slice.ensures.items in
     let at : c.len-at.result ≡ length c.args.out.now.items = search rules in
     writes.ok_on c.seal.result _ _ c.seal.ensures.ok (λ e. e ∙ writes.frame_ok c.args.out.now.items
@@ -142,7 +142,7 @@ pub append_items-returns-clause-err : goal.append_items-returns-clause-err
 append_items-returns-clause-err g t c =
     let none : g.N.Reading.remaining c.loop-next.rest ≡ [] = search rules in
     let out = writes.ended c.args.out.now.items (items_bytes 0 (items_of (values_of (g.N.Reading.remaining c.args.items)))) c.loop-next.out.items _
-    c.extend_from_slice.new.self.items c.loop-next.invariant.whole (ap (λ ps. items_bytes c.loop-next.place (items_of (values_of ps))) none)
+    c.extend_from_slice.new.self.items c.loop-next.invariant.whole (ap (λ ps. items_bytes c.loop-next.index (items_of (values_of ps))) none)
     c.in_ok-extend_from_slice.ensures.items in
     let total = writes.frame_total c.args.out.now.items (items_bytes 0 (items_of (values_of (g.N.Reading.remaining c.args.items)))) c.extend_from_slice.new.self.items out in
     writes.err_more c.seal.result _ _ c.seal.ensures.err (omega (arith, total))

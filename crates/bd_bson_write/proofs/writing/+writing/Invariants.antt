@@ -36,13 +36,13 @@ decreases-append_fields-loop-next g l = length (g.N.Reading.remaining l.rest)
 
 abbrev pub invariant-append_items-loop-next : goal.invariant-append_items-loop-next
 invariant-append_items-loop-next g l = record {
-  whole : l.out.items ++ items_bytes l.place (items_of (values_of (g.N.Reading.remaining l.rest))) ≡ (l.fn.out.items ++ number 0) ++ items_bytes 0 (items_of (values_of (g.N.Reading.remaining l.fn.items)));
-  spelled : AreItems (items_of (values_of (g.N.Reading.remaining l.rest))) (items_bytes l.place (items_of (values_of (g.N.Reading.remaining l.rest))))
+  whole : l.out.items ++ items_bytes l.index (items_of (values_of (g.N.Reading.remaining l.rest))) ≡ (l.fn.out.items ++ number 0) ++ items_bytes 0 (items_of (values_of (g.N.Reading.remaining l.fn.items)));
+  spelled : AreItems (items_of (values_of (g.N.Reading.remaining l.rest))) (items_bytes l.index (items_of (values_of (g.N.Reading.remaining l.rest))))
       → AreItems (items_of (values_of (g.N.Reading.remaining l.fn.items))) (items_bytes 0 (items_of (values_of (g.N.Reading.remaining l.fn.items))));
   prefix : StartsWith l.out.items l.fn.out.items;
   zero : zero_in_items (items_of (values_of (g.N.Reading.remaining l.rest))) ≡ false;
   fewer : fields_size (fields_of (g.N.Reading.remaining l.rest)) ≤ fields_size (fields_of (g.N.Reading.remaining l.fn.items));
-  few : l.place ≤ length l.out.items;
+  few : l.index ≤ length l.out.items;
 }
 
 abbrev pub decreases-append_items-loop-next : goal.decreases-append_items-loop-next

@@ -1,7 +1,7 @@
 use Rattle.std.proofs.Common.{rules, ◌≡◌, Ok, None, sym, ap, ◌∙◌}
 use Rattle.std.proofs.lemmas.Result.{err_from_is_err_and}
 use Rattle.bd_extjson_pack.specs.Packable.{plain}
-use Rattle.bd_cli_files.specs.Output.{reported_bytes}
+use Rattle.bd_cli_files.specs.inside.Output.{reported_bytes}
 use Rattle.bd_cli_files.proofs.PackLemmas as packs
 use Rattle.bd_cli_files.proofs.pack.write_lines.Goals as goal
 

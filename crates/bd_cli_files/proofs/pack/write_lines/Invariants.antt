@@ -1,4 +1,4 @@
-use Rattle.bd_cli_files.specs.{Pack.remaining_size, Output.reported_bytes}
+use Rattle.bd_cli_files.specs.{inside.Pack.remaining_size, inside.Output.reported_bytes}
 use Rattle.bd_cli_files.proofs.PackLemmas.{SoFar}
 use Rattle.bd_cli_files.proofs.pack.write_lines.Given as goal
 

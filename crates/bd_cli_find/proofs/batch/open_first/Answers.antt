@@ -4,7 +4,7 @@ use Rattle.bd_bson_dump.specs.declared.collection.Dump.{Dump}
 use Rattle.bd_cursor_sort.specs.Selection.{query_of}
 use Rattle.bd_cursor.specs.SessionView.{dump_of, hint_of, state_of}
 use Rattle.bd_cursor_request.specs.declared.token.Token.{Token}
-use Rattle.bd_cli_find.specs.Find.{IsOpenedOn}
+use Rattle.bd_cli_find.specs.inside.Find.{IsOpenedOn}
 use Rattle.bd_cli_find.proofs.BatchLemmas.{find_opens, resume_opens}
 use Rattle.bd_cli_find.proofs.batch.open_first.Goals as goal
 

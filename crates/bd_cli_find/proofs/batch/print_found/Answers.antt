@@ -5,8 +5,9 @@ use Rattle.bd_cursor.specs.SessionView.{state_of}
 use Rattle.bd_cursor_request.specs.Refused.{reason_of}
 use Rattle.bd_cli_find.proofs.AskingLemmas.{explain_refusal}
 use Rattle.bd_cli_find.proofs.BatchLemmas.{opened_ready}
-use Rattle.bd_cli_find.specs.Find.{batch_output, IsOpenedOn, IsReady, cursor_for}
-use Rattle.bd_cli_find.specs.Asking.{page_request_of}
+use Rattle.bd_cli_find.specs.Find.{batch_output, cursor_for}
+use Rattle.bd_cli_find.specs.inside.Find.{IsOpenedOn, IsReady}
+use Rattle.bd_cli_find.specs.inside.Asking.{page_request_of}
 use Rattle.bd_cli_files.specs.Output.{PrintsOrRunsOut}
 use Rattle.bd_io_device.specs.Devices.{over}
 use Rattle.bd_cli_find.proofs.FindLemmas as finds

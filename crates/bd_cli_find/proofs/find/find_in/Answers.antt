@@ -1,7 +1,7 @@
 use Rattle.std.proofs.Common.{List, None, ap, subst, arith, ℕ}
 use Rattle.bd_bson_dump.specs.Collection.{bytes_of, documents}
 use Rattle.bd_cli_find.proofs.BatchLemmas.{five_each}
-use Rattle.bd_cli_find.specs.{Find.IsOutputOfBytes, Find.output_of_dump, Asking.page_request_of}
+use Rattle.bd_cli_find.specs.{Find.IsOutputOfBytes, Find.output_of_dump, inside.Asking.page_request_of}
 use Rattle.bd_cli_find.proofs.FindLemmas as finds
 use Rattle.bd_cli_find.proofs.find.find_in.Goals as goal
 

@@ -1,6 +1,6 @@
 use Rattle.std.proofs.Common.{map}
 use Rattle.bd_value.proofs.PrefixLemmas.{prefix_all, prefix_more}
-use Rattle.bd_cli_service.specs.Reply.{member_pair}
+use Rattle.bd_cli_service.specs.inside.Reply.{member_pair}
 use Rattle.bd_cli_service.proofs.MemberLemmas.{object_begins}
 use Rattle.bd_cli_service.proofs.member.write_members.Goals as goal
 

@@ -3,7 +3,7 @@ use Rattle.std.specs.Prelude.{codes}
 use Rattle.std.specs.Io.{StartsWith}
 use Rattle.bd_value.specs.Tree.{boolean, doc, fields_of, leaf}
 use Rattle.bd_extjson_text.specs.Text.{text}
-use Rattle.bd_cli_service.specs.Reply.{member_pair}
+use Rattle.bd_cli_service.specs.inside.Reply.{member_pair}
 use Rattle.bd_cli_service.proofs.MemberLemmas.{rest_of_object}
 use Rattle.bd_cli_service.proofs.member.write_members.Given as goal
 

@@ -1,7 +1,7 @@
 use Rattle.std.proofs.Common.{◌≤◌, length, take}
 use Rattle.bd_bson_dump.specs.Collection.{documents}
 use Rattle.bd_path.specs.Sort.{sort_paths}
-use Rattle.bd_cursor_sort.specs.Ranking.{AreRanked}
+use Rattle.bd_cursor_sort.specs.inside.Ranking.{AreRanked}
 use Rattle.bd_cursor_sort.proofs.ranking.first_in_order.Given as goal
 
 abbrev pub invariant-loop-path : goal.invariant-loop-path

@@ -1,5 +1,5 @@
 use Rattle.std.proofs.Common.{◌≡◌, map, take}
-use Rattle.bd_cursor_sort.specs.Ranking.{place_of}
+use Rattle.bd_cursor_sort.specs.inside.Ranking.{place_of}
 use Rattle.bd_cursor_sort.proofs.ranking.first_places_of.Given as goal
 
 abbrev pub invariant-loop-one : goal.invariant-loop-one

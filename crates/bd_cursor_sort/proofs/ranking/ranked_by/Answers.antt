@@ -2,7 +2,7 @@ use Rattle.std.proofs.Common.{◌≡◌, ◌∙◌, ◌++◌, ◌∷◌, [], Non
 use Rattle.std.proofs.lemmas.{List.take_all, Result.IfOk-weaker}
 use Rattle.bd_bson_dump.specs.Collection.{documents}
 use Rattle.bd_path.specs.{Sort.SortPath, PathNames.names_of}
-use Rattle.bd_cursor_sort.specs.Ranking.{AreRanked, keyed, keyed_row, ranks_from}
+use Rattle.bd_cursor_sort.specs.inside.Ranking.{AreRanked, keyed, keyed_row, ranks_from}
 use Rattle.bd_cursor_sort.proofs.RankingLemmas.{ranked_in_hand, rows_long}
 use Rattle.bd_cursor_sort.proofs.ranking.ranked_by.Goals as goal
 

@@ -1,7 +1,7 @@
 use Rattle.std.proofs.Common.{◌≡◌, map, take}
 use Rattle.bd_bson_dump.specs.Collection.{documents}
 use Rattle.bd_path.specs.PathNames.{names_of}
-use Rattle.bd_cursor_sort.specs.Ranking.{keyed, keyed_row}
+use Rattle.bd_cursor_sort.specs.inside.Ranking.{keyed, keyed_row}
 use Rattle.bd_cursor_sort.proofs.ranking.ranked_by.Given as goal
 
 abbrev pub invariant-loop-one : goal.invariant-loop-one

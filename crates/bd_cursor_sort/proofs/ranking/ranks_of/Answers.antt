@@ -1,6 +1,6 @@
 use Rattle.std.proofs.Common.{◌<◌, arith, length}
 use Rattle.std.specs.Option.{option_map}
-use Rattle.bd_cursor_sort.specs.Ranking.{keyed_row}
+use Rattle.bd_cursor_sort.specs.inside.Ranking.{keyed_row}
 use Rattle.bd_cursor_sort.proofs.RankingLemmas.{next_low, rank_more}
 use Rattle.bd_cursor_sort.proofs.ranking.ranks_of.Goals as goal
 

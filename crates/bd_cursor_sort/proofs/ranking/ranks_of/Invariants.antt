@@ -1,6 +1,6 @@
 use Rattle.std.proofs.Common.{◌≡◌, ◌≤◌, ◌++◌, drop, map, None}
 use Rattle.std.specs.Option.{option_map}
-use Rattle.bd_cursor_sort.specs.Ranking.{keyed_row, ranks_from}
+use Rattle.bd_cursor_sort.specs.inside.Ranking.{keyed_row, ranks_from}
 use Rattle.bd_cursor_sort.proofs.ranking.ranks_of.Given as goal
 
 abbrev pub invariant-loop-row : goal.invariant-loop-row

@@ -1,6 +1,6 @@
 use Rattle.std.proofs.{Common.rules, lemmas.Fn.always_returns_same}
 use Rattle.std.specs.Ordering.{is_lt}
-use Rattle.bd_cursor_sort.specs.{Ranking.keyed_row, Ranking.rows_cmp, declared.ranking.Row.Row}
+use Rattle.bd_cursor_sort.specs.{inside.Ranking.keyed_row, inside.Ranking.rows_cmp, declared.ranking.Row.Row}
 use Rattle.bd_cursor_sort.proofs.RankingLemmas.{rows_weak}
 use Rattle.bd_cursor_sort.proofs.ranking.sort_rows.Goals as goal
 

@@ -3,7 +3,7 @@ use Rattle.bd_cursor_model.specs.{Answer.before, Source.passes}
 use Rattle.bd_bson_dump.specs.Collection.{documents}
 use Rattle.bd_path.specs.Sort.{sort_paths}
 use Rattle.bd_query_filter.specs.Filter.{filter_tree}
-use Rattle.bd_cursor_sort.specs.{Sorting.pivot_place, Selection.matches_at_of, Selection.order_of_keys, Sorting.is_before_pivot}
+use Rattle.bd_cursor_sort.specs.{inside.Sorting.pivot_place, Selection.matches_at_of, Selection.order_of_keys, inside.Sorting.is_before_pivot}
 use Rattle.bd_cursor_sort.proofs.SortingLemmas.{IsState, state_limited, state_end, state_omitted, state_none, state_taken}
 use Rattle.bd_cursor_sort.proofs.sorting.first_places.Goals.{then-len-capacity+in_ok-end, else-len-capacity}
 use Rattle.bd_cursor_sort.proofs.sorting.first_places.Goals as goal

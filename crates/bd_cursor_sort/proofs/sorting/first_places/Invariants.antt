@@ -3,7 +3,7 @@ use Rattle.bd_cursor_model.specs.Source.{passes}
 use Rattle.bd_bson_dump.specs.Collection.{documents}
 use Rattle.bd_path.specs.Sort.{sort_paths}
 use Rattle.bd_query_filter.specs.Filter.{filter_tree}
-use Rattle.bd_cursor_sort.specs.{Sorting.pivot_place, Selection.matches_at_of, Selection.order_of_keys}
+use Rattle.bd_cursor_sort.specs.{inside.Sorting.pivot_place, Selection.matches_at_of, Selection.order_of_keys}
 use Rattle.bd_cursor_sort.proofs.SortingLemmas.{IsState}
 use Rattle.bd_cursor_sort.proofs.sorting.first_places.Given as goal
 

@@ -4,7 +4,7 @@ use Rattle.bd_cursor_model.proofs.SourceLemmas.{below_more, omitted_more, taken_
 use Rattle.bd_bson_dump.specs.Collection.{documents}
 use Rattle.bd_path.specs.Sort.{sort_paths}
 use Rattle.bd_query_filter.specs.Filter.{filter_tree}
-use Rattle.bd_cursor_sort.specs.{Sorting.pivot_place, Selection.matches_at_of, Selection.order_of_keys, Selection.selection_of}
+use Rattle.bd_cursor_sort.specs.{inside.Sorting.pivot_place, Selection.matches_at_of, Selection.order_of_keys, Selection.selection_of}
 use Rattle.bd_cursor_sort.proofs.SortingLemmas.{all_taken, few_more, first_taken, wanted_in_order}
 use Rattle.bd_cursor_sort.proofs.sorting.places_in_order.Goals.{else-loop-last-test, then-loop-last-test+in_default}
 use Rattle.bd_cursor_sort.proofs.sorting.places_in_order.Goals as goal

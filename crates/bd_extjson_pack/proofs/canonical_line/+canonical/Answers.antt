@@ -36,7 +36,7 @@ pub append_fields-end_body-requires : goal.append_fields-end_body-requires
 append_fields-end_body-requires t c =
     let size = bodies.body_size c.begin_body.result c.in_ok-start.start _ c.args.out.now.items
     (fields_bytes (fields_of c.loop-next.invariant.0)) c.loop-next.out.items c.in_ok-start.ensures.value
-    c.begin_body.ensures.place c.loop-next.invariant.5 in
+    c.begin_body.ensures.offset c.loop-next.invariant.5 in
     search rules
 
 pub append_fields-returns-clause-gives : goal.append_fields-returns-clause-gives
@@ -45,7 +45,7 @@ append_fields-returns-clause-gives t c =
     let ps = l.invariant.0 in
     let put = bodies.if_ok _ _ _ _ c.in_ok-ok.ensures.value c.end_body.ensures.ok
     ∙ bodies.ended c.begin_body.result c.in_ok-start.start _ c.args.out.now.items (fields_bytes (fields_of ps))
-    l.out.items c.in_ok-start.ensures.value c.begin_body.ensures.place l.invariant.5 in
+    l.out.items c.in_ok-start.ensures.value c.begin_body.ensures.offset l.invariant.5 in
     IfSome_then c.after_word-2.result c.after_word-2.ensures
     (λ rest e. (ps, pieces.ended_at 123 125 c.args.text.now (fields_text (fields_of ps)) l.rest.now rest.now (rw c.in_default.is at l.invariant.2) e, l.invariant.1, put))
 
@@ -67,7 +67,7 @@ append_items-loop-next-preserved t c =
     let rest = c.in_ok-rest-2.rest.now in
     let next = c.after_word-next.result in
     let name : c.format.result.now ≡ decimal (length ts) = c.format.ensures.text ∙ ap decimal l.invariant.6 in
-    let place : c.in_ok-place.place ≡ l.place + 1 = search rules in
+    let index : c.in_ok-index.index ≡ l.index + 1 = search rules in
     let turn = pieces.goes_on 91 whole (items_text (items_of ts)) (text v) c.in-Some.at.now rest next (rw c.in-Some.is at l.invariant.2) g.1 c.after_word-next.ensures in (
       ts ++ v ∷ [],
       pieces.one_more_canonical c.args.depth_left ts v l.invariant.1 g.2,
@@ -75,14 +75,14 @@ append_items-loop-next-preserved t c =
       search rules,
       pieces.within_rest rest next c.after_word-next.ensures,
       rw (g.3, name, l.invariant.5, bodies.one_more_item ts v) (simp append_assoc),
-      omega (arith, place, l.invariant.6, length-append ts (v ∷ [])),
+      omega (arith, index, l.invariant.6, length-append ts (v ∷ [])),
     )
 
 pub append_items-end_body-requires : goal.append_items-end_body-requires
 append_items-end_body-requires t c =
     let size = bodies.body_size c.begin_body.result c.in_ok-start.start _ c.args.out.now.items
     (items_bytes 0 (items_of c.loop-next.invariant.0)) c.loop-next.out.items c.in_ok-start.ensures.value
-    c.begin_body.ensures.place c.loop-next.invariant.5 in
+    c.begin_body.ensures.offset c.loop-next.invariant.5 in
     search rules
 
 pub append_items-returns : goal.append_items-returns
@@ -91,7 +91,7 @@ append_items-returns t c =
     let ts = l.invariant.0 in
     let put = bodies.if_ok _ _ _ _ c.in_ok-ok.ensures.value c.end_body.ensures.ok
     ∙ bodies.ended c.begin_body.result c.in_ok-start.start _ c.args.out.now.items (items_bytes 0 (items_of ts))
-    l.out.items c.in_ok-start.ensures.value c.begin_body.ensures.place l.invariant.5 in
+    l.out.items c.in_ok-start.ensures.value c.begin_body.ensures.offset l.invariant.5 in
     IfSome_then c.after_word-2.result c.after_word-2.ensures
     (λ rest e. (ts, pieces.ended_at 91 93 c.args.text.now (items_text (items_of ts)) l.rest.now rest.now (rw c.in_default.is at l.invariant.2) e, l.invariant.1, put))
 

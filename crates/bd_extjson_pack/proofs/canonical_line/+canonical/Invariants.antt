@@ -6,7 +6,7 @@ use Rattle.bd_value.specs.Tree.{Tree, Doc, fields_of, items_of}
 use Rattle.bd_bson_view.specs.Spelling.{number}
 use Rattle.bd_bson_write.specs.TreeBytes.{fields_bytes, items_bytes}
 use Rattle.bd_extjson_text.specs.Text.{items_text, fields_text}
-use Rattle.bd_extjson_pack.specs.Packable.{AreCanonical, AreCanonicalFields}
+use Rattle.bd_extjson_pack.specs.inside.Packable.{AreCanonical, AreCanonicalFields}
 use Rattle.bd_extjson_pack.proofs.CanonicalLemmas.{IsReadTo}
 use Rattle.bd_extjson_pack.proofs.canonical_line.+canonical.Given as goal
 
@@ -26,7 +26,7 @@ invariant-append_items-loop-next l =
     × IsReadTo 91 l.fn.text (items_text (items_of ts)) l.rest l.next
     × shadow (Utf8 l.rest) × IfSome l.next (λ at. length at.now ≤ length l.rest)
     × (l.out.items ≡ (l.fn.out.items ++ number 0) ++ items_bytes 0 (items_of ts))
-    × (l.place ≡ length ts)
+    × (l.index ≡ length ts)
 
 abbrev pub decreases-append_items-loop-next : goal.decreases-append_items-loop-next
 decreases-append_items-loop-next l = length l.rest

@@ -55,7 +55,7 @@ pub append_fields-end_body-requires : goal.append_fields-end_body-requires
 append_fields-end_body-requires t c =
     let size = bodies.body_size c.begin_body.result c.in_ok-at.at _ c.args.out.now.items
     (fields_bytes (fields_of c.loop-next.invariant.1)) c.loop-next.out.items c.in_ok-at.ensures.value
-    c.begin_body.ensures.place c.loop-next.invariant.5 in
+    c.begin_body.ensures.offset c.loop-next.invariant.5 in
     search rules
 
 pub append_fields-returns-clause-gives : goal.append_fields-returns-clause-gives
@@ -69,7 +69,7 @@ append_fields-returns-clause-gives t c =
       fields_of ps,
       read,
       e ∙ bodies.ended c.begin_body.result c.in_ok-at.at _ c.args.out.now.items (fields_bytes (fields_of ps))
-          l.out.items c.in_ok-at.ensures.value c.begin_body.ensures.place l.invariant.5,
+          l.out.items c.in_ok-at.ensures.value c.begin_body.ensures.offset l.invariant.5,
     ))
 
 -- ---- append_items
@@ -91,21 +91,21 @@ append_items-loop-alloc-preserved t c =
     let less : length r < length l.reader = rw (← going.1) c.in_ok-append_next.ensures.shorter in
     let turn = steps.items_go_on c.args.depth_left c.args.depth n l.reader r v (omega (arith, l.invariant.2, less)) going.0 (rw (← going.1) g.1) in
     let name : c.format.result.now ≡ decimal (length ts) = c.format.ensures.text ∙ ap decimal l.invariant.6 in
-    let place : c.in_ok-place.place ≡ l.place + 1 = search rules in (
+    let index : c.in_ok-index.index ≡ l.index + 1 = search rules in (
       n - 1,
       ts ++ v ∷ [],
       omega (arith, l.invariant.2, less),
       l.invariant.3 ∙ ap (parse_map (items_before ts)) turn ∙ steps.one_more_item ts v _,
       omega (arith, l.invariant.4, less),
       rw (g.2, name, l.invariant.5, bodies.one_more_item ts v) (simp append_assoc),
-      omega (arith, place, l.invariant.6, length-append ts (v ∷ [])),
+      omega (arith, index, l.invariant.6, length-append ts (v ∷ [])),
     )
 
 pub append_items-end_body-requires : goal.append_items-end_body-requires
 append_items-end_body-requires t c =
     let size = bodies.body_size c.begin_body.result c.in_ok-at.at _ c.args.out.now.items
     (items_bytes 0 (items_of c.loop-alloc.invariant.1)) c.loop-alloc.out.items c.in_ok-at.ensures.value
-    c.begin_body.ensures.place c.loop-alloc.invariant.5 in
+    c.begin_body.ensures.offset c.loop-alloc.invariant.5 in
     search rules
 
 pub append_items-returns-clause-gives : goal.append_items-returns-clause-gives
@@ -120,7 +120,7 @@ append_items-returns-clause-gives t c =
       items_of ts,
       read,
       e ∙ bodies.ended c.begin_body.result c.in_ok-at.at _ c.args.out.now.items (items_bytes 0 (items_of ts))
-          l.out.items c.in_ok-at.ensures.value c.begin_body.ensures.place l.invariant.5,
+          l.out.items c.in_ok-at.ensures.value c.begin_body.ensures.offset l.invariant.5,
     ))
 
 -- ---- append_next

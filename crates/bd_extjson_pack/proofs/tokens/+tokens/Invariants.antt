@@ -37,7 +37,7 @@ invariant-append_items-loop-alloc l =
     ≡ parse_map (items_before ts) (through (wrap_items l.depth_left) (items (value l.depth) n l.reader)))
     × (length l.reader ≤ length l.initial.reader)
     × (l.out.items ≡ (l.fn.out.items ++ number 0) ++ items_bytes 0 (items_of ts))
-    × (l.place ≡ length ts)
+    × (l.index ≡ length ts)
 
 abbrev pub decreases-append_items-loop-alloc : goal.decreases-append_items-loop-alloc
 decreases-append_items-loop-alloc l = length l.reader

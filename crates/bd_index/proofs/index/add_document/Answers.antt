@@ -4,7 +4,7 @@ use Rattle.std.proofs.{lemmas.Fn.always_returns_same, lemmas.Fn.dedup_same, lemm
 use Rattle.std.proofs.lemmas.List.Sorted.{All-permutation, ranks_by}
 use Rattle.bd_bson_dump.specs.Collection.{bytes_of}
 use Rattle.bd_path.specs.Key.{key_trees, distinct}
-use Rattle.bd_index.specs.{Entries.keys_at, IndexView.IsFoundIn, IndexView.found_entry, IndexView.raw_tree, declared.entry.FoundKey.FoundKey}
+use Rattle.bd_index.specs.{Entries.keys_at, inside.IndexView.IsFoundIn, inside.IndexView.found_entry, inside.IndexView.raw_tree, declared.entry.FoundKey.FoundKey}
 use Rattle.bd_index.proofs.{EntryLemmas.counted_document_keys, EntryLemmas.ascends, EntryLemmas.entry_total, RepeatLemmas.found_lt, RepeatLemmas.document_keys_once, RepeatLemmas.repeats}
 use Rattle.bd_index.proofs.index.add_document.Goals as goal
 

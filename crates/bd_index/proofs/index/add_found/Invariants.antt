@@ -1,7 +1,7 @@
 use Rattle.std.proofs.Common.{◌≡◌, ◌++◌, All, take, map}
 use Rattle.bd_bson_dump.specs.Collection.{bytes_of}
 use Rattle.bd_path.specs.Key.{key_trees}
-use Rattle.bd_index.specs.{Entries.keys_at, IndexView.IsFoundIn, IndexView.found_entry, IndexView.raw_tree}
+use Rattle.bd_index.specs.{Entries.keys_at, inside.IndexView.IsFoundIn, inside.IndexView.found_entry, inside.IndexView.raw_tree}
 use Rattle.bd_index.proofs.index.add_found.Given as goal
 
 abbrev pub invariant-loop-key : goal.invariant-loop-key

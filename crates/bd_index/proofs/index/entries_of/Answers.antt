@@ -3,7 +3,7 @@ use Rattle.std.specs.{List.All, Ordering.is_lt}
 use Rattle.std.proofs.lemmas.Fn.{always_returns_same}
 use Rattle.std.proofs.lemmas.List.Sorted.{All-permutation, IsPermutation-map, ranks_by, sum_by-IsPermutation}
 use Rattle.bd_bson_dump.specs.Collection.{bytes_of}
-use Rattle.bd_index.specs.{Entries.entry_cmp, IndexView.IsFoundIn, IndexView.found_entry, IndexView.KeepsEntries, declared.entry.FoundKey.FoundKey}
+use Rattle.bd_index.specs.{Entries.entry_cmp, inside.IndexView.IsFoundIn, inside.IndexView.found_entry, IndexView.KeepsEntries, declared.entry.FoundKey.FoundKey}
 use Rattle.bd_index.proofs.{EntryLemmas.entry_total, EntryLemmas.sorted_map, RepeatLemmas.found_lt}
 use Rattle.bd_index.proofs.index.entries_of.Goals as goal
 

@@ -4,7 +4,7 @@ use Rattle.bd_value.specs.Tree.{pairs_in}
 use Rattle.bd_bson_view.specs.Sound.{meaning}
 use Rattle.bd_bson_dump.specs.Collection.{documents}
 use Rattle.bd_path.specs.{Key.key_trees, Key.distinct, PathNames.names_of}
-use Rattle.bd_index.specs.{Entries.entries_from, Entries.entries_of, Entries.keys_at, IndexView.found_entry, IndexView.raw_tree}
+use Rattle.bd_index.specs.{Entries.entries_from, Entries.entries_of, Entries.keys_at, inside.IndexView.found_entry, inside.IndexView.raw_tree}
 use Rattle.bd_index.proofs.EntryLemmas.{counted_more, one_more}
 use Rattle.bd_index.proofs.index.find_all.Goals as goal
 

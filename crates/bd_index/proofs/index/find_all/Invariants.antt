@@ -2,7 +2,7 @@ use Rattle.std.proofs.Common.{◌≡◌, ◌++◌, Bool, drop, map}
 use Rattle.std.specs.List.{All, count_by}
 use Rattle.bd_bson_dump.specs.Collection.{documents, bytes_of}
 use Rattle.bd_path.specs.PathNames.{names_of}
-use Rattle.bd_index.specs.{Entries.KeyAt, Entries.entries_from, Entries.entries_of, IndexView.IsFoundIn, IndexView.found_entry}
+use Rattle.bd_index.specs.{Entries.KeyAt, Entries.entries_from, Entries.entries_of, inside.IndexView.IsFoundIn, inside.IndexView.found_entry}
 use Rattle.bd_index.proofs.index.find_all.Given as goal
 
 abbrev pub invariant-loop-place : goal.invariant-loop-place

@@ -1,7 +1,7 @@
 use Rattle.std.proofs.Common.{sym, ap, ◌∙◌}
 use Rattle.bd_value.specs.Tree.{leaf, null, undefined}
 use Rattle.bd_path.specs.Key.{key_tree}
-use Rattle.bd_index.specs.IndexView.{raw_tree}
+use Rattle.bd_index.specs.inside.IndexView.{raw_tree}
 use Rattle.bd_index.proofs.index.in_dump.Goals as goal
 
 pub value_at-requires : goal.value_at-requires

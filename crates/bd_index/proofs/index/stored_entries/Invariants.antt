@@ -1,5 +1,6 @@
 use Rattle.std.proofs.Common.{All, ℕ, List, map, take}
-use Rattle.bd_index.specs.IndexView.{KeepsEntries, IsFoundIn, found_entry}
+use Rattle.bd_index.specs.IndexView.{KeepsEntries}
+use Rattle.bd_index.specs.inside.IndexView.{IsFoundIn, found_entry}
 use Rattle.bd_index.proofs.index.stored_entries.Given as goal
 
 abbrev pub invariant-loop-one : goal.invariant-loop-one

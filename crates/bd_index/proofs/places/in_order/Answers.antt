@@ -2,7 +2,7 @@ use Rattle.std.proofs.Common.{◌≡◌, ◌≤◌, All, get_or, refl, rules, ap
 use Rattle.std.specs.List.Sorted.{IsNonDecreasingBy}
 use Rattle.std.proofs.lemmas.List.{drop_all, get_or_default}
 use Rattle.std.proofs.lemmas.List.Sorted.{All-permutation, IsNonDecreasingBy-from_sort_by_key, list_any-IsPermutation}
-use Rattle.bd_index.specs.{Places.is_in_span, declared.places.Span.Span}
+use Rattle.bd_index.specs.{inside.Places.is_in_span, declared.places.Span.Span}
 use Rattle.bd_index.proofs.PlacesLemmas.{order_to, orders_one, orders_passed}
 use Rattle.bd_index.proofs.places.in_order.Goals.{then-from-span+in_ok-push, else-from-span}
 use Rattle.bd_index.proofs.places.in_order.Goals as goal

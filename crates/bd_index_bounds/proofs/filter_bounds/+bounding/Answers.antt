@@ -6,7 +6,8 @@ use Rattle.bd_query_filter.specs.Filter.{at_path, filters_from, operators_from, 
 use Rattle.bd_query_filter.specs.{declared.filter.Filter.TheVariants.Field, declared.filter.Operator.Operator}
 use Rattle.bd_query_filter.specs.declared.filter.Filter.TheFolds as folds
 use Rattle.bd_index_bounds.specs.Bounds.{all_bounds, bounds, bounds_at, conjunction, disjunction, operator_bounds, rest_after, some_bounds}
-use Rattle.bd_index_bounds.specs.BoundsView.{parts_bounds, bounds_view}
+use Rattle.bd_index_bounds.specs.BoundsView.{bounds_view}
+use Rattle.bd_index_bounds.specs.inside.BoundsView.{parts_bounds}
 use Rattle.bd_index_bounds.proofs.FilterBoundsLemmas.{keys_within-Or, no_part_remaining, no_rest, one_narrower, one_wider, some_parts}
 use Rattle.bd_index_bounds.proofs.filter_bounds.+bounding.Goals as goal
 

@@ -2,7 +2,7 @@ use Rattle.std.proofs.Common.{◌≡◌, drop, map, Some}
 use Rattle.bd_path.specs.Path.{component_names}
 use Rattle.bd_query_filter.specs.Filter.{filters_from, operators_from, filter_tree, operator_tree}
 use Rattle.bd_index_bounds.specs.Bounds.{all_bounds, conjunction, disjunction, operator_bounds, some_bounds}
-use Rattle.bd_index_bounds.specs.BoundsView.{parts_bounds}
+use Rattle.bd_index_bounds.specs.inside.BoundsView.{parts_bounds}
 use Rattle.bd_index_bounds.proofs.FilterBoundsLemmas.{some_parts}
 use Rattle.bd_index_bounds.proofs.filter_bounds.+bounding.Given as goal
 

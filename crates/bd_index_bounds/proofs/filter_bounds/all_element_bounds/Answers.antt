@@ -1,6 +1,6 @@
 use Rattle.std.proofs.Common.{false, refl, ap, ◌∙◌}
 use Rattle.bd_query_filter.specs.Filter.{operators_from, operator_tree}
-use Rattle.bd_index_bounds.specs.{Bounds.all_element_bounds, Bounds.conjunction, Bounds.element_bounds, BoundsView.parts_bounds}
+use Rattle.bd_index_bounds.specs.{Bounds.all_element_bounds, Bounds.conjunction, Bounds.element_bounds, inside.BoundsView.parts_bounds}
 use Rattle.bd_index_bounds.proofs.FilterBoundsLemmas.{one_narrower}
 use Rattle.bd_index_bounds.proofs.filter_bounds.all_element_bounds.Goals as goal
 

@@ -1,6 +1,6 @@
 use Rattle.std.proofs.Common.{◌≡◌, false, drop, map}
 use Rattle.bd_query_filter.specs.Filter.{operators_from, operator_tree}
-use Rattle.bd_index_bounds.specs.{Bounds.all_element_bounds, Bounds.conjunction, BoundsView.parts_bounds}
+use Rattle.bd_index_bounds.specs.{Bounds.all_element_bounds, Bounds.conjunction, inside.BoundsView.parts_bounds}
 use Rattle.bd_index_bounds.proofs.filter_bounds.all_element_bounds.Given as goal
 
 -- the bounds so far, and those of the remaining operators

@@ -1,7 +1,7 @@
 use Rattle.std.proofs.Common.{◌≡◌, ◌-◌, ◌+◌, ◌<◌, length, take, drop, Some, refl, sym, subst, arith, rules}
 use Rattle.bd_wide.specs.declared.element.Part.TheVariants as parts
 use Rattle.bd_wide.specs.Rewritten.{holder_least, part_of}
-use Rattle.bd_wide.specs.Masking.{MasksNested}
+use Rattle.bd_wide.specs.inside.Masking.{MasksNested}
 use Rattle.bd_wide.proofs.RewriteLemmas.{holder_takes_least}
 use Rattle.bd_wide.proofs.MaskingLemmas as masks
 use Rattle.bd_wide.proofs.masking.+masking.Goals as goal

@@ -2,7 +2,7 @@ use Rattle.std.proofs.Common.{inl, inr, refl, ap, arith}
 use Rattle.bd_value.specs.declared.node.Kind.TheVariants as kinds
 use Rattle.bd_bson_view.specs.declared.raw_parts.ElementType.TheVariants.{Kept, Double}
 use Rattle.bd_bson_view.specs.Spelling.{type_at}
-use Rattle.bd_wide.specs.Masking.{plain_size}
+use Rattle.bd_wide.specs.inside.Masking.{plain_size}
 use Rattle.bd_wide.proofs.masking.plain_size.Goals as goal
 
 pub returns-in-1 : goal.returns-in-1

@@ -1,7 +1,8 @@
 use Rattle.std.proofs.Common.{◌≡◌, cond, List, ℕ, ◌+◌, length, ap, sym, subst, arith, rules}
 use Rattle.std.proofs.lemmas.Result.{err_from_is_err_and}
 use Rattle.std.specs.Io.KnownBytes.{Consumes}
-use Rattle.bd_wide_cli.specs.Filtered.{IsFrame, IsNext}
+use Rattle.bd_wide_cli.specs.Filtered.{IsFrame}
+use Rattle.bd_wide_cli.specs.inside.Filtered.{IsNext}
 use Rattle.bd_wide_cli.specs.declared.frame.Next.{Next}
 use Rattle.bd_wide_cli.specs.declared.running.Stop.TheVariants as stops
 use Rattle.bd_wide_cli.proofs.RunLemmas as runs

@@ -1,5 +1,5 @@
 use Rattle.std.proofs.Common.{sym, ◌∙◌, subst, inl, inr}
-use Rattle.bd_wide_cli.specs.Filtered.{IsNext}
+use Rattle.bd_wide_cli.specs.inside.Filtered.{IsNext}
 use Rattle.bd_wide_cli.specs.declared.frame.Next.{Next}
 use Rattle.bd_wide_cli.proofs.OutputLemmas.{write_failed_of, took_of}
 use Rattle.bd_wide_cli.proofs.RunLemmas as runs

@@ -1,6 +1,6 @@
 use Rattle.std.proofs.Common.{◌≡◌, ◌-◌, length}
 use Rattle.bd_bson_dump.specs.Collection.{documents}
-use Rattle.bd_cursor.specs.SessionView.{scan_remaining_in}
+use Rattle.bd_cursor.specs.inside.SessionView.{scan_remaining_in}
 use Rattle.bd_cursor.proofs.cursor.ScanPosition.look.Given as goal
 
 abbrev pub invariant-loop-place : goal.invariant-loop-place

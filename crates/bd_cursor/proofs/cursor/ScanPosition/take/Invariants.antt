@@ -1,5 +1,5 @@
 use Rattle.std.proofs.Common.{◌≡◌, ◌-◌, ◌≤◌, ◌++◌, length}
-use Rattle.bd_cursor.specs.SessionView.{scan_remaining_in}
+use Rattle.bd_cursor.specs.inside.SessionView.{scan_remaining_in}
 use Rattle.bd_cursor.proofs.cursor.ScanPosition.take.Given as goal
 
 abbrev pub invariant-loop-self : goal.invariant-loop-self

@@ -1,6 +1,6 @@
 use Rattle.std.proofs.Common.{◌≡◌, drop}
 use Rattle.bd_bson_dump.specs.{Collection.documents, Collection.document_at}
-use Rattle.bd_cursor_sort.specs.Sorting.{pivot_cmp, pivots_in}
+use Rattle.bd_cursor_sort.specs.inside.Sorting.{pivot_cmp, pivots_in}
 use Rattle.bd_cursor_sort.proofs.pivot.Pivot.compare_keys.Given as goal
 
 -- the remaining keys decide

@@ -1,7 +1,7 @@
 use Rattle.std.proofs.Common.{◌≡◌, take}
 use Rattle.bd_bson_dump.specs.Collection.{documents}
 use Rattle.bd_path.specs.Sort.{sort_paths}
-use Rattle.bd_cursor_sort.specs.Sorting.{pivot_keys, pivots_in}
+use Rattle.bd_cursor_sort.specs.inside.Sorting.{pivot_keys, pivots_in}
 use Rattle.bd_cursor_sort.proofs.pivot.Pivot.new.Given as goal
 
 abbrev pub invariant-loop-path : goal.invariant-loop-path

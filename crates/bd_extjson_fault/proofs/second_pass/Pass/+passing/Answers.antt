@@ -2,7 +2,7 @@ use Rattle.std.proofs.Common.{◌≡◌, ◌<◌, ◌∙◌, sym, refl, ap, ap�
 use Rattle.std.proofs.lemmas.Result.{err_from_is_err_and}
 use Rattle.bd_extjson_fault.specs.JsonSyntax.{opens_object, opens_array, ◌>>=◌, beyond_member, beyond_parts, beyond_value, beyond_array, beyond_object}
 use Rattle.std.specs.Option.{option_or}
-use Rattle.bd_extjson_fault.specs.SecondPass.{found, found_in_scope}
+use Rattle.bd_extjson_fault.specs.inside.SecondPass.{found, found_in_scope}
 use Rattle.bd_extjson_fault.specs.TreeFault.{array_fault, code_fault, document_fault, part_of, first_in, member_fault, parts_from, value_fault}
 use Rattle.bd_extjson_fault.proofs.PassingLemmas.{begun_at, part_on, part_stopped, part_halted, next_stopped, member_halted, member_passed, more_passes, group_closed, scalar_value, passes_object, passes_array, reports_deep}
 use Rattle.bd_extjson_fault.proofs.FindingLemmas.{array_begun, document_begun, document_closed, finds_part, finds_ended, scalar_found, finds_object, finds_array, member_found, more_finds, members_none, first_halted, first_ended, one_passed, one_listed, second_halted, second_ended, two_passed, two_listed, more_halted, more_passed, more_bad}

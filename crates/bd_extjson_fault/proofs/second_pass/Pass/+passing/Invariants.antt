@@ -1,6 +1,6 @@
 use Rattle.std.proofs.Common.{◌+◌, ◌*◌, ◌≤◌, ◌<◌, ◌==◌, ℕ, length}
 use Rattle.bd_extjson_fault.specs.JsonSyntax.{beyond_array, beyond_member, beyond_parts, beyond_value}
-use Rattle.bd_extjson_fault.specs.SecondPass.{found}
+use Rattle.bd_extjson_fault.specs.inside.SecondPass.{found}
 use Rattle.bd_extjson_fault.specs.TreeFault.{array_fault, first_in, member_fault, parts_from, value_fault}
 use Rattle.bd_extjson_fault.proofs.FindingLemmas.{FindsOn}
 use Rattle.bd_extjson_fault.proofs.PassingLemmas.{PartsGoOn}

@@ -2,7 +2,8 @@ use Rattle.std.proofs.Common.{List, ℕ, length, sym, ap, ◌∙◌, eqb, arith}
 use Rattle.std.specs.Prelude.{◌==◌}
 use Rattle.std.specs.List.{list_any}
 use Rattle.std.proofs.{lemmas.List.Filters.dedup_is, lemmas.List.Sorted.list_any-IsPermutation, lemmas.Map.Keys.IsStrictlyIncreasing-dedup}
-use Rattle.bd_index.specs.Places.{CoverKeys, lent_bounds}
+use Rattle.bd_index.specs.Places.{lent_bounds}
+use Rattle.bd_index.specs.inside.Places.{CoverKeys}
 use Rattle.bd_index_bounds.specs.Bounds.{is_among}
 use Rattle.bd_index.proofs.{EntryLemmas.count_stored, PlacesLemmas.among_once, PlacesLemmas.counted_within, PlacesLemmas.members_within}
 use Rattle.bd_index.proofs.index.Index.places.Goals as goal

@@ -1,5 +1,5 @@
 use Rattle.std.proofs.Common.{◌≡◌, ◌++◌, map, drop}
-use Rattle.bd_index.specs.Places.{pieces}
+use Rattle.bd_index.specs.inside.Places.{pieces}
 use Rattle.bd_index.proofs.index.Index.places_in.Given as goal
 
 abbrev pub invariant-loop-span : goal.invariant-loop-span

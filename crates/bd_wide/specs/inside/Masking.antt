@@ -10,8 +10,6 @@ use Rattle.bd_bson_view.specs.declared.raw_parts.Holder.TheVariants as holders
 use Rattle.bd_wide.specs.Mask.{IsMasked, masked_others}
 use Rattle.bd_wide.specs.Rewritten.{first_element, AreElements, IsBody, IsElement, IsNested, IsScoped}
 
--- paths are ignored, so each definition is for all paths
-
 -- a document or array is written masked, whatever its path
 abbrev pub MasksNested : ℕ → Holder → List ℕ → List ℕ → Type 0
 MasksNested depth_left holder old new = (path : List ℕ) → IsNested IsMasked masked_others depth_left holder path old new

@@ -1,0 +1,3 @@
+pub mod DumpAndCheck
+pub mod Output
+pub mod Pack

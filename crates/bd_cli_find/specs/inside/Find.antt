@@ -1,0 +1,39 @@
+-- What `find` prints for its options and an input, and what a run of it did.
+use Rattle.std.specs.Prelude.{◌≡◌, ◌≤◌, ◌<◌, ℕ, true, List, [], length, Option, Some, None, Result}
+use Rattle.std.specs.Prelude.{Ok, Err}
+use Rattle.std.specs.{List.All}
+use Rattle.bd_value.specs.{Limits.greatest_count}
+use Rattle.bd_cursor_model.specs.Session.{IndexKey, OpenCursor, Query, State, cursor_of, has_index}
+use Rattle.bd_cursor.specs.{Access.Way, Access.by_none, Access.by_one}
+use Rattle.bd_cursor_request.specs.{declared.results.Refused.Refused, declared.token.Token.Token}
+use Rattle.bd_cursor_request.specs.Refused.{IsRefusedPart}
+use Rattle.bd_cli_find.specs.Find.{places_from, cursor_for}
+
+-- the state of a session in which no cursor was opened
+abbrev pub before_first : List IndexKey → State
+before_first indexes = record { indexes = indexes; next_id = 1; cursors = [] }
+
+-- by the named index; without one by a scan
+abbrev pub index_way : Option (List ℕ) → Way
+index_way None = by_none
+index_way (Some path) = by_one path
+
+-- No cursor was opened yet, and the named index exists.
+pub record AwaitsFirst (s : State) (hint : Option (List ℕ)) : Type 0 where
+  pub index_keys : List IndexKey
+  pub is_unopened : s ≡ before_first index_keys
+  pub is_there : has_index index_keys hint ≡ true
+
+-- A cursor was opened whose remaining documents are those requested; or it is refused, or memory ran out.
+abbrev pub IsOpenedOn : Query → Option Token → State → Result ℕ Refused → Type 0
+IsOpenedOn q token s (Ok id) =
+    (ps : List ℕ) × (places_from q token ≡ Ok ps) × (cursor_of id s.cursors ≡ Some (cursor_for id q token ps))
+IsOpenedOn q token s (Err refused) = IsRefusedPart (places_from q token) refused
+
+-- The cursor is open, and its remaining numbers are those of documents of the dump,
+-- no more than one batch may have.
+pub record IsReady (s : State) (id : ℕ) (count : ℕ) : Type 0 where
+  pub cursor : OpenCursor
+  pub is_there : cursor_of id s.cursors ≡ Some cursor
+  pub inside : All (λ p. p < count) cursor.remaining
+  pub few : length cursor.remaining ≤ greatest_count

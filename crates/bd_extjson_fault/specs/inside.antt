@@ -1,0 +1,2 @@
+pub mod JsonSyntax
+pub mod SecondPass

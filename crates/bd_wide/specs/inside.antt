@@ -1,0 +1,4 @@
+pub mod Changes
+pub mod Masking
+pub mod Refused
+pub mod Wrap

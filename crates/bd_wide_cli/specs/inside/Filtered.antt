@@ -1,0 +1,59 @@
+-- What a filter writes for a dump.
+use Rattle.std.specs.Prelude.{◌≡◌, ◌<◌, ◌⊎◌, ℕ, ◌+◌, Bool, List, [], ◌++◌, length, Option}
+use Rattle.std.specs.Io.KnownBytes.{Consumes, IsAtEnd}
+use Rattle.bd_bson_view.specs.Sizes.{number_of}
+use Rattle.bd_io_device.specs.Devices.{WriteFailsWithin, Over, Reader, TakesText, Writer}
+use Rattle.bd_wide.specs.declared.order.Unordered.{Unordered}
+use Rattle.bd_wide_cli.specs.declared.filter.Filter.{Filter}
+use Rattle.bd_wide_cli.specs.declared.frame.Next.{Next}
+use Rattle.bd_wide_cli.specs.declared.frame.Next.TheVariants as nexts
+use Rattle.bd_wide_cli.specs.declared.running.Stop.{Stop}
+use Rattle.bd_wide_cli.specs.declared.running.Stop.TheVariants as stops
+use Rattle.bd_wide_cli.specs.Filtered.{IsFiltered, IsRefused, IsFrame, IsBadLength, BeginsWithNone, refusal_text, IsWritten}
+
+-- The run stopped at the document that is refused, with its message, or memory ran out.
+abbrev pub ReportsRefusal : ℕ → ℕ → List ℕ → Unordered → Stop → Type 0
+ReportsRefusal n start path why (stops.Refused text) = text.items ≡ refusal_text n start path why
+ReportsRefusal n start path why stops.NoMemory = Unit {0}
+ReportsRefusal n start path why _ = ⊥
+
+-- The content of the buffer: a document, four bytes that are a bad length,
+-- or the fewer bytes that remained in the device.
+abbrev pub IsNext : Next → List ℕ → Option (List ℕ) → Type 0
+IsNext nexts.Document bytes remaining = IsFrame bytes
+IsNext nexts.BadLength bytes remaining = (length bytes ≡ 4) × IsBadLength bytes
+IsNext nexts.Last bytes remaining = IsAtEnd remaining × ((length bytes < 4) ⊎ (length bytes < number_of bytes))
+
+-- ---- its parts
+
+-- The document with number n was written, filtered or unchanged.
+abbrev pub WritesDocument : Filter → ℕ → List ℕ → Over Writer → Bool → Type 0
+WritesDocument filter n bytes out filtered = (new : List ℕ) × IsFiltered filter n bytes filtered new × TakesText out new
+
+-- The document with number n was not written completely: memory ran out, it is refused, or a write failed.
+abbrev pub StopsDocument : Filter → ℕ → ℕ → List ℕ → Over Writer → Stop → Type 0
+StopsDocument filter n start bytes out stops.NoMemory = TakesText out []
+StopsDocument filter n start bytes out (stops.Refused text) = TakesText out []
+    × ((path : List ℕ) × (why : Unordered) × IsRefused filter n bytes path why × (text.items ≡ refusal_text n start path why))
+StopsDocument filter n start bytes out stops.Unwritten =
+    (new : List ℕ) × (filtered : Bool) × IsFiltered filter n bytes filtered new × WriteFailsWithin out new
+StopsDocument filter n start bytes out (stops.Unread fault) = ⊥
+
+-- All remaining bytes of the input were written.
+abbrev pub CopiesRest : Over Reader → Over Writer → Type 0
+CopiesRest file out = (bytes : List ℕ) × Consumes file.before.remaining file.after.remaining bytes
+    × IsAtEnd file.after.remaining × TakesText out bytes
+
+-- Copying the rest of the input stopped for this reason: standard output has a prefix of what was read.
+abbrev pub StopsCopying : Over Reader → Over Writer → Stop → Type 0
+StopsCopying file out stop = (bytes : List ℕ) × Consumes file.before.remaining file.after.remaining bytes × IsWritten stop out bytes
+
+-- Bytes that begin with no document were written, and all remaining bytes of the input.
+abbrev pub PassesOn : List ℕ → Over Reader → Over Writer → Type 0
+PassesOn bytes file out = (rest : List ℕ) × BeginsWithNone (bytes ++ rest) × Consumes file.before.remaining file.after.remaining rest
+    × IsAtEnd file.after.remaining × TakesText out (bytes ++ rest)
+
+-- Copying bytes that begin with no document, and the rest of the input, stopped for this reason.
+abbrev pub StopsPassing : List ℕ → Over Reader → Over Writer → Stop → Type 0
+StopsPassing bytes file out stop = (rest : List ℕ) × BeginsWithNone (bytes ++ rest)
+    × Consumes file.before.remaining file.after.remaining rest × IsWritten stop out (bytes ++ rest)
