@@ -72,6 +72,7 @@ bind_agrees : (r : Beyond) (o : Option (List ℕ)) (f : List ℕ → Beyond) (g 
 bind_agrees (Ok x) o f g e h = rw (← e) (h x)
 bind_agrees (Err s) o f g e h = rw (← e) refl
 
+-- a number is passed exactly where the grammar of JSON passes one, and leaves the same
 pub number_agrees : (t : List ℕ) → result_ok (beyond_number t) ≡ after_number t
 unfolding beyond_number after_number
 number_agrees t =

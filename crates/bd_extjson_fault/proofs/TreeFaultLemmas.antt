@@ -131,6 +131,7 @@ by_tests true false kind h = (λ e. absurd cc, λ e. absurd cc)
 by_tests false true kind h = (λ e. refl, λ e. refl)
 by_tests false false kind h = (λ e. absurd cc, λ e. absurd cc)
 
+-- an object of one name has no fault exactly where its wrapper stands for a value
 pub value_or_fault : (w : Wrapper) (name : List ℕ) (part : Json)
     → (members_fault w (kit.member name part kit.no_members) ≡ None) ↔ (is_some (single w part) ≡ true)
 value_or_fault w name part = by_tests (is_outside_profile w part) (is_some (single w part)) (refusal w part) (outside_is_no_value w part)
