@@ -1,11 +1,13 @@
 -- What the lexer of the kit makes of a byte, of white space, and of a text that is split.
-use Rattle.std.proofs.Common.{◌≡◌, ◌<◌, ◌==◌, ◌||◌, ◌&&◌, ◌+◌, refl, sym, ap, ◌∙◌, subst, not, ℕ, Bool, true, false, List, [], ◌∷◌, ◌++◌, length, take, drop, get_or, arith}
+use Rattle.std.proofs.Common.{◌≡◌, ◌<◌, ◌==◌, ◌||◌, ◌&&◌, ◌+◌, refl, sym, ap, ◌∙◌, subst, not, ℕ, Bool, true, false, List, [], ◌∷◌, ◌++◌, length, get_or}
+use Rattle.std.proofs.Common.{arith}
 use Rattle.std.proofs.Common.{append_assoc, append-nil, length-append}
 use Rattle.std.specs.Str.{IsCharBoundary}
 use Rattle.std.specs.Prelude.{IsUtf8, if◌then◌else◌}
+use Rattle.std.proofs.Math.Seq.{take-append_seam, drop-append_seam}
 use Rattle.std.proofs.lemmas.Bool.{eqb-true, false≢true, true≢false}
 use Rattle.std.proofs.lemmas.Bool.Decides.{nat_tests}
-use Rattle.std.proofs.lemmas.Str.{IsUtf8-append, IsUtf8-nil, IsUtf8-take, IsUtf8-drop, IsCharBoundary-after_ascii, IsCharBoundary-before_ascii}
+use Rattle.std.proofs.lemmas.Str.{IsUtf8-append, IsUtf8-nil, IsUtf8-take, IsUtf8-drop, IsCharBoundary-after_ascii, IsCharBoundary-before_ascii, IsCharBoundary-end}
 use Rattle.json.specs.Word.{is_operator, is_space, ends_word}
 use Rattle.json.specs.Token.{Token}
 use Rattle.json.specs.Lex.{space, other, class, between, lex, Place, punctuate, begins_colon}
@@ -28,10 +30,7 @@ unless P n x here there = go (x == n) refl
 -- a byte of a word
 pub record Other (x : ℕ) : Type 0 where
   pub kind : class x ≡ other
-  pub closes_array : (x == 93) ≡ false
-  pub closes_object : (x == 125) ≡ false
-  pub is_comma : (x == 44) ≡ false
-  pub is_colon : (x == 58) ≡ false
+  pub no_colon : (x == 58) ≡ false
 
 -- P holds of a byte if it holds of each byte that has a meaning outside strings, of white space, and of the bytes of words
 pub cases_byte : (P : ℕ → Type 0) (x : ℕ) → P 34 → P 92 → P 123 → P 125 → P 91 → P 93 → P 58 → P 44 → (is_white x ≡ true → P x) → (Other x → P x) → P x
@@ -44,14 +43,11 @@ cases_byte P x q b o c ob cb col comma is_sp is_ot =
     go e1 e2 e3 e4 e5 e6 e7 e8 true e = is_sp e
     go e1 e2 e3 e4 e5 e6 e7 e8 false e = is_ot (record {
       kind = rw (e1, e2, e3, e4, e5, e6, e7, e8, e) refl;
-      closes_array = e6;
-      closes_object = e4;
-      is_comma = e8;
-      is_colon = e7;
+      no_colon = e7;
     })
 
 -- white space of the second pass is white space of the lexer
-pub white_space : (x : ℕ) → is_white x ≡ true → class x ≡ space
+white_space : (x : ℕ) → is_white x ≡ true → class x ≡ space
 white_space x =
     let P : ℕ → Type 0 = λ y. is_white y ≡ true → class y ≡ space in
     unless P 32 x (λ e. refl) (λ e1. unless P 9 x (λ e. refl) (λ e2. unless P 10 x (λ e. refl) (λ e3. unless P 13 x (λ e. refl) (λ e4 e. absurd (false≢true (rw (e1, e2, e3, e4) at e))))))
@@ -70,51 +66,40 @@ split_then a b c f g p q = (
 )
 
 -- a text is split at its start
-pub split_none : (a : List ℕ) → Split a [] a
+split_none : (a : List ℕ) → Split a [] a
 split_none a = (refl, λ u. (IsUtf8-nil, u))
 
--- the bytes of a prefix
-pub take_prefix : (f r : List ℕ) → take (length f) (f ++ r) ≡ f
-take_prefix [] r = refl
-take_prefix (x ∷ f) r = ap (λ l. x ∷ l) (take_prefix f r)
+get_seam : (prefix rest : List ℕ) (c d : ℕ) → get_or (prefix ++ c ∷ rest) (length prefix) d ≡ c
+get_seam [] rest c d = refl
+get_seam (x ∷ prefix) rest c d = get_seam prefix rest c d
 
-drop_prefix : (f r : List ℕ) → drop (length f) (f ++ r) ≡ r
-drop_prefix [] r = refl
-drop_prefix (x ∷ f) r = drop_prefix f r
+split_at : (prefix rest : List ℕ) → (IsUtf8 (prefix ++ rest) → IsCharBoundary (prefix ++ rest) (length prefix)) → Split (prefix ++ rest) prefix rest
+split_at prefix rest bound = (
+  refl,
+  λ u. (
+    subst IsUtf8 (take-append_seam prefix rest) (IsUtf8-take (prefix ++ rest) (length prefix) u (bound u)),
+    subst IsUtf8 (drop-append_seam prefix rest) (IsUtf8-drop (prefix ++ rest) (length prefix) u (bound u)),
+  ),
+)
 
-get_prefix : (f r : List ℕ) (c d : ℕ) → get_or (f ++ c ∷ r) (length f) d ≡ c
-get_prefix [] r c d = refl
-get_prefix (x ∷ f) r c d = get_prefix f r c d
-
--- before an ASCII byte, or at the end
-ends_ascii : (c : ℕ) (r : List ℕ) → ends_word (c ∷ r) ≡ true → c < 128
-ends_ascii c r e = grind (arith, nat_tests, e)
+ends_ascii : (c : ℕ) (rest : List ℕ) → ends_word (c ∷ rest) ≡ true → c < 128
+ends_ascii c rest e = grind (arith, nat_tests, e)
 
 -- a text is split where a word ends
 pub split_word : (prefix rest : List ℕ) → ends_word rest ≡ true → Split (prefix ++ rest) prefix rest
-split_word prefix [] e = (refl, λ u. (subst IsUtf8 (append-nil prefix) u, IsUtf8-nil))
-split_word prefix (c ∷ r) e = (
-  refl,
-  λ u. (
-      let b = IsCharBoundary-before_ascii (prefix ++ c ∷ r) (length prefix) (omega (arith, length-append prefix (c ∷ r))) (omega (arith, get_prefix prefix r c 0, ends_ascii c r e)) in
-      (subst IsUtf8 (take_prefix prefix (c ∷ r)) (IsUtf8-take (prefix ++ c ∷ r) (length prefix) u b), subst IsUtf8 (drop_prefix prefix (c ∷ r)) (IsUtf8-drop (prefix ++ c ∷ r) (length prefix) u b))
-      ),
-)
+split_word prefix [] e = split_at prefix [] (λ u. subst (IsCharBoundary (prefix ++ [])) (ap length (append-nil prefix)) (IsCharBoundary-end (prefix ++ [])))
+split_word prefix (c ∷ rest) e = split_at prefix (c ∷ rest) (λ u.
+    IsCharBoundary-before_ascii (prefix ++ c ∷ rest) (length prefix) (omega (arith, length-append prefix (c ∷ rest))) (omega (arith, get_seam prefix rest c 0, ends_ascii c rest e)))
 
--- after an ASCII byte
+-- a text is split behind an ASCII byte
 pub split_ascii : (text prefix rest : List ℕ) (c : ℕ) → c < 128 → text ≡ prefix ++ c ∷ rest → Split text (prefix ++ c ∷ []) rest
 split_ascii text prefix rest c small e =
-    let moved : text ≡ (prefix ++ c ∷ []) ++ rest = e ∙ sym (append_assoc prefix (c ∷ []) rest) in
-    let long : length (prefix ++ c ∷ []) ≡ length prefix + 1 = length-append prefix (c ∷ []) in (
-      moved,
-      λ u. (let v = subst IsUtf8 e u in
-          let b = subst (λ n. IsCharBoundary (prefix ++ c ∷ rest) n) (sym long)
-          (IsCharBoundary-after_ascii (prefix ++ c ∷ rest) (length prefix) v (omega (arith, length-append prefix (c ∷ rest))) (omega (arith, get_prefix prefix rest c 0))) in
-          let same : prefix ++ c ∷ rest ≡ (prefix ++ c ∷ []) ++ rest = sym (append_assoc prefix (c ∷ []) rest) in (
-            subst IsUtf8 (ap (take (length (prefix ++ c ∷ []))) same ∙ take_prefix (prefix ++ c ∷ []) rest) (IsUtf8-take (prefix ++ c ∷ rest) (length (prefix ++ c ∷ [])) v b),
-            subst IsUtf8 (ap (drop (length (prefix ++ c ∷ []))) same ∙ drop_prefix (prefix ++ c ∷ []) rest) (IsUtf8-drop (prefix ++ c ∷ rest) (length (prefix ++ c ∷ [])) v b),
-          )),
-    )
+    let regrouped : (prefix ++ c ∷ []) ++ rest ≡ prefix ++ c ∷ rest = append_assoc prefix (c ∷ []) rest in
+    let long : length (prefix ++ c ∷ []) ≡ length prefix + 1 = length-append prefix (c ∷ []) in
+    subst (λ t. Split t (prefix ++ c ∷ []) rest) (regrouped ∙ sym e) (split_at (prefix ++ c ∷ []) rest (λ u.
+    subst (IsCharBoundary ((prefix ++ c ∷ []) ++ rest)) (sym long)
+    (IsCharBoundary-after_ascii ((prefix ++ c ∷ []) ++ rest) (length prefix) u (omega (arith, ap length regrouped, length-append prefix (c ∷ rest)))
+    (omega (arith, ap (λ t. get_or t (length prefix) 0) regrouped, get_seam prefix rest c 0)))))
 
 -- a text is split after its first byte, which is ASCII
 pub split_one : (c : ℕ) (t : List ℕ) → c < 128 → Split (c ∷ t) (c ∷ []) t
@@ -172,7 +157,7 @@ colon_first : (text : List ℕ) → begins is_white text ≡ false → begins_co
 unfolding lex
 colon_first [] h = refl
 colon_first (x ∷ xs) h = cases_byte P x (λ e. refl) (λ e. refl) (λ e. refl) (λ e. refl) (λ e. refl) (λ e. refl) (λ e. refl) (λ e. refl)
-    (λ w e. absurd (true≢false (sym w ∙ e))) (λ o e. rw (o.kind, o.is_colon) refl) h
+    (λ w e. absurd (true≢false (sym w ∙ e))) (λ o e. rw (o.kind, o.no_colon) refl) h
   where
     P : ℕ → Type 0
     P y = is_white y ≡ false → begins_colon (lex between (y ∷ xs)) ≡ (y == 58)

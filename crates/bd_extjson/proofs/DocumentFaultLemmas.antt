@@ -1,5 +1,6 @@
 -- A text has no fault exactly if it is read as a document.
-use Rattle.std.proofs.Common.{◌≡◌, ◌==◌, ◌&&◌, ◌↔◌, inl, inr, refl, sym, ap, ap₂, ◌∙◌, subst, not, ℕ, suc, Bool, true, false, List, [], ◌∷◌, ◌++◌, length, Option, Some, None, Ok, Err, arith}
+use Rattle.std.proofs.Common.{◌≡◌, ◌==◌, ◌&&◌, ◌↔◌, inl, inr, refl, sym, ap, ap₂, ◌∙◌, subst, not, ℕ, suc, Bool, true, false, List, [], ◌∷◌, ◌++◌, length, Option}
+use Rattle.std.proofs.Common.{Some, None, Ok, Err, arith}
 use Rattle.std.proofs.Common.{is_some}
 use Rattle.std.specs.Prelude.{option_and_then, if◌then◌else◌}
 use Rattle.std.specs.{Option.is_none, Str.is_utf8}
@@ -55,8 +56,10 @@ module _ (text : List ℕ) (utf8 : is_utf8 text ≡ true) where
   text_values = value_meets ValueIs most_brackets flat_value deep_value most_brackets (omega arith) text
 
   -- the value that was passed, and the tokens after it
-  value_is : (rest : List ℕ) (a : Passed json_tokens depth (ValueIs most_brackets) most_brackets text rest) → value most_brackets (tokens text) ≡ Some (a.value, tokens_from after_value rest)
-  value_is rest a = ap (value most_brackets) (ap (tokens_from fresh) a.split.0 ∙ a.read fresh refl rest a.here) ∙ value-json_tokens a.value most_brackets (tokens_from after_value rest) a.shallow
+  value_is : (rest : List ℕ) (a : Passed json_tokens depth (ValueIs most_brackets) most_brackets text rest)
+      → value most_brackets (tokens text) ≡ Some (a.value, tokens_from after_value rest)
+  value_is rest a = ap (value most_brackets) (ap (tokens_from fresh) a.split.0 ∙ a.read fresh refl rest a.here)
+      ∙ value-json_tokens a.value most_brackets (tokens_from after_value rest) a.shallow
 
   text_reads : Reads text (beyond_text text)
   unfolding beyond_text

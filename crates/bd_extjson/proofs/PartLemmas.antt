@@ -1,5 +1,6 @@
 -- Parts in brackets that the second pass skips are those that the lexer of the kit makes tokens of.
-use Rattle.std.proofs.Common.{◌≡◌, ◌<◌, ◌≤◌, ◌==◌, ◌&&◌, ◌⊎◌, inl, inr, refl, sym, ap, ◌∙◌, subst, cond, not, ℕ, zero, suc, Bool, true, false, List, [], ◌∷◌, ◌++◌, length, drop, Option, Some, None, Ok, Err, arith}
+use Rattle.std.proofs.Common.{◌≡◌, ◌<◌, ◌≤◌, ◌==◌, ◌&&◌, ◌⊎◌, inl, inr, refl, sym, ap, ◌∙◌, subst, cond, not, ℕ, zero, suc, Bool, true, false, List, [], ◌∷◌, ◌++◌}
+use Rattle.std.proofs.Common.{length, drop, Option, Some, None, Ok, Err, arith}
 use Rattle.std.proofs.Common.{append_assoc, length-append}
 use Rattle.std.specs.Prelude.{IsUtf8, if◌then◌else◌, nat_eq}
 use Rattle.std.proofs.lemmas.Bool.{eqb-true, eq-eqb, false≢true, true≢false, and_from}
@@ -9,7 +10,8 @@ use Rattle.std.specs.List.{starts_with}
 use Rattle.json.specs.Ascii as ascii
 use Rattle.json.specs.Token.{Token}
 use Rattle.json.specs.Token as tokens
-use Rattle.json.specs.Lex.{Lexeme, token, in_word, in_string, lex, Place, fresh, after_value, after_comma, after_key, punctuate, may_begin, may_close, begins_colon, string_token}
+use Rattle.json.specs.Lex.{Lexeme, token, in_word, in_string, lex, Place, fresh, after_value, after_comma, after_key, punctuate, may_begin, may_close, begins_colon}
+use Rattle.json.specs.Lex.{string_token}
 use Rattle.json.specs.Json.{after_end_array, read_key}
 use Rattle.bd_extjson_fault.specs.JsonSyntax.{Beyond, ◌>>=◌, syntax_at, begins, beyond_all, beyond_white, beyond_word, is_white, beyond_next, beyond_parts, beyond_group}
 use Rattle.bd_extjson_fault.specs.TreeFault.{parts_after, parts_from, parts_in}

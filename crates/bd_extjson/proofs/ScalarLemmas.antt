@@ -1,5 +1,6 @@
 -- A value without brackets that the second pass skips is one that the grammar of the kit reads.
-use Rattle.std.proofs.Common.{◌≡◌, ◌<◌, ◌≤◌, ◌==◌, ◌||◌, ◌+◌, ◌⊎◌, inl, inr, refl, sym, ap, ap₂, ◌∙◌, subst, cond, not, ℕ, zero, suc, Bool, true, false, List, [], ◌∷◌, ◌++◌, length, take, drop, Option, Some, None, Ok, Err, arith}
+use Rattle.std.proofs.Common.{◌≡◌, ◌<◌, ◌≤◌, ◌==◌, ◌||◌, ◌+◌, ◌⊎◌, inl, inr, refl, sym, ap, ap₂, ◌∙◌, subst, cond, not, ℕ, zero, suc, Bool, true, false, List, []}
+use Rattle.std.proofs.Common.{◌∷◌, ◌++◌, length, take, drop, Option, Some, None, Ok, Err, arith}
 use Rattle.std.proofs.Common.{append_assoc}
 use Rattle.std.specs.Prelude.{option_and_then, IsUtf8, if◌then◌else◌, codes, nat_eq}
 use Rattle.std.specs.Result.{result_ok}
@@ -12,13 +13,15 @@ use Rattle.json.specs.Word.{head, ends_word, word, after_number, number_before, 
 use Rattle.json.specs.Print.{IsNumber}
 use Rattle.json.specs.Token.{Token}
 use Rattle.json.specs.Token as tokens
-use Rattle.json.specs.Lex.{Lexeme, token, between, in_word, lex, Place, fresh, after_value, after_comma, after_key, punctuate, may_begin, in_string, begins_colon, string_token}
+use Rattle.json.specs.Lex.{Lexeme, token, between, in_word, lex, Place, fresh, after_value, after_comma, after_key, punctuate, may_begin, in_string, begins_colon}
+use Rattle.json.specs.Lex.{string_token}
 use Rattle.json.specs.Json as kit
 use Rattle.json.specs.Json.{Json, value}
 use Rattle.json.specs.Tree.{depth, json_tokens}
 use Rattle.json.proofs.Found.{not_found, Some_inj}
 use Rattle.json.proofs.Printed.Numbers.{in_word-ended, number_alone, lex-number}
-use Rattle.bd_extjson_fault.specs.JsonSyntax.{Beyond, syntax_at, begins, beyond_word, is_white, beyond_number, beyond_natural, beyond_digits, beyond_scalar, beyond_string, beyond_name, beyond_object, opens_object, opens_array}
+use Rattle.bd_extjson_fault.specs.JsonSyntax.{Beyond, syntax_at, begins, beyond_word, is_white, beyond_number, beyond_natural, beyond_digits, beyond_scalar}
+use Rattle.bd_extjson_fault.specs.JsonSyntax.{beyond_string, beyond_name, beyond_object, opens_object, opens_array}
 use Rattle.bd_extjson_fault.specs.TreeFault.{name_in, quoted_name, parts_in, members_in}
 use Rattle.bd_extjson_fault.proofs.NumberLemmas.{number_agrees}
 use Rattle.bd_extjson.proofs.ByteLemmas.{tokens_from, is_end, colon_next, unless, Other, cases_byte, Split, split_word, split_ascii}
@@ -28,7 +31,8 @@ use Rattle.bd_extjson.proofs.StringLemmas.{MeetsString, StringAt, string_meets}
 abbrev pub Fails : ℕ → List ℕ → Type 0
 Fails level text = (p : Place) → may_begin p ≡ true → value level (tokens_from p text) ≡ None
 
--- A value is at the start of the text, up to the rest: it is the same before any other text that may follow it.
+-- A value is at the front of the text, up to the rest. It is the same before any other text that may follow it, of which
+-- `follows` is the test: behind a word no letter, behind a string no colon, behind a bracket anything.
 pub record Passed {J : Type 0} (spell : J → List Token) (height : J → ℕ) (P : List ℕ → J → Type 0) (level : ℕ) (text rest : List ℕ) : Type 0 where
   pub prefix : List ℕ
   pub value : J
@@ -83,7 +87,7 @@ bad_fails : (level : ℕ) (text : List ℕ) (ls : List Lexeme) → lex between t
 bad_fails level text ls e p may = ap (λ l. value level (punctuate p l)) e ∙ ap (value level) (bad_token p ls) ∙ value_bad level []
 
 -- no value is in an empty text
-pub nil_fails : (level : ℕ) → Fails level []
+nil_fails : (level : ℕ) → Fails level []
 unfolding punctuate lex
 nil_fails level fresh may = value_nil level
 nil_fails level after_value may = absurd (false≢true may)
@@ -116,7 +120,7 @@ word_json tokens.null = Some kit.null
 word_json _ = None
 
 -- the token of a word is its value
-pub word_token : (p : Place) → may_begin p ≡ true → (t : Token) (j : Json) → word_json t ≡ Some j → (ls : List Lexeme)
+word_token : (p : Place) → may_begin p ≡ true → (t : Token) (j : Json) → word_json t ≡ Some j → (ls : List Lexeme)
     → punctuate p (token t ∷ ls) ≡ json_tokens j ++ punctuate after_value ls
 unfolding punctuate
 word_token fresh may tokens.null j e ls = ap (λ i. json_tokens i ++ punctuate after_value ls) (Some_inj _ _ e)

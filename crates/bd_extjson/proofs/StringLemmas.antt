@@ -1,5 +1,6 @@
 -- A string that the second pass skips is one that the lexer of the kit reads.
-use Rattle.std.proofs.Common.{◌≡◌, ◌<◌, ◌≤◌, ◌==◌, ◌&&◌, ◌+◌, ◌*◌, inl, inr, refl, sym, ap, ◌∙◌, cond, nat_lt, ℕ, zero, suc, Bool, true, false, List, [], ◌∷◌, ◌++◌, length, Option, Some, None, Ok, Err, arith}
+use Rattle.std.proofs.Common.{◌≡◌, ◌<◌, ◌≤◌, ◌==◌, ◌&&◌, ◌+◌, ◌*◌, inl, inr, refl, sym, ap, ◌∙◌, cond, nat_lt, ℕ, zero, suc, Bool, true, false, List, [], ◌∷◌, ◌++◌}
+use Rattle.std.proofs.Common.{length, Option, Some, None, Ok, Err, arith}
 use Rattle.std.proofs.Common.{append_assoc, length-append}
 use Rattle.std.specs.Prelude.{option_and_then, option_map, if◌then◌else◌}
 use Rattle.std.specs.Char.{is_digit, encode_utf8}
@@ -9,7 +10,8 @@ use Rattle.json.proofs.Found.{not_found, Some_inj}
 use Rattle.json.specs.Text.{content, plain, after_u, after_high, prepend, code_unit, short_escape, is_high_surrogate, is_low_surrogate, surrogate_pair}
 use Rattle.json.specs.Word.{is_operator, is_space}
 use Rattle.json.specs.Lex.{Lexeme, operator, space, other, Mode, between, in_string, lex_byte, lex}
-use Rattle.bd_extjson_fault.specs.JsonSyntax.{Beyond, ◌>>=◌, syntax_at, beyond_word, beyond_hex, beyond_unit, beyond_low, beyond_units, is_short_escape, beyond_escape, beyond_character, beyond_items, beyond_string}
+use Rattle.bd_extjson_fault.specs.JsonSyntax.{Beyond, ◌>>=◌, syntax_at, beyond_word, beyond_hex, beyond_unit, beyond_low, beyond_units, is_short_escape}
+use Rattle.bd_extjson_fault.specs.JsonSyntax.{beyond_escape, beyond_character, beyond_items, beyond_string}
 use Rattle.bd_extjson.proofs.ByteLemmas.{unless}
 
 -- ---- escapes
@@ -112,7 +114,7 @@ passes_class false true x xs k = refl
 passes_class false false x xs k = refl
 
 -- the lexer continues in a string after a byte that is no quotation mark and no backslash
-pub skip_byte : (x : ℕ) (xs : List ℕ) → (x == 34) ≡ false → (x == 92) ≡ false → lex in_string (x ∷ xs) ≡ lex in_string xs
+skip_byte : (x : ℕ) (xs : List ℕ) → (x == 34) ≡ false → (x == 92) ≡ false → lex in_string (x ∷ xs) ≡ lex in_string xs
 unfolding lex
 skip_byte x xs q b = rw (q, b) (passes_class (is_operator x) (is_space x) x xs (λ m. lex m xs))
 

@@ -1,8 +1,10 @@
 -- A value that is JSON has no fault exactly if it means a value.
-use Rattle.std.proofs.Common.{◌≡◌, ◌≤◌, ◌==◌, ◌||◌, ◌&&◌, ◌-◌, ◌⊎◌, ◌↔◌, inl, inr, refl, sym, ap, ap₂, ◌∙◌, subst, not, ℕ, zero, suc, Bool, true, false, List, [], ◌∷◌, ◌++◌, map, length, take, drop, Option, Some, None, Ok, Err, arith}
+use Rattle.std.proofs.Common.{◌≡◌, ◌≤◌, ◌==◌, ◌||◌, ◌&&◌, ◌-◌, ◌⊎◌, ◌↔◌, inl, inr, refl, sym, ap, ap₂, ◌∙◌, subst, not, ℕ, zero, suc, Bool, true, false, List, []}
+use Rattle.std.proofs.Common.{◌∷◌, ◌++◌, map, length, take, drop, Option, Some, None, Ok, Err, arith}
 use Rattle.std.proofs.Common.{append-nil, length-append, is_some}
 use Rattle.std.specs.Prelude.{option_and_then, option_map, IsUtf8, if◌then◌else◌, nat_lt, ℤ}
 use Rattle.std.specs.{Option.option_or, Option.is_none, Result.result_ok}
+use Rattle.std.proofs.Math.Seq.{take-append_seam}
 use Rattle.std.proofs.lemmas.Bool.{eqb-true, false≢true, true≢false, and_left, and_right, le-ltb}
 use Rattle.json.specs.Find.{as_str}
 use Rattle.json.specs.Json as kit
@@ -18,12 +20,16 @@ use Rattle.bd_extjson_wrapper.specs.WholeNumber.{are_digits, unsigned, whole, wh
 use Rattle.bd_extjson_wrapper.specs.Wrapper.{wrapper_of, is_code_name, is_scope_name, single}
 use Rattle.bd_extjson_wrapper.specs.declared.wrapper.Wrapper.{Wrapper}
 use Rattle.bd_extjson_wrapper.specs.declared.wrapper.Wrapper.TheVariants as wrappers
-use Rattle.bd_extjson_fault.specs.JsonSyntax.{Beyond, begins, beyond_white, beyond_word, beyond_name, beyond_object, beyond_value, beyond_number, beyond_natural, beyond_digits, opens_object, opens_array}
-use Rattle.bd_extjson_fault.specs.TreeFault.{Part, bytes_before, number_between, number_fault, scalar_fault, first_wrapper, if_named, name_in, quoted_name, name_fault, member_fault, members_in, parts_in, parts_from, first_in, rest_of, array_fault, document_fault, is_string, is_document, scope_fault, part_of, code_fault, object_fault, object_fault_by, object_fault_of, members_fault, wrapper_fault, is_outside_profile, json_in, value_fault, fault_at}
+use Rattle.bd_extjson_fault.specs.JsonSyntax.{Beyond, begins, beyond_white, beyond_word, beyond_name, beyond_object, beyond_value, beyond_number, beyond_natural}
+use Rattle.bd_extjson_fault.specs.JsonSyntax.{beyond_digits, opens_object, opens_array}
+use Rattle.bd_extjson_fault.specs.TreeFault.{Part, bytes_before, number_between, number_fault, scalar_fault, first_wrapper, if_named, name_in, quoted_name}
+use Rattle.bd_extjson_fault.specs.TreeFault.{name_fault, member_fault, members_in, parts_in, parts_from, first_in, rest_of, array_fault, document_fault, is_string}
+use Rattle.bd_extjson_fault.specs.TreeFault.{is_document, scope_fault, part_of, code_fault, object_fault, object_fault_by, object_fault_of, members_fault}
+use Rattle.bd_extjson_fault.specs.TreeFault.{wrapper_fault, is_outside_profile, json_in, value_fault, fault_at}
 use Rattle.bd_extjson_fault.proofs.FindingLemmas.{fault_scalar, fault_object, fault_array}
 use Rattle.bd_extjson_fault.proofs.TreeFaultLemmas.{value_or_fault}
 use Rattle.bd_extjson.specs.Read.{bare_number, nested, add_item, add_field, with_scope, two, wrap, wrap_items, wrapped, wrap_fields, document}
-use Rattle.bd_extjson.proofs.ByteLemmas.{take_prefix, tokens_from}
+use Rattle.bd_extjson.proofs.ByteLemmas.{tokens_from}
 use Rattle.bd_extjson.proofs.ScalarLemmas.{Pairs, Member, Shape, NumberAt, ArrayAt, ObjectAt, items_of, members_of}
 use Rattle.bd_extjson.proofs.ValueLemmas.{json_alone}
 
@@ -134,9 +140,10 @@ module _ (level : ℕ) (text : List ℕ) where
   number_at : (s : List ℕ) → NumberAt (beyond_white text) s → ValueIs level text (kit.number s)
   number_at s (rest, went, whole, q, o, a) =
       let here = beyond_white text in
-      let bytes : bytes_before rest here ≡ s = ap (λ n. take n here) (omega (arith, ap length whole, length-append s rest)) ∙ ap (take (length s)) whole ∙ take_prefix s rest in
+      let bytes : bytes_before rest here ≡ s = ap (λ n. take n here) (omega (arith, ap length whole, length-append s rest)) ∙ ap (take (length s)) whole ∙ take-append_seam s rest in
       scalar_is (kit.number s) o a
-      (λ d. ap is_none (ap (number_between here) went ∙ ap (λ b. option_and_then (fault_at here) (number_fault b)) bytes) ∙ none_then (fault_at here) (λ x. refl) (number_fault s) ∙ number_is s ∙ sym (some_bare d s)) q refl
+      (λ d. ap is_none (ap (number_between here) went ∙ ap (λ b. option_and_then (fault_at here) (number_fault b)) bytes)
+      ∙ none_then (fault_at here) (λ x. refl) (number_fault s) ∙ number_is s ∙ sym (some_bare d s)) q refl
 
 -- ---- arrays
 
@@ -158,7 +165,8 @@ module _ (level d : ℕ) where
   fields_agree (t ∷ texts) [] are = absurd are
   fields_agree (t ∷ texts) (m ∷ list) ((named, (after, went, is)), are) =
       none_or (member_fault (value_fault level d) t) (first_in (member_fault (value_fault level d)) texts)
-      ∙ ap₂ (λ x y. x && y) (none_or (name_fault t) (value_fault level d (rest_of (beyond_name t))) ∙ ap₂ (λ x y. x && y) zeros (ap (λ r. is_none (value_fault level d (rest_of r))) went ∙ is.fault d))
+      ∙ ap₂ (λ x y. x && y) (none_or (name_fault t) (value_fault level d (rest_of (beyond_name t)))
+      ∙ ap₂ (λ x y. x && y) zeros (ap (λ r. is_none (value_fault level d (rest_of r))) went ∙ is.fault d))
       (fields_agree texts list are)
       ∙ sym (some_field m.0 (wrap d m.1) (wrap_fields d (members_of list)))
     where
@@ -174,7 +182,8 @@ unfolding array_fault
 array_is level text js a =
     let opens : opens_object (beyond_white text) ≡ false = rw a.opens refl in
     record {
-      fault = λ d. ap is_none (fault_array (suc level) level d text refl opens (rw a.opens refl)) ∙ ap is_none (ap₂ (λ x y. array_fault (beyond_value level) (value_fault level) d x y) a.opens (ap (drop 1) a.opens))
+      fault = λ d. ap is_none (fault_array (suc level) level d text refl opens (rw a.opens refl))
+          ∙ ap is_none (ap₂ (λ x y. array_fault (beyond_value level) (value_fault level) d x y) a.opens (ap (drop 1) a.opens))
           ∙ by_depth d ∙ ap (λ i. is_some (wrap d (kit.array i))) (sym a.same);
       string = rw a.opens refl;
       plain = and_left (opens_object (beyond_white text)) _ opens;
@@ -194,7 +203,8 @@ with_scope_no_document (Some s) (Some (doc fs)) = refl
 with_scope_no_document (Some s) (Some (array ts)) = refl
 with_scope_no_document (Some s) (Some (code_scope c fs)) = refl
 
-two_no_document : (w : Wrapper) (j : Json) (t : Option Tree) (v : Option Wrapper) (i : Json) (u : Option Tree) (ms : kit.Members) → is_some (option_and_then document (two w j t v i u ms)) ≡ false
+two_no_document : (w : Wrapper) (j : Json) (t : Option Tree) (v : Option Wrapper) (i : Json) (u : Option Tree) (ms : kit.Members)
+    → is_some (option_and_then document (two w j t v i u ms)) ≡ false
 two_no_document wrappers.Code j t (Some wrappers.Scope) i u kit.no_members = with_scope_no_document (as_str j) u
 two_no_document wrappers.Scope j t (Some wrappers.Code) i u kit.no_members = with_scope_no_document (as_str i) t
 two_no_document _ j t _ i u _ = refl
@@ -466,7 +476,7 @@ module _ (level : ℕ) (inside rest bytes : List ℕ) (m : List ℕ × Json) (ms
   json_is : json_in (bytes_before rest (123 ∷ inside)) ≡ Some (kit.object (members_of (m ∷ ms)))
   json_is =
       let j = kit.object (members_of (m ∷ ms)) in
-      ap json_in (ap (λ n. take n (123 ∷ inside)) (omega (arith, ap length whole, length-append bytes rest)) ∙ ap (take (length bytes)) whole ∙ take_prefix bytes rest)
+      ap json_in (ap (λ n. take n (123 ∷ inside)) (omega (arith, ap length whole, length-append bytes rest)) ∙ ap (take (length bytes)) whole ∙ take-append_seam bytes rest)
       ∙ json_alone bytes j [] (json_tokens j) utf8 alone
       (ap (value most_brackets) (sym (append-nil (json_tokens j))) ∙ value-json_tokens j most_brackets [] (omega (arith, low, le)))
 

@@ -1,16 +1,19 @@
 -- A value that the second pass skips is one that the grammar of the kit reads.
-use Rattle.std.proofs.Common.{◌≡◌, ◌<◌, ◌≤◌, ◌==◌, ◌-◌, inl, inr, refl, sym, ap, ap₂, ◌∙◌, subst, ℕ, zero, suc, Bool, true, false, List, [], ◌∷◌, ◌++◌, length, take, Option, Some, None, Ok, Err, arith}
+use Rattle.std.proofs.Common.{◌≡◌, ◌<◌, ◌≤◌, ◌==◌, ◌-◌, inl, inr, refl, sym, ap, ap₂, ◌∙◌, subst, ℕ, zero, suc, Bool, true, false, List, [], ◌∷◌, ◌++◌, length, take}
+use Rattle.std.proofs.Common.{Option, Some, None, Ok, Err, arith}
 use Rattle.std.proofs.Common.{append_assoc, append-nil, length-append}
 use Rattle.json.specs.Find.{as_str}
 use Rattle.std.specs.Prelude.{option_and_then, option_map, unwrap_or, IsUtf8, if◌then◌else◌, codes}
 use Rattle.std.specs.Result.{result_ok}
+use Rattle.std.proofs.Math.Seq.{take-append_seam}
 use Rattle.std.proofs.lemmas.Bool.{eqb-true, false≢true, true≢false}
 use Rattle.std.proofs.lemmas.Str.{is_utf8-from_IsUtf8}
 use Rattle.json.specs.Word.{word}
 use Rattle.json.specs.Text.{content, plain}
 use Rattle.json.specs.Token.{Token}
 use Rattle.json.specs.Token as tokens
-use Rattle.json.specs.Lex.{Lexeme, token, comma, colon, between, in_word, in_string, lex, Place, fresh, after_value, after_comma, after_key, punctuate, may_begin, may_close, begins_colon, string_token}
+use Rattle.json.specs.Lex.{Lexeme, token, comma, colon, between, in_word, in_string, lex, Place, fresh, after_value, after_comma, after_key, punctuate, may_begin}
+use Rattle.json.specs.Lex.{may_close, begins_colon, string_token}
 use Rattle.json.specs.Json as kit
 use Rattle.json.specs.Json.{Json, value, items, members, after_end_array, read_key, parse_map, if_last}
 use Rattle.json.specs.Tree.{depth, json_tokens, items_tokens, members_tokens, items_depth, members_depth}
@@ -18,9 +21,11 @@ use Rattle.json.proofs.Found.{not_found}
 use Rattle.json.proofs.Grammar.{items_fail, items_more, members_no_key, members_fail, members_more}
 use Rattle.json.proofs.Printed.Trees.{value-json_tokens}
 use Rattle.bd_value.specs.Limits.{most_brackets}
-use Rattle.bd_extjson_fault.specs.JsonSyntax.{Beyond, ◌>>=◌, syntax_at, begins, beyond_white, beyond_word, is_white, beyond_string, beyond_name, beyond_array, beyond_object, beyond_member, beyond_value, beyond_nested, beyond_unnested, beyond_scalar}
+use Rattle.bd_extjson_fault.specs.JsonSyntax.{Beyond, ◌>>=◌, syntax_at, begins, beyond_white, beyond_word, is_white, beyond_string, beyond_name, beyond_array}
+use Rattle.bd_extjson_fault.specs.JsonSyntax.{beyond_object, beyond_member, beyond_value, beyond_nested, beyond_unnested, beyond_scalar}
 use Rattle.bd_extjson_fault.specs.TreeFault.{name_in, quoted_name, json_in, bytes_before}
-use Rattle.bd_extjson.proofs.ByteLemmas.{tokens_from, colon_next, cases_byte, Split, split_then, split_one, split_ascii, white_passed, white_tokens, white_stops, take_prefix}
+use Rattle.bd_extjson.proofs.ByteLemmas.{tokens_from, colon_next, cases_byte, Split, split_then, split_one, split_ascii, white_passed, white_tokens, white_stops}
+use Rattle.bd_extjson.proofs.ByteLemmas.{}
 use Rattle.bd_extjson.proofs.StringLemmas.{MeetsString, StringAt, string_meets}
 use Rattle.bd_extjson.proofs.ScalarLemmas.{Fails, Meets, Member, Shape, items_of, members_of, value_bad, value_nil, value_end, scalar_meets}
 use Rattle.bd_extjson.proofs.PartLemmas.{Delimiter, Low, flat, Opens, Stuck, PartFails, MeetsPart, MeetsGroup, group_meets, no_end, no_key_here, IsWord, word_word}
@@ -177,9 +182,6 @@ string_alone s = refl
 
 -- the bytes of a string, with its quotation marks
 module _ (xs rest : List ℕ) (s : StringAt xs rest) where
-  quotes : List ℕ
-  quotes = 34 ∷ (s.prefix ++ 34 ∷ [])
-
   lexed : (any : List ℕ) → lex between (34 ∷ ((s.prefix ++ 34 ∷ []) ++ any)) ≡ token (tokens.string s.value) ∷ lex between any
   unfolding lex
   lexed any = ap (λ l. lex between (34 ∷ l)) (append_assoc s.prefix (34 ∷ []) any) ∙ ap₂ (λ o ls. token (string_token o) ∷ ls) (s.read any) (s.skips any)
@@ -196,7 +198,7 @@ module _ (xs rest : List ℕ) (s : StringAt xs rest) where
   bytes_here =
       let q = 34 ∷ (s.prefix ++ 34 ∷ []) in
       let long : length (34 ∷ xs) - length rest ≡ length q = omega (arith, ap length quotes_split.0, length-append q rest) in
-      ap (λ n. take n (34 ∷ xs)) long ∙ ap (take (length q)) quotes_split.0 ∙ take_prefix q rest
+      ap (λ n. take n (34 ∷ xs)) long ∙ ap (take (length q)) quotes_split.0 ∙ take-append_seam q rest
 
 module _ (text xs : List ℕ) (e : beyond_white text ≡ 34 ∷ xs) where
   -- the tokens from the quotation mark on
