@@ -91,7 +91,7 @@ split_word prefix [] e = split_at prefix [] (λ u. subst (IsCharBoundary (prefix
 split_word prefix (c ∷ rest) e = split_at prefix (c ∷ rest) (λ u.
     IsCharBoundary-before_ascii (prefix ++ c ∷ rest) (length prefix) (omega (arith, length-append prefix (c ∷ rest))) (omega (arith, get_seam prefix rest c 0, ends_ascii c rest e)))
 
--- a text is split behind an ASCII byte
+-- a text is split after an ASCII byte
 pub split_ascii : (text prefix rest : List ℕ) (c : ℕ) → c < 128 → text ≡ prefix ++ c ∷ rest → Split text (prefix ++ c ∷ []) rest
 split_ascii text prefix rest c small e =
     let regrouped : (prefix ++ c ∷ []) ++ rest ≡ prefix ++ c ∷ rest = append_assoc prefix (c ∷ []) rest in

@@ -31,8 +31,8 @@ use Rattle.bd_extjson.proofs.StringLemmas.{MeetsString, StringAt, string_meets}
 abbrev pub Fails : ℕ → List ℕ → Type 0
 Fails level text = (p : Place) → may_begin p ≡ true → value level (tokens_from p text) ≡ None
 
--- A value is at the front of the text, up to the rest. It is the same before any other text that may follow it, of which
--- `follows` is the test: behind a word no letter, behind a string no colon, behind a bracket anything.
+-- A value is at the start of the text, up to the rest. It is the same before any other text that may follow it, of which
+-- `follows` is the test: after a word no letter, after a string no colon, after a bracket anything.
 pub record Passed {J : Type 0} (spell : J → List Token) (height : J → ℕ) (P : List ℕ → J → Type 0) (level : ℕ) (text rest : List ℕ) : Type 0 where
   pub prefix : List ℕ
   pub value : J

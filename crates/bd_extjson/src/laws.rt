@@ -59,7 +59,7 @@ pub fn texts_are_lines()
     ensures { (t : Tree) → FitsTypes t → All (λ b. (b == 10) ≡ false) (text t) }
 {}
 
-/// A text has no fault exactly where it is a document. So `text_fault` of any other text is its first fault.
+/// A text has no fault exactly if it is a document. So `text_fault` of any other text is its first fault.
 #[tactic(auto, using(crate::proofs::DocumentFaultLemmas::no_fault_where_read))]
 pub fn document_or_fault()
     ensures { (text : List ℕ) → (first_fault text ≡ None) ↔ ((d : Doc) × ReadsAs text d) }
