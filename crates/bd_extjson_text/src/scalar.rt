@@ -31,13 +31,13 @@ macro_rules! scalar_of {
     };
 }
 
-/// Appends the text of a scalar that is not a string. There is space for a short one.
-#[inline(always)]
+/// Appends the text of a value that holds text or bytes and no other value, and is no string.
 #[tactic(auto, unfolding(crate::specs::Text::scalar_text, crate::specs::Text::quoted, crate::specs::Text::escape_byte))]
 pub(crate) fn append_scalar<N: Reading>(node: N, out: &mut Vec<u8>, end: usize) -> End
     requires scalar { (s : trees.Scalar) × (N.tree node ≡ leaf s) }
+    requires long { HasShortText (N.tree node) → ⊥ }
     requires other { kind_of (N.tree node) ≢ kinds.Text }
-    requires buffer { end + VALUE ≤ length out.old.items }
+    requires buffer { end ≤ length out.old.items }
     ensures { Appends out.old.items end result out.new.items (text (N.tree node)) }
 {
     match node.kind() {
@@ -56,14 +56,14 @@ pub(crate) fn append_scalar<N: Reading>(node: N, out: &mut Vec<u8>, end: usize) 
         Kind::DbPointer => {
             scalar_of!(node, Scalar::DbPointer { space, id } => append_pointer(space, &id, out, end))
         }
-        _ => Ok(put_short(node, out.as_mut_slice(), end)),
+        _ => unreachable!(),
     }
 }
 
 /// Writes the text of a value after the text, if it contains no text and no bytes but an id.
 #[inline(always)]
 #[tactic(auto, unfolding(crate::specs::Text::scalar_text, crate::specs::Text::quoted, crate::specs::Text::escape_byte))]
-fn put_short<N: Reading>(node: N, buffer: &mut [u8], end: usize) -> usize
+pub(crate) fn put_short<N: Reading>(node: N, buffer: &mut [u8], end: usize) -> usize
     requires short { HasShortText (N.tree node) }
     requires buffer { end + VALUE ≤ length buffer.old }
     ensures appended { take result buffer.new ≡ take end buffer.old ++ text (N.tree node) }

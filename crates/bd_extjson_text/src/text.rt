@@ -1,14 +1,15 @@
 //! Values, documents and lines as canonical Extended JSON.
-ghost use Rattle.std.specs.Prelude.{◌≡◌, ◌<◌, ◌≤◌, ◌⊎◌, ◌+◌, ◌++◌, ◌∷◌, [], IfOk, OnOk, OnErr, length, take};
+ghost use Rattle.std.specs.Prelude.{◌≡◌, ◌≢◌, ◌<◌, ◌≤◌, ◌+◌, ◌++◌, ◌∷◌, [], IfOk, OnOk, OnErr, length, take};
 ghost use Rattle.bd_value.specs.View.{kind_of, tree_of, pairs};
 ghost use Rattle.bd_value.specs.Tree.{values_of, doc, array, fields_of, items_of};
 ghost use Rattle.bd_value.specs.declared.node.Kind.TheVariants as kinds;
 ghost use Rattle.bd_extjson_text.specs.inside.Buffer.{Appends};
+ghost use Rattle.bd_extjson_text.specs.inside.Text.{HasShortText};
 ghost use Rattle.bd_extjson_text.specs.Text.{text};
 
 use crate::buffer::{End, VALUE, grow_buffer, put_byte_in, settle};
 use crate::json_string::{append_name, append_separator, append_string};
-use crate::scalar::{append_few, append_led, append_scalar};
+use crate::scalar::{append_few, append_led, append_scalar, put_short};
 use bd_value::{Document, Kind, NoMemory, Reading, Scalar, Tree, Value};
 use std::alloc::Global;
 
@@ -82,30 +83,39 @@ fn append_node<N: Reading>(node: N, out: &mut Vec<u8>, end: usize) -> End
     ensures { Appends out.old.items end result out.new.items (text (N.tree node)) }
 {
     match node.kind() {
-        Kind::Doc | Kind::Array | Kind::CodeScope => append_holder(node, out, end),
+        Kind::Doc
+        | Kind::Array
+        | Kind::CodeScope
+        | Kind::Symbol
+        | Kind::Code
+        | Kind::Binary
+        | Kind::Regex
+        | Kind::DbPointer => append_long(node, out, end),
         Kind::Text => {
             let Some(Scalar::Text(text)) = node.leaf() else {
                 unreachable!()
             };
             append_string(text, out, end)
         }
-        _ => append_scalar(node, out, end),
+        _ => Ok(put_short(node, out.as_mut_slice(), end)),
     }
 }
 
-/// Appends the text of a document or an array. It is a function of its own, so that a loop passes it the node alone.
+/// The same of what holds values, text or bytes, and is no string. It stands apart, so that the loops above it keep no node in memory
+/// for the others.
 #[cycle(text)]
 #[inline(never)]
-fn append_holder<N: Reading>(node: N, out: &mut Vec<u8>, end: usize) -> End
-    requires holder { (kind_of (N.tree node) ≡ kinds.Doc)
-        ⊎ (kind_of (N.tree node) ≡ kinds.Array) ⊎ (kind_of (N.tree node) ≡ kinds.CodeScope) }
+fn append_long<N: Reading>(node: N, out: &mut Vec<u8>, end: usize) -> End
+    requires long { HasShortText (N.tree node) → ⊥ }
+    requires other { kind_of (N.tree node) ≢ kinds.Text }
     requires buffer { end + VALUE ≤ length out.old.items }
     ensures { Appends out.old.items end result out.new.items (text (N.tree node)) }
 {
     match node.kind() {
         Kind::Doc => append_fields::<N>(node.parts(), out, end),
         Kind::Array => append_items::<N>(node.parts(), out, end),
-        _ => append_scope(node, out, end),
+        Kind::CodeScope => append_scope(node, out, end),
+        _ => append_scalar(node, out, end),
     }
 }
 

@@ -96,30 +96,30 @@ append_items-returns g t c =
     (text (array (items_of (values_of (g.N.Reading.remaining c.args.items))))) c.append_few.result i.after i.unchanged
     (search rules) c.append_few.ensures.text
 
-pub append_holder-append_fields-requires : goal.append_holder-append_fields-requires
-append_holder-append_fields-requires g t c κs within =
+pub append_long-append_fields-requires : goal.append_long-append_fields-requires
+append_long-append_fields-requires g t c κs within =
     let s = parts_smaller (g.N.Reading.tree c.args.node) (g.N.Reading.remaining c.parts.result) c.parts.ensures.parts in
     let e = c.decreases in
     (omega arith, (within.0, (within.1, omega arith)))
 
-pub append_holder-append_items-requires : goal.append_holder-append_items-requires
-append_holder-append_items-requires g t c κs within =
+pub append_long-append_items-requires : goal.append_long-append_items-requires
+append_long-append_items-requires g t c κs within =
     let s = parts_smaller (g.N.Reading.tree c.args.node) (g.N.Reading.remaining c.parts-in-Array.result) c.parts-in-Array.ensures.parts in
     let e = c.decreases in
     (omega arith, (within.0, (within.1, omega arith)))
 
-pub append_node-append_scalar-requires-clause-scalar : goal.append_node-append_scalar-requires-clause-scalar
-append_node-append_scalar-requires-clause-scalar g t c =
+pub append_long-append_scalar-requires-clause-scalar : goal.append_long-append_scalar-requires-clause-scalar
+append_long-append_scalar-requires-clause-scalar g t c =
     let k = c.kind.ensures in
     some_scalar (g.N.Reading.tree c.args.node) (λ e. c.in_default.not-Doc (k ∙ e)) (λ e. c.in_default.not-Array (k ∙ e)) (λ e. c.in_default.not-CodeScope (k ∙ e))
 
-pub append_holder-returns-in-Doc : goal.append_holder-returns-in-Doc
-append_holder-returns-in-Doc g t c =
+pub append_long-returns-in-Doc : goal.append_long-returns-in-Doc
+append_long-returns-in-Doc g t c =
     let e = text_of-doc (g.N.Reading.tree c.args.node) (g.N.Reading.remaining c.parts.result) (sym c.kind.ensures ∙ c.in-Doc.is) c.parts.ensures.parts in
     rw (← e) c.append_fields.ensures
 
-pub append_holder-returns-in-Array : goal.append_holder-returns-in-Array
-append_holder-returns-in-Array g t c =
+pub append_long-returns-in-Array : goal.append_long-returns-in-Array
+append_long-returns-in-Array g t c =
     let e = text_of-array (g.N.Reading.tree c.args.node) (g.N.Reading.remaining c.parts-in-Array.result) (sym c.kind.ensures ∙ c.in-Array.is) c.parts-in-Array.ensures.parts in
     rw (← e) c.append_items.ensures
 

@@ -7,8 +7,8 @@ use Rattle.bd_extjson_text.proofs.text.+text.Given as goal
 abbrev pub decreases-append_node : goal.decreases-append_node
 decreases-append_node g l = 3 * tree_size (g.N.Reading.tree l.node) + 2
 
-abbrev pub decreases-append_holder : goal.decreases-append_holder
-decreases-append_holder g l = 3 * tree_size (g.N.Reading.tree l.node) + 1
+abbrev pub decreases-append_long : goal.decreases-append_long
+decreases-append_long g l = 3 * tree_size (g.N.Reading.tree l.node) + 1
 
 abbrev pub decreases-append_scope : goal.decreases-append_scope
 decreases-append_scope g l = 3 * tree_size (g.N.Reading.tree l.node)
