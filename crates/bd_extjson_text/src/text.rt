@@ -101,8 +101,8 @@ fn append_node<N: Reading>(node: N, out: &mut Vec<u8>, end: usize) -> End
     }
 }
 
-/// The same of what holds values, text or bytes, and is no string. It is a function of its own, so that the loops above it keep no node in memory
-/// for the others.
+/// The same of what holds values, text or bytes, and is no string. It is a function of its own, so that the loops above it keep
+/// no node in memory for the others.
 #[cycle(text)]
 #[inline(never)]
 fn append_long<N: Reading>(node: N, out: &mut Vec<u8>, end: usize) -> End
