@@ -185,11 +185,11 @@ fn copy_ends<const N: usize>(text: &[u8], buffer: &mut [u8], end: usize) -> bool
     let Some((first, _)) = text.split_first_chunk::<N>() else {
         unreachable!()
     };
-    let Some((front, last)) = text.split_last_chunk::<N>() else {
+    let Some((prefix, last)) = text.split_last_chunk::<N>() else {
         unreachable!()
     };
     put_known(*first, buffer, end);
-    put_known(*last, buffer, end + front.len());
+    put_known(*last, buffer, end + prefix.len());
     !any_escape(first) && !any_escape(last)
 }
 

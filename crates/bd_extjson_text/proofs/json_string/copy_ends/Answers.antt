@@ -7,11 +7,11 @@ use Rattle.bd_extjson_text.proofs.json_string.copy_ends.Goals as goal
 
 pub returns-then-not-any_escape-clause-copied : goal.returns-then-not-any_escape-clause-copied
 returns-then-not-any_escape-clause-copied g c =
-    let front = c.in-Some.ensures.cases in
-    let back = c.in-Some-split_last_chunk.ensures.cases in
+    let low = c.in-Some.ensures.cases in
+    let high = c.in-Some-split_last_chunk.ensures.cases in
     both_ends c.args.end (length c.args.text.now - g.row.N) g.row.N (c.args.end + length c.args.text.now) c.put_known.result c.put_known-2.result
     c.args.text.now _ _ c.args.buffer.now c.put_known.new.buffer c.put_known-2.new.buffer
-    (omega arith) (omega arith) (omega arith) (omega arith) (omega arith) front.0 back.1 (search rules) (search rules) (search rules) (omega (arith, c.put_known-2.ensures.end, back.2, ap length back.1, length-drop (length c.args.text.now - g.row.N) c.args.text.now))
+    (omega arith) (omega arith) (omega arith) (omega arith) (omega arith) low.0 high.1 (search rules) (search rules) (search rules) (omega (arith, c.put_known-2.ensures.end, high.2, ap length high.1, length-drop (length c.args.text.now - g.row.N) c.args.text.now))
 
 pub returns-then-not-any_escape-clause-plain : goal.returns-then-not-any_escape-clause-plain
 returns-then-not-any_escape-clause-plain g c plain =
@@ -22,8 +22,8 @@ returns-then-not-any_escape-clause-plain g c plain =
 
 pub returns-else-not-any_escape-clause-copied : goal.returns-else-not-any_escape-clause-copied
 returns-else-not-any_escape-clause-copied g c =
-    let front = c.in-Some.ensures.cases in
-    let back = c.in-Some-split_last_chunk.ensures.cases in
+    let low = c.in-Some.ensures.cases in
+    let high = c.in-Some-split_last_chunk.ensures.cases in
     both_ends c.args.end (length c.args.text.now - g.row.N) g.row.N (c.args.end + length c.args.text.now) c.put_known.result c.put_known-2.result
     c.args.text.now _ _ c.args.buffer.now c.put_known.new.buffer c.put_known-2.new.buffer
-    (omega arith) (omega arith) (omega arith) (omega arith) (omega arith) front.0 back.1 (search rules) (search rules) (search rules) (omega (arith, c.put_known-2.ensures.end, back.2, ap length back.1, length-drop (length c.args.text.now - g.row.N) c.args.text.now))
+    (omega arith) (omega arith) (omega arith) (omega arith) (omega arith) low.0 high.1 (search rules) (search rules) (search rules) (omega (arith, c.put_known-2.ensures.end, high.2, ap length high.1, length-drop (length c.args.text.now - g.row.N) c.args.text.now))
