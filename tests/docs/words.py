@@ -33,8 +33,7 @@ WORDS = {
     "held": ("buffered, contents, node_tree", "bd_bson_stream bd_bson_tests bd_cli_args bd_wide_args"),
     # An operator of a filter, and what is said of a value of the JSON kit, holds or does not.
     "hold holds": ("contains, buffers", "bd_query bd_query_filter bd_index_bounds bd_wide_order bd_extjson bd_cursor_request"),
-    # A lemma of the kit.
-    "told tells tell untold": ("reports, reported, explain", "tells_digits"),
+    "told tells tell untold": ("reports, reported, explain", ""),
     "shown shows show": ("output, prints", ""),
     "stands stand": ("meaning, is_at", ""),
     # An index is walked.

@@ -1,10 +1,11 @@
 -- Canonical text, read from its start.
 use Rattle.std.proofs.Common.{◌-◌, ◌≡◌, ◌<◌, ◌≤◌, ℕ, suc, ℤ, List, [], ◌∷◌, ◌++◌, eqb, get_or, Bor, length, take, drop, Bool, true, false, cond, Option, Some, None, refl}
 use Rattle.std.proofs.Common.{sym, ap, ap₂, ◌∙◌, arith, append_assoc, append-nil, length-append, take-append-drop, Result, Ok, Err, is_ok, zero, ◌^◌, pos, neg_ℤ, decimal}
-use Rattle.std.proofs.Common.{inl, inr, ◌+◌, ◌*◌, ltb, not, bit_or, map, replicate}
-use Rattle.std.specs.Prelude.{codes, ◌||◌, ◌==◌, ◌/◌, ◌%◌, nat_lt, IfSome, IsUtf8, OnOk}
-use Rattle.std.specs.{List.list_any, List.join_with_byte, List.prefix_len, Char.digit_char, Char.is_ascii_digit, Str.all_ascii_digits, Str.bytes_eq}
-use Rattle.std.specs.{Fmt.signed_decimal, Bool.then_some, Result.result_ok, Result.is_err, Str.Parse.digits_value}
+use Rattle.std.proofs.Common.{inl, inr, ◌+◌, ◌*◌, not}
+use Rattle.std.specs.Prelude.{codes, ◌||◌, ◌==◌, ◌/◌, ◌%◌, nat_lt, slice_range, IfSome, IsUtf8, OnOk}
+use Rattle.std.specs.{List.list_any, List.join_with_byte, List.prefix_len, Char.digit_char, Char.is_ascii_digit, Str.bytes_eq}
+use Rattle.std.specs.{Fmt.signed_decimal, Bool.then_some, Result.result_ok, Result.is_err, Str.Parse.digits_value, Str.Parse.AllDigits}
+use Rattle.core.proofs.dec2flt.Rows.{AllDigits-digits_len, short_fits}
 use Rattle.base64.specs.{Engines.standard, GeneralPurpose.encode_of}
 use Rattle.bd_value.specs.{Limits.longest_document, Limits.most_levels, Tree.fields_depth, Tree.items_depth}
 use Rattle.bd_value.specs.Fits.{has_zero, zero_in_scalar, zero_in, zero_in_fields, zero_in_items}
@@ -17,9 +18,9 @@ use Rattle.std.specs.Result.{result_ok}
 use Rattle.bd_extjson_wrapper.specs.Wrapper.{wrapper_of}
 use Rattle.bd_extjson.specs.{Laws.IsPlainFirst, Laws.ArePlainFields, Laws.ArePlainItems, Read.ReadsAs}
 use Rattle.bd_extjson_text.specs.Text.{needs_escape, escape_byte, escaped, quoted, hex_text, base64_text, scalar_text, member, text, items_text, fields_text}
-use Rattle.std.proofs.{lemmas.Bool.or_parts, lemmas.Bool.or_from, lemmas.Bool.and_parts, lemmas.Bool.cases_lt, lemmas.List.Sums.prefix_len-le-length}
-use Rattle.std.proofs.{lemmas.Bool.Decides.nat_tests, lemmas.Grind.flat_map-append, lemmas.Str.digit_value_digit}
-use Rattle.std.proofs.{lemmas.Int.Digits.digits_value_more, lemmas.List.length-take-le, lemmas.List.get_or-take, lemmas.List.length-map}
+use Rattle.std.proofs.{lemmas.Bool.or_parts, lemmas.Bool.or_from, lemmas.Bool.cases_lt}
+use Rattle.std.proofs.{lemmas.Bool.Decides.nat_tests, lemmas.Grind.flat_map-append}
+use Rattle.std.proofs.{lemmas.List.length-take-le, lemmas.List.get_or-take}
 use Rattle.std.proofs.{lemmas.Fmt.decimal-digits_value, lemmas.Fmt.decimal_is_IsNumeral, lemmas.Slice.Eq.bytes_eq-Decides}
 use Rattle.bd_extjson_text.proofs.JsonStringLemmas.{escaped-plain, escaped-digits, IsQuiet}
 use Rattle.bd_extjson.proofs.ReadBackLemmas.{document_back}
@@ -28,9 +29,6 @@ use Rattle.bd_extjson_pack.specs.inside.Packable.{IsCanonical, AreCanonical, Are
 use Rattle.hex.specs.{Hex.encode_lower, Hex.decode_sized, declared.FromHexError.FromHexError}
 use Rattle.hex.proofs.HexLemmas.{decode_of-ok, decode_sized-ok, decode_sized-twice}
 use Rattle.bd_extjson_wrapper.proofs.WholeNumberLemmas.{digits_model}
-use Rattle.std.proofs.lemmas.Simd.{length-chunk, trailing_mask_l, mask_l-mod, zip2_splat, zip2_of_maps, map-map, run_in_chunk_fails, none_from_empty_mask}
-use lib.Count.{count_trailing_zeros}
-use lib.Lanes.{zip2, chunk, mask_l, top}
 
 -- ---- strings
 
@@ -308,7 +306,7 @@ digits_read text rest bytes n count same within run few is some lead remaining =
       | inl more ↦ absurd (lead more (sym first ∙ e))
       | inr single ↦ omega (arith, long)
     ] in
-    let back = decimal-digits_value (numerals_by_value (AllDigits 10) tells_digits) d all (omega (arith, long)) alone small in
+    let back = decimal-digits_value digits_model d (digits_model.from d all) (omega (arith, long)) alone small in
     (sym (take-append-drop count text) ∙ ap₂ (λ (x y : List ℕ). x ++ y) (ap (take count) (sym same) ∙ sym back ∙ ap decimal value) (sym remaining), omega (arith, value, small))
 
 escaped-decimal : (n : ℕ) → n < 2 ^ 64 → escaped (decimal n) ≡ decimal n
