@@ -1,4 +1,4 @@
-use Rattle.std.proofs.Common.{rules, refl}
+use Rattle.std.proofs.Common.{rules}
 use Rattle.bd_bson_write.proofs.WritingLemmas.{are_names}
 use Rattle.bd_bson_write.proofs.writing.write_scalar.Goals as goal
 
@@ -6,4 +6,4 @@ pub returns-in_ok-write_name-in-Regex-2-clause-spells : goal.returns-in_ok-write
 returns-in_ok-write_name-in-Regex-2-clause-spells c =
     let r = c.in-Regex in
     let n = are_names r.pattern.now r.options.now (search rules) (search rules) (rw r.is at c.requires) in
-    rw r.is (n.0, n.1, refl)
+    rw r.is n
