@@ -4,13 +4,27 @@ use Rattle.std.proofs.Props.{props}
 use Rattle.std.specs.Prelude.{◌≡◌, ℕ, List, [], ◌∷◌, Bool}
 use Rattle.std.specs.{Coded.Coded-set, Coded.coded_ℕ, List.All, List.AllZip}
 use mathlib.Core.HLevel.{is_prop→PathP}
-use Rattle.bd_value.specs.Tree.{Tree}
-use Rattle.bd_bson_view.specs.{Sound.IsAt, Sound.IsAt-prop, Sound.one_is_at, Sound.meaning}
-use Rattle.bd_bson_view.specs.{declared.raw.RawValue.RawValue}
+use Rattle.bd_bson_view.specs.{Raw.value_source, Raw.value_tree, Sound.IsAt, Sound.IsAt-prop, Sound.one_is_at}
 use Rattle.bd_bson_dump.specs.{Collection.bytes_of, Collection.documents, declared.collection.Dump.Dump}
-use Rattle.bd_path.specs.{PathNames.names_of, Reach.Names}
+use Rattle.bd_path.specs.{PathNames.names_of, Reach.Names, declared.path.Path.Path}
 use Rattle.bd_index.specs.Entries.{AreEntries, KeyAt, is_multikey}
 use Rattle.bd_index.specs.{declared.entry.Entry.Entry, declared.entry.FoundKey.FoundKey, declared.index.Index.Index}
+
+-- the path that an index was built on
+abbrev pub index_path : Index → Path
+index_path index = index.path
+
+-- the names of the path that an index was built on
+abbrev pub index_names : Index → Names
+index_names index = names_of index.path
+
+-- whether an index was built without entries for missing fields
+abbrev pub index_is_sparse : Index → Bool
+index_is_sparse index = index.sparse
+
+-- what an index says of whether some document has two keys
+abbrev pub index_is_multikey : Index → Bool
+index_is_multikey index = index.multikey
 
 -- The entry in memory is this one: its key begins in the bytes where it says,
 -- and it has the same document number.
@@ -29,8 +43,8 @@ pub record KeepsDump (sparse : Bool) (path : Names) (dump : Dump) (stored : List
 
 -- The index in memory has the entries of this dump's documents, and says rightly whether it is multikey.
 pub record IsIndexOf (dump : Dump) (index : Index) : Type 0 where
-  pub keeps : KeepsDump index.sparse (names_of index.path) dump index.entries.items
-  pub many : index.multikey ≡ is_multikey (names_of index.path) (documents dump)
+  pub keeps : KeepsDump (index_is_sparse index) (index_names index) dump index.entries.items
+  pub many : index_is_multikey index ≡ is_multikey (index_names index) (documents dump)
 
 -- ---- there is one proof of it at most, so that a ghost field may hold it
 
@@ -77,18 +91,10 @@ AreIndexesOf dump indexes = All (IsIndexOf dump) indexes
 pub AreIndexesOf-prop : (dump : Dump) (indexes : List Index) → IsProp (AreIndexesOf dump indexes)
 AreIndexesOf-prop dump indexes = hlevel IsIndexOf-prop
 
--- the value that a view into the bytes of a dump stands for
-abbrev pub raw_tree : RawValue → Tree
-raw_tree v = meaning v.sound
-
--- the bytes that a view is into
-abbrev pub raw_source : RawValue → List ℕ
-raw_source v = v.bytes.now
-
 -- the entry that was found: the value of its key, and its document number
 abbrev pub found_entry : FoundKey → KeyAt
-found_entry f = (meaning f.key.sound, f.place)
+found_entry f = (value_tree f.key, f.place)
 
 -- The key that was found is a view into these bytes.
 abbrev pub IsFoundIn : List ℕ → FoundKey → Type 0
-IsFoundIn bytes f = f.key.bytes.now ≡ bytes
+IsFoundIn bytes f = value_source f.key ≡ bytes
