@@ -6,9 +6,25 @@ use Rattle.std.specs.{Coded.Coded-set, Coded.coded_ℕ, List.All, List.AllZip}
 use mathlib.Core.HLevel.{is_prop→PathP}
 use Rattle.bd_bson_view.specs.{Sound.IsAt, Sound.IsAt-prop, Sound.one_is_at}
 use Rattle.bd_bson_dump.specs.{Collection.bytes_of, Collection.documents, declared.collection.Dump.Dump}
-use Rattle.bd_path.specs.{PathNames.names_of, Reach.Names}
+use Rattle.bd_path.specs.{PathNames.names_of, Reach.Names, declared.path.Path.Path}
 use Rattle.bd_index.specs.Entries.{AreEntries, KeyAt, is_multikey}
 use Rattle.bd_index.specs.{declared.entry.Entry.Entry, declared.index.Index.Index}
+
+-- the path that an index was built on
+abbrev pub index_path : Index → Path
+index_path index = index.path
+
+-- the names of the path that an index was built on
+abbrev pub index_names : Index → Names
+index_names index = names_of index.path
+
+-- whether an index was built without entries for missing fields
+abbrev pub index_is_sparse : Index → Bool
+index_is_sparse index = index.sparse
+
+-- what an index says of whether some document has two keys
+abbrev pub index_is_multikey : Index → Bool
+index_is_multikey index = index.multikey
 
 -- The entry in memory is this one: its key is in the bytes at its offset,
 -- and it has the same document number.
@@ -27,8 +43,8 @@ pub record KeepsDump (sparse : Bool) (path : Names) (dump : Dump) (stored : List
 
 -- The index in memory has the entries of this dump's documents, and its multikey flag is right.
 pub record IsIndexOf (dump : Dump) (index : Index) : Type 0 where
-  pub keeps : KeepsDump index.sparse (names_of index.path) dump index.entries.items
-  pub many : index.multikey ≡ is_multikey (names_of index.path) (documents dump)
+  pub keeps : KeepsDump (index_is_sparse index) (index_names index) dump index.entries.items
+  pub many : index_is_multikey index ≡ is_multikey (index_names index) (documents dump)
 
 -- ---- there is at most one proof of it, so a ghost field may contain it
 

@@ -1,7 +1,7 @@
 //! The entries of an index, as it stores them and as they were found.
 
 ghost use Rattle.std.specs.Prelude.{◌≡◌};
-ghost use Rattle.bd_bson_view.specs.Sound.{meaning};
+ghost use Rattle.bd_bson_view.specs.Raw.{value_tree};
 ghost use Rattle.bd_index_prefix.specs.Prefix.{prefix_of};
 
 use bd_bson_view::{At, RawValue};
@@ -21,5 +21,5 @@ pub(crate) struct FoundKey<'a> {
     pub key: RawValue<'a>,
     pub place: u32,
     pub prefix: Prefix,
-    ghost prefixed: { prefix ≡ prefix_of (meaning key.sound) },
+    ghost prefixed: { prefix ≡ prefix_of (value_tree key) },
 }

@@ -3,15 +3,15 @@
 ghost use Rattle.std.specs.Prelude.{◌≡◌, ◌++◌, List, ℕ, Bool, true, false, not, map, length, nat_lt, count_by, IfOk, OnOk};
 ghost use Rattle.std.specs.List.{All, list_any};
 ghost use Rattle.bd_value.specs.Order.{equal};
-ghost use Rattle.bd_bson_view.specs.Sound.{meaning};
+ghost use Rattle.bd_bson_view.specs.Raw.{value_source, value_tree};
 ghost use Rattle.bd_bson_dump.specs.Collection.{bytes_of, documents};
 ghost use Rattle.bd_bson_dump.specs.declared.collection.Dump.{Dump};
 ghost use Rattle.bd_path.specs.Key.{AreKeysOf, IsKeyOf, distinct, key_tree, key_trees};
 ghost use Rattle.bd_path.specs.PathNames.{names_of};
 ghost use Rattle.bd_index.specs.Entries.{KeyAt, entries_of, entry_cmp, is_multikey, keys_at};
 ghost use Rattle.bd_index.specs.inside.Entries.{is_same_entry};
-ghost use Rattle.bd_index.specs.IndexView.{IsIndexOf, KeepsDump, KeepsEntries};
-ghost use Rattle.bd_index.specs.inside.IndexView.{IsFoundIn, found_entry, raw_source, raw_tree};
+ghost use Rattle.bd_index.specs.IndexView.{IsIndexOf, KeepsDump, KeepsEntries, index_is_sparse, index_names, index_path};
+ghost use Rattle.bd_index.specs.inside.IndexView.{IsFoundIn, found_entry};
 
 use crate::entry::{Entry, FoundKey};
 use bd_bson_dump::Dump;
@@ -36,8 +36,8 @@ impl Index {
     /// The index of a dump on a path: an entry for each key of each document. It fails only if memory runs out.
     pub fn build(alloc: Global, dump: &Dump, path: Path) -> Result<Index, NoMemory>
         ensures index { IfOk result (λ index. IsIndexOf dump.now index) }
-        ensures path { IfOk result (λ index. index.path ≡ path) }
-        ensures sparse { IfOk result (λ index. index.sparse ≡ false) }
+        ensures path { IfOk result (λ index. index_path index ≡ path) }
+        ensures sparse { IfOk result (λ index. index_is_sparse index ≡ false) }
     {
         let entries = entries_of(alloc, dump, &path, false)?;
         // Each document has a key.
@@ -53,8 +53,8 @@ impl Index {
     /// The same without an entry for a missing field. It is multikey if the other would be. It fails only if memory runs out.
     pub fn build_sparse(alloc: Global, dump: &Dump, path: Path) -> Result<Index, NoMemory>
         ensures index { IfOk result (λ index. IsIndexOf dump.now index) }
-        ensures path { IfOk result (λ index. index.path ≡ path) }
-        ensures sparse { IfOk result (λ index. index.sparse ≡ true) }
+        ensures path { IfOk result (λ index. index_path index ≡ path) }
+        ensures sparse { IfOk result (λ index. index_is_sparse index ≡ true) }
     {
         let entries = entries_of(alloc, dump, &path, true)?;
         let multikey = has_several(alloc, dump, &path)?;
@@ -68,7 +68,7 @@ impl Index {
 
     /// The path that it was built on. It takes no memory.
     pub fn path(&self) -> &Path
-        ensures { result.now ≡ self.now.path }
+        ensures { result.now ≡ index_path self.now }
     {
         &self.path
     }
@@ -76,14 +76,14 @@ impl Index {
     /// Whether some document has two keys, those for missing fields included. It takes no memory.
     pub fn multikey(&self) -> bool
         ensures { (dump : Dump) → IsIndexOf dump self.now →
-            result ≡ is_multikey (names_of self.now.path) (documents dump) }
+            result ≡ is_multikey (index_names self.now) (documents dump) }
     {
         self.multikey
     }
 
     /// Whether it was built without entries for missing fields. It takes no memory.
     pub fn sparse(&self) -> bool
-        ensures { result ≡ self.now.sparse }
+        ensures { result ≡ index_is_sparse self.now }
     {
         self.sparse
     }
@@ -91,7 +91,8 @@ impl Index {
     /// The number of entries. It takes no memory.
     pub fn entries(&self) -> u64
         ensures { (dump : Dump) → IsIndexOf dump self.now →
-            result ≡ length (entries_of self.now.sparse (names_of self.now.path) (documents dump)) }
+            result ≡ length
+            (entries_of (index_is_sparse self.now) (index_names self.now) (documents dump)) }
     {
         self.entries.len() as u64
     }
@@ -139,11 +140,11 @@ fn add_document<'a>(
     document_keys: &mut Vec<FoundKey<'a>>,
     found: &mut Vec<FoundKey<'a>>,
 ) -> Result<(), NoMemory>
-    requires { AreKeysOf raw_source (bytes_of dump.now) keys.items }
+    requires { AreKeysOf value_source (bytes_of dump.now) keys.items }
     ensures added { OnOk result ((test : KeyAt → Bool) →
         count_by test (map found_entry found.new.items)
         ≡ count_by test (map found_entry found.old.items
-        ++ keys_at place (distinct (key_trees raw_tree keys.entry.items)))) }
+        ++ keys_at place (distinct (key_trees value_tree keys.entry.items)))) }
     ensures found_in { OnOk result (All (IsFoundIn (bytes_of dump.now)) found.old.items →
         All (IsFoundIn (bytes_of dump.now)) found.new.items) }
 {
@@ -163,9 +164,9 @@ fn add_found<'a>(
     place: u32,
     found: &mut Vec<FoundKey<'a>>,
 ) -> Result<(), NoMemory>
-    requires { AreKeysOf raw_source (bytes_of dump.now) keys.now }
+    requires { AreKeysOf value_source (bytes_of dump.now) keys.now }
     ensures added { OnOk result (map found_entry found.new.items
-        ≡ map found_entry found.old.items ++ keys_at place (key_trees raw_tree keys.now)) }
+        ≡ map found_entry found.old.items ++ keys_at place (key_trees value_tree keys.now)) }
     ensures found_in { All (IsFoundIn (bytes_of dump.now)) found.old.items →
         All (IsFoundIn (bytes_of dump.now)) found.new.items }
 {
@@ -179,9 +180,9 @@ fn add_found<'a>(
 
 /// The key as a value of the dump. A missing one takes no byte, so it is anywhere.
 fn in_dump<'a>(dump: &'a Dump, key: Key<RawValue<'a>>) -> RawValue<'a>
-    requires { IsKeyOf raw_source (bytes_of dump.now) key }
-    ensures tree { meaning result.sound ≡ key_tree raw_tree key.entry }
-    ensures same_source { result.bytes.now ≡ bytes_of dump.now }
+    requires { IsKeyOf value_source (bytes_of dump.now) key }
+    ensures tree { value_tree result ≡ key_tree value_tree key.entry }
+    ensures same_source { value_source result ≡ bytes_of dump.now }
 {
     match key {
         Key::Node(value) => value,

@@ -3,14 +3,13 @@
 ghost use Rattle.std.specs.Prelude.{◌≡◌, ◌++◌, ◌<◌, ◌≤◌, ◌||◌, ℕ, true, false, not, map, length, slice_index_or, slice_range, IfOk, OnOk};
 ghost use Rattle.std.specs.List.{All};
 ghost use Rattle.std.specs.List.Sorted.{IsPartitionPoint};
-ghost use Rattle.bd_bson_view.specs.Sound.{meaning};
+ghost use Rattle.bd_bson_view.specs.Raw.{value_source, value_tree};
 ghost use Rattle.bd_bson_dump.specs.Collection.{bytes_of, documents};
-ghost use Rattle.bd_path.specs.PathNames.{names_of};
 ghost use Rattle.bd_index_bounds.specs.Bounds.{intersection, is_among, union};
 ghost use Rattle.bd_index_bounds.specs.BoundsView.{keys_between, keys_within, is_before};
 ghost use Rattle.bd_index.specs.Entries.{KeyAt};
 ghost use Rattle.bd_index.specs.inside.Entries.{IsRun};
-ghost use Rattle.bd_index.specs.IndexView.{IsIndexOf};
+ghost use Rattle.bd_index.specs.IndexView.{IsIndexOf, index_is_sparse, index_names};
 ghost use Rattle.bd_index.specs.Places.{AreWithin, lent_bounds};
 ghost use Rattle.bd_index.specs.inside.Places.{AreInOrder, CoverKeys, is_covered, is_in_span, pieces};
 
@@ -40,7 +39,7 @@ impl Index {
         bounds: Option<&Bounds<'_>>,
     ) -> Result<Places, NoMemory>
         requires { IsIndexOf dump.now self.now }
-        ensures { IfOk result (λ x. AreWithin self.now.sparse (names_of self.now.path)
+        ensures { IfOk result (λ x. AreWithin (index_is_sparse self.now) (index_names self.now)
             (documents dump.now) (lent_bounds bounds.entry) x.places.items x.entries) }
     {
         let spans = self.spans(alloc, dump, bounds)?;
@@ -201,8 +200,8 @@ impl Index {
         requires indexed { IsIndexOf dump.now self.now }
         requires inside { i < length self.now.entries.items }
         ensures key { (h : IsIndexOf dump.now self.now) (d : KeyAt) →
-            meaning result.sound ≡ (slice_index_or h.keeps.entries i d).0 }
-        ensures same_source { result.bytes.now ≡ bytes_of dump.now }
+            value_tree result ≡ (slice_index_or h.keeps.entries i d).0 }
+        ensures same_source { value_source result ≡ bytes_of dump.now }
     {
         dump.value_at(self.entries[i].key)
     }

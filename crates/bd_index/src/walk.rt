@@ -63,8 +63,7 @@ impl<'a> PlaceSource for Walk<'a> {
 
 impl Index {
     ghost use Rattle.bd_bson_dump.specs.Collection.{documents};
-    ghost use Rattle.bd_path.specs.PathNames.{names_of};
-    ghost use Rattle.bd_index.specs.IndexView.{IsIndexOf};
+    ghost use Rattle.bd_index.specs.IndexView.{IsIndexOf, index_is_sparse, index_names};
     ghost use Rattle.bd_index.specs.Walk.{WalksAll};
     ghost use Rattle.bd_index.specs.WalkRemaining.{walk_remaining};
 
@@ -72,9 +71,9 @@ impl Index {
     /// in file order, in both directions. It fails only if memory runs out.
     pub fn walk<'a>(&'a self, alloc: Global, dump: &'a Dump, dir: Dir) -> Result<Walk<'a>, NoMemory>
         requires index { IsIndexOf dump.now self.now }
-        requires whole { self.now.sparse ≡ false }
+        requires whole { index_is_sparse self.now ≡ false }
         ensures { IfOk result (λ walk.
-            WalksAll dir (names_of self.now.path) (documents dump.now) (walk_remaining walk)) }
+            WalksAll dir (index_names self.now) (documents dump.now) (walk_remaining walk)) }
     {
         let visited = vec![in alloc; false; dump.len() as usize]?;
         let order = match dir {

@@ -4,14 +4,14 @@ use Rattle.std.specs.Prelude.{ℕ, zero, suc, nat_lt, Bool, true, false, not, �
 use Rattle.std.specs.Prelude.{min, Option, Some}
 use Rattle.std.specs.Str.{bytes_eq}
 use Rattle.bd_value.specs.Tree.{leaf_of, scalar_leaf, Leaf, Scalar, Tree, date, int32, int64, object_id, symbol, text}
-use Rattle.bd_bson_view.specs.{Sound.meaning, declared.raw.RawValue.RawValue}
+use Rattle.bd_bson_view.specs.{Raw.value_tree, declared.raw.RawValue.RawValue}
 use Rattle.bd_path.specs.{Key.key_tree, declared.key.Key.Key}
 use Rattle.bd_index_prefix.specs.{declared.prefix.Prefix.Prefix, declared.prefix.TextPrefix.TextPrefix}
 use Rattle.bd_index_prefix.specs.declared.prefix.Prefix.TheVariants as prefixes
 
 -- the value of a key that is a node in the bytes of a dump
 abbrev pub stored_key : Key RawValue → Tree
-stored_key k = key_tree (λ v. meaning v.sound) k
+stored_key k = key_tree value_tree k
 
 -- the first n bytes; if there are fewer, with zeros after them
 unfoldable pub padded : ℕ → List ℕ → List ℕ

@@ -2,9 +2,10 @@ use Rattle.std.proofs.Common.{◌≡◌, Bool, map, rules}
 use Rattle.std.specs.List.{All, dedup}
 use Rattle.std.proofs.{lemmas.Fn.always_returns_same, lemmas.Fn.dedup_same, lemmas.List.Elements.All-append, lemmas.List.Elements.All-nil, lemmas.List.Filters.All-dedup}
 use Rattle.std.proofs.lemmas.List.Sorted.{All-permutation, ranks_by}
+use Rattle.bd_bson_view.specs.Raw.{value_tree}
 use Rattle.bd_bson_dump.specs.Collection.{bytes_of}
 use Rattle.bd_path.specs.Key.{key_trees, distinct}
-use Rattle.bd_index.specs.{Entries.keys_at, inside.IndexView.IsFoundIn, inside.IndexView.found_entry, inside.IndexView.raw_tree, declared.entry.FoundKey.FoundKey}
+use Rattle.bd_index.specs.{Entries.keys_at, inside.IndexView.IsFoundIn, inside.IndexView.found_entry, declared.entry.FoundKey.FoundKey}
 use Rattle.bd_index.proofs.{EntryLemmas.counted_document_keys, EntryLemmas.ascends, EntryLemmas.entry_total, RepeatLemmas.found_lt, RepeatLemmas.document_keys_once, RepeatLemmas.repeats}
 use Rattle.bd_index.proofs.index.add_document.Goals as goal
 
@@ -12,7 +13,7 @@ pub returns-clause-added : goal.returns-clause-added
 returns-clause-added c test =
     let document_keys = c.add_found.new.found.items in
     let sorted = c.sort_by.new.self.items in
-    let ks = key_trees raw_tree c.args.keys.items in
+    let ks = key_trees value_tree c.args.keys.items in
     let lt : FoundKey → FoundKey → Bool = found_lt in
     let weak = ranks_by entry_total found_entry in
     let answers = always_returns_same _ _ _ (λ a r h k. search rules) in
