@@ -16,7 +16,8 @@ use Rattle.bd_cli_files.specs.{Input.StopsInside, Input.StreamsInput, declared.d
 use Rattle.bd_cli_files.specs.{declared.output.Status.Status, declared.output.Status.TheVariants.Failed}
 use Rattle.bd_cli_files.specs.DumpAndCheck.{ChecksInput, ChecksWithinLimit, check_message, check_status, check_output, check_result_line, check_result_lines, WriteFailsAtCheckResult}
 use Rattle.bd_cli_files.specs.inside.DumpAndCheck.{AreVisited, IsTextOf, StopsScan}
-use Rattle.bd_cli_files.specs.DumpAndCheck.{more_visited, none_visited, AreCheckResults, IsOutputOfCheck, IsOutputOfDump}
+use Rattle.bd_cli_files.specs.DumpAndCheck.{AreCheckResults, IsOutputOfCheck, IsOutputOfDump}
+use Rattle.bd_cli_files.specs.inside.DumpAndCheck.{more_visited, none_visited}
 use Rattle.bd_cli_files.specs.inside.DumpAndCheck.{ScansDocuments, check_texts}
 use Rattle.bd_cli_files.specs.Output.{ReportsMessage, error_line, stop_words, Transcript, fault_text, wrong_status}
 use Rattle.bd_cli_files.specs.declared.output.OutputFault.TheVariants.{NoMemory, Unwritten}

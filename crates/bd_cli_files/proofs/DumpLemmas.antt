@@ -12,7 +12,8 @@ use Rattle.bd_bson_check.proofs.DumpLemmas.{joined_append, joined_once, joined_o
 use Rattle.bd_bson_stream.proofs.StreamLemmas.{cut_short_stuck}
 use Rattle.bd_cli_files.specs.{declared.dump_and_check.Ending.Ending, declared.output.OutputFault.OutputFault, declared.output.OutputFault.TheVariants.NoMemory}
 use Rattle.bd_cli_files.specs.{declared.output.OutputFault.TheVariants.Unwritten, declared.output.Status.Status, declared.output.Status.TheVariants.Failed, declared.dump_and_check.DumpScan.DumpScan}
-use Rattle.bd_cli_files.specs.DumpAndCheck.{DumpsInput, IsOutputOfDump, dump_output, objects_found, more_visited, none_visited}
+use Rattle.bd_cli_files.specs.DumpAndCheck.{DumpsInput, IsOutputOfDump, dump_output, objects_found}
+use Rattle.bd_cli_files.specs.inside.DumpAndCheck.{more_visited, none_visited}
 use Rattle.bd_cli_files.specs.inside.DumpAndCheck.{AreVisited, EndsScan, StopsScan, ScansDocuments, dump_texts, ending_words, text_at_end}
 use Rattle.bd_cli_files.specs.Output.{PrintsOutput, ReportsMessage, Transcript, error_line, fault_text, lines, no_memory, refusal_output, wrong_line, wrong_status, stop_words}
 use Rattle.bd_cli_files.proofs.OutputLemmas.{lines-append}

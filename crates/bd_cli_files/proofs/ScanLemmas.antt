@@ -15,7 +15,7 @@ use Rattle.bd_bson_stream.specs.declared.doc_buffer.{DocBuffer.DocBuffer, DocFau
 use Rattle.bd_bson_stream.specs.Stream.{FailsToRead, FindsEnd, IsReason, ReadsDocument, ReadsToFault, buffered_bytes, AreFrames, EndsWithinOne, HasNoFrame, IsFrame, IsWithinOne}
 use Rattle.bd_bson_stream.proofs.StreamLemmas.{cut_short_within, frame_on, frame_within, frames_more}
 use Rattle.bd_cli_files.specs.{Input.ReadsNoFurther, Input.StopsInside, Input.StreamsInput, inside.Output.StopsWriting, declared.dump_and_check.Ending.Ending, declared.output.OutputFault.OutputFault}
-use Rattle.bd_cli_files.specs.DumpAndCheck.{more_visited, none_visited}
+use Rattle.bd_cli_files.specs.inside.DumpAndCheck.{more_visited, none_visited}
 use Rattle.bd_cli_files.specs.inside.DumpAndCheck.{AreVisited, EndsScan, IsTextOf, MeetsFault, StopsScan, Texts, ScansDocuments, text_at_end}
 use Rattle.bd_cli_files.specs.declared.output.OutputFault.TheVariants.{NoMemory, Unwritten}
 use Rattle.bd_io_device.proofs.DevicesLemmas.{write_fails_after, takes_both, takes_none}
