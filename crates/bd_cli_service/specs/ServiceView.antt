@@ -1,8 +1,9 @@
 -- What a session in memory does with a call, and with a line.
-use Rattle.std.specs.Prelude.{◌≡◌, List, ℕ, Result, Ok, Err, string_bytes}
+use Rattle.std.specs.Prelude.{◌≡◌, List, ℕ, Result, Ok, Err}
 use Rattle.std.specs.declared.alloc.AllocError.{AllocError}
 use Rattle.bd_cursor_model.specs.Session.{State, state_after, drop_call, find_call, kill_call, next_call, resume_call}
 use Rattle.bd_bson_dump.specs.{Collection.bytes_of, Collection.documents, declared.collection.Dump.Dump}
+use Rattle.bd_path.specs.PathNames.{path_text}
 use Rattle.bd_cursor.specs.SessionView.{IsRefused, dump_of, state_of, explain_request, hint_of, make_index}
 use Rattle.bd_cursor.specs.SessionView.{positioned_token}
 use Rattle.bd_cursor.specs.declared.session.Session.{Session}
@@ -58,7 +59,7 @@ KeepsState old new = service_state new ≡ service_state old
 -- the call to a session over this dump that one in memory stands for
 abbrev pub session_call : Dump → Call → machine.Call
 session_call dump (calls.CreateIndex path sparse) = make_index sparse dump path
-session_call dump (calls.DropIndex path) = drop_call (string_bytes path.text)
+session_call dump (calls.DropIndex path) = drop_call (path_text path)
 session_call dump (calls.Find request choice) = find_call (query_of dump request) (hint_of choice)
 session_call dump (calls.Resume request choice token) =
     resume_call (query_of dump request) (hint_of choice) (positioned_token token)
