@@ -1,7 +1,7 @@
 //! Values found again by their `At` in a dump, at offsets that were counted by hand, and reads that were counted.
 
 ghost use Rattle.std.specs.Prelude.{◌≡◌, IfSome};
-ghost use Rattle.bd_bson_view.specs.Sound.{meaning};
+ghost use Rattle.bd_bson_view.specs.Raw.{document_source, value_source, value_tree};
 ghost use Rattle.bd_bson_dump.specs.Collection.{bytes_of};
 
 use crate::samples::is_printed;
@@ -48,7 +48,7 @@ fn sample(alloc: Global) -> Result<Dump, Fail> {
 
 /// The document with that number.
 fn document<'a>(rt: &impl Abort, dump: &'a Dump, number: u32) -> RawDoc<'a>
-    ensures { result.bytes.now ≡ bytes_of dump.now }
+    ensures { document_source result ≡ bytes_of dump.now }
 {
     let count = dump.len();
     assert!(rt; number < count);
@@ -57,16 +57,16 @@ fn document<'a>(rt: &impl Abort, dump: &'a Dump, number: u32) -> RawDoc<'a>
 
 /// The value found at the `At` of a value.
 fn again<'a>(dump: &'a Dump, value: RawValue<'_>) -> RawValue<'a>
-    requires { value.bytes.now ≡ bytes_of dump.now }
-    ensures value { meaning result.sound ≡ meaning value.entry.sound }
-    ensures same_source { result.bytes.now ≡ bytes_of dump.now }
+    requires { value_source value ≡ bytes_of dump.now }
+    ensures value { value_tree result ≡ value_tree value.entry }
+    ensures same_source { value_source result ≡ bytes_of dump.now }
 {
     dump.value_at(value.at())
 }
 
 /// The value of that name, or the first value inside it.
 fn value_in<'a>(whole: RawValue<'a>, name: &str, is_inside: bool) -> Option<RawValue<'a>>
-    ensures { IfSome result (λ v. v.bytes.now ≡ whole.entry.bytes.now) }
+    ensures { IfSome result (λ v. value_source v ≡ value_source whole.entry) }
 {
     let value = whole.first(name)?;
     if !is_inside {
@@ -79,7 +79,7 @@ fn value_in<'a>(whole: RawValue<'a>, name: &str, is_inside: bool) -> Option<RawV
 
 /// Whether that value is at its offset, and the value found there is the same.
 fn is_found(alloc: Global, dump: &Dump, whole: RawValue<'_>, row: &Found<'_>) -> bool
-    requires { whole.bytes.now ≡ bytes_of dump.now }
+    requires { value_source whole ≡ bytes_of dump.now }
 {
     let (name, is_inside, kind, start, class, printed) = *row;
     let Some(value) = value_in(whole, name, is_inside) else {

@@ -3,9 +3,8 @@
 
 ghost use Rattle.std.specs.Prelude.{◌≡◌, ◌<◌, ◌≤◌, ◌⊎◌, ◌++◌, [], ◌∷◌, None, Some, decimal, IfErr, IfOk, OnErr, OnOk};
 ghost use Rattle.bd_value.specs.Limits.{longest_input};
-ghost use Rattle.bd_value.specs.Tree.{pairs_in};
 ghost use Rattle.bd_io_device.specs.Devices.{WriteFailsWithin, TakesText, over};
-ghost use Rattle.bd_bson_view.specs.Sound.{meaning};
+ghost use Rattle.bd_bson_view.specs.Raw.{document_pairs};
 ghost use Rattle.bd_bson_check.specs.Fault.{fault_view};
 ghost use Rattle.bd_cli_files.specs.DumpAndCheck.{ChecksInput, DumpsInput};
 ghost use Rattle.bd_cli_files.specs.inside.DumpAndCheck.{MeetsFault, StopsScan, Texts};
@@ -179,7 +178,7 @@ pub(crate) trait Visitor<O: Output> {
 
     /// Receives a document without a fault.
     fn visit(&mut self, document: RawDoc<'_>, out: &mut O) -> Result<(), OutputFault>
-        ensures { Writes (texts.good (pairs_in (meaning document.entry.sound)))
+        ensures { Writes (texts.good (document_pairs document.entry))
             (over O.state out.old out.new) result };
 
     /// Receives the fault of a document, and says whether the scan continues.

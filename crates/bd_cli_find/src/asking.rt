@@ -3,6 +3,7 @@
 ghost use Rattle.std.specs.Prelude.{◌≡◌, ◌≢◌, ◌++◌, IfErr, IfOk, Ok, OnErr, OnOk, option_map, string_bytes, true};
 ghost use Rattle.bd_value.specs.View.{pairs};
 ghost use Rattle.bd_io_device.specs.Devices.{WriteFailsWithin, TakesText, over};
+ghost use Rattle.bd_path.specs.PathNames.{path_text};
 ghost use Rattle.bd_query_filter.specs.Fault.{refusal_of};
 ghost use Rattle.bd_cursor_request.specs.Refused.{reason_of, refused_words, error_as};
 ghost use Rattle.bd_cursor_request.specs.Request.{named_index, request_of, request_view};
@@ -64,7 +65,7 @@ pub(crate) fn read_asking(alloc: Global, options: &FindOptions) -> Result<Asking
         requested_by (find_words_of options.now) ≡ Ok (page_request_of a)) }
     ensures fits { IfOk result (λ a. fits_batch a.size ≡ true) }
     ensures index { IfOk result (λ a.
-        option_map (λ path. string_bytes path.text) a.index ≡ (find_words_of options.now).index) }
+        option_map path_text a.index ≡ (find_words_of options.now).index) }
     ensures fault { IfErr result
         (ReportsAskingFault (requested_by (find_words_of options.now))) }
 {
@@ -84,7 +85,7 @@ fn read_page(
         page_of (find_words_of options.now) (pairs query) (pairs sort) ≡ Ok (page_request_of a)) }
     ensures fits { IfOk result (λ a. fits_batch a.size ≡ true) }
     ensures index { IfOk result (λ a.
-        option_map (λ path. string_bytes path.text) a.index ≡ (find_words_of options.now).index) }
+        option_map path_text a.index ≡ (find_words_of options.now).index) }
     ensures fault { IfErr result (ReportsAskingFault
         (page_of (find_words_of options.now) (pairs query) (pairs sort))) }
 {
@@ -173,7 +174,7 @@ fn check_batch(size: Option<u32>) -> Result<(), AskingFault>
 fn read_index(alloc: Global, text: &Option<String>) -> Result<Option<Path>, AskingFault>
     ensures path { OnOk result (named_index (option_map string_bytes text.now) ≡ Ok tt) }
     ensures text { IfOk result (λ index.
-        option_map (λ path. string_bytes path.text) index ≡ option_map string_bytes text.now) }
+        option_map path_text index ≡ option_map string_bytes text.now) }
     ensures fault { IfErr result (ReportsAskingFault
         (error_as index_fault_text (named_index (option_map string_bytes text.now)))) }
 {

@@ -4,6 +4,7 @@ ghost use Rattle.std.specs.Prelude.{◌≡◌, ◌++◌, ◌<◌, ◌≤◌, ◌
 ghost use Rattle.std.specs.List.{All};
 ghost use Rattle.bd_value.specs.Limits.{greatest_count};
 ghost use Rattle.bd_io_device.specs.Devices.{TakesText, over};
+ghost use Rattle.bd_path.specs.PathNames.{path_text};
 ghost use Rattle.bd_cursor_model.specs.{Session.OpenCursor, Session.cursor_of, Laws.new_state};
 ghost use Rattle.bd_bson_dump.specs.{Collection.bytes_of, Collection.documents, Collection.documents_at};
 ghost use Rattle.bd_cursor_sort.specs.Selection.{query_of};
@@ -78,8 +79,7 @@ fn open_first(alloc: Global, session: &mut Session, asking: Asking) -> Result<u6
 fn choose(alloc: Global, session: &mut Session, index: Option<Path>) -> Result<Choice, Refused>
     requires { state_of session.now ≡ new_state }
     ensures choice { IfOk result (λ choice. AwaitsFirst (state_of session.new) (hint_of choice)) }
-    ensures way { IfOk result (λ choice.
-        way_of choice ≡ index_way (option_map (λ path. string_bytes path.text) index)) }
+    ensures way { IfOk result (λ choice. way_of choice ≡ index_way (option_map path_text index)) }
     ensures fault { IfErr result (λ refused. refused ≡ memory) }
     ensures dump { dump_of session.new ≡ dump_of session.old }
 {

@@ -1,9 +1,9 @@
 //! The session call that a command means.
 
-ghost use Rattle.std.specs.Prelude.{◌≡◌, ◌≢◌, IfErr, IfOk, Ok, OnOk, string_bytes};
+ghost use Rattle.std.specs.Prelude.{◌≡◌, ◌≢◌, IfErr, IfOk, Ok, OnOk};
 ghost use Rattle.bd_bson_dump.specs.Collection.{bytes_of, documents};
 ghost use Rattle.bd_bson_dump.specs.declared.collection.Dump.{Dump};
-ghost use Rattle.bd_path.specs.{Path.path_of, PathNames.names_of};
+ghost use Rattle.bd_path.specs.{Path.path_of, PathNames.names_of, PathNames.path_text};
 ghost use Rattle.bd_cli_command.specs.Command.{command_tree, find_tree, hint_tree};
 ghost use Rattle.bd_cursor.specs.Access.{way_of};
 ghost use Rattle.bd_cli_service.specs.Reply.{path_refusal, session_refusal};
@@ -115,7 +115,7 @@ fn read_choice(alloc: Global, hint: Hint) -> Result<Choice, CallFault>
 /// The path of an index.
 fn read_path(alloc: Global, text: &str) -> Result<Path, CallFault>
     ensures path { IfOk result (λ path. path_of text.now ≡ Ok (names_of path)) }
-    ensures text { IfOk result (λ path. string_bytes path.text ≡ text.now) }
+    ensures text { IfOk result (λ path. path_text path ≡ text.now) }
     ensures fault { IfErr result (RefusesPart (error_as path_refusal (path_of text.now))) }
 {
     match Path::parse(alloc, text) {

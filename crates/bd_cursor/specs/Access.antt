@@ -5,12 +5,12 @@ use Rattle.std.specs.Prelude.{◌≡◌}
 use Rattle.std.specs.{Str.bytes_eq, Cmp.Lexicographic.pointwise}
 use Rattle.bd_value.specs.Tree.{Doc, leaf}
 use Rattle.bd_cursor_model.specs.Session.{IndexKey, is_on}
-use Rattle.bd_path.specs.{Sort.SortPath, Reach.Names, Path.components_of, declared.sort.Dir.Dir, PathNames.names_of}
-use Rattle.bd_path.specs.{PathNames.path_text}
+use Rattle.bd_path.specs.{Sort.SortPath, Reach.Names, Path.components_of, declared.sort.Dir.Dir, PathNames.path_text}
 use Rattle.bd_path.specs.{Sort.sort_paths}
 use Rattle.bd_query_filter.specs.{Filter.Filter, Filter.filter_tree}
 use Rattle.bd_index_bounds.specs.{Bounds.KeyBounds, Bounds.bounds, BoundsView.bounds_view}
-use Rattle.bd_index.specs.{Entries.is_multikey, IndexView.IsIndexOf, declared.index.Index.Index}
+use Rattle.bd_index.specs.{Entries.is_multikey, declared.index.Index.Index}
+use Rattle.bd_index.specs.IndexView.{IsIndexOf, index_is_multikey, index_is_sparse, index_names, index_path}
 use Rattle.bd_cursor.specs.{declared.access.Choice.Choice, declared.access.Access.Access}
 use Rattle.bd_bson_dump.specs.declared.collection.Dump.{Dump}
 use Rattle.bd_cursor_request.specs.declared.request.Request.{Request}
@@ -39,7 +39,7 @@ pub data AccessPath : Type 0 where
 
 -- the path of an index in memory, and whether the index is sparse
 abbrev pub index_key : Index → IndexKey
-index_key i = record { path = path_text i.path; is_sparse = i.sparse }
+index_key i = record { path = path_text (index_path i); is_sparse = index_is_sparse i }
 
 -- the names in the path of an index
 abbrev pub index_key_names : IndexKey → Names
@@ -118,13 +118,14 @@ ServesFilter f path multikey sparse (Some keys) =
 -- The index is of this dump, and each document that matches the request has an entry inside the bounds.
 pub record HasMatchesWithin (dump : Dump) (r : Request) (index : Index) (keys : KeyBounds) : Type 0 where
   pub of_dump : IsIndexOf dump index
-  pub serves : ServesFilter (filter_tree r.filter) (names_of index.path) index.multikey index.sparse keys
+  pub serves : ServesFilter (filter_tree r.filter) (index_names index) (index_is_multikey index)
+      (index_is_sparse index) keys
 
 -- The index is of this dump, is not sparse, and has the order of the request's sort.
 pub record HasSortOrder (dump : Dump) (r : Request) (index : Index) (dir : Dir) : Type 0 where
   pub of_dump : IsIndexOf dump index
-  pub whole : index.sparse ≡ false
-  pub order : sort_paths r.sort.items ≡ record { path = names_of index.path; dir = dir } ∷ []
+  pub whole : index_is_sparse index ≡ false
+  pub order : sort_paths r.sort.items ≡ record { path = index_names index; dir = dir } ∷ []
 
 -- The access path in memory leads to all documents that match the request.
 abbrev pub IsAccessOf : Dump → Request → Access → Type 0

@@ -5,7 +5,7 @@ ghost use Rattle.bd_value.specs.View.{kind_of};
 ghost use Rattle.bd_value.specs.declared.node.Kind.TheVariants as kinds;
 ghost use Rattle.bd_value.specs.Order.{cmp};
 ghost use Rattle.bd_value.specs.Tree.{Tree};
-ghost use Rattle.bd_bson_view.specs.Sound.{meaning};
+ghost use Rattle.bd_bson_view.specs.Raw.{value_tree};
 ghost use Rattle.bd_bson_dump.specs.Collection.{documents, document_at};
 ghost use Rattle.bd_index_prefix.specs.Prefix.{prefix_of, stored_key};
 ghost use Rattle.bd_path.specs.Sort.{dir_cmp, sort_key};
@@ -53,7 +53,7 @@ impl<'d> SortKey<'d> {
 }
 
 fn key_of<'d>(document: RawValue<'d>, path: &Path, dir: Dir) -> Key<RawValue<'d>>
-    ensures { stored_key result ≡ sort_key dir (meaning document.entry.sound) (names_of path.now) }
+    ensures { stored_key result ≡ sort_key dir (value_tree document.entry) (names_of path.now) }
 {
     match plain_key(document, path) {
         Some(key) => key,
@@ -64,7 +64,7 @@ fn key_of<'d>(document: RawValue<'d>, path: &Path, dir: Dir) -> Key<RawValue<'d>
 /// The key on a path that meets no array: the one value that it leads to, or null.
 fn plain_key<'d>(document: RawValue<'d>, path: &Path) -> Option<Key<RawValue<'d>>>
     ensures { IfSome result (λ k.
-        all_keys false (meaning document.entry.sound) (names_of path.now) ≡ stored_key k ∷ []) }
+        all_keys false (value_tree document.entry) (names_of path.now) ≡ stored_key k ∷ []) }
 {
     let mut value = document;
     for i in 0..path.len() {
@@ -79,7 +79,7 @@ fn plain_key<'d>(document: RawValue<'d>, path: &Path) -> Option<Key<RawValue<'d>
 /// A key, unless a value is an array.
 fn unless_array<'d>(value: RawValue<'d>, key: Key<RawValue<'d>>) -> Option<Key<RawValue<'d>>>
     ensures { IfSome result (λ k. (k ≡ key.entry)
-        × (kind_of (meaning value.entry.sound) ≢ kinds.Array)) }
+        × (kind_of (value_tree value.entry) ≢ kinds.Array)) }
 {
     match value.kind() {
         Kind::Array => None,

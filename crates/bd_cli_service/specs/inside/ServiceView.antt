@@ -1,10 +1,11 @@
 -- How a call, and a line, changes a session in memory.
-use Rattle.std.specs.Prelude.{◌≡◌, Result, Ok, Err, string_bytes}
+use Rattle.std.specs.Prelude.{◌≡◌, Result, Ok, Err}
 use Rattle.std.specs.declared.alloc.AllocError.{AllocError}
 use Rattle.bd_cursor_model.specs.Session.{state_after, drop_call, find_call, kill_call, next_call, resume_call}
 use Rattle.bd_bson_dump.specs.{Collection.documents, declared.collection.Dump.Dump}
 use Rattle.bd_cursor.specs.SessionView.{IsRefused, dump_of, state_of, explain_request, hint_of, make_index}
 use Rattle.bd_cursor.specs.SessionView.{positioned_token}
+use Rattle.bd_path.specs.PathNames.{path_text}
 use Rattle.bd_cursor.specs.declared.session.Session.{Session}
 use Rattle.bd_cli_command.specs.Command.{Command, gets_more, kills_cursor, resumes}
 use Rattle.bd_cursor_request.specs.{Request.token_part, declared.results.Refused.Refused, declared.token.Token.Token}
@@ -37,7 +38,7 @@ IsPerformed call old (Err e) new = IsRefused reasons.NoMemory call old new
 -- the call to a session over this dump that a `Call` in memory represents
 abbrev pub session_call : Dump → Call → machine.Call
 session_call dump (calls.CreateIndex path sparse) = make_index sparse dump path
-session_call dump (calls.DropIndex path) = drop_call (string_bytes path.text)
+session_call dump (calls.DropIndex path) = drop_call (path_text path)
 session_call dump (calls.Find request choice) = find_call (query_of dump request) (hint_of choice)
 session_call dump (calls.Resume request choice token) =
     resume_call (query_of dump request) (hint_of choice) (positioned_token token)
