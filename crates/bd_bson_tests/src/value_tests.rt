@@ -18,11 +18,11 @@ fn dates(alloc: Global) -> Result<Document, NoMemory> {
 }
 
 /// Whether the pair at an index is this name with this date.
-fn has_date(document: &Document, offset: usize, name: &str, date: i64) -> bool {
-    if offset >= document.len() {
+fn has_date(document: &Document, index: usize, name: &str, date: i64) -> bool {
+    if index >= document.len() {
         return false;
     }
-    let (found, value) = document.pair(offset);
+    let (found, value) = document.pair(index);
     found == name && matches!(value, Value::Date(it) if *it == date)
 }
 
@@ -33,8 +33,8 @@ fn keeps_pairs_in_their_order(rt: HostRuntime) -> Result<(), Fail> {
     assert!(rt; Document::new(rt.alloc()).is_empty());
     let document = dates(rt.alloc())?;
     assert!(rt; !document.is_empty() && document.len() == 4);
-    for (offset, (name, date)) in DATES.iter().enumerate() {
-        assert!(rt; has_date(&document, offset, name, *date), "at {place}");
+    for (index, (name, date)) in DATES.iter().enumerate() {
+        assert!(rt; has_date(&document, index, name, *date), "at {index}");
     }
     assert!(rt; matches!(document.first("b"), Some(Value::Date(0))));
     assert!(rt; document.first("c").is_none());
