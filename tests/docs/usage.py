@@ -66,10 +66,10 @@ def main() -> int:
     tests = Tests()
     for program in PROGRAMS:
         usage = [*lines_of_usage(program), "--help"]
-        page = (ROOT / f"docs/{program}.1").read_text(encoding="utf-8")
+        page = (ROOT / f"man/{program}.1").read_text(encoding="utf-8")
         tests.want(f"the synopsis of {program}", lines_of_synopsis(page) == usage, lines_of_synopsis(page))
         for what, words in {
-            f"the entries of docs/{program}.1": words_of_entries(page),
+            f"the entries of man/{program}.1": words_of_entries(page),
             **{f"completions/{name.format(program)}": words_of_completion(program, name) for name in COMPLETIONS},
         }.items():
             tests.want(f"{what} and the usage", words == words_of(usage), words ^ words_of(usage))
