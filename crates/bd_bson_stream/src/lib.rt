@@ -13,7 +13,7 @@
 //! let mut documents = DocBuffer::new(alloc, limits);
 //! let is_there = documents.read_next(&mut input)?;
 //! assert!(rt; is_there && documents.bytes() == b"\x05\0\0\0\0".as_slice());
-//! assert!(rt; documents.place() == 5 && documents.number() == 1);
+//! assert!(rt; documents.offset() == 5 && documents.number() == 1);
 //! ```
 //!
 //! - `doc_buffer`: `DocBuffer`, the next document of a device that is lent for the call.
