@@ -1,1 +1,1 @@
-pub mod RunsLemmas
+pub mod ServeLemmas

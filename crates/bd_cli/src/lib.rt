@@ -18,13 +18,14 @@
 //! assert!(rt; err.bytes() == b"1 documents, 0 faulty\n".as_slice());
 //! ```
 //!
-//! - `runs`: `run` and `report`, and the command `serve`. `bd_cli_files` has `dump`, `check` and `pack`, and
-//!   `bd_cli_find` has `find`.
+//! - `runs`: `run` and `report`.
+//! - `serve`: the command `serve`. `bd_cli_files` has `dump`, `check` and `pack`, and `bd_cli_find` has `find`.
 //! - `laws`: what is true of the output of every command.
 #![tactic(auto)]
 
 mod laws;
 mod runs;
+mod serve;
 
 pub use bd_cli_args::{FindOptions, Order, USAGE, WordsFault, parse_words};
 pub use bd_cli_files::Status;

@@ -4,7 +4,7 @@ use Rattle.std.proofs.Common.{append-nil, arith, length-append, map}
 use Rattle.std.proofs.lemmas.List.{take_at, drop_at}
 use Rattle.std.specs.Prelude.{IfSome, option_map}
 use Rattle.bd_value.specs.{Limits.longest_input, Tree.Doc}
-use Rattle.bd_io_device.specs.Devices.{WriteFailsAfter, WriteFailsWithin, Reader, TakesText, Writer, between}
+use Rattle.bd_io_device.specs.Devices.{Reader, TakesText, Writer, between}
 use Rattle.bd_io_device.specs.declared.reading.ReadFault.{ReadFault}
 use Rattle.bd_bson_check.specs.{Dump.frame_length, Dump.framed_fault, Fault.Fault, FirstFault.first_fault, Fault.fault_view}
 use Rattle.bd_bson_check.proofs.DumpLemmas.{document_faultless}
@@ -12,20 +12,20 @@ use Rattle.bd_bson_stream.specs.Stream.{IsFrame}
 use Rattle.bd_bson_stream.proofs.StreamLemmas.{frame_on, frames_once}
 use Rattle.bd_bson_dump.specs.CheckResults.{check_results_at, check_results, BeginAs}
 use Rattle.bd_bson_dump.proofs.CheckResultLemmas.{none_at, turn_at, last_at, as_scan}
-use Rattle.bd_cli_files.specs.{Input.StopsInside, Input.StreamsInput, declared.dump_and_check.Ending.Ending, declared.output.OutputFault.OutputFault}
+use Rattle.bd_cli_files.specs.{Input.StopsInside, Input.StreamsInput, declared.scan.Ending.Ending, declared.output.OutputFault.OutputFault}
 use Rattle.bd_cli_files.specs.{declared.output.Status.Status, declared.output.Status.TheVariants.Failed}
-use Rattle.bd_cli_files.specs.DumpAndCheck.{ChecksInput, ChecksWithinLimit, check_message, check_status, check_output, check_result_line, check_result_lines, WriteFailsAtCheckResult}
-use Rattle.bd_cli_files.specs.inside.DumpAndCheck.{AreVisited, IsTextOf, StopsScan}
-use Rattle.bd_cli_files.specs.DumpAndCheck.{AreCheckResults, IsOutputOfCheck, IsOutputOfDump}
-use Rattle.bd_cli_files.specs.inside.DumpAndCheck.{more_visited, none_visited}
-use Rattle.bd_cli_files.specs.inside.DumpAndCheck.{ScansDocuments, check_texts}
-use Rattle.bd_cli_files.specs.Output.{ReportsMessage, error_line, stop_words, Transcript, fault_text, wrong_status}
+use Rattle.bd_cli_files.specs.Check.{AreCheckResults, ChecksWithinLimit, HasResultsFirst, IsOutputOfCheck, check_message, check_status, check_output, check_result_line, check_result_lines, check_run}
+use Rattle.bd_cli_files.specs.inside.Scan.{AreVisited, IsTextOf, StopsScan}
+use Rattle.bd_cli_files.specs.Dump.{IsOutputOfDump}
+use Rattle.bd_cli_files.specs.inside.Scan.{more_visited, none_visited}
+use Rattle.bd_cli_files.specs.inside.Scan.{ScansDocuments, check_texts}
+use Rattle.bd_cli_files.specs.Output.{error_line, stop_words, Transcript, fault_text, wrong_status}
+use Rattle.bd_cli_files.specs.Run.{Prints, ReportsMessage}
 use Rattle.bd_cli_files.specs.declared.output.OutputFault.TheVariants.{NoMemory, Unwritten}
 use Rattle.bd_cli_files.proofs.ScanLemmas.{faulty_append, faulty_count, known_whole, rest_of, visited_frames}
-use Rattle.bd_io_device.proofs.DevicesLemmas.{prefix_none, no_write_fails}
-use Rattle.bd_cli_files.proofs.OutputLemmas.{prefix_taken}
+use Rattle.bd_io_device.proofs.DevicesLemmas.{no_write_fails}
 use Rattle.bd_bson_check.specs.declared.fault.Fault as reported
-use Rattle.bd_cli_files.specs.declared.dump_and_check.Ending.TheVariants as endings
+use Rattle.bd_cli_files.specs.declared.scan.Ending.TheVariants as endings
 
 check_results_once : (bytes : List ℕ) (fault : Option ReadFault) (vs ws : List (Option Fault)) → AreCheckResults bytes fault vs → AreCheckResults bytes fault ws → vs ≡ ws
 check_results_once bytes None vs ws p q = p ∙ sym q
@@ -121,54 +121,33 @@ check_result_on : (offset : ℕ) (bytes all : List ℕ) (f : reported.Fault) →
 check_result_on offset bytes all f is long fails =
     last_at offset bytes f.kind is ∙ ap (λ (v : CheckResult). v ∷ []) (sym (ap (framed_fault offset all) long) ∙ fails)
 
--- a text that was written completely and a prefix of the next one are a prefix of both and more
-within_both : (old new : Writer) (whole piece more all : List ℕ) → WriteFailsAfter (between old new) whole piece → all ≡ whole ++ (piece ++ more) → WriteFailsWithin (between old new) all
-within_both old new whole piece more all (prefix, rest, splits, some, took, failed) parts =
-    let both = parts ∙ ap (λ x. whole ++ (x ++ more)) splits ∙ ap (λ x. whole ++ x) (append_assoc prefix rest more) ∙ sym (append_assoc whole prefix (rest ++ more)) in
-    (whole ++ prefix, rest ++ more, both, λ none. some (prefix_none rest more none), took, failed)
-
--- a write failed within the lines for all bytes of an input, after these results
-abbrev WriteFails : Reader → Reader → Writer → Writer → Type 0
-WriteFails old new out_old out = (bytes : List ℕ) × StreamsInput (between old new) bytes None
-    × WriteFailsWithin (between out_old out) (check_result_lines 0 (check_results bytes)) × WriteFailsAtCheckResult (between old new) (between out_old out)
-
 module _ {vs : List CheckResult} {given text : List ℕ} (visited : AreVisited check_texts vs given text) where
-  result_lines : (bytes : List ℕ) → check_result_lines 0 (check_results (given ++ bytes)) ≡ text ++ check_result_lines (length vs) (check_results_at (length given) bytes)
-  result_lines bytes =
-      let j = checked vs given text visited in
-      ap (check_result_lines 0) (j.1 bytes) ∙ lines_after vs (check_results_at (length given) bytes)
-      ∙ ap (λ x. x ++ check_result_lines (length vs) (check_results_at (length given) bytes)) (sym j.0)
-
   -- all of the bytes are documents that were checked
   all_checked : vs ≡ check_results given
   all_checked =
       let all = (checked vs given text visited).1 [] in
       sym (ap check_results (sym (append-nil given)) ∙ all ∙ ap (λ (xs : List CheckResult). vs ++ xs) (none_at (length given)) ∙ append-nil vs)
 
-  module _ (old new : Reader) (out_old : Writer) where
-    streams : (part : List ℕ) → StopsInside given part (between old new) → new.failures ≡ old.failures → StreamsInput (between old new) (given ++ (part ++ rest_of new.remaining)) None
-    streams part at no_failure =
-        let frames = visited_frames vs given text visited in
-        let known = known_whole old.remaining new.remaining (given ++ part) at.0 in
-        (subst (λ (x : List ℕ). IfSome old.remaining (λ xs. x ≡ xs)) (append_assoc given part (rest_of new.remaining)) known, (frames.0, given, frames.1, (part, at)), no_failure)
+  streams : (old new : Reader) (part : List ℕ) → StopsInside given part (between old new) → new.failures ≡ old.failures → StreamsInput (between old new) (given ++ (part ++ rest_of new.remaining)) None
+  streams old new part at no_failure =
+      let frames = visited_frames vs given text visited in
+      let known = known_whole old.remaining new.remaining (given ++ part) at.0 in
+      (subst (λ (x : List ℕ). IfSome old.remaining (λ xs. x ≡ xs)) (append_assoc given part (rest_of new.remaining)) known, (frames.0, given, frames.1, (part, at)), no_failure)
 
-    -- the line of the next document, of which this part was read, is a prefix of what remains to be written
-    write_fails : (out : Writer) (part bytes : List ℕ) (f : Fault) (more : List CheckResult) → StreamsInput (between old new) (given ++ bytes) None → StopsInside given part (between old new)
-        → check_results_at (length given) part ≡ Some f ∷ [] → check_results_at (length given) bytes ≡ Some f ∷ more
-        → WriteFailsAfter (between out_old out) text (check_result_line (length vs) (Some f)) → WriteFails old new out_old out
-    write_fails out part bytes f more was at last turn failed_write =
-        let line = check_result_line (length vs) (Some f) in
-        let j = checked vs given text visited in
-        let splits = result_lines bytes ∙ ap (λ (xs : List CheckResult). text ++ check_result_lines (length vs) xs) turn in
-        let prefix = within_both out_old out text line (check_result_lines (suc (length vs)) more) (check_result_lines 0 (check_results (given ++ bytes))) failed_write splits in
-        let after = subst (λ (x : List ℕ). WriteFailsAfter (between out_old out) x line) j.0 failed_write in
-        (given ++ bytes, was, prefix, (vs, f, given ++ part, j.1 part ∙ ap (λ (xs : List CheckResult). vs ++ xs) last, at.0, was.2, after))
+  -- the fault of the next document, of which this part was read, comes after the results so far
+  next_line : (old new : Reader) (part bytes : List ℕ) (f : Fault) (more : List CheckResult) (piece : List ℕ) → StreamsInput (between old new) (given ++ bytes) None → StopsInside given part (between old new)
+      → check_results_at (length given) part ≡ Some f ∷ [] → check_results_at (length given) bytes ≡ Some f ∷ more
+      → piece ≡ check_result_line (length vs) (Some f) → (check_run (between old new)).IsNext text piece
+  next_line old new part bytes f more piece was at last first line =
+      let j = checked vs given text visited in
+      let begins = j.1 bytes ∙ ap (λ (xs : List CheckResult). vs ++ xs) first ∙ sym (append_assoc vs (Some f ∷ []) more) in
+      (vs, f, given ++ part, j.1 part ∙ ap (λ (xs : List CheckResult). vs ++ xs) last, (at.0, was.2), (given ++ bytes, more, was, begins), j.0, line)
 
 -- ---- the end of a run
 
 module _ (old new : Reader) (out_old out_new : Writer) (err_old err_new : Writer) (status : Status) where
-  abbrev pub Prints : Type 0
-  Prints = ChecksInput (between old new) (between out_old out_new) (between err_old err_new) status
+  abbrev pub PrintsCheck : Type 0
+  PrintsCheck = Prints (check_run (between old new)) (between out_old out_new) (between err_old err_new) status
 
   abbrev Reported : ℕ → ℕ → Option ReadFault → Type 0
   Reported count worse unread = ReportsMessage (between err_old err_new) (check_message unread count worse) (check_status unread worse) status
@@ -179,10 +158,10 @@ module _ (old new : Reader) (out_old out_new : Writer) (err_old err_new : Writer
   -- all documents were checked: their lines were written, and these are their counts
   prints : (bytes : List ℕ) (unread : Option ReadFault) (vs : List CheckResult) (documents faulty : ℕ) → StreamsInput (between old new) bytes unread
       → ChecksWithinLimit bytes unread → AreCheckResults bytes unread vs → documents ≡ length vs → faulty ≡ faulty_count vs
-      → TakesText (between out_old out_new) (check_result_lines 0 vs) → Reported documents faulty unread → Prints
+      → TakesText (between out_old out_new) (check_result_lines 0 vs) → Reported documents faulty unread → PrintsCheck
   prints bytes unread vs documents faulty was within are counted bad wrote reported =
       let all = subst (λ n. Reported (length vs) n unread) bad (subst (λ n. Reported n faulty unread) counted reported) in
-      (bytes, unread, check_output vs unread, was, (vs, are, refl), inl ((within, wrote), all))
+      inl (check_output vs unread, (bytes, unread, was, within, (vs, are, refl)), wrote, all)
 
   -- nothing was written after the lines of the documents
   lines_taken : (vs : List CheckResult) (given text : List ℕ) → AreVisited check_texts vs given text → TakesText (between out_old out_new) (text ++ [])
@@ -190,19 +169,19 @@ module _ (old new : Reader) (out_old out_new : Writer) (err_old err_new : Writer
   lines_taken vs given text visited wrote =
       subst (λ (x : List ℕ). TakesText (between out_old out_new) x) (append-nil text ∙ (checked vs given text visited).0) wrote
 
-  pub prints_whole : (documents bad : ℕ) → Scanned documents bad endings.Whole → Reported documents bad None → Prints
+  pub prints_whole : (documents bad : ℕ) → Scanned documents bad endings.Whole → Reported documents bad None → PrintsCheck
   prints_whole documents bad (vs, given, text, visited, counted, faulty, (was, (part, at)), wrote) reported =
       let short : length given ≤ longest_input = let all = at.1 in omega (arith, length-append given part) in
       prints given None vs documents bad was (inl short) (all_checked visited) counted faulty (lines_taken vs given text visited wrote) reported
 
-  pub prints_unread : (documents bad : ℕ) (f : ReadFault) → Scanned documents bad (endings.Unread f) → Reported documents bad (Some f) → Prints
+  pub prints_unread : (documents bad : ℕ) (f : ReadFault) → Scanned documents bad (endings.Unread f) → Reported documents bad (Some f) → PrintsCheck
   prints_unread documents bad f (vs, given, text, visited, counted, faulty, (part, was, splits), wrote) reported =
       let frames = visited_frames vs given text visited in
       let are : AreCheckResults (given ++ part) (Some f) vs = (frames.0, given, part, frames.1, splits, refl, all_checked visited) in
       prints (given ++ part) (Some f) vs documents bad was tt are counted faulty (lines_taken vs given text visited wrote) reported
 
   -- the last document has a bad length
-  pub prints_faulty : (documents bad : ℕ) (f : reported.Fault) → Scanned documents bad (endings.Faulty f) → Reported (documents + 1) (bad + 1) None → Prints
+  pub prints_faulty : (documents bad : ℕ) (f : reported.Fault) → Scanned documents bad (endings.Faulty f) → Reported (documents + 1) (bad + 1) None → PrintsCheck
   prints_faulty documents bad f (vs, given, text, visited, counted, faulty, (part, rest, was, at, numbered, fails, inl none), wrote) reported = absurd cc
   prints_faulty documents bad f (vs, given, text, visited, counted, faulty, (part, rest, was, at, numbered, fails, inr (is, long)), wrote) reported =
       let v = Some (fault_view f) in
@@ -222,17 +201,12 @@ module _ (old new : Reader) (out_old out_new : Writer) (err_old err_new : Writer
   abbrev Reports : OutputFault → Type 0
   Reports stopped = ReportsMessage (between err_old err_new) (error_line (stop_words stopped)) Failed status
 
-  write_failed : WriteFails old new out_old out_new → Reports Unwritten → Prints
-  write_failed (bytes, was, failed_write, at) reported = (bytes, None, check_output (check_results bytes) None, was, (check_results bytes, refl, refl), inr (inl ((failed_write, at), reported)))
-
-  pub prints_stop : (stopped : OutputFault) → StopsScan check_texts (between old new) (between out_old out_new) stopped → Reports stopped → Prints
+  pub prints_stop : (stopped : OutputFault) → StopsScan check_texts (between old new) (between out_old out_new) stopped → Reports stopped → PrintsCheck
   prints_stop NoMemory (vs, given, text, visited, (part, at), no_failure, wrote) reported =
       let bytes = part ++ rest_of new.remaining in
-      let was = streams visited old new out_old part at no_failure in
-      let more = check_result_lines (length vs) (check_results_at (length given) bytes) in
-      let all = check_results (given ++ bytes) in
-      let prefix = prefix_taken out_old out_new text more (check_result_lines 0 all) wrote (result_lines visited bytes) in
-      (given ++ bytes, None, check_output all None, was, (all, refl, refl), inr (inr ((refl, prefix), reported)))
+      let j = checked vs given text visited in
+      let first : HasResultsFirst (between old new) vs = (given ++ bytes, check_results_at (length given) bytes, streams visited old new part at no_failure, j.1 bytes) in
+      inr (inr (text, (vs, given, sym (all_checked visited), (part, at), first, j.0), wrote, reported))
   prints_stop Unwritten (vs, given, text, piece, visited, failed_write, inl (None, frame, is, (d, spelled, line), at, no_failure)) reported =
       absurd (no_write_fails out_old out_new text piece failed_write line)
   prints_stop Unwritten (vs, given, text, piece, visited, failed_write, inl (Some f, frame, is, prints, at, no_failure)) reported =
@@ -240,11 +214,20 @@ module _ (old new : Reader) (out_old out_new : Writer) (err_old err_new : Writer
       let rest = rest_of new.remaining in
       let last : check_results_at (length given) frame ≡ Some f ∷ [] = ap (check_results_at (length given)) (sym (append-nil frame)) ∙ turn_on (length given) frame [] (Some f) is line.0
       ∙ ap (λ (xs : List CheckResult). Some f ∷ xs) (none_at (length given + length frame)) in
-      write_failed (write_fails visited old new out_old out_new frame (frame ++ rest) f (check_results_at (length given + length frame) rest)
-      (streams visited old new out_old frame at no_failure) at last (turn_on (length given) frame rest (Some f) is line.0)
-      (subst (λ (x : List ℕ). WriteFailsAfter (between out_old out_new) text x) line.1 failed_write)) reported
+      let next = next_line visited old new frame (frame ++ rest) f (check_results_at (length given + length frame) rest) piece (streams visited old new frame at no_failure) at last
+      (turn_on (length given) frame rest (Some f) is line.0) line.1 in
+      inr (inl (text, piece, next, failed_write, reported))
   prints_stop Unwritten (vs, given, text, piece, visited, failed_write, inr (f, (part, rest, was, at, numbered, fails, inl none), line)) reported = absurd cc
   prints_stop Unwritten (vs, given, text, piece, visited, failed_write, inr (f, (part, rest, was, at, numbered, fails, inr (is, long)), line)) reported =
       let same : piece ≡ check_result_line (length vs) (Some (fault_view f)) = cc in
-      write_failed (write_fails visited old new out_old out_new part (part ++ rest) (fault_view f) [] was at (check_result_on (length given) part (part ++ rest) f is long fails)
-      (check_result_on (length given) (part ++ rest) (part ++ rest) f long long fails) (subst (λ (x : List ℕ). WriteFailsAfter (between out_old out_new) text x) same failed_write)) reported
+      let next = next_line visited old new part (part ++ rest) (fault_view f) [] piece was at (check_result_on (length given) part (part ++ rest) f is long fails)
+      (check_result_on (length given) (part ++ rest) (part ++ rest) f long long fails) same in
+      inr (inl (text, piece, next, failed_write, reported))
+
+-- what was printed is a prefix of the output for all bytes of the input
+pub prints_prefix : (bytes : List ℕ) (output : Transcript) (vs more : List CheckResult) → IsOutputOfCheck bytes None output → check_results bytes ≡ vs ++ more
+    → (after : List ℕ) × (output.out ≡ check_result_lines 0 vs ++ after)
+prints_prefix bytes output vs more (ws, are, prints) splits = (
+  check_result_lines (length vs) more,
+  ap (λ (t : Transcript). t.out) prints ∙ ap (check_result_lines 0) (are ∙ splits) ∙ lines_after vs more,
+)

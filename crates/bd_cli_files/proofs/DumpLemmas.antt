@@ -1,24 +1,24 @@
 -- How a run ends.
 use Rattle.std.proofs.Common.{◌≡◌, ◌<◌, ◌+◌, ℕ, List, [], ◌∷◌, ◌++◌, length, Option, Some, None, refl, sym, ap, ap₂, ◌∙◌, subst, append-nil, append_assoc, inl, inr, arith, length-append}
 use Rattle.std.proofs.{lemmas.List.get_or-append-add}
-use Rattle.bd_io_device.proofs.DevicesLemmas.{takes_none}
 use Rattle.std.specs.Prelude.{◌⊎◌, decimal, option_map}
 use Rattle.bd_value.specs.Tree.{Doc}
-use Rattle.bd_io_device.specs.Devices.{Reader, Writer, between, WriteFailsAfter, TakesText, read_words}
+use Rattle.bd_io_device.specs.Devices.{Reader, Writer, between, TakesText, read_words}
 use Rattle.bd_io_device.specs.declared.reading.ReadFault.{ReadFault}
 use Rattle.bd_bson_check.specs.{Fault.Fault, Dump.AreJoined, Dump.IsDumpScan, Fault.fault_view}
 use Rattle.bd_bson_check.proofs.FirstFaultLemmas.{IsBytes}
 use Rattle.bd_bson_check.proofs.DumpLemmas.{joined_append, joined_once, joined_one, scan_on, scan_once}
 use Rattle.bd_bson_stream.proofs.StreamLemmas.{cut_short_stuck}
-use Rattle.bd_cli_files.specs.{declared.dump_and_check.Ending.Ending, declared.output.OutputFault.OutputFault, declared.output.OutputFault.TheVariants.NoMemory}
-use Rattle.bd_cli_files.specs.{declared.output.OutputFault.TheVariants.Unwritten, declared.output.Status.Status, declared.output.Status.TheVariants.Failed, declared.dump_and_check.DumpScan.DumpScan}
-use Rattle.bd_cli_files.specs.DumpAndCheck.{DumpsInput, IsOutputOfDump, dump_output, objects_found}
-use Rattle.bd_cli_files.specs.inside.DumpAndCheck.{more_visited, none_visited}
-use Rattle.bd_cli_files.specs.inside.DumpAndCheck.{AreVisited, EndsScan, StopsScan, ScansDocuments, dump_texts, ending_words, text_at_end}
-use Rattle.bd_cli_files.specs.Output.{PrintsOutput, ReportsMessage, Transcript, error_line, fault_text, lines, no_memory, refusal_output, wrong_line, wrong_status, stop_words}
+use Rattle.bd_cli_files.specs.{declared.scan.Ending.Ending, declared.output.OutputFault.OutputFault, declared.output.OutputFault.TheVariants.NoMemory}
+use Rattle.bd_cli_files.specs.{declared.output.OutputFault.TheVariants.Unwritten, declared.output.Status.Status, declared.output.Status.TheVariants.Failed, declared.scan.DumpScan.DumpScan}
+use Rattle.bd_cli_files.specs.Dump.{IsOutputOfDump, ReadsToFirstFault, dump_output, dump_run, objects_found}
+use Rattle.bd_cli_files.specs.inside.Scan.{more_visited, none_visited}
+use Rattle.bd_cli_files.specs.inside.Scan.{AreVisited, EndsScan, StopsScan, ScansDocuments, dump_texts, ending_words, text_at_end}
+use Rattle.bd_cli_files.specs.Output.{Transcript, error_line, fault_text, lines, no_memory, wrong_line, wrong_status, stop_words}
+use Rattle.bd_cli_files.specs.Run.{Prints, ReportsMessage}
 use Rattle.bd_cli_files.proofs.OutputLemmas.{lines-append}
 use Rattle.bd_bson_check.specs.declared.fault.Fault as reported
-use Rattle.bd_cli_files.specs.declared.dump_and_check.Ending.TheVariants as endings
+use Rattle.bd_cli_files.specs.declared.scan.Ending.TheVariants as endings
 
 -- the documents that were scanned, and their lines
 printed : (vs : List (Option Fault)) (given text : List ℕ) → AreVisited dump_texts vs given text
@@ -40,8 +40,8 @@ none_at_end number (endings.Unread f) = refl
 
 module _ (old new : Reader) (out_old out_new : Writer) (err_old err_new : Writer) (status : Status) where
   -- `dump` ran as its contract says
-  abbrev pub Prints : Type 0
-  Prints = DumpsInput (between old new) (between out_old out_new) (between err_old err_new) status
+  abbrev pub PrintsDump : Type 0
+  PrintsDump = Prints (dump_run (between old new)) (between out_old out_new) (between err_old err_new) status
 
   abbrev Reports : List ℕ → Status → Type 0
   Reports text wanted = ReportsMessage (between err_old err_new) text wanted status
@@ -53,53 +53,36 @@ module _ (old new : Reader) (out_old out_new : Writer) (err_old err_new : Writer
       ⊎ ((f : reported.Fault) × (ending ≡ endings.Faulty f) × Reports (error_line no_memory) Failed)
 
   module _ (ds : List Doc) (given : List ℕ) (joined : AreJoined ds given) (wrote : TakesText (between out_old out_new) (lines ds)) where
-    ends : (ending : Ending) → EndsScan dump_texts (between old new) (length ds) given ending → ReportsEnding (length ds) ending → Prints
+    ends : (ending : Ending) → EndsScan dump_texts (between old new) (length ds) given ending → ReportsEnding (length ds) ending → PrintsDump
     ends endings.Whole (was, at) (inl reported) =
-        (dump_output ds None, inl ((given, None, was, (ds, None, joined, refl), wrote, λ e. (ds, given, [], joined, sym (append-nil given), inl refl, at)), reported))
+        inl (dump_output ds None, (given, None, was, (ds, None, joined, refl), λ e. (ds, given, [], joined, sym (append-nil given), inl refl, at)), wrote, reported)
     ends (endings.Faulty f) (part, rest, was, at, numbered, fails, last) (inl reported) =
         let fault = fault_view f in
-        let line = subst (λ n. Reports (error_line (fault_text n fault) ++ (decimal (length ds) ++ objects_found)) Failed) numbered reported in (
-          dump_output ds (Some (fault_text (length ds) fault)),
-          inl (
-            (
-              given ++ (part ++ rest),
-              None,
-              was,
-              (ds, Some fault, (given, part ++ rest, joined, refl, fails), refl),
-              wrote,
-              λ e. (ds, given, part ++ rest, joined, refl, inr (fault, fails), (part, at)),
-            ),
-            line,
-          ),
-        )
+        let line = subst (λ n. Reports (error_line (fault_text n fault) ++ (decimal (length ds) ++ objects_found)) Failed) numbered reported in
+        let here : ReadsToFirstFault (between old new) (given ++ (part ++ rest)) = (ds, given, part ++ rest, joined, refl, inr (fault, fails), (part, at)) in
+        inl (dump_output ds (Some (fault_text (length ds) fault)), (given ++ (part ++ rest), None, was, (ds, Some fault, (given, part ++ rest, joined, refl, fails), refl), λ e. here), wrote, line)
     ends (endings.Unread f) (part, was, splits) (inl reported) =
-        (dump_output ds (Some (read_words f)), inl ((given ++ part, Some f, was, (ds, given, part, joined, splits, refl, refl), wrote, λ e. absurd cc), reported))
+        inl (dump_output ds (Some (read_words f)), (given ++ part, Some f, was, (ds, given, part, joined, splits, refl, refl), λ e. absurd cc), wrote, reported)
     ends endings.Whole at (inr reported) = let e = reported.1 in absurd cc
     ends (endings.Faulty f) (part, rest, was, at, numbered, fails, last) (inr reported) =
-        (dump_output ds None, inr (inr ((ds, given, joined, (part, at), was.2, wrote), reported.2)))
+        inr (inr (lines ds, (ds, given, joined, (part, at), was.2, refl), wrote, reported.2))
     ends (endings.Unread f) at (inr reported) = let e = reported.1 in absurd cc
 
-  pub prints_scan : (scan : DumpScan) → ScansDocuments dump_texts (between old new) (between out_old out_new) scan → ReportsEnding scan.count scan.ending → Prints
+  pub prints_scan : (scan : DumpScan) → ScansDocuments dump_texts (between old new) (between out_old out_new) scan → ReportsEnding scan.count scan.ending → PrintsDump
   prints_scan scan (vs, given, text, visited, counted, bad, end, wrote) reported =
       let p = printed vs given text visited in
       ends p.0 given p.1 (subst (λ (x : List ℕ). TakesText (between out_old out_new) x) (ap (λ x. text ++ x) (none_at_end (length vs) scan.ending) ∙ append-nil text ∙ p.3) wrote) scan.ending
       (subst (λ n. EndsScan dump_texts (between old new) n given scan.ending) (sym p.2) end) (subst (λ n. ReportsEnding n scan.ending) (counted ∙ sym p.2) reported)
 
-  pub prints_stop : (stopped : OutputFault) → StopsScan dump_texts (between old new) (between out_old out_new) stopped → Reports (error_line (stop_words stopped)) Failed → Prints
+  pub prints_stop : (stopped : OutputFault) → StopsScan dump_texts (between old new) (between out_old out_new) stopped → Reports (error_line (stop_words stopped)) Failed → PrintsDump
   prints_stop NoMemory (vs, given, text, visited, at, no_failure, wrote) reported =
       let p = printed vs given text visited in
-      (dump_output p.0 None, inr (inr ((p.0, given, p.1, at, no_failure, subst (λ (x : List ℕ). TakesText (between out_old out_new) x) p.3 wrote), reported)))
+      inr (inr (text, (p.0, given, p.1, at, no_failure, p.3), wrote, reported))
   prints_stop Unwritten (vs, given, text, piece, visited, failed_write, inl (None, frame, is, (d, spelled, line), at, no_failure)) reported =
       let p = printed vs given text visited in
-      let after : WriteFailsAfter (between out_old out_new) (lines p.0) (lines (d ∷ [])) = rw (sym p.3, sym line) failed_write in
-      (dump_output p.0 None, inr (inl ((p.0, d, given ++ frame, joined_append p.0 (d ∷ []) given frame p.1 (joined_one d frame spelled), at.0, no_failure, after), reported)))
+      inr (inl (text, piece, (p.0, d, given ++ frame, joined_append p.0 (d ∷ []) given frame p.1 (joined_one d frame spelled), (at.0, no_failure), p.3, line), failed_write, reported))
   prints_stop Unwritten (vs, given, text, piece, visited, failed_write, inl (Some f, frame, is, prints, at, no_failure)) reported = let e = prints.1 in absurd cc
   prints_stop Unwritten (vs, given, text, piece, visited, failed_write, inr (f, at, line)) reported = absurd cc
-
--- nothing was written to standard output
-pub refused : (out : Writer) (err_old err_new : Writer) (words : List ℕ) (status : Status)
-    → ReportsMessage (between err_old err_new) (error_line words) Failed status → PrintsOutput (between out out) (between err_old err_new) (refusal_output words) status
-refused out err_old err_new words status reported = inl (takes_none out, reported)
 
 -- ---- the output is determined
 

@@ -4,13 +4,15 @@ use Rattle.std.proofs.lemmas.{Bool.Decides.nat_tests, Str.IsUtf8-append, Str.IsU
 use Rattle.std.specs.Prelude.{OnErr, OnOk, Result, Ok, Err, string_bytes}
 use Rattle.std.specs.List.{join_with_byte}
 use Rattle.bd_value.specs.Tree.{Doc, doc, fields_of}
-use Rattle.bd_io_device.specs.Devices.{WriteFailsWithin, TakesPrefix, TakesText, Writer, between}
+use Rattle.bd_io_device.specs.Devices.{WriteFailsWithin, Over, TakesPrefix, TakesText, Writer, between}
+use Rattle.bd_io_device.specs.declared.reading.ReadFault.{ReadFault}
 use Rattle.bd_io_device.proofs.DevicesLemmas.{write_fails_first, write_fails_second, takes_both}
 use Rattle.json.proofs.Printed.Utf8.{IsUtf8-are_ascii, IsUtf8-quoted}
 use Rattle.bd_extjson_text.specs.Text.{escape_byte, escaped, quoted, text}
 use Rattle.bd_cli_files.specs.{declared.output.OutputFault.OutputFault, declared.output.Status.Status, declared.output.Status.TheVariants.Failed}
 use Rattle.bd_cli_files.specs.declared.output.OutputFault.TheVariants.{NoMemory, Unwritten}
-use Rattle.bd_cli_files.specs.Output.{lines, PrintsOrRunsOut, StopsWithin, ReportsMessage, Transcript, error_line, no_memory, stop_words}
+use Rattle.bd_cli_files.specs.Output.{lines, Transcript, error_line, no_memory, stop_words}
+use Rattle.bd_cli_files.specs.Run.{Prints, ReportsMessage, StopsWithin, part_of, run_after}
 use Rattle.json.specs.Print as printed
 
 -- the lines of two lists of documents are those of both joined
@@ -60,15 +62,22 @@ write_fails_piece old mid new prefix piece rest all took failed_write splits =
 -- the run printed its output
 pub all_output : (out_old out_new err_old err_new : Writer) (status : Status) (output : Transcript) → TakesText (between out_old out_new) output.out
     → ReportsMessage (between err_old err_new) output.err output.status status ⊎ ReportsMessage (between err_old err_new) (error_line no_memory) Failed status
-    → PrintsOrRunsOut (between out_old out_new) (between err_old err_new) output status
-all_output out_old out_new err_old err_new status output wrote (inl reported) = inl (wrote, reported)
-all_output out_old out_new err_old err_new status output wrote (inr reported) = inr (inr ((output.out, [], sym (append-nil output.out), wrote), reported))
+    → Prints (part_of output) (between out_old out_new) (between err_old err_new) status
+all_output out_old out_new err_old err_new status output wrote (inl reported) = inl (output, refl, wrote, reported)
+all_output out_old out_new err_old err_new status output wrote (inr reported) = inr (inr (output.out, ([], sym (append-nil output.out)), wrote, reported))
 
 -- standard output was stopped
 pub stop_output : (out_old out_new err_old err_new : Writer) (status : Status) (output : Transcript) (stopped : OutputFault) → StopsWithin (between out_old out_new) output.out stopped
-    → ReportsMessage (between err_old err_new) (error_line (stop_words stopped)) Failed status → PrintsOrRunsOut (between out_old out_new) (between err_old err_new) output status
-stop_output out_old out_new err_old err_new status output NoMemory prefix reported = inr (inr (prefix, reported))
-stop_output out_old out_new err_old err_new status output Unwritten failed_write reported = inr (inl (failed_write, reported))
+    → ReportsMessage (between err_old err_new) (error_line (stop_words stopped)) Failed status → Prints (part_of output) (between out_old out_new) (between err_old err_new) status
+stop_output out_old out_new err_old err_new status output NoMemory (prefix, rest, splits, took) reported = inr (inr (prefix, (rest, splits), took, reported))
+stop_output out_old out_new err_old err_new status output Unwritten failed_write reported = inr (inl ([], output.out, (refl, refl), failed_write, reported))
+
+-- an output for an input that was read completely
+pub after_input : {Reads : Result (List ℕ) ReadFault → Type 0} {Is : Result (List ℕ) ReadFault → Transcript → Type 0} {out err : Over Writer} {status : Status}
+    (bytes : List ℕ) (output : Transcript) → Reads (Ok bytes) → Is (Ok bytes) output → Prints (part_of output) out err status → Prints (run_after Reads Is) out err status
+after_input {Reads} {Is} bytes output read is (inl (o, same, wrote, reported)) = inl (o, (Ok bytes, read, subst (λ (t : Transcript). Is (Ok bytes) t) (sym same) is), wrote, reported)
+after_input {Reads} {Is} bytes output read is (inr (inl (text, piece, next, failed_write, reported))) = inr (inl (text, piece, (bytes, output, read, is, next), failed_write, reported))
+after_input {Reads} {Is} bytes output read is (inr (inr (text, begun, wrote, reported))) = inr (inr (text, (bytes, output, read, is, begun), wrote, reported))
 
 -- ---- a path is UTF-8
 

@@ -13,7 +13,8 @@ use Rattle.bd_extjson_pack.specs.Packable.{plain, IsPackable, IsBad}
 use Rattle.bd_extjson_pack.specs.declared.line.LineFault.{LineFault}
 use Rattle.bd_cli_files.specs.{declared.output.OutputFault.OutputFault, declared.output.OutputFault.TheVariants.NoMemory, declared.output.OutputFault.TheVariants.Unwritten, declared.pack.BadLine.BadLine}
 use Rattle.bd_cli_files.specs.{declared.pack.Packing.Packing, declared.output.Status.Status, declared.output.Status.TheVariants.Failed}
-use Rattle.bd_cli_files.specs.Output.{stop_words, PrintsOrRunsOut, ReportsMessage, Transcript, error_line, no_memory, wrong_line, wrong_status}
+use Rattle.bd_cli_files.specs.Output.{stop_words, Transcript, error_line, no_memory, wrong_line, wrong_status}
+use Rattle.bd_cli_files.specs.Run.{Prints, ReportsMessage, part_of}
 use Rattle.bd_cli_files.specs.Pack.{IsOutputOfPack, PacksLines, bad_line_text, pack_output, objects_packed}
 use Rattle.bd_cli_files.specs.inside.Pack.{IsPacking, StopsPacking, remaining_size, lines_remaining}
 use Rattle.bd_io_device.proofs.DevicesLemmas.{takes_both}
@@ -99,8 +100,8 @@ packs_some number (line ∷ lines) = by_blank (is_empty_line line) refl (packs_s
 
 module _ (text : List ℕ) (out_old out_new : Writer) (err_old err_new : Writer) (status : Status) where
   -- the run printed an output of `pack` for the text
-  abbrev pub Prints : Type 0
-  Prints = (output : Transcript) × IsOutputOfPack (Ok text) output × PrintsOrRunsOut (between out_old out_new) (between err_old err_new) output status
+  abbrev pub PrintsPacked : Type 0
+  PrintsPacked = (output : Transcript) × IsOutputOfPack (Ok text) output × Prints (part_of output) (between out_old out_new) (between err_old err_new) status
 
   abbrev Reports : List ℕ → Status → Type 0
   Reports reported wanted = ReportsMessage (between err_old err_new) reported wanted status ⊎ ReportsMessage (between err_old err_new) (error_line no_memory) Failed status
@@ -109,12 +110,12 @@ module _ (text : List ℕ) (out_old out_new : Writer) (err_old err_new : Writer)
   abbrev pub ReportsPacking : ℕ → Option BadLine → Type 0
   ReportsPacking count bad = Reports (wrong_line (option_map bad_line_text bad) ++ (decimal count ++ objects_packed)) (wrong_status (option_map bad_line_text bad))
 
-  pub prints_packing : (packing : Packing) → IsPacking text (between out_old out_new) packing → ReportsPacking packing.count packing.bad → Prints
+  pub prints_packing : (packing : Packing) → IsPacking text (between out_old out_new) packing → ReportsPacking packing.count packing.bad → PrintsPacked
   prints_packing packing (ds, packs, counted, wrote) reported =
       let output = pack_output ds packing.bad in
       (output, (ds, packing.bad, packs, refl), all_output out_old out_new err_old err_new status output wrote (subst (λ n. ReportsPacking n packing.bad) counted reported))
 
-  pub prints_stop : (stopped : OutputFault) → StopsPacking text (between out_old out_new) stopped → ReportsMessage (between err_old err_new) (error_line (stop_words stopped)) Failed status → Prints
+  pub prints_stop : (stopped : OutputFault) → StopsPacking text (between out_old out_new) stopped → ReportsMessage (between err_old err_new) (error_line (stop_words stopped)) Failed status → PrintsPacked
   prints_stop stopped (ds, bad, packs, stops) reported =
       (pack_output ds bad, (ds, bad, packs, refl), stop_output out_old out_new err_old err_new status (pack_output ds bad) stopped stops reported)
 

@@ -14,16 +14,16 @@ use Rattle.bd_bson_check.specs.Dump.{frame_fault, frame_length, framed_fault}
 use Rattle.bd_bson_stream.specs.declared.doc_buffer.{DocBuffer.DocBuffer, DocFault.DocFault, FrameFault.FrameFault}
 use Rattle.bd_bson_stream.specs.Stream.{FailsToRead, FindsEnd, IsReason, ReadsDocument, ReadsToFault, buffered_bytes, AreFrames, EndsWithinOne, HasNoFrame, IsFrame, IsWithinOne}
 use Rattle.bd_bson_stream.proofs.StreamLemmas.{cut_short_within, frame_on, frame_within, frames_more}
-use Rattle.bd_cli_files.specs.{Input.ReadsNoFurther, Input.StopsInside, Input.StreamsInput, inside.Output.StopsWriting, declared.dump_and_check.Ending.Ending, declared.output.OutputFault.OutputFault}
-use Rattle.bd_cli_files.specs.inside.DumpAndCheck.{more_visited, none_visited}
-use Rattle.bd_cli_files.specs.inside.DumpAndCheck.{AreVisited, EndsScan, IsTextOf, MeetsFault, StopsScan, Texts, ScansDocuments, text_at_end}
+use Rattle.bd_cli_files.specs.{Input.ReadsNoFurther, Input.StopsInside, Input.StreamsInput, inside.Output.StopsWriting, declared.scan.Ending.Ending, declared.output.OutputFault.OutputFault}
+use Rattle.bd_cli_files.specs.inside.Scan.{more_visited, none_visited}
+use Rattle.bd_cli_files.specs.inside.Scan.{AreVisited, EndsScan, IsTextOf, MeetsFault, StopsScan, Texts, ScansDocuments, text_at_end}
 use Rattle.bd_cli_files.specs.declared.output.OutputFault.TheVariants.{NoMemory, Unwritten}
 use Rattle.bd_io_device.proofs.DevicesLemmas.{write_fails_after, takes_both, takes_none}
 use Rattle.bd_io_device.specs.declared.reading.ReadFault.TheVariants as reads
 use Rattle.bd_bson_check.specs.declared.fault.Fault as reported
 use Rattle.bd_bson_check.specs.declared.fault.FaultKind.TheVariants as kinds
 use Rattle.bd_bson_stream.specs.declared.doc_buffer.DocFault.TheVariants as faults
-use Rattle.bd_cli_files.specs.declared.dump_and_check.Ending.TheVariants as endings
+use Rattle.bd_cli_files.specs.declared.scan.Ending.TheVariants as endings
 
 abbrev pub faulty_count : List (Option Fault) → ℕ
 faulty_count = count_by is_some

@@ -30,6 +30,11 @@ ReadsNoFurther {R} gives old new = (n : ℕ) × (given : List ℕ) × (last : R)
 
 -- ---- document by document
 
+-- The reader gave these bytes and no more, and no read failed.
+abbrev pub GivesOnly : Over Reader → List ℕ → Type 0
+GivesOnly file given =
+    Consumes file.before.remaining file.after.remaining given × (file.after.failures ≡ file.before.failures)
+
 -- The reader gave these bytes and then this part of a document, no byte after that document,
 -- and no more than the limit in all.
 abbrev pub StopsInside : List ℕ → List ℕ → Over Reader → Type 0

@@ -1,5 +1,7 @@
-pub mod DumpAndCheck
+pub mod Check
+pub mod Dump
 pub mod Input
 pub mod Output
 pub mod Pack
+pub mod Run
 pub mod inside

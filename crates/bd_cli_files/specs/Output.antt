@@ -1,9 +1,7 @@
--- What a run writes: the text on standard output, the text on standard error, and the exit status.
-use Rattle.std.specs.Prelude.{◌≡◌, ◌⊎◌, ℕ, List, [], ◌∷◌, ◌++◌, codes, decimal, Option, Some, None, Result, Ok}
-use Rattle.std.specs.Prelude.{Err}
+-- The output of a run: the text on standard output, the text on standard error, and the exit status.
+use Rattle.std.specs.Prelude.{ℕ, List, [], ◌∷◌, ◌++◌, codes, decimal, Option, Some, None}
 use Rattle.std.specs.{List.join_with_byte}
 use Rattle.bd_value.specs.Tree.{Doc, doc, fields_of}
-use Rattle.bd_io_device.specs.Devices.{WriteFailsWithin, Over, TakesPrefix, TakesText, Writer}
 use Rattle.bd_io_device.specs.declared.reading.ReadFault.{ReadFault}
 use Rattle.bd_bson_check.specs.Fault.{Fault, fault_words}
 use Rattle.bd_extjson_text.specs.Text.{text, quoted}
@@ -73,37 +71,3 @@ wrong_status (Some message) = Failed
 -- the text, the error if any, and the counts
 abbrev pub output_before : List ℕ → Option (List ℕ) → List ℕ → Transcript
 output_before out wrong counts = record { out = out; err = wrong_line wrong ++ counts; status = wrong_status wrong }
-
--- ---- what was written
-
--- The writer took the message, and the status is the expected one; or a write failed, and the status is 1.
-abbrev pub ReportsMessage : Over Writer → List ℕ → Status → Status → Type 0
-ReportsMessage err message wanted status =
-    (TakesText err message × (status ≡ wanted)) ⊎ (WriteFailsWithin err message × (status ≡ Failed))
-
--- Standard output is as `Whole` says, and standard error has its message;
--- or a write to standard output failed (`WriteFailed`), or memory ran out (`OutOfMemory`), and standard error says so.
-abbrev pub ReportsEnd : Type 0 → Type 0 → Type 0 → Over Writer → Transcript → Status → Type 0
-ReportsEnd Whole WriteFailed OutOfMemory err output status = (Whole × ReportsMessage err output.err output.status status)
-    ⊎ (WriteFailed × ReportsMessage err (error_line cannot_write) Failed status)
-    ⊎ (OutOfMemory × ReportsMessage err (error_line no_memory) Failed status)
-
--- Standard output has the whole text; or a prefix of it, and a write failed.
-abbrev pub PrintsOutput : Over Writer → Over Writer → Transcript → Status → Type 0
-PrintsOutput out err output status = ReportsEnd (TakesText out output.out) (WriteFailsWithin out output.out) ⊥ err output status
-
--- Standard output has the whole text; or a prefix of it, and a write failed or memory ran out.
-abbrev pub PrintsOrRunsOut : Over Writer → Over Writer → Transcript → Status → Type 0
-PrintsOrRunsOut out err output status =
-    ReportsEnd (TakesText out output.out) (WriteFailsWithin out output.out) (TakesPrefix out output.out) err output status
-
--- The run printed the output for an input;
--- if the input was not read completely, memory cannot have run out as well.
-abbrev pub PrintsInput : Result (List ℕ) ReadFault → Over Writer → Over Writer → Transcript → Status → Type 0
-PrintsInput (Ok bytes) out err output status = PrintsOrRunsOut out err output status
-PrintsInput (Err fault) out err output status = PrintsOutput out err output status
-
--- The writer took a prefix of the text: memory ran out, or a write of the rest failed.
-abbrev pub StopsWithin : Over Writer → List ℕ → OutputFault → Type 0
-StopsWithin out text NoMemory = TakesPrefix out text
-StopsWithin out text Unwritten = WriteFailsWithin out text

@@ -1,15 +1,16 @@
--- What `pack` prints for an input, and what a run of it did.
+-- What `pack` prints for an input.
 use Rattle.std.specs.Prelude.{◌≡◌, ◌⊎◌, ℕ, suc, List, [], ◌∷◌, ◌++◌, length, codes, decimal, IsTrue, IsFalse}
 use Rattle.std.specs.Prelude.{Option, Some, None, Result, Ok, Err, option_map}
 use Rattle.std.specs.List.{flat_map}
 use Rattle.bd_value.specs.Tree.{Doc}
-use Rattle.bd_io_device.specs.Devices.{Over, Reader, Writer, read_words}
+use Rattle.bd_io_device.specs.Devices.{Over, Reader, read_words}
 use Rattle.bd_io_device.specs.declared.reading.ReadFault.{ReadFault}
 use Rattle.bd_extjson_fault.specs.{JsonFault.json_fault_words, declared.json_fault.JsonFaultKind.JsonFaultKind}
 use Rattle.bd_extjson_pack.specs.{Packable.plain, Packable.IsPackable, Packable.IsBad, declared.line.LineFault.LineFault}
 use Rattle.bd_io_lines.specs.Lines.{is_empty_line, text_lines}
-use Rattle.bd_cli_files.specs.{Input.ReadsInput, declared.output.Status.Status, declared.pack.BadLine.BadLine}
-use Rattle.bd_cli_files.specs.Output.{PrintsInput, Transcript, output_before, refusal_output}
+use Rattle.bd_cli_files.specs.{Input.ReadsInput, declared.pack.BadLine.BadLine}
+use Rattle.bd_cli_files.specs.Output.{Transcript, output_before, refusal_output}
+use Rattle.bd_cli_files.specs.Run.{Run, run_after}
 use Rattle.bd_extjson_fault.specs.declared.json_fault.JsonFaultKind.TheVariants as kinds
 use Rattle.bd_extjson_pack.specs.declared.line.LineFault.TheVariants as faults
 
@@ -53,8 +54,6 @@ IsOutputOfPack (Ok text) output =
     (ds : List Doc) × (bad : Option BadLine) × PacksLines 1 (text_lines text) ds bad × (output ≡ pack_output ds bad)
 IsOutputOfPack (Err fault) output = output ≡ refusal_output (read_words fault)
 
--- `pack` ran: its input was read, completely or not, and its output was printed.
-abbrev pub PacksInput : Over Reader → Over Writer → Over Writer → Status → Type 0
-PacksInput file out err status =
-    (input : Result (List ℕ) ReadFault) × (output : Transcript) × ReadsInput file input × IsOutputOfPack input output
-    × PrintsInput input out err output status
+-- A run of `pack`: it reads its whole input first.
+abbrev pub pack_run : Over Reader → Run
+pack_run file = run_after (ReadsInput file) IsOutputOfPack

@@ -1,3 +1,3 @@
-pub mod DumpAndCheck
 pub mod Output
 pub mod Pack
+pub mod Scan

@@ -12,17 +12,18 @@
 //! assert!(rt; err.bytes() == b"1 documents, 0 faulty\n".as_slice());
 //! ```
 //!
-//! - `dump_and_check`: `dump` and `check`, which scan a file document by document.
-//! - `pack`: `pack`, which reads its whole file into memory.
+//! - `dump` and `check`, which scan a file document by document; `pack`, which reads its whole file into memory.
+//! - `scan`: the scan of `dump` and `check`.
 //! - `input`: a file that is read completely, and how much of a file is read.
 //! - `output`: the messages of a run, and its exit status.
 #![tactic(auto)]
 
-mod dump_and_check;
+pub mod check;
+pub mod dump;
 mod input;
 pub mod output;
 pub mod pack;
+mod scan;
 
-pub use dump_and_check::{check, dump};
 pub use input::{LIMITS, read_input};
 pub use output::Status;

@@ -6,7 +6,8 @@ ghost use Rattle.bd_io_device.specs.Devices.{WriteFailsWithin, TakesText, over, 
 ghost use Rattle.bd_bson_check.specs.Fault.{fault_view};
 ghost use Rattle.bd_bson_check.specs.declared.fault.FaultKind.TheVariants as kinds;
 ghost use Rattle.bd_extjson_text.specs.Text.{quoted};
-ghost use Rattle.bd_cli_files.specs.Output.{ReportsMessage, cannot_write, error_line, fault_text, no_memory, location_text, stop_words, wrong_line, wrong_status};
+ghost use Rattle.bd_cli_files.specs.Run.{ReportsMessage};
+ghost use Rattle.bd_cli_files.specs.Output.{cannot_write, error_line, fault_text, no_memory, location_text, stop_words, wrong_line, wrong_status};
 ghost use Rattle.bd_cli_files.specs.inside.Output.{reported_bytes};
 ghost use Rattle.bd_cli_files.specs.declared.output.OutputFault.TheVariants.{NoMemory as memory, Unwritten};
 ghost use Rattle.bd_cli_files.specs.declared.output.Status.TheVariants.{Failed};

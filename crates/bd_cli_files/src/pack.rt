@@ -5,9 +5,10 @@ ghost use Rattle.bd_value.specs.Limits.{longest_input};
 ghost use Rattle.bd_io_device.specs.Devices.{over};
 ghost use Rattle.bd_io_lines.specs.Lines.{text_lines};
 ghost use Rattle.bd_cli_files.specs.Input.{ReadsNoFurther};
-ghost use Rattle.bd_cli_files.specs.Output.{PrintsOrRunsOut, ReportsMessage, Transcript, error_line, no_memory, wrong_line, wrong_status};
+ghost use Rattle.bd_cli_files.specs.Output.{Transcript, error_line, no_memory, wrong_line, wrong_status};
+ghost use Rattle.bd_cli_files.specs.Run.{Prints, ReportsMessage, part_of};
 ghost use Rattle.bd_cli_files.specs.inside.Output.{reported_bytes};
-ghost use Rattle.bd_cli_files.specs.Pack.{IsOutputOfPack, PacksInput, bad_line_text, line_fault_text, objects_packed};
+ghost use Rattle.bd_cli_files.specs.Pack.{IsOutputOfPack, bad_line_text, line_fault_text, objects_packed, pack_run};
 ghost use Rattle.bd_cli_files.specs.inside.Pack.{IsPacking, StopsPacking, remaining_size, lines_remaining};
 ghost use Rattle.bd_cli_files.specs.declared.output.Status.TheVariants.{Failed};
 
@@ -33,8 +34,8 @@ pub fn pack<R: Input, O: Output, E: Output>(
     out: &mut O,
     err: &mut E,
 ) -> Status
-    ensures packs { PacksInput (over R.state input.old input.new) (over O.state out.old out.new)
-        (over E.state err.old err.new) result }
+    ensures packs { Prints (pack_run (over R.state input.old input.new))
+        (over O.state out.old out.new) (over E.state err.old err.new) result }
     ensures stops_reading { ReadsNoFurther R.read_gives input.old input.new }
 {
     match read_input(alloc, input) {
@@ -46,8 +47,8 @@ pub fn pack<R: Input, O: Output, E: Output>(
 /// Packs a text and writes the result.
 fn pack_text<O: Output, E: Output>(alloc: Global, text: &[u8], out: &mut O, err: &mut E) -> Status
     requires { length text.now ≤ longest_input }
-    ensures { (output : Transcript) × IsOutputOfPack (Ok text.now) output × PrintsOrRunsOut
-        (over O.state out.old out.new) (over E.state err.old err.new) output result }
+    ensures { (output : Transcript) × IsOutputOfPack (Ok text.now) output × Prints (part_of output)
+        (over O.state out.old out.new) (over E.state err.old err.new) result }
 {
     match write_lines(text, &mut Packer::new(alloc), &mut Vec::new(alloc), out) {
         Ok(packing) => report_packing(alloc, &packing, err),

@@ -6,7 +6,7 @@ use Rattle.bd_io_device.specs.Devices.{Over, Writer}
 use Rattle.bd_cursor_request.specs.{Refused.IsRefusedPart, Refused.Reason, Refused.bad_filter, Refused.plain, Refused.reason_of, Refused.refused_words, Refused.then_part, declared.results.Refused.Refused}
 use Rattle.bd_query_filter.specs.{Fault.refusal_of, declared.fault.FilterFault.FilterFault}
 use Rattle.bd_cli_args.specs.FindWords.{FindWords}
-use Rattle.bd_cli_files.specs.{Output.ReportsMessage, Output.error_line, Output.no_memory, declared.output.Status.Status, declared.output.Status.TheVariants.Failed}
+use Rattle.bd_cli_files.specs.{Run.ReportsMessage, Output.error_line, Output.no_memory, declared.output.Status.Status, declared.output.Status.TheVariants.Failed}
 use Rattle.bd_cli_find.specs.Asking.{document_in, page_of, refusal_text, refused_option, refused_text, requested_by}
 use Rattle.bd_cli_find.specs.inside.Asking.{ReportsAskingFault, ReportsReason, ReportsRefusal}
 use Rattle.bd_cli_find.specs.declared.asking.AskingFault.{AskingFault}

@@ -1,5 +1,5 @@
 -- The lines of documents that were found, and the ends of a run of `find`.
-use Rattle.std.proofs.Common.{◌≡◌, ◌≤◌, ◌<◌, ◌+◌, ℕ, List, [], ◌∷◌, ◌++◌, length, get_or, take, drop, Some, refl, sym, ap, ◌∙◌, subst, arith, inl, inr, ◌⊎◌}
+use Rattle.std.proofs.Common.{◌≡◌, ◌≤◌, ◌<◌, ◌+◌, ℕ, List, [], ◌∷◌, ◌++◌, length, get_or, take, drop, Some, refl, sym, ap, ◌∙◌, subst, arith, inl, inr, ◌⊎◌, Ok}
 use Rattle.std.proofs.{lemmas.List.take-append-drop, lemmas.List.take_more, lemmas.List.Elements.filter_map-append}
 use Rattle.bd_io_device.proofs.DevicesLemmas.{takes_none}
 use Rattle.std.specs.Prelude.{slice_get}
@@ -9,13 +9,17 @@ use Rattle.bd_extjson_text.specs.Text.{text}
 use Rattle.bd_bson_dump.specs.{Collection.IsUnread, Collection.documents_at}
 use Rattle.bd_bson_check.specs.Fault.{fault_view}
 use Rattle.bd_cli_files.specs.{declared.output.Status.Status, declared.output.Status.TheVariants.Failed}
-use Rattle.bd_cli_files.specs.Output.{PrintsOrRunsOut, ReportsMessage, Transcript, error_line, fault_text, lines, no_memory, refusal_output}
+use Rattle.bd_cli_files.specs.Output.{Transcript, error_line, fault_text, lines, no_memory, refusal_output}
+use Rattle.bd_cli_files.specs.Run.{Prints, ReportsMessage, part_of, run_after}
+use Rattle.bd_cli_args.specs.FindWords.{FindWords}
 use Rattle.bd_cursor_request.specs.{declared.results.Refused.Refused, Refused.IsRefusedPart, Refused.reason_of, Refused.refused_words}
 use Rattle.bd_cli_find.specs.Asking.{PageRequest, refused_text}
-use Rattle.bd_cli_find.specs.Find.{places_from, IsOutputOfBytes, output_of_dump}
+use Rattle.bd_cli_find.specs.Asking.{requested_by}
+use Rattle.bd_cli_find.specs.Find.{places_from, IsOutputOfBytes, IsOutputOfFind, ReadsIfRequested, find_run, output_of_dump}
+use Rattle.bd_cli_files.proofs.OutputLemmas.{after_input}
 use Rattle.bd_cursor_sort.specs.Selection.{query_to}
 use Rattle.bd_cli_files.proofs.OutputLemmas.{lines-append}
-use Rattle.bd_io_device.specs.Devices.{Writer, between}
+use Rattle.bd_io_device.specs.Devices.{Over, Reader, Writer, between}
 use Rattle.bd_bson_check.specs.declared.fault.Fault as declared
 use Rattle.bd_bson_check.specs.declared.fault.FaultKind.TheVariants as kinds
 
@@ -46,20 +50,20 @@ module _ (ds : List Doc) (ps : List ℕ) where
 module _ (out_old out_new : Writer) (err_old err_new : Writer) (status : Status) where
   -- memory ran out before anything was written
   pub nothing_output : (output : Transcript) → ReportsMessage (between err_old err_new) (error_line no_memory) Failed status
-      → PrintsOrRunsOut (between out_old out_old) (between err_old err_new) output status
-  nothing_output output reported = inr (inr (([], output.out, refl, takes_none out_old), reported))
+      → Prints (part_of output) (between out_old out_old) (between err_old err_new) status
+  nothing_output output reported = inr (inr ([], (output.out, refl), takes_none out_old, reported))
 
   -- the line of a fault alone, or of out of memory
   pub refusal_is_output : (words : List ℕ) → ReportsMessage (between err_old err_new) (error_line words) Failed status ⊎ ReportsMessage (between err_old err_new) (error_line no_memory) Failed status
-      → PrintsOrRunsOut (between out_old out_old) (between err_old err_new) (refusal_output words) status
-  refusal_is_output words (inl reported) = inl (takes_none out_old, reported)
+      → Prints (part_of (refusal_output words)) (between out_old out_old) (between err_old err_new) status
+  refusal_is_output words (inl reported) = inl (refusal_output words, refl, takes_none out_old, reported)
   refusal_is_output words (inr reported) = nothing_output (refusal_output words) reported
 
   -- the output for a dump with a fault
   pub fault_is_output : (w : PageRequest) (bytes : List ℕ) (fault : declared.Fault) → length bytes ≤ longest_input → IsUnread bytes fault → ¬ (fault.kind ≡ kinds.NoMemory)
       → ReportsMessage (between err_old err_new) (error_line (fault_text fault.document (fault_view fault))) Failed status
       ⊎ ReportsMessage (between err_old err_new) (error_line no_memory) Failed status
-      → (output : Transcript) × IsOutputOfBytes w bytes output × PrintsOrRunsOut (between out_old out_old) (between err_old err_new) output status
+      → (output : Transcript) × IsOutputOfBytes w bytes output × Prints (part_of output) (between out_old out_old) (between err_old err_new) status
   fault_is_output w bytes fault le (inl long) other reported = absurd (let more = long.0 in omega arith)
   fault_is_output w bytes fault le (inr (_, inl want)) other reported = absurd (other want.kind)
   fault_is_output w bytes fault le (inr (_, inr first)) other reported =
@@ -73,7 +77,7 @@ module _ (out_old out_new : Writer) (err_old err_new : Writer) (status : Status)
   -- the output if no cursor was opened
   pub refused_output : (bytes : List ℕ) (ds : List Doc) (w : PageRequest) (refused : Refused) → IsRefusedPart (places_from (query_to bytes ds w.request) w.token) refused
       → ReportsMessage (between err_old err_new) (error_line (refused_text (reason_of refused))) Failed status ⊎ ReportsMessage (between err_old err_new) (error_line no_memory) Failed status
-      → PrintsOrRunsOut (between out_old out_old) (between err_old err_new) (output_of_dump bytes ds w) status
+      → Prints (part_of (output_of_dump bytes ds w)) (between out_old out_old) (between err_old err_new) status
   unfolding refused_words
   refused_output bytes ds w refused (inl want) reported = nothing_output (output_of_dump bytes ds w) (either (rw want at reported))
     where
@@ -82,3 +86,14 @@ module _ (out_old out_new : Writer) (err_old err_new : Writer) (status : Status)
       either (inl t) = t
       either (inr t) = t
   refused_output bytes ds w refused (inr led) reported = rw led (refusal_is_output (refused_text (reason_of refused)) reported)
+
+-- an output for an input that was read completely, or that is not needed
+pub output_found : {words : FindWords} {file : Over Reader} {out err : Over Writer} {status : Status} (bytes : List ℕ) (output : Transcript)
+    → ReadsIfRequested (requested_by words) file (Ok bytes) → IsOutputOfFind words (Ok bytes) output → Prints (part_of output) out err status
+    → Prints (find_run words file) out err status
+output_found {words} {file} {out} {err} {status} bytes output read is prints = by_case (after_input {ReadsIfRequested (requested_by words) file} {IsOutputOfFind words} bytes output read is prints)
+  where
+    by_case : Prints (run_after (ReadsIfRequested (requested_by words) file) (IsOutputOfFind words)) out err status → Prints (find_run words file) out err status
+    by_case (inl whole) = inl whole
+    by_case (inr (inl next)) = inr (inl next)
+    by_case (inr (inr (text, begun, wrote, reported))) = inr (inr (text, inl begun, wrote, reported))

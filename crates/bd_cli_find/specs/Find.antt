@@ -1,4 +1,4 @@
--- What `find` prints for its options and an input, and what a run of it did.
+-- What `find` prints for its options and an input, and where a run of it may stop.
 use Rattle.std.specs.Prelude.{◌≡◌, ℕ, nat_lt, List, [], length, option_map, Option, Some, None, Result}
 use Rattle.std.specs.Prelude.{Ok, Err, codes, if◌then◌else◌, ◌⊎◌, Bool, ◌∷◌, ◌++◌}
 use Rattle.std.specs.{Prelude.drop, Prelude.decimal, Str.bytes_eq}
@@ -10,16 +10,15 @@ use Rattle.bd_cursor.specs.{SessionView.position_of, SessionView.positioned_toke
 use Rattle.bd_cursor_request.specs.{declared.token.Token.Token, Results.positioned_text}
 use Rattle.bd_cursor_request.specs.Refused.{Reason, plain}
 use Rattle.bd_bson_dump.specs.Collection.{documents_at}
-use Rattle.bd_io_device.specs.{Devices.Over, Devices.Reader, Devices.Writer, Devices.read_words}
+use Rattle.bd_io_device.specs.{Devices.Over, Devices.Reader, Devices.read_words}
 use Rattle.bd_io_device.specs.{declared.reading.ReadFault.ReadFault}
 use Rattle.bd_bson_check.specs.{Fault.Fault, Dump.IsDumpScan}
 use Rattle.bd_cli_args.specs.FindWords.{FindWords}
 use Rattle.bd_cli_find.specs.Asking.{PageRequest, refused_text, requested_by}
 use Rattle.bd_cursor_sort.specs.Selection.{query_to, selection_for}
-use Rattle.bd_cli_files.specs.{Input.ReadsInput, declared.output.Status.Status}
-use Rattle.bd_cli_files.specs.declared.output.Status.TheVariants.{Done, Failed}
-use Rattle.bd_cli_files.specs.Output.{PrintsInput, ReportsMessage, Transcript, error_line, lines, fault_text, no_memory}
-use Rattle.bd_cli_files.specs.Output.{refusal_output}
+use Rattle.bd_cli_files.specs.{Input.ReadsInput, Run.Run, Run.run_after}
+use Rattle.bd_cli_files.specs.declared.output.Status.TheVariants.{Done}
+use Rattle.bd_cli_files.specs.Output.{Transcript, lines, fault_text, refusal_output}
 use Rattle.bd_extjson_text.specs.Text.{text}
 use Rattle.bd_path.specs.Sort.{SortPath, sort_cmp}
 use Rattle.bd_query_filter.specs.{Filter.Filter, FilterMatch.matches}
@@ -98,15 +97,14 @@ abbrev pub ReadsIfRequested : Result PageRequest (List ℕ) → Over Reader → 
 ReadsIfRequested (Ok w) file input = ReadsInput file input
 ReadsIfRequested (Err message) file input = file.after ≡ file.before
 
--- `find` ran: its input was read unless an option is refused, and its output was printed;
+-- A run of `find`: it reads its whole input first, unless an option is refused;
 -- or memory ran out before, and nothing was read.
-abbrev pub FindsDocuments : FindWords → Over Reader → Over Writer → Over Writer → Status → Type 0
-FindsDocuments words file out err status =
-    ((file.after ≡ file.before) × (out.after ≡ out.before)
-    × ReportsMessage err (error_line no_memory) Failed status)
-    ⊎ ((input : Result (List ℕ) ReadFault) × (output : Transcript)
-    × ReadsIfRequested (requested_by words) file input
-    × IsOutputOfFind words input output × PrintsInput input out err output status)
+abbrev pub find_run : FindWords → Over Reader → Run
+find_run words file = let run = run_after (ReadsIfRequested (requested_by words) file) (IsOutputOfFind words) in record {
+  IsOutput = run.IsOutput;
+  IsNext = run.IsNext;
+  IsBegun = λ text. run.IsBegun text ⊎ ((text ≡ []) × (file.after ≡ file.before));
+}
 
 -- the request of a filter, a sort, a skip and a limit, in terms of documents instead of their numbers
 abbrev pub document_request : Filter → List SortPath → ℕ → ℕ → DocumentRequest Doc

@@ -10,7 +10,8 @@ ghost use Rattle.bd_bson_dump.specs.{Collection.bytes_of, Collection.documents, 
 ghost use Rattle.bd_cursor_sort.specs.Selection.{query_of};
 ghost use Rattle.bd_cursor.specs.{Access.way_of, SessionView.dump_of, SessionView.hint_of, SessionView.positioned_token, SessionView.state_of};
 ghost use Rattle.bd_cursor_request.specs.declared.results.Refused.TheVariants.{NoMemory as memory};
-ghost use Rattle.bd_cli_files.specs.Output.{PrintsOrRunsOut, StopsWithin, ReportsMessage, error_line, lines, no_memory};
+ghost use Rattle.bd_cli_files.specs.Output.{error_line, lines, no_memory};
+ghost use Rattle.bd_cli_files.specs.Run.{Prints, ReportsMessage, StopsWithin, part_of};
 ghost use Rattle.bd_cli_files.specs.declared.output.Status.TheVariants.{Done, Failed};
 ghost use Rattle.bd_cli_find.specs.Asking.{fits_batch};
 ghost use Rattle.bd_cli_find.specs.inside.Asking.{page_request_of};
@@ -49,8 +50,9 @@ pub(crate) fn print_found<O: Output, E: Output>(
 ) -> Status
     requires within_limit { length (documents dump) ≤ greatest_count }
     requires fits { fits_batch asking.size ≡ true }
-    ensures { PrintsOrRunsOut (over O.state out.old out.new) (over E.state err.old err.new)
-        (output_of_dump (bytes_of dump) (documents dump) (page_request_of asking)) result }
+    ensures { Prints
+        (part_of (output_of_dump (bytes_of dump) (documents dump) (page_request_of asking)))
+        (over O.state out.old out.new) (over E.state err.old err.new) result }
 {
     let size = asking.size;
     let mut session = Session::new(alloc, dump);
@@ -103,8 +105,8 @@ fn print_batch<O: Output, E: Output>(
     requires ready { IsReady (state_of session.now) id (length (documents (dump_of session.now))) }
     requires fits { fits_batch size ≡ true }
     ensures { (cursor : OpenCursor) → cursor_of id (state_of session.old).cursors ≡ Some cursor →
-        PrintsOrRunsOut (over O.state out.old out.new) (over E.state err.old err.new)
-        (batch_output size (documents (dump_of session.old)) cursor) result }
+        Prints (part_of (batch_output size (documents (dump_of session.old)) cursor))
+        (over O.state out.old out.new) (over E.state err.old err.new) result }
 {
     let Ok(batch) = session.next(id, most_of(size)) else {
         return report_no_memory(err);

@@ -4,11 +4,11 @@
 ghost use Rattle.std.specs.Prelude.{◌≡◌, ◌≤◌, Ok, length, true};
 ghost use Rattle.bd_value.specs.{Limits.longest_input};
 ghost use Rattle.bd_cli_args.specs.FindWords.{find_words_of};
-ghost use Rattle.bd_cli_find.specs.Find.{FindsDocuments, IsOutputOfBytes};
+ghost use Rattle.bd_cli_find.specs.Find.{IsOutputOfBytes, find_run};
 ghost use Rattle.bd_cli_find.specs.Asking.{RequestsNothing, PageRequest, fits_batch};
 ghost use Rattle.bd_cli_find.specs.inside.Asking.{page_request_of};
 ghost use Rattle.bd_cli_files.specs.Input.{ReadsNoFurther};
-ghost use Rattle.bd_cli_files.specs.{Output.PrintsOrRunsOut, Output.Transcript};
+ghost use Rattle.bd_cli_files.specs.{Output.Transcript, Run.Prints, Run.part_of};
 ghost use Rattle.bd_io_device.specs.Devices.{over};
 
 use crate::asking::{Asking, AskingFault, read_asking, report_refused};
@@ -31,7 +31,8 @@ pub fn find<R: Input, O: Output, E: Output>(
     out: &mut O,
     err: &mut E,
 ) -> Status
-    ensures found { FindsDocuments (find_words_of options.now) (over R.state input.old input.new)
+    ensures found {
+        Prints (find_run (find_words_of options.now) (over R.state input.old input.new))
         (over O.state out.old out.new) (over E.state err.old err.new) result }
     ensures stops_reading { ReadsNoFurther R.read_gives input.old input.new }
     ensures unread { RequestsNothing (find_words_of options.now) → input.new ≡ input.old }
@@ -59,8 +60,8 @@ fn find_in<O: Output, E: Output>(
     requires short { length bytes.items ≤ longest_input }
     requires fits { fits_batch asking.size ≡ true }
     ensures { (output : Transcript)
-        × IsOutputOfBytes (page_request_of asking) bytes.items output × PrintsOrRunsOut
-        (over O.state out.old out.new) (over E.state err.old err.new) output result }
+        × IsOutputOfBytes (page_request_of asking) bytes.items output × Prints (part_of output)
+        (over O.state out.old out.new) (over E.state err.old err.new) result }
 {
     something_is_output(&bytes);
     match read_dump(alloc, bytes) {

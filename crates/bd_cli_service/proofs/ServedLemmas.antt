@@ -41,17 +41,15 @@ one_out_of_memory s mid t line unchanged (inr (text, r)) = inr (text, one_replie
 
 -- ---- served to the end
 
-pub served : {R : Type 0} (state : R → Reader) (gives : R → Option (List ℕ) → R → Type 0) (limits : Limits) (old new : R) (out : Over Writer)
-    (s t : Service) → ServesAll state gives RepliesTo limits old new out s t
-    → ServesAll state gives (RepliesOver (service_dump s)) limits old new out (service_state s) (service_state t)
-served state gives limits old new out s t all = record {
+pub served : {R : Type 0} (state : R → Reader) (gives : R → Option (List ℕ) → R → Type 0) (limits : Limits) (old new : R)
+    (s : Service) (text : List ℕ) (t : Service) → ServesAll state gives RepliesTo limits old new s text t
+    → ServesAll state gives (RepliesOver (service_dump s)) limits old new (service_state s) text (service_state t)
+served state gives limits old new s text t all = record {
   remaining = all.remaining;
   given = all.given;
-  text = all.text;
   short = all.short;
   reads = all.reads;
-  replied = replied s _ all.text t all.replied;
-  written = all.written;
+  replied = replied s _ text t all.replied;
 }
 
 -- ---- and to a fault
@@ -77,24 +75,26 @@ before state gives limits old new s command text t b = record {
 pub stopped : {R : Type 0} (state : R → Reader) (gives : R → Option (List ℕ) → R → Type 0) (limits : Limits) (old new : R) (out : Over Writer)
     (s t : Service) (fault : ServeFault) → StopsServing state gives RepliesTo limits old new out s t KeepsState fault
     → StopsServing state gives (RepliesOver (service_dump s)) limits old new out (service_state s) (service_state t) IsUnchanged fault
-stopped state gives limits old new out s t (faults.Unread fault) u = record {
-  whole = u.whole;
-  rest = u.rest;
-  text = u.text;
-  ends = u.ends;
-  short = u.short;
-  stops = u.stops;
-  cause = u.cause;
-  in_time = u.in_time;
-  replied = replied s _ u.text t u.replied;
-  written = u.written;
-}
-stopped state gives limits old new out s t faults.NoMemory (command, text, mid, b, taken, out_of_memory) =
+stopped state gives limits old new out s t (faults.Unread fault) (text, u, wrote) = (
+  text,
+  record {
+    whole = u.whole;
+    rest = u.rest;
+    ends = u.ends;
+    short = u.short;
+    stops = u.stops;
+    cause = u.cause;
+    in_time = u.in_time;
+    replied = replied s _ text t u.replied;
+  },
+  wrote,
+)
+stopped state gives limits old new out s t faults.NoMemory (text, (command, mid, b, out_of_memory), wrote) =
     let unchanged = dump_unchanged s _ text mid b.replied in
-    (command, text, service_state mid, before state gives limits old new s command text mid b, taken, one_out_of_memory s mid t command unchanged out_of_memory)
-stopped state gives limits old new out s t faults.Unwritten (command, text, reply, mid, b, r, write_failed) =
+    (text, (command, service_state mid, before state gives limits old new s command text mid b, one_out_of_memory s mid t command unchanged out_of_memory), wrote)
+stopped state gives limits old new out s t faults.Unwritten (text, piece, (command, reply, mid, b, r, is), write_failed) =
     let unchanged = dump_unchanged s _ text mid b.replied in
-    (command, text, reply, service_state mid, before state gives limits old new s command text mid b, one_replied s mid t command reply unchanged r, write_failed)
+    (text, piece, (command, reply, service_state mid, before state gives limits old new s command text mid b, one_replied s mid t command reply unchanged r, is), write_failed)
 
 -- ---- a talk
 

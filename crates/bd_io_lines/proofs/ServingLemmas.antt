@@ -111,20 +111,20 @@ module _ {R S : Type 0} {state : R → Reader} {gives : R → Option (List ℕ) 
   gave : lines.ended ≡ false → GivesBytes state gives limits lines.remaining false (so_far.whole ++ lines.rest) old mid
   gave going = subst (λ b. GivesBytes state gives limits lines.remaining b (so_far.whole ++ lines.rest) old mid) going so_far.reads
 
-  serves_by : (remaining : Limits) (new : R) → GivesBytes state gives limits remaining true so_far.whole old new → ServesAll state gives replies limits old new (between before now) s t
-  serves_by remaining new reads = record {
-    remaining = remaining;
-    given = so_far.whole;
-    text = so_far.text;
-    short = so_far.short;
-    reads = reads;
-    replied = so_far.replied;
-    written = so_far.written;
-  }
+  -- the text of all replies, and that it was written
+  abbrev Served : R → Type 0
+  Served new = (text : List ℕ) × ServesAll state gives replies limits old new s text t × TakesText (between before now) text
+
+  serves_by : (remaining : Limits) (new : R) → GivesBytes state gives limits remaining true so_far.whole old new → Served new
+  serves_by remaining new reads = (
+    so_far.text,
+    record { remaining = remaining; given = so_far.whole; short = so_far.short; reads = reads; replied = so_far.replied },
+    so_far.written,
+  )
 
   -- the end was found before, or now
   pub serves_end : (next : Buffered) (new : R) → (lines.ended ≡ true) ⊎ (lines.ended ≡ false) → (lines.ended ≡ true → new ≡ mid)
-      → FindsNoLine state gives lines next mid new → ServesAll state gives replies limits old new (between before now) s t
+      → FindsNoLine state gives lines next mid new → Served new
   serves_end next new (inl over) same none = serves_by lines.remaining new (subst (λ r. GivesBytes state gives limits lines.remaining true so_far.whole old r) (sym (same over))
       (subst (λ x. GivesBytes state gives limits lines.remaining true x old mid) (ap (λ x. so_far.whole ++ x) none.none.0 ∙ append-nil so_far.whole)
       (subst (λ b. GivesBytes state gives limits lines.remaining b (so_far.whole ++ lines.rest) old mid) over so_far.reads)))
@@ -133,25 +133,26 @@ module _ {R S : Type 0} {state : R → Reader} {gives : R → Option (List ℕ) 
 
   -- reading failed
   pub stops_unread : (new : R) (fault : ReadFault) → lines.ended ≡ false → FailsToReadLine state gives lines.remaining lines.rest mid new fault
-      → StopsUnread state gives replies limits old new (between before now) s t fault
+      → (text : List ℕ) × StopsUnread state gives replies limits old new s text t fault × TakesText (between before now) text
   stops_unread new fault going fails =
       let first = gave going in
       let apart : (so_far.whole ++ lines.rest) ++ fails.given ≡ so_far.whole ++ (lines.rest ++ fails.given) =
-      append_assoc so_far.whole lines.rest fails.given in
-      record {
-        whole = so_far.whole;
-        rest = lines.rest ++ fails.given;
-        text = so_far.text;
-        ends = so_far.ends going;
-        short = so_far.short;
-        stops = subst (λ x. StopsReading state gives limits x old new fault) apart (stops_then first fails.stops);
-        cause = subst (λ x. IsCause gives limits.bytes (lines.rest ++ fails.given) x old new fault) apart
-            (cause_then limits.bytes lines.remaining.bytes first.turns old mid new (so_far.whole ++ lines.rest) (lines.rest ++ fails.given) fails.given fault
-            first.reads first.capacity fails.cause);
-        in_time = in_time_now so_far.whole lines.rest fails.given first.turns old mid new first.reads so_far.in_time fails.lazy;
-        replied = so_far.replied;
-        written = so_far.written;
-      }
+      append_assoc so_far.whole lines.rest fails.given in (
+        so_far.text,
+        record {
+          whole = so_far.whole;
+          rest = lines.rest ++ fails.given;
+          ends = so_far.ends going;
+          short = so_far.short;
+          stops = subst (λ x. StopsReading state gives limits x old new fault) apart (stops_then first fails.stops);
+          cause = subst (λ x. IsCause gives limits.bytes (lines.rest ++ fails.given) x old new fault) apart
+              (cause_then limits.bytes lines.remaining.bytes first.turns old mid new (so_far.whole ++ lines.rest) (lines.rest ++ fails.given) fails.given fault
+              first.reads first.capacity fails.cause);
+          in_time = in_time_now so_far.whole lines.rest fails.given first.turns old mid new first.reads so_far.in_time fails.lazy;
+          replied = so_far.replied;
+        },
+        so_far.written,
+      )
 
   module _ (going : lines.ended ≡ false) {next : Buffered} {new : R} (reads : ReadsLine state gives lines next mid new) where
     gave_all : GivesBytes state gives limits next.remaining next.ended (so_far.whole ++ (lines.rest ++ reads.given)) old new
@@ -218,8 +219,8 @@ module _ {R S : Type 0} {state : R → Reader} {gives : R → Option (List ℕ) 
     stops_answer stays later u fault (inl is) out_of_memory failed_write =
         let e = out_of_memory is in
         subst (λ f. StopsServing state gives replies limits old new (between before later) s u stays f) (sym is)
-        (next.line, so_far.text, t, serves_before e.0, subst (λ w. TakesText (between before w) so_far.text) (sym e.1) so_far.written, e.2)
+        (so_far.text, (next.line, t, serves_before e.0, e.2), subst (λ w. TakesText (between before w) so_far.text) (sym e.1) so_far.written)
     stops_answer stays later u fault (inr is) out_of_memory failed_write =
         let e = failed_write is in
         subst (λ f. StopsServing state gives replies limits old new (between before later) s u stays f) (sym is)
-        (next.line, so_far.text, e.1.0, t, serves_before e.0, e.1.1, write_fails_after before now later so_far.text (e.1.0 ++ 10 ∷ []) so_far.written e.1.2)
+        (so_far.text, e.1.0 ++ 10 ∷ [], (next.line, e.1.0, t, serves_before e.0, e.1.1, refl), write_fails_after before now later so_far.text (e.1.0 ++ 10 ∷ []) so_far.written e.1.2)

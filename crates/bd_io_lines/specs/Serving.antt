@@ -45,39 +45,39 @@ module _ {R S : Type 0} (state : R → Reader) (gives : R → Option (List ℕ) 
     pub is_command : is_empty_line command ≡ false
     pub replied : RepliesInTurn replies s (commands_of whole) text t
 
-  module _ (out : Over Writer) (s t : S) where
-    -- The reader gave all its bytes, and the replies to all commands in them were written.
-    pub record ServesAll : Type 0 where
-      pub remaining : Limits
-      pub given : List ℕ
-      pub text : List ℕ
-      pub short : AreShort given
-      pub reads : GivesBytes state gives limits remaining true given old new
-      pub replied : RepliesInTurn replies s (commands_of given) text t
-      pub written : TakesText out text
+  -- The reader gave all its bytes, and the text is the replies to all commands in them.
+  pub record ServesAll (s : S) (text : List ℕ) (t : S) : Type 0 where
+    pub remaining : Limits
+    pub given : List ℕ
+    pub short : AreShort given
+    pub reads : GivesBytes state gives limits remaining true given old new
+    pub replied : RepliesInTurn replies s (commands_of given) text t
 
-    -- Reading failed in the line after some whole lines,
-    -- and the replies to the commands among these were written.
-    pub record StopsUnread (fault : ReadFault) : Type 0 where
-      pub whole : List ℕ
-      pub rest : List ℕ
-      pub text : List ℕ
-      pub ends : AreWhole whole
-      pub short : AreShort whole
-      pub stops : StopsReading state gives limits (whole ++ rest) old new fault
-      pub cause : IsCause gives limits.bytes rest (whole ++ rest) old new fault
-      pub in_time : IsReadInTime gives whole (whole ++ rest) old new
-      pub replied : RepliesInTurn replies s (commands_of whole) text t
-      pub written : TakesText out text
+  -- Reading failed in the line after some whole lines,
+  -- and the text is the replies to the commands among these.
+  pub record StopsUnread (s : S) (text : List ℕ) (t : S) (fault : ReadFault) : Type 0 where
+    pub whole : List ℕ
+    pub rest : List ℕ
+    pub ends : AreWhole whole
+    pub short : AreShort whole
+    pub stops : StopsReading state gives limits (whole ++ rest) old new fault
+    pub cause : IsCause gives limits.bytes rest (whole ++ rest) old new fault
+    pub in_time : IsReadInTime gives whole (whole ++ rest) old new
+    pub replied : RepliesInTurn replies s (commands_of whole) text t
 
-    -- Not every command had a reply, for this reason: those before had theirs, and `stays` says what is unchanged.
-    abbrev pub StopsServing : (S → S → Type 0) → ServeFault → Type 0
-    StopsServing stays (ServeFault.Unread fault) = StopsUnread fault
-    -- the reply to a command was not made
-    StopsServing stays ServeFault.NoMemory =
-        (command : List ℕ) × (text : List ℕ) × (mid : S) × ServesBefore s command text mid × TakesText out text
-        × RunsOutAt stays replies mid command t
-    -- the reply to a command was not written
-    StopsServing stays ServeFault.Unwritten =
-        (command : List ℕ) × (text : List ℕ) × (reply : List ℕ) × (mid : S) × ServesBefore s command text mid
-        × replies mid command reply t × WriteFailsAfter out text (reply ++ 10 ∷ [])
+  -- A reply was not written: it is the next piece after this text, which is the replies before it.
+  abbrev pub IsNextReply : S → List ℕ → List ℕ → S → Type 0
+  IsNextReply s text piece t = (command : List ℕ) × (reply : List ℕ) × (mid : S) × ServesBefore s command text mid
+      × replies mid command reply t × (piece ≡ reply ++ 10 ∷ [])
+
+  -- A reply was not made, since memory ran out: the text is the replies before it, and `stays` says what is unchanged.
+  abbrev pub LacksReply : (S → S → Type 0) → S → List ℕ → S → Type 0
+  LacksReply stays s text t =
+      (command : List ℕ) × (mid : S) × ServesBefore s command text mid × RunsOutAt stays replies mid command t
+
+  -- Not every command had a reply, for this reason, and the replies before it were written.
+  abbrev pub StopsServing : Over Writer → S → S → (S → S → Type 0) → ServeFault → Type 0
+  StopsServing out s t stays (ServeFault.Unread fault) = (text : List ℕ) × StopsUnread s text t fault × TakesText out text
+  StopsServing out s t stays ServeFault.NoMemory = (text : List ℕ) × LacksReply stays s text t × TakesText out text
+  StopsServing out s t stays ServeFault.Unwritten =
+      (text : List ℕ) × (piece : List ℕ) × IsNextReply s text piece t × WriteFailsAfter out text piece

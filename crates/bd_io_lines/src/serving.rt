@@ -112,8 +112,9 @@ pub fn serve<R: Input, O: Output, S: Replier>(
     session: &mut S,
     out: &mut O,
 ) -> Result<(), ServeFault>
-    ensures serves { OnOk result (ServesAll R.state R.read_gives S.replies
-        limits reader.old reader.new (over O.state out.old out.new) session.old session.new) }
+    ensures serves { OnOk result ((text : List ℕ) × ServesAll R.state R.read_gives S.replies
+        limits reader.old reader.new session.old text session.new
+        × TakesText (over O.state out.old out.new) text) }
     ensures stops { IfErr result (StopsServing R.state R.read_gives S.replies limits
         reader.old reader.new (over O.state out.old out.new) session.old session.new S.stays) }
 {

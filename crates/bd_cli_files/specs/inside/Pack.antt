@@ -1,4 +1,4 @@
--- What `pack` prints for an input, and what a run of it did.
+-- What `pack` does line by line.
 use Rattle.std.specs.Prelude.{◌≡◌, ℕ, suc, List, [], length}
 use Rattle.std.specs.Prelude.{Option, Some, None}
 use Rattle.std.specs.List.{flat_map}
@@ -9,7 +9,7 @@ use Rattle.bd_io_lines.specs.Lines.{text_lines}
 use Rattle.bd_cli_files.specs.{declared.pack.BadLine.BadLine}
 use Rattle.bd_cli_files.specs.{declared.pack.Packing.Packing}
 use Rattle.bd_cli_files.specs.declared.{output.OutputFault.OutputFault}
-use Rattle.bd_cli_files.specs.Output.{StopsWithin}
+use Rattle.bd_cli_files.specs.Run.{StopsWithin}
 use Rattle.bd_cli_files.specs.Pack.{PacksLines}
 
 -- ---- line by line

@@ -5,7 +5,7 @@ use Rattle.bd_cursor_request.specs.{declared.results.Refused.Refused}
 use Rattle.bd_cursor_request.specs.Refused.{Reason, bad_filter, plain, reason_of, error_as}
 use Rattle.bd_cursor_request.specs.Request.{request_view}
 use Rattle.bd_io_device.specs.Devices.{Over, Writer}
-use Rattle.bd_cli_files.specs.{Output.ReportsMessage, Output.error_line, declared.output.Status.Status}
+use Rattle.bd_cli_files.specs.{Run.ReportsMessage, Output.error_line, declared.output.Status.Status}
 use Rattle.bd_cli_files.specs.declared.output.Status.TheVariants.{Failed}
 use Rattle.bd_cli_find.specs.{declared.asking.Asking.Asking, declared.asking.AskingFault.AskingFault}
 use Rattle.bd_cli_find.specs.declared.asking.AskingFault.TheVariants as faults

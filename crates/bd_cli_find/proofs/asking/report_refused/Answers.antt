@@ -1,7 +1,7 @@
 use Rattle.std.proofs.Common.{◌++◌, ◌∙◌, rules}
 use Rattle.bd_io_device.specs.Devices.{over}
 use Rattle.bd_cursor_request.specs.Refused.{refused_words}
-use Rattle.bd_cli_files.specs.{Output.ReportsMessage, Output.error_line, declared.output.Status.TheVariants.Failed}
+use Rattle.bd_cli_files.specs.{Run.ReportsMessage, Output.error_line, declared.output.Status.TheVariants.Failed}
 use Rattle.bd_cli_find.specs.Asking.{refused_option}
 use Rattle.bd_cli_find.proofs.AskingLemmas.{filter_reported, plain_reported}
 use Rattle.bd_cli_find.proofs.asking.report_refused.Goals as goal

@@ -5,7 +5,7 @@ use Rattle.bd_cursor.specs.SessionView.{dump_of, given_batch, state_of}
 use Rattle.bd_cli_files.proofs.OutputLemmas.{all_output, stop_output}
 use Rattle.bd_cli_find.proofs.BatchLemmas.{batch_given, given_is, taken_inside}
 use Rattle.bd_cli_find.specs.Find.{batch_output}
-use Rattle.bd_cli_files.specs.Output.{StopsWithin, lines}
+use Rattle.bd_cli_files.specs.{Output.lines, Run.StopsWithin}
 use Rattle.bd_io_device.specs.Devices.{TakesText, over}
 use Rattle.bd_cli_find.proofs.FindLemmas as finds
 use Rattle.bd_cli_find.proofs.batch.print_batch.Goals as goal

@@ -1,5 +1,5 @@
 use Rattle.bd_cli_files.proofs.DumpLemmas as runs
-use Rattle.bd_cli_files.proofs.dump_and_check.dump.Goals as goal
+use Rattle.bd_cli_files.proofs.dump.dump.Goals as goal
 
 pub returns-in-Ok-clause-dumps : goal.returns-in-Ok-clause-dumps
 returns-in-Ok-clause-dumps g c = runs.prints_scan (g.R.Input.state c.args.input.now) (g.R.Input.state c.scan_documents.new.input)

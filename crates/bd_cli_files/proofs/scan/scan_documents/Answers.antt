@@ -5,7 +5,7 @@ use Rattle.bd_bson_check.specs.{Fault.fault_view, FirstFault.first_fault}
 use Rattle.bd_io_device.specs.Devices.{zero_reads}
 use Rattle.bd_bson_view.specs.Sound.{meaning}
 use Rattle.bd_cli_files.proofs.ScanLemmas as scans
-use Rattle.bd_cli_files.proofs.dump_and_check.scan_documents.Goals as goal
+use Rattle.bd_cli_files.proofs.scan.scan_documents.Goals as goal
 
 pub loop-alloc-init : goal.loop-alloc-init
 loop-alloc-init g c = record {

@@ -1,7 +1,7 @@
 use Rattle.std.proofs.Common.{◌≡◌, ◌∙◌, inl, inr}
 use Rattle.bd_bson_check.specs.Fault.{fault_view}
 use Rattle.bd_cli_files.specs.Output.{fault_text}
-use Rattle.bd_cli_files.proofs.dump_and_check.report_scan.Goals as goal
+use Rattle.bd_cli_files.proofs.dump.report_scan.Goals as goal
 
 pub returns-in-Whole : goal.returns-in-Whole
 returns-in-Whole g c = inl (rw c.in-Whole.is (rw c.from-count.ensures at c.report_end.ensures))

@@ -1,6 +1,6 @@
 use Rattle.std.proofs.Common.{◌≡◌, false}
 use Rattle.bd_cli_files.proofs.ScanLemmas.{IsRead, SoFar}
-use Rattle.bd_cli_files.proofs.dump_and_check.scan_documents.Given as goal
+use Rattle.bd_cli_files.proofs.scan.scan_documents.Given as goal
 
 abbrev pub invariant-loop-alloc : goal.invariant-loop-alloc
 invariant-loop-alloc g l = record {

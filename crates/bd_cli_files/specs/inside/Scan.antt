@@ -1,4 +1,4 @@
--- What `dump` and `check` print for an input, and what a run of them did.
+-- What a scan of the documents of an input visits and writes, for `dump` and for `check`.
 use Rattle.std.specs.Prelude.{◌≡◌, ◌⊎◌, ℕ, Bool, true, false, List, [], ◌∷◌, ◌++◌, length}
 use Rattle.std.specs.Prelude.{Option, Some, None}
 use Rattle.std.specs.Prelude.{is_some, unwrap_or, Result, Ok, Err}
@@ -9,7 +9,7 @@ use Rattle.bd_bson_view.specs.Spelling.{IsDocument}
 use Rattle.bd_bson_check.specs.{Fault.fault_view, Fault.Fault, FirstFault.first_fault}
 use Rattle.bd_bson_check.specs.Dump.{frame_fault, frame_length}
 use Rattle.bd_bson_stream.specs.Stream.{IsCutShort, IsFrame}
-use Rattle.bd_cli_files.specs.{declared.dump_and_check.Ending.Ending, declared.dump_and_check.DumpScan.DumpScan}
+use Rattle.bd_cli_files.specs.{declared.scan.Ending.Ending, declared.scan.DumpScan.DumpScan}
 use Rattle.bd_cli_files.specs.{declared.output.OutputFault.OutputFault}
 use Rattle.bd_cli_files.specs.{declared.output.OutputFault.TheVariants.NoMemory}
 use Rattle.bd_cli_files.specs.{declared.output.OutputFault.TheVariants.Unwritten}
@@ -17,8 +17,8 @@ use Rattle.bd_cli_files.specs.Input.{StopsInside, StopsWithinOne, StreamsInput}
 use Rattle.bd_cli_files.specs.Output.{fault_text, lines}
 use Rattle.bd_cli_files.specs.inside.Output.{StopsWriting}
 use Rattle.bd_bson_check.specs.declared.fault.Fault as reported
-use Rattle.bd_cli_files.specs.declared.dump_and_check.Ending.TheVariants as endings
-use Rattle.bd_cli_files.specs.DumpAndCheck.{check_result_line}
+use Rattle.bd_cli_files.specs.declared.scan.Ending.TheVariants as endings
+use Rattle.bd_cli_files.specs.Check.{check_result_line}
 
 -- ---- the scan of the documents
 

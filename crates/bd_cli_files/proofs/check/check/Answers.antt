@@ -1,5 +1,5 @@
 use Rattle.bd_cli_files.proofs.CheckLemmas as checks_each
-use Rattle.bd_cli_files.proofs.dump_and_check.check.Goals as goal
+use Rattle.bd_cli_files.proofs.check.check.Goals as goal
 
 pub returns-in-Whole-clause-checks : goal.returns-in-Whole-clause-checks
 returns-in-Whole-clause-checks g c =

@@ -4,7 +4,7 @@ use Rattle.bd_io_device.specs.{Devices.read_words, declared.reading.ReadFault.Re
 use Rattle.bd_cli_files.specs.Output.{wrong_line}
 use Rattle.bd_io_device.proofs.DevicesLemmas.{write_fails_first}
 use Rattle.bd_cli_files.proofs.OutputLemmas.{on_err, second_err, second_ok}
-use Rattle.bd_cli_files.proofs.dump_and_check.write_findings.Goals as goal
+use Rattle.bd_cli_files.proofs.check.write_findings.Goals as goal
 
 abbrev first : Option ReadFault → ℕ → List ℕ
 first unread documents = wrong_line (option_map read_words unread) ++ (decimal documents ++ codes " documents, ")

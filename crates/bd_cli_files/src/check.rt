@@ -1,0 +1,103 @@
+//! `check`: a line for each document of an input that has a fault.
+
+ghost use Rattle.std.specs.Prelude.{OnErr, OnOk};
+ghost use Rattle.bd_io_device.specs.Devices.{WriteFailsWithin, TakesText, over};
+ghost use Rattle.bd_cli_files.specs.Check.{check_message, check_run, check_status};
+ghost use Rattle.bd_cli_files.specs.inside.Scan.{check_texts};
+ghost use Rattle.bd_cli_files.specs.Input.{ReadsNoFurther};
+ghost use Rattle.bd_cli_files.specs.Run.{Prints, ReportsMessage};
+
+use crate::output::{
+    OutputFault, Status, push_fault, report_stop, status_of, words_of, write_count, write_end,
+};
+use crate::scan::{Ending, Visitor, scan_documents};
+use bd_bson_check::Fault;
+use bd_bson_view::RawDoc;
+use bd_io_device::{DeviceFault, Input, Output, ReadFault, write_all};
+use std::alloc::Global;
+
+/// After the number of documents.
+const DOCUMENTS: &str = " documents, ";
+
+/// After the number of those that have a fault.
+const FAULTY: &str = " faulty\n";
+
+/// Reads an input document by document, and prints the fault of each document that has one. No tree is built.
+pub fn check<R: Input, O: Output, E: Output>(
+    alloc: Global,
+    input: &mut R,
+    out: &mut O,
+    err: &mut E,
+) -> Status
+    ensures checks { Prints (check_run (over R.state input.old input.new))
+        (over O.state out.old out.new) (over E.state err.old err.new) result }
+    ensures stops_reading { ReadsNoFurther R.read_gives input.old input.new }
+{
+    let line = String::new(alloc);
+    match scan_documents(alloc, input, &mut Checker { line }, out) {
+        Ok(scan) => match scan.ending {
+            Ending::Whole => report_findings(scan.count, scan.bad, None, err),
+            // A bad length: the scan cannot find the next document.
+            Ending::Faulty(_) => report_findings(scan.count + 1, scan.bad + 1, None, err),
+            Ending::Unread(fault) => report_findings(scan.count, scan.bad, Some(fault), err),
+        },
+        Err(fault) => report_stop(fault, err),
+    }
+}
+
+/// Writes a line for each document that has a fault.
+#[derive(Debug, Drop)]
+struct Checker {
+    /// The buffer for their lines.
+    line: String,
+}
+
+impl<O: Output> Visitor<O> for Checker {
+    ghost texts = { check_texts };
+
+    fn visit(&mut self, _document: RawDoc<'_>, _out: &mut O) -> Result<(), OutputFault> {
+        Ok(())
+    }
+
+    fn meet(&mut self, fault: &Fault, out: &mut O) -> Result<bool, OutputFault> {
+        self.line.clear();
+        push_fault(fault, &mut self.line)?;
+        self.line.push('\n')?;
+        write_all(out, self.line.as_bytes())?;
+        Ok(true)
+    }
+}
+
+/// Reports how many documents were checked, how many have a fault, and why no more of the input was read. It takes no memory.
+fn report_findings<E: Output>(
+    documents: u32,
+    faulty: u32,
+    unread: Option<ReadFault>,
+    err: &mut E,
+) -> Status
+    ensures { ReportsMessage (over E.state err.old err.new)
+        (check_message unread documents faulty) (check_status unread faulty) result }
+{
+    let wanted = match (faulty, unread) {
+        (0, None) => Status::Done,
+        _ => Status::Failed,
+    };
+    status_of(write_findings(documents, faulty, unread, err), wanted)
+}
+
+/// Writes the text for standard error.
+#[tactic(auto, using(crate::proofs::OutputLemmas::taking))]
+fn write_findings<E: Output>(
+    documents: u32,
+    faulty: u32,
+    unread: Option<ReadFault>,
+    err: &mut E,
+) -> Result<(), DeviceFault>
+    ensures ok { OnOk result
+        (TakesText (over E.state err.old err.new) (check_message unread documents faulty)) }
+    ensures err { OnErr result
+        (WriteFailsWithin (over E.state err.old err.new) (check_message unread documents faulty)) }
+{
+    write_end(words_of(unread), u64::from(documents), DOCUMENTS, err)?;
+    write_count(u64::from(faulty), FAULTY, err)
+}

@@ -1,0 +1,80 @@
+//! `dump`: the documents of an input, one per line.
+
+ghost use Rattle.std.specs.Prelude.{◌≡◌, ◌⊎◌, ◌++◌, decimal};
+ghost use Rattle.bd_io_device.specs.Devices.{over};
+ghost use Rattle.bd_cli_files.specs.Dump.{dump_run, objects_found};
+ghost use Rattle.bd_cli_files.specs.inside.Scan.{dump_texts, ending_words};
+ghost use Rattle.bd_cli_files.specs.Input.{ReadsNoFurther};
+ghost use Rattle.bd_cli_files.specs.Output.{error_line, no_memory, wrong_line, wrong_status};
+ghost use Rattle.bd_cli_files.specs.Run.{Prints, ReportsMessage};
+ghost use Rattle.bd_cli_files.specs.declared.output.Status.TheVariants.{Failed};
+
+use crate::output::{
+    OutputFault, Status, fault_message, report_end, report_no_memory, report_stop, words_of,
+};
+use crate::scan::{DumpScan, Ending, Visitor, scan_documents};
+use bd_bson_check::Fault;
+use bd_bson_view::RawDoc;
+use bd_extjson_text::TextBuffer;
+use bd_io_device::{Input, Output, write_all};
+use std::alloc::Global;
+
+/// After the number of documents.
+const OBJECTS_FOUND: &str = " objects found\n";
+
+/// Reads an input document by document, and prints each before the next is read.
+pub fn dump<R: Input, O: Output, E: Output>(
+    alloc: Global,
+    input: &mut R,
+    out: &mut O,
+    err: &mut E,
+) -> Status
+    ensures dumps { Prints (dump_run (over R.state input.old input.new))
+        (over O.state out.old out.new) (over E.state err.old err.new) result }
+    ensures stops_reading { ReadsNoFurther R.read_gives input.old input.new }
+{
+    let buffer = TextBuffer::new(alloc);
+    match scan_documents(alloc, input, &mut Printer { buffer }, out) {
+        Ok(scan) => report_scan(alloc, &scan, err),
+        Err(fault) => report_stop(fault, err),
+    }
+}
+
+/// Writes the line of each document, up to the first fault.
+#[derive(Debug, Drop)]
+struct Printer {
+    /// The buffer for their lines.
+    buffer: TextBuffer,
+}
+
+impl<O: Output> Visitor<O> for Printer {
+    ghost texts = { dump_texts };
+
+    fn visit(&mut self, document: RawDoc<'_>, out: &mut O) -> Result<(), OutputFault> {
+        let line = self.buffer.line(document.value())?;
+        Ok(write_all(out, line)?)
+    }
+
+    fn meet(&mut self, _fault: &Fault, _out: &mut O) -> Result<bool, OutputFault> {
+        Ok(false)
+    }
+}
+
+/// Reports the end of a scan on standard error, after its lines on standard output. Memory is taken only for the path of a fault.
+fn report_scan<E: Output>(alloc: Global, scan: &DumpScan, err: &mut E) -> Status
+    ensures { ReportsMessage (over E.state err.old err.new)
+        (wrong_line (ending_words scan.now.ending) ++ (decimal scan.now.count ++ objects_found))
+        (wrong_status (ending_words scan.now.ending)) result
+        ⊎ ((fault : Fault) × (scan.now.ending ≡ Ending.Faulty fault)
+        × ReportsMessage (over E.state err.old err.new) (error_line no_memory) Failed result) }
+{
+    let count = u64::from(scan.count);
+    match &scan.ending {
+        Ending::Whole => report_end(None, count, OBJECTS_FOUND, err),
+        Ending::Faulty(fault) => match fault_message(alloc, fault) {
+            Ok(message) => report_end(Some(&message), count, OBJECTS_FOUND, err),
+            Err(_) => report_no_memory(err),
+        },
+        Ending::Unread(fault) => report_end(words_of(Some(*fault)), count, OBJECTS_FOUND, err),
+    }
+}

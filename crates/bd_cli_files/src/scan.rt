@@ -1,0 +1,110 @@
+//! A scan of the documents of an input, one after the other, for `dump` and for `check`.
+
+ghost use Rattle.std.specs.Prelude.{◌<◌, ◌≤◌, IfErr, IfOk};
+ghost use Rattle.bd_value.specs.Limits.{longest_input};
+ghost use Rattle.bd_io_device.specs.Devices.{over};
+ghost use Rattle.bd_bson_view.specs.Raw.{document_pairs};
+ghost use Rattle.bd_bson_check.specs.Fault.{fault_view};
+ghost use Rattle.bd_cli_files.specs.inside.Scan.{MeetsFault, ScansDocuments, StopsScan, Texts};
+ghost use Rattle.bd_cli_files.specs.Input.{ReadsNoFurther};
+ghost use Rattle.bd_cli_files.specs.inside.Output.{Writes};
+
+use crate::input::LIMITS;
+use crate::output::{OutputFault, is_want_of_memory};
+use bd_bson_check::{Fault, check_document};
+use bd_bson_stream::{DocBuffer, DocFault};
+use bd_bson_view::RawDoc;
+use bd_io_device::{Input, Output, ReadFault};
+use std::alloc::Global;
+
+/// Receives the documents of an input, each before the next is read.
+pub(crate) trait Visitor<O: Output> {
+    /// What is written for them.
+    ghost texts: { Texts };
+
+    /// Receives a document without a fault.
+    fn visit(&mut self, document: RawDoc<'_>, out: &mut O) -> Result<(), OutputFault>
+        ensures { Writes (texts.good (document_pairs document.entry))
+            (over O.state out.old out.new) result };
+
+    /// Receives the fault of a document, and says whether the scan continues.
+    fn meet(&mut self, fault: &Fault, out: &mut O) -> Result<bool, OutputFault>
+        ensures { MeetsFault (texts.bad fault.now.document (fault_view fault.now))
+            (over O.state out.old out.new) result };
+}
+
+/// Scans the documents of an input.
+pub(crate) fn scan_documents<R: Input, O: Output, V: Visitor<O>>(
+    alloc: Global,
+    input: &mut R,
+    visitor: &mut V,
+    out: &mut O,
+) -> Result<DumpScan, OutputFault>
+    ensures within_limit { IfOk result (λ w. (w.count < longest_input) × (w.bad ≤ w.count)) }
+    ensures scans { IfOk result
+        (ScansDocuments V.texts (over R.state input.old input.new) (over O.state out.old out.new)) }
+    ensures stops { IfErr result
+        (StopsScan V.texts (over R.state input.old input.new) (over O.state out.old out.new)) }
+    ensures stops_reading { ReadsNoFurther R.read_gives input.old input.new }
+{
+    let mut buffer = DocBuffer::new(alloc, LIMITS);
+    let mut bad = 0;
+    loop {
+        let base = buffer.offset();
+        let count = buffer.number();
+        match buffer.read_next(input) {
+            Ok(true) => match check_document(alloc, buffer.bytes(), base, count) {
+                Ok(document) => visitor.visit(document, out)?,
+                Err(fault) => {
+                    if is_want_of_memory(&fault) {
+                        return Err(OutputFault::NoMemory);
+                    }
+                    if !visitor.meet(&fault, out)? {
+                        let ending = Ending::Faulty(fault);
+                        return Ok(DumpScan { count, bad, ending });
+                    }
+                    bad += 1;
+                }
+            },
+            Ok(false) => {
+                let ending = Ending::Whole;
+                return Ok(DumpScan { count, bad, ending });
+            }
+            Err(DocFault::Frame(fault)) => {
+                let fault = fault.to_fault(alloc);
+                // A bad length: the scan cannot find the next document, whatever the visitor says.
+                let _goes_on = visitor.meet(&fault, out)?;
+                let ending = Ending::Faulty(fault);
+                return Ok(DumpScan { count, bad, ending });
+            }
+            Err(DocFault::Read(ReadFault::NoMemory)) => return Err(OutputFault::NoMemory),
+            Err(DocFault::Read(fault)) => {
+                let ending = Ending::Unread(fault);
+                return Ok(DumpScan { count, bad, ending });
+            }
+            Err(DocFault::Failed) => unreachable!(),
+        }
+    }
+}
+
+/// The documents of an input that were scanned.
+#[derive(Debug, Drop)]
+pub struct DumpScan {
+    /// How many there are.
+    pub count: u32,
+    /// How many of them have a fault.
+    pub bad: u32,
+    /// What is after them.
+    pub ending: Ending,
+}
+
+/// What comes after the scanned documents of an input.
+#[derive(Debug, Drop)]
+pub enum Ending {
+    /// Nothing.
+    Whole,
+    /// A document that has this fault.
+    Faulty(Fault),
+    /// A document that was not read to its end.
+    Unread(ReadFault),
+}
