@@ -1,1 +1,2 @@
+pub mod RunsLemmas
 pub mod ServeLemmas

@@ -46,9 +46,9 @@ module _ {C : Type 0} (state : C → Reader) (gives : C → Option (List ℕ) �
   abbrev pub serve_run : Over Reader → Run
   serve_run file = let OverDump : (Run → Type 0) → Type 0 = λ Is. (bytes : List ℕ) × (ds : List Doc)
       × ReadsInput file (Ok bytes) × IsDumpScan ds None bytes × Is (talk_run bytes ds) in record {
-    IsOutput = λ output. ((input : Result (List ℕ) ReadFault) × ReadsInput file input
-        × IsOutputOfBadFile input output × (new ≡ old)) ⊎ OverDump (λ run. run.IsOutput output);
-    IsNext = λ text piece. OverDump (λ run. run.IsNext text piece);
-    IsBegun = λ text. ((bytes : List ℕ) × ReadsInput file (Ok bytes) × (text ≡ []) × (new ≡ old))
-        ⊎ OverDump (λ run. run.IsBegun text);
-  }
+        IsOutput = λ output. ((input : Result (List ℕ) ReadFault) × ReadsInput file input
+            × IsOutputOfBadFile input output × (new ≡ old)) ⊎ OverDump (λ run. run.IsOutput output);
+        IsNext = λ text piece. OverDump (λ run. run.IsNext text piece);
+        IsBegun = λ text. ((bytes : List ℕ) × ReadsInput file (Ok bytes) × (text ≡ []) × (new ≡ old))
+            ⊎ OverDump (λ run. run.IsBegun text);
+      }

@@ -55,11 +55,15 @@ pub fn check_has_the_status_of_dump()
         IsOutputOfCheck bytes fault other → output.status ≡ other.status }
 {}
 
-/// What `dump` wrote before a write failed, or before memory ran out, is a prefix of the output for the input, whatever bytes
-/// follow those that it read. For `check`, `pack` and `find` the clauses of `run` say so themselves.
-pub fn dump_prints_a_prefix()
-    ensures { (bytes given rest : List ℕ) (output : Transcript)
+/// What `dump` and `check` wrote before a write failed, or before memory ran out, is a prefix of the output for the input, whatever
+/// bytes follow those that were read. For `pack` and `find` their clauses say so themselves.
+pub fn prints_a_prefix()
+    ensures dump { (bytes given rest : List ℕ) (output : Transcript)
         (ds : List Doc) (prefix more : List ℕ) → ((i : ℕ) → slice_index bytes i < 256) →
         bytes ≡ given ++ rest → IsOutputOfDump bytes None output → AreJoined ds given →
         lines ds ≡ prefix ++ more → (after : List ℕ) × (output.out ≡ prefix ++ after) }
+    ensures check { (bytes : List ℕ) (output : Transcript)
+        (vs more : List (Option Fault)) → IsOutputOfCheck bytes None output →
+        check_results bytes ≡ vs ++ more →
+        (after : List ℕ) × (output.out ≡ check_result_lines 0 vs ++ after) }
 {}

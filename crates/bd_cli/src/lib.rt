@@ -30,5 +30,5 @@ mod serve;
 pub use bd_cli_args::{FindOptions, Order, USAGE, WordsFault, parse_words};
 pub use bd_cli_files::Status;
 pub use bd_cli_files::output::CANNOT_WRITE;
-pub use laws::{check_has_the_status_of_dump, dump_prints_a_prefix, prints_one_thing};
+pub use laws::{check_has_the_status_of_dump, prints_a_prefix, prints_one_thing};
 pub use runs::{report, run};

@@ -88,10 +88,10 @@ module _ (out_old out_new : Writer) (err_old err_new : Writer) (status : Status)
   refused_output bytes ds w refused (inr led) reported = rw led (refusal_is_output (refused_text (reason_of refused)) reported)
 
 -- an output for an input that was read completely, or that is not needed
-pub output_found : {words : FindWords} {file : Over Reader} {out err : Over Writer} {status : Status} (bytes : List ℕ) (output : Transcript)
+pub output_found : (words : FindWords) (file : Over Reader) {out err : Over Writer} {status : Status} (bytes : List ℕ) (output : Transcript)
     → ReadsIfRequested (requested_by words) file (Ok bytes) → IsOutputOfFind words (Ok bytes) output → Prints (part_of output) out err status
     → Prints (find_run words file) out err status
-output_found {words} {file} {out} {err} {status} bytes output read is prints = by_case (after_input {ReadsIfRequested (requested_by words) file} {IsOutputOfFind words} bytes output read is prints)
+output_found words file {out} {err} {status} bytes output read is prints = by_case (after_input {Reads = ReadsIfRequested (requested_by words) file} {Is = IsOutputOfFind words} bytes output read is prints)
   where
     by_case : Prints (run_after (ReadsIfRequested (requested_by words) file) (IsOutputOfFind words)) out err status → Prints (find_run words file) out err status
     by_case (inl whole) = inl whole

@@ -31,8 +31,7 @@ pub fn find<R: Input, O: Output, E: Output>(
     out: &mut O,
     err: &mut E,
 ) -> Status
-    ensures found {
-        Prints (find_run (find_words_of options.now) (over R.state input.old input.new))
+    ensures found { Prints (find_run (find_words_of options.now) (over R.state input.old input.new))
         (over O.state out.old out.new) (over E.state err.old err.new) result }
     ensures stops_reading { ReadsNoFurther R.read_gives input.old input.new }
     ensures unread { RequestsNothing (find_words_of options.now) → input.new ≡ input.old }
