@@ -1,13 +1,13 @@
 -- A scan of the documents of an input, step by step.
-use Rattle.std.proofs.Common.{inl, inr, ◌≡◌, ◌≤◌, ◌<◌, ℕ, ◌+◌, ◌-◌, List, [], ◌∷◌, ◌++◌, length, length-take-le, map, append-nil, append_assoc, Option, Some, None, Result, Ok, Err, Bool, true, false, refl, sym, ap, ap₂, ◌∙◌, subst}
+use Rattle.std.proofs.Common.{inl, inr, ◌≡◌, ◌≤◌, ◌<◌, ℕ, ◌+◌, ◌-◌, List, [], ◌∷◌, ◌++◌, length, length-take-le, map, append-nil, append_assoc, Option, Some, None, Result, Ok, Err, Bool, true, false, true≢false, refl, sym, ap, ap₂, ◌∙◌, subst}
 use Rattle.std.proofs.Common.{arith, length-append}
 use Rattle.std.proofs.{lemmas.List.take_at, lemmas.List.Sums.sum_by-append}
 use Rattle.std.proofs.KnownBytes.{Consumes-trans, Consumes-nil}
-use Rattle.std.specs.{List.count_by, Prelude.◌⊎◌, Prelude.IfSome, Prelude.is_some, Prelude.cond, Prelude.string_bytes, Prelude.unwrap_or}
+use Rattle.std.specs.{List.count_by, Prelude.◌⊎◌, Prelude.IfSome, Prelude.is_some, Prelude.is_none, Prelude.cond, Prelude.string_bytes, Prelude.unwrap_or}
 use Rattle.std.specs.Io.KnownBytes.{Consumes, IsAtEnd}
 use Rattle.bd_value.specs.Limits.{longest_input, most_reads}
 use Rattle.bd_io_device.specs.{Devices.after_more, declared.reading.ReadFault.ReadFault}
-use Rattle.bd_io_device.specs.Devices.{AreReads, Reader, ReadsUntil, TakesText, Writer, between}
+use Rattle.bd_io_device.specs.Devices.{AreReads, Reader, ReadsUntil, TakesText, WriteFailsAfter, Writer, between}
 use Rattle.bd_io_device.proofs.DevicesLemmas.{reads_append, reads_at_least}
 use Rattle.bd_bson_check.specs.{Fault.Fault, FirstFault.first_fault, Fault.ReportsFault, Fault.fault_view}
 use Rattle.bd_bson_check.specs.Dump.{frame_fault, frame_length, framed_fault}
@@ -16,9 +16,9 @@ use Rattle.bd_bson_stream.specs.Stream.{FailsToRead, FindsEnd, IsReason, ReadsDo
 use Rattle.bd_bson_stream.proofs.StreamLemmas.{cut_short_within, frame_on, frame_within, frames_more}
 use Rattle.bd_cli_files.specs.{Input.ReadsNoFurther, Input.StopsInside, Input.StreamsInput, inside.Output.StopsWriting, declared.scan.Ending.Ending, declared.output.OutputFault.OutputFault}
 use Rattle.bd_cli_files.specs.inside.Scan.{more_visited, none_visited}
-use Rattle.bd_cli_files.specs.inside.Scan.{AreVisited, EndsScan, IsTextOf, MeetsFault, StopsScan, Texts, ScansDocuments, text_at_end}
+use Rattle.bd_cli_files.specs.inside.Scan.{AreVisited, EndsScan, IsTextOf, StopsScan, Texts, ScansDocuments, text_at_end}
 use Rattle.bd_cli_files.specs.declared.output.OutputFault.TheVariants.{NoMemory, Unwritten}
-use Rattle.bd_io_device.proofs.DevicesLemmas.{write_fails_after, takes_both, takes_none}
+use Rattle.bd_io_device.proofs.DevicesLemmas.{no_write_fails, write_fails_after, takes_both, takes_none}
 use Rattle.bd_io_device.specs.declared.reading.ReadFault.TheVariants as reads
 use Rattle.bd_bson_check.specs.declared.fault.Fault as reported
 use Rattle.bd_bson_check.specs.declared.fault.FaultKind.TheVariants as kinds
@@ -40,6 +40,15 @@ pub found : (number : ℕ) (first : Option Fault) (f : reported.Fault) → Repor
 found number None f want other = absurd (other want.kind)
 found number (Some g) f (inl want) other = absurd (other want.kind)
 found number (Some g) f (inr is) other = (ap (λ (x : Fault). Some x) is.same, is.document)
+
+-- a text is there, or not
+pub text_there : (o : Option (List ℕ)) → false ≡ is_none o → (text : List ℕ) × (o ≡ Some text)
+text_there None e = absurd (true≢false (sym e))
+text_there (Some text) e = (text, refl)
+
+pub no_text : (o : Option (List ℕ)) → true ≡ is_none o → o ≡ None
+no_text None e = refl
+no_text (Some text) e = absurd (true≢false e)
 
 -- scanned documents are documents with lengths
 pub visited_frames : {texts : Texts} (vs : List (Option Fault)) (given text : List ℕ) → AreVisited texts vs given text → (frames : List (List ℕ)) × AreFrames frames given
@@ -302,25 +311,34 @@ module _ {texts : Texts} {R : Type 0} {state : R → Reader} {gives : R → Opti
         let g : Gives (state m) (state n) buffer.remaining.bytes fails.given = record { gave = fails.gave; short = reason.4; within = reason.6; no_failure = reason.5 } in
         ends_framed s g f (rw same.0 reason.2) (rw same.0 reason.3) (same.2 ∙ reason.0) (same.1 ∙ reason.1) path
 
-    -- its text was written, or not
-    abbrev Meets : Writer → Result Bool OutputFault → Type 0
-    Meets out met = MeetsFault (texts.bad f.document (fault_view f)) (between out_mid out) met
+    -- what is written for it
+    abbrev line : List ℕ
+    line = unwrap_or (texts.bad f.document (fault_view f)) []
 
-    pub ends_by_length : (out : Writer) (goes_on : Bool) → Meets out (Ok goes_on) → Ended s (state n) out (endings.Faulty f)
-    ends_by_length out true (line, is, took) =
-        let text = ap (λ (o : Option (List ℕ)). unwrap_or o []) (subst (λ n. texts.bad n (fault_view f) ≡ Some line) number is) in
-        let all = ap (λ x. s.text ++ x) (sym text) in
+    pub ends_by_length : (out : Writer) → TakesText (between out_mid out) line → Ended s (state n) out (endings.Faulty f)
+    ends_by_length out took =
+        let all = ap (λ k. s.text ++ unwrap_or (texts.bad k (fault_view f)) []) number in
         ends s (state n) out (endings.Faulty f) end (subst (λ (x : List ℕ). TakesText (between out_old out) x) all (takes_both out_old out_mid out s.text line s.wrote took))
-    ends_by_length out false (none, same) =
-        let text = ap (λ (o : Option (List ℕ)). unwrap_or o []) (subst (λ n. texts.bad n (fault_view f) ≡ None) number none) in
-        subst (λ (w : Writer). Ended s (state n) w (endings.Faulty f)) (sym same) (ends_so s (state n) (endings.Faulty f) end text)
 
-    pub stops_by_length : (out : Writer) (stopped : OutputFault) → Meets out (Err stopped) → StopsScan texts (between old (state n)) (between out_old out) stopped
-    stops_by_length out NoMemory (line, is, same) =
+    pub stops_by_length : (out : Writer) (stopped : OutputFault) → StopsWriting line (between out_mid out) stopped → StopsScan texts (between old (state n)) (between out_old out) stopped
+    stops_by_length out NoMemory same =
         subst (λ (w : Writer). StopsScan texts (between old (state n)) (between out_old w) NoMemory) (sym same) (s.done, s.given, s.text, s.visited, (end.0, end.3), end.2.2, s.wrote)
-    stops_by_length out Unwritten (line, is, failed_write) =
-        let after = write_fails_after out_old out_mid out s.text line s.wrote failed_write in
-        (s.done, s.given, s.text, line, s.visited, after, inr (f, end, subst (λ n. texts.bad n (fault_view f) ≡ Some line) number is))
+    stops_by_length out Unwritten failed_write = by_text (texts.bad f.document (fault_view f)) refl
+      where
+        by_text : (o : Option (List ℕ)) → texts.bad f.document (fault_view f) ≡ o → StopsScan texts (between old (state n)) (between out_old out) Unwritten
+        by_text None is =
+            let none : line ≡ [] = ap (λ o. unwrap_or o []) is in absurd (no_write_fails out_mid out [] line failed_write none)
+        by_text (Some piece) is =
+            let same : line ≡ piece = ap (λ o. unwrap_or o []) is in
+            let after = write_fails_after out_old out_mid out s.text line s.wrote failed_write in (
+              s.done,
+              s.given,
+              s.text,
+              piece,
+              s.visited,
+              subst (λ (x : List ℕ). WriteFailsAfter (between out_old out) s.text x) same after,
+              inr (f, end, subst (λ n. texts.bad n (fault_view f) ≡ Some piece) number is),
+            )
 
   pub runs_out_by : FailsToRead state gives [] buffer after m n (faults.Read reads.NoMemory) → StopsScan texts (between old (state n)) (between out_old out_mid) NoMemory
   runs_out_by fails =

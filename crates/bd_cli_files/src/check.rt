@@ -59,12 +59,15 @@ impl<O: Output> Visitor<O> for Checker {
         Ok(())
     }
 
-    fn meet(&mut self, fault: &Fault, out: &mut O) -> Result<bool, OutputFault> {
+    fn ends_at_fault(&self) -> bool {
+        false
+    }
+
+    fn meet(&mut self, fault: &Fault, out: &mut O) -> Result<(), OutputFault> {
         self.line.clear();
         push_fault(fault, &mut self.line)?;
         self.line.push('\n')?;
-        write_all(out, self.line.as_bytes())?;
-        Ok(true)
+        Ok(write_all(out, self.line.as_bytes())?)
     }
 }
 

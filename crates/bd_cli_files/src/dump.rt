@@ -55,8 +55,12 @@ impl<O: Output> Visitor<O> for Printer {
         Ok(write_all(out, line)?)
     }
 
-    fn meet(&mut self, _fault: &Fault, _out: &mut O) -> Result<bool, OutputFault> {
-        Ok(false)
+    fn ends_at_fault(&self) -> bool {
+        true
+    }
+
+    fn meet(&mut self, _fault: &Fault, _out: &mut O) -> Result<(), OutputFault> {
+        Ok(())
     }
 }
 

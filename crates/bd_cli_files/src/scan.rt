@@ -1,11 +1,11 @@
 //! A scan of the documents of an input, one after the other, for `dump` and for `check`.
 
-ghost use Rattle.std.specs.Prelude.{◌<◌, ◌≤◌, IfErr, IfOk};
+ghost use Rattle.std.specs.Prelude.{◌≡◌, ◌<◌, ◌≤◌, ℕ, [], IfErr, IfOk, is_none, unwrap_or};
 ghost use Rattle.bd_value.specs.Limits.{longest_input};
 ghost use Rattle.bd_io_device.specs.Devices.{over};
 ghost use Rattle.bd_bson_view.specs.Raw.{document_pairs};
-ghost use Rattle.bd_bson_check.specs.Fault.{fault_view};
-ghost use Rattle.bd_cli_files.specs.inside.Scan.{MeetsFault, ScansDocuments, StopsScan, Texts};
+ghost use Rattle.bd_bson_check.specs.Fault.{fault_view, Fault as DumpFault};
+ghost use Rattle.bd_cli_files.specs.inside.Scan.{ScansDocuments, StopsScan, Texts};
 ghost use Rattle.bd_cli_files.specs.Input.{ReadsNoFurther};
 ghost use Rattle.bd_cli_files.specs.inside.Output.{Writes};
 
@@ -27,9 +27,13 @@ pub(crate) trait Visitor<O: Output> {
         ensures { Writes (texts.good (document_pairs document.entry))
             (over O.state out.old out.new) result };
 
-    /// Receives the fault of a document, and says whether the scan continues.
-    fn meet(&mut self, fault: &Fault, out: &mut O) -> Result<bool, OutputFault>
-        ensures { MeetsFault (texts.bad fault.now.document (fault_view fault.now))
+    /// Whether the scan ends at the first document with a fault.
+    fn ends_at_fault(&self) -> bool
+        ensures { (number : ℕ) (f : DumpFault) → result ≡ is_none (texts.bad number f) };
+
+    /// Receives the fault of a document.
+    fn meet(&mut self, fault: &Fault, out: &mut O) -> Result<(), OutputFault>
+        ensures { Writes (unwrap_or (texts.bad fault.now.document (fault_view fault.now)) [])
             (over O.state out.old out.new) result };
 }
 
@@ -59,10 +63,11 @@ pub(crate) fn scan_documents<R: Input, O: Output, V: Visitor<O>>(
                     if is_want_of_memory(&fault) {
                         return Err(OutputFault::NoMemory);
                     }
-                    if !visitor.meet(&fault, out)? {
+                    if visitor.ends_at_fault() {
                         let ending = Ending::Faulty(fault);
                         return Ok(DumpScan { count, bad, ending });
                     }
+                    visitor.meet(&fault, out)?;
                     bad += 1;
                 }
             },
@@ -72,8 +77,8 @@ pub(crate) fn scan_documents<R: Input, O: Output, V: Visitor<O>>(
             }
             Err(DocFault::Frame(fault)) => {
                 let fault = fault.to_fault(alloc);
-                // A bad length: the scan cannot find the next document, whatever the visitor says.
-                let _goes_on = visitor.meet(&fault, out)?;
+                // A bad length: the scan cannot find the next document.
+                visitor.meet(&fault, out)?;
                 let ending = Ending::Faulty(fault);
                 return Ok(DumpScan { count, bad, ending });
             }

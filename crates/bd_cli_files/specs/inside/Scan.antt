@@ -1,7 +1,7 @@
 -- What a scan of the documents of an input visits and writes, for `dump` and for `check`.
-use Rattle.std.specs.Prelude.{◌≡◌, ◌⊎◌, ℕ, Bool, true, false, List, [], ◌∷◌, ◌++◌, length}
+use Rattle.std.specs.Prelude.{◌≡◌, ◌⊎◌, ℕ, List, [], ◌∷◌, ◌++◌, length}
 use Rattle.std.specs.Prelude.{Option, Some, None}
-use Rattle.std.specs.Prelude.{is_some, unwrap_or, Result, Ok, Err}
+use Rattle.std.specs.Prelude.{is_some, unwrap_or, Err}
 use Rattle.std.specs.{List.count_by}
 use Rattle.bd_value.specs.{Tree.Doc}
 use Rattle.bd_io_device.specs.Devices.{WriteFailsAfter, Over, Reader, TakesText, Writer, read_words}
@@ -15,7 +15,6 @@ use Rattle.bd_cli_files.specs.{declared.output.OutputFault.TheVariants.NoMemory}
 use Rattle.bd_cli_files.specs.{declared.output.OutputFault.TheVariants.Unwritten}
 use Rattle.bd_cli_files.specs.Input.{StopsInside, StopsWithinOne, StreamsInput}
 use Rattle.bd_cli_files.specs.Output.{fault_text, lines}
-use Rattle.bd_cli_files.specs.inside.Output.{StopsWriting}
 use Rattle.bd_bson_check.specs.declared.fault.Fault as reported
 use Rattle.bd_cli_files.specs.declared.scan.Ending.TheVariants as endings
 use Rattle.bd_cli_files.specs.Check.{check_result_line}
@@ -35,12 +34,6 @@ dump_texts = record { good = λ d. lines (d ∷ []); bad = λ number f. None }
 -- `check` writes nothing for a well-formed document, and the line of each fault
 abbrev pub check_texts : Texts
 check_texts = record { good = λ d. []; bad = λ number f. Some (check_result_line number (Some f)) }
-
--- At a fault the scan ended, or its text was written and the scan continues.
-abbrev pub MeetsFault : Option (List ℕ) → Over Writer → Result Bool OutputFault → Type 0
-MeetsFault wanted out (Ok true) = (text : List ℕ) × (wanted ≡ Some text) × TakesText out text
-MeetsFault wanted out (Ok false) = (wanted ≡ None) × (out.after ≡ out.before)
-MeetsFault wanted out (Err stopped) = (text : List ℕ) × (wanted ≡ Some text) × StopsWriting text out stopped
 
 -- This is written for the document of that number, which has these bytes at that offset,
 -- and this fault or none.
