@@ -1,11 +1,10 @@
 -- What a session in memory replies is what the machine replies, and the ends of a run of `serve`.
-use Rattle.std.proofs.Common.{◌≡◌, ◌++◌, ◌≤◌, ◌⊎◌, ℕ, List, [], None, Some, Ok, Option, ap, append-nil, arith, inl, inr, length, refl, subst, sym}
-use Rattle.bd_value.specs.Limits.{longest_input}
+use Rattle.std.proofs.Common.{◌≡◌, ◌++◌, ℕ, List, [], None, Some, Ok, Err, Option, ap, append-nil, arith, inl, inr, length, refl, subst, sym}
 use Rattle.bd_value.specs.Tree.{Doc}
 use Rattle.bd_cursor_model.specs.Laws.{new_state}
-use Rattle.bd_bson_dump.specs.Collection.{IsUnread, bytes_of, documents}
+use Rattle.bd_bson_dump.specs.Collection.{bytes_of, documents}
 use Rattle.bd_bson_dump.specs.declared.collection.Dump.{Dump}
-use Rattle.bd_bson_check.specs.{Dump.IsDumpScan, Fault.fault_view}
+use Rattle.bd_bson_check.specs.{Fault.fault_view}
 use Rattle.bd_io_device.specs.Devices.{Over, Reader, TakesText, Writer, between, read_words}
 use Rattle.bd_io_device.proofs.DevicesLemmas.{reads_at_least, takes_none}
 use Rattle.bd_io_lines.specs.{Serving.ServesAll, Serving.StopsServing, declared.serving.ServeFault.ServeFault}
@@ -13,12 +12,11 @@ use Rattle.bd_cli_service.specs.ServiceView.{KeepsState, RepliesTo, service_dump
 use Rattle.bd_cli_service.specs.Talk.{IsUnchanged, RepliesInText}
 use Rattle.bd_cli_service.specs.declared.service.Service.{Service}
 use Rattle.bd_cli_service.proofs.ServedLemmas.{served, stopped}
-use Rattle.bd_cli_files.specs.{Input.ReadsInput, declared.output.Status.Status, declared.output.Status.TheVariants.Done, declared.output.Status.TheVariants.Failed}
+use Rattle.bd_cli_files.specs.{Load.FailsToLoad, Load.LoadsDump, Load.ReportsLoadFault, declared.load.LoadFault.LoadFault, declared.output.Status.Status, declared.output.Status.TheVariants.Done, declared.output.Status.TheVariants.Failed}
 use Rattle.bd_cli_files.specs.Output.{cannot_write, error_line, fault_text, no_memory, output_before, refusal_output}
 use Rattle.bd_cli_files.specs.Run.{Prints, ReportsMessage}
 use Rattle.bd_cli.specs.Serve.{command_limits, serve_run, talk_run}
-use Rattle.bd_bson_check.specs.declared.fault.Fault as declared
-use Rattle.bd_bson_check.specs.declared.fault.FaultKind.TheVariants as kinds
+use Rattle.bd_cli_files.specs.declared.load.LoadFault.TheVariants as loads
 use Rattle.bd_io_device.specs.declared.reading.ReadFault.TheVariants as reads
 use Rattle.bd_io_lines.specs.declared.serving.ServeFault.TheVariants as faults
 
@@ -61,29 +59,26 @@ module _ {C : Type 0} (state : C → Reader) (gives : C → Option (List ℕ) �
         by_fault faults.NoMemory few (text, lacks, wrote) reported = inr (inr (text, (service_state t, lacks), wrote, reported))
         by_fault faults.Unwritten few (text, piece, next, failed_write) reported = inr (inl (text, piece, (service_state t, next), failed_write, reported))
 
-module _ {C : Type 0} (state : C → Reader) (gives : C → Option (List ℕ) → C → Type 0) (file : Over Reader) (bytes : List ℕ) (read : ReadsInput file (Ok bytes)) where
+module _ {C : Type 0} (state : C → Reader) (gives : C → Option (List ℕ) → C → Type 0) (file : Over Reader) where
   -- the file is a dump of these documents
-  pub over_dump : (old new : C) (out err : Over Writer) (status : Status) (ds : List Doc) → IsDumpScan ds None bytes
+  pub over_dump : (bytes : List ℕ) (ds : List Doc) → LoadsDump file bytes ds → (old new : C) (out err : Over Writer) (status : Status)
       → Prints (talk_run state gives old new bytes ds) out err status → Prints (serve_run state gives old new file) out err status
-  over_dump old new out err status ds scan (inl (output, is, wrote, reported)) = inl (output, inr (bytes, ds, read, scan, is), wrote, reported)
-  over_dump old new out err status ds scan (inr (inl (text, piece, next, failed_write, reported))) =
-      inr (inl (text, piece, (bytes, ds, read, scan, next), failed_write, reported))
-  over_dump old new out err status ds scan (inr (inr (text, begun, wrote, reported))) = inr (inr (text, inr (bytes, ds, read, scan, begun), wrote, reported))
+  over_dump bytes ds loaded old new out err status (inl (output, is, wrote, reported)) = inl (output, inr (bytes, ds, loaded, is), wrote, reported)
+  over_dump bytes ds loaded old new out err status (inr (inl (text, piece, next, failed_write, reported))) =
+      inr (inl (text, piece, (bytes, ds, loaded, next), failed_write, reported))
+  over_dump bytes ds loaded old new out err status (inr (inr (text, begun, wrote, reported))) = inr (inr (text, inr (bytes, ds, loaded, begun), wrote, reported))
 
-  module _ (old : C) (out : Writer) (err : Over Writer) (status : Status) where
-    -- memory ran out before a command was read
-    pub no_memory_reported : ReportsMessage err (error_line no_memory) Failed status → Prints (serve_run state gives old old file) (between out out) err status
-    no_memory_reported reported = inr (inr ([], inl (bytes, read, refl, refl), takes_none out, reported))
-
-    -- the file is not a dump
-    pub fault_reported : (fault : declared.Fault) → length bytes ≤ longest_input → IsUnread bytes fault → ¬ (fault.kind ≡ kinds.NoMemory)
-        → ReportsMessage err (error_line (fault_text fault.document (fault_view fault))) Failed status ⊎ ReportsMessage err (error_line no_memory) Failed status
-        → Prints (serve_run state gives old old file) (between out out) err status
-    fault_reported fault le unread other (inr reported) = no_memory_reported reported
-    fault_reported fault le (inl long) other (inl reported) = absurd (let more = long.0 in omega arith)
-    fault_reported fault le (inr (_, inl want)) other (inl reported) = absurd (other want.kind)
-    fault_reported fault le (inr (_, inr first)) other (inl reported) =
-        let words = fault_text (length first.before) (fault_view fault) in
-        let line : error_line (fault_text fault.document (fault_view fault)) ≡ error_line words = ap (λ k. error_line (fault_text k (fault_view fault))) first.document in
-        let output = subst (λ t. ReportsMessage err t Failed status) line reported in
-        inl (refusal_output words, inl (Ok bytes, read, (first.before, fault_view fault, first.fails, refl), refl), takes_none out, output)
+  -- the file is no dump in memory, which is reported
+  pub load_reported : (old : C) (out : Writer) (err : Over Writer) (status : Status) (fault : LoadFault) → FailsToLoad file fault → ReportsLoadFault err status fault
+      → Prints (serve_run state gives old old file) (between out out) err status
+  load_reported old out err status (loads.Unread fault) read reported = inl (refusal_output (read_words fault), inl (Err fault, read, refl, refl), takes_none out, reported)
+  load_reported old out err status (loads.Faulty fault) (bytes, ds, read, scan, numbered) (inl reported) =
+      let words = ap (λ n. error_line (fault_text n (fault_view fault))) numbered in
+      inl (
+        refusal_output (fault_text (length ds) (fault_view fault)),
+        inl (Ok bytes, read, (ds, fault_view fault, scan, refl), refl),
+        takes_none out,
+        subst (λ (x : List ℕ). ReportsMessage err x Failed status) words reported,
+      )
+  load_reported old out err status (loads.Faulty fault) (bytes, ds, read, scan, numbered) (inr reported) = inr (inr ([], inl (bytes, read, refl, refl), takes_none out, reported))
+  load_reported old out err status loads.NoMemory (bytes, read, fits) reported = inr (inr ([], inl (bytes, read, refl, refl), takes_none out, reported))

@@ -7,7 +7,7 @@ use Rattle.bd_io_device.specs.{declared.reading.Limits.Limits, declared.reading.
 use Rattle.bd_io_device.specs.Devices.{Over, Reader, read_words}
 use Rattle.bd_io_lines.specs.Serving.{IsNextReply, LacksReply, ServesAll, StopsUnread}
 use Rattle.bd_cli_service.specs.Talk.{IsUnchanged, RepliesInText}
-use Rattle.bd_cli_files.specs.{Input.ReadsInput, Run.Run}
+use Rattle.bd_cli_files.specs.{Input.ReadsInput, Load.LoadsDump, Run.Run}
 use Rattle.bd_cli_files.specs.Output.{Transcript, fault_text, output_before, refusal_output}
 use Rattle.bd_io_device.specs.declared.reading.ReadFault.TheVariants as reads
 
@@ -45,7 +45,7 @@ module _ {C : Type 0} (state : C → Reader) (gives : C → Option (List ℕ) �
   -- A run of `serve`: it reads its whole file first, and reads no command if that is no dump, or if memory runs out.
   abbrev pub serve_run : Over Reader → Run
   serve_run file = let OverDump : (Run → Type 0) → Type 0 = λ Is. (bytes : List ℕ) × (ds : List Doc)
-      × ReadsInput file (Ok bytes) × IsDumpScan ds None bytes × Is (talk_run bytes ds) in record {
+      × LoadsDump file bytes ds × Is (talk_run bytes ds) in record {
         IsOutput = λ output. ((input : Result (List ℕ) ReadFault) × ReadsInput file input
             × IsOutputOfBadFile input output × (new ≡ old)) ⊎ OverDump (λ run. run.IsOutput output);
         IsNext = λ text piece. OverDump (λ run. run.IsNext text piece);

@@ -1,17 +1,14 @@
 //! `serve`: a reply to each command, over the documents of a file.
 
-ghost use Rattle.std.specs.Prelude.{◌≤◌, Ok, length};
-ghost use Rattle.bd_value.specs.{Limits.longest_input};
-ghost use Rattle.bd_io_device.specs.Devices.{Over, Reader, over};
+ghost use Rattle.bd_io_device.specs.Devices.{over};
 ghost use Rattle.bd_bson_dump.specs.Collection.{bytes_of, documents};
-ghost use Rattle.bd_cli_files.specs.{Input.ReadsInput, Input.ReadsNoFurther, Run.Prints};
+ghost use Rattle.bd_cli_files.specs.{Input.ReadsNoFurther, Run.Prints};
 ghost use Rattle.bd_cli.specs.Serve.{serve_run, talk_run};
 
-use bd_bson_dump::{Dump, read_dump};
-use bd_cli_files::output::{
-    is_want_of_memory, report_dump_fault, report_no_memory, report_read_fault, report_unwritten,
-};
-use bd_cli_files::{LIMITS, Status, read_input};
+use bd_bson_dump::Dump;
+use bd_cli_files::load::{load, report_load_fault};
+use bd_cli_files::output::{report_no_memory, report_read_fault, report_unwritten};
+use bd_cli_files::{LIMITS, Status};
 use bd_cli_service::Service;
 use bd_io_device::{Input, Output};
 use bd_io_lines::ServeFault;
@@ -31,33 +28,9 @@ pub(crate) fn serve<F: Input, C: Input, O: Output, E: Output>(
         (over E.state err.old err.new) result }
     ensures stops_reading { ReadsNoFurther F.read_gives file.old file.new }
 {
-    match read_input(alloc, file) {
-        Ok(bytes) => serve_bytes(alloc, bytes, commands, out, err),
-        Err(fault) => report_read_fault(fault, err),
-    }
-}
-
-/// Serves the commands over the bytes of an input.
-fn serve_bytes<C: Input, O: Output, E: Output>(
-    alloc: Global,
-    bytes: Vec<u8>,
-    commands: &mut C,
-    out: &mut O,
-    err: &mut E,
-) -> Status
-    requires { length bytes.items ≤ longest_input }
-    ensures { (file : Over Reader) → ReadsInput file (Ok bytes.items) →
-        Prints (serve_run C.state C.read_gives commands.old commands.new file)
-        (over O.state out.old out.new) (over E.state err.old err.new) result }
-{
-    match read_dump(alloc, bytes) {
+    match load(alloc, file) {
         Ok(dump) => serve_dump(alloc, dump, commands, out, err),
-        Err(fault) => {
-            if is_want_of_memory(&fault) {
-                return report_no_memory(err);
-            }
-            report_dump_fault(alloc, &fault, err)
-        }
+        Err(fault) => report_load_fault(alloc, &fault, err),
     }
 }
 

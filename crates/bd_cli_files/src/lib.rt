@@ -15,12 +15,14 @@
 //! - `dump` and `check`, which scan a file document by document; `pack`, which reads its whole file into memory.
 //! - `scan`: the scan of `dump` and `check`.
 //! - `input`: a file that is read completely, and how much of a file is read.
+//! - `load`: a dump that is read into memory, for `find` and `serve`.
 //! - `output`: the messages of a run, and its exit status.
 #![tactic(auto)]
 
 pub mod check;
 pub mod dump;
 mod input;
+pub mod load;
 pub mod output;
 pub mod pack;
 mod scan;

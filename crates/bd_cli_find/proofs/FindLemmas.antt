@@ -1,12 +1,11 @@
 -- The lines of documents that were found, and the ends of a run of `find`.
-use Rattle.std.proofs.Common.{◌≡◌, ◌≤◌, ◌<◌, ◌+◌, ℕ, List, [], ◌∷◌, ◌++◌, length, get_or, take, drop, Some, refl, sym, ap, ◌∙◌, subst, arith, inl, inr, ◌⊎◌, Ok}
+use Rattle.std.proofs.Common.{◌≡◌, ◌≤◌, ◌<◌, ◌+◌, ℕ, List, [], ◌∷◌, ◌++◌, length, get_or, take, drop, Some, refl, sym, ap, ◌∙◌, subst, inl, inr, ◌⊎◌, Ok, Err}
 use Rattle.std.proofs.{lemmas.List.take-append-drop, lemmas.List.take_more, lemmas.List.Elements.filter_map-append}
 use Rattle.bd_io_device.proofs.DevicesLemmas.{takes_none}
 use Rattle.std.specs.Prelude.{slice_get}
 use Rattle.bd_value.specs.Tree.{Doc, doc, fields_of}
-use Rattle.bd_value.specs.Limits.{longest_input}
 use Rattle.bd_extjson_text.specs.Text.{text}
-use Rattle.bd_bson_dump.specs.{Collection.IsUnread, Collection.documents_at}
+use Rattle.bd_bson_dump.specs.{Collection.documents_at}
 use Rattle.bd_bson_check.specs.Fault.{fault_view}
 use Rattle.bd_cli_files.specs.{declared.output.Status.Status, declared.output.Status.TheVariants.Failed}
 use Rattle.bd_cli_files.specs.Output.{Transcript, error_line, fault_text, lines, no_memory, refusal_output}
@@ -15,13 +14,14 @@ use Rattle.bd_cli_args.specs.FindWords.{FindWords}
 use Rattle.bd_cursor_request.specs.{declared.results.Refused.Refused, Refused.IsRefusedPart, Refused.reason_of, Refused.refused_words}
 use Rattle.bd_cli_find.specs.Asking.{PageRequest, refused_text}
 use Rattle.bd_cli_find.specs.Asking.{requested_by}
-use Rattle.bd_cli_find.specs.Find.{places_from, IsOutputOfBytes, IsOutputOfFind, ReadsIfRequested, find_run, output_of_dump}
+use Rattle.bd_cli_find.specs.Find.{places_from, IsOutputOfFind, ReadsIfRequested, find_run, output_of_dump}
 use Rattle.bd_cli_files.proofs.OutputLemmas.{after_input}
 use Rattle.bd_cursor_sort.specs.Selection.{query_to}
 use Rattle.bd_cli_files.proofs.OutputLemmas.{lines-append}
-use Rattle.bd_io_device.specs.Devices.{Over, Reader, Writer, between}
-use Rattle.bd_bson_check.specs.declared.fault.Fault as declared
-use Rattle.bd_bson_check.specs.declared.fault.FaultKind.TheVariants as kinds
+use Rattle.bd_io_device.specs.Devices.{Over, Reader, Writer, between, read_words}
+use Rattle.bd_cli_files.specs.{Load.FailsToLoad, Load.ReportsLoadFault, declared.load.LoadFault.LoadFault}
+use Rattle.bd_cli_find.proofs.UniqueLemmas.{found_some}
+use Rattle.bd_cli_files.specs.declared.load.LoadFault.TheVariants as faults
 
 -- the lines of the documents at the first places
 abbrev pub lines_to : List Doc → List ℕ → ℕ → List ℕ
@@ -59,21 +59,6 @@ module _ (out_old out_new : Writer) (err_old err_new : Writer) (status : Status)
   refusal_is_output words (inl reported) = inl (refusal_output words, refl, takes_none out_old, reported)
   refusal_is_output words (inr reported) = nothing_output (refusal_output words) reported
 
-  -- the output for a dump with a fault
-  pub fault_is_output : (w : PageRequest) (bytes : List ℕ) (fault : declared.Fault) → length bytes ≤ longest_input → IsUnread bytes fault → ¬ (fault.kind ≡ kinds.NoMemory)
-      → ReportsMessage (between err_old err_new) (error_line (fault_text fault.document (fault_view fault))) Failed status
-      ⊎ ReportsMessage (between err_old err_new) (error_line no_memory) Failed status
-      → (output : Transcript) × IsOutputOfBytes w bytes output × Prints (part_of output) (between out_old out_old) (between err_old err_new) status
-  fault_is_output w bytes fault le (inl long) other reported = absurd (let more = long.0 in omega arith)
-  fault_is_output w bytes fault le (inr (_, inl want)) other reported = absurd (other want.kind)
-  fault_is_output w bytes fault le (inr (_, inr first)) other reported =
-      let words = fault_text (length first.before) (fault_view fault) in
-      let line : error_line (fault_text fault.document (fault_view fault)) ≡ error_line words = ap (λ k. error_line (fault_text k (fault_view fault))) first.document in (
-        refusal_output words,
-        (first.before, Some (fault_view fault), first.fails, refl),
-        refusal_is_output words (subst (λ t. ReportsMessage (between err_old err_new) t Failed status ⊎ ReportsMessage (between err_old err_new) (error_line no_memory) Failed status) line reported),
-      )
-
   -- the output if no cursor was opened
   pub refused_output : (bytes : List ℕ) (ds : List Doc) (w : PageRequest) (refused : Refused) → IsRefusedPart (places_from (query_to bytes ds w.request) w.token) refused
       → ReportsMessage (between err_old err_new) (error_line (refused_text (reason_of refused))) Failed status ⊎ ReportsMessage (between err_old err_new) (error_line no_memory) Failed status
@@ -97,3 +82,23 @@ output_found words file {out} {err} {status} bytes output read is prints = by_ca
     by_case (inl whole) = inl whole
     by_case (inr (inl next)) = inr (inl next)
     by_case (inr (inr (text, begun, wrote, reported))) = inr (inr (text, inl begun, wrote, reported))
+
+-- the input is no dump in memory, which is reported
+pub load_reported : (words : FindWords) (w : PageRequest) (file : Over Reader) (out : Writer) (err : Over Writer) (status : Status) (fault : LoadFault) → requested_by words ≡ Ok w
+    → FailsToLoad file fault → ReportsLoadFault err status fault → Prints (find_run words file) (between out out) err status
+load_reported words w file out err status (faults.Unread fault) is read reported =
+    inl (refusal_output (read_words fault), (Err fault, rw is read, rw is refl), takes_none out, reported)
+load_reported words w file out err status (faults.Faulty fault) is (bytes, ds, read, scan, numbered) (inl reported) =
+    let words_of = ap (λ n. error_line (fault_text n (fault_view fault))) numbered in
+    inl (
+      refusal_output (fault_text (length ds) (fault_view fault)),
+      (Ok bytes, rw is read, rw is (ds, Some (fault_view fault), scan, refl)),
+      takes_none out,
+      subst (λ (x : List ℕ). ReportsMessage err x Failed status) words_of reported,
+    )
+load_reported words w file out err status (faults.Faulty fault) is (bytes, ds, read, scan, numbered) (inr reported) =
+    let output = refusal_output (fault_text (length ds) (fault_view fault)) in
+    inr (inr ([], inl (bytes, output, rw is read, rw is (ds, Some (fault_view fault), scan, refl), ([], refl)), takes_none out, reported))
+load_reported words w file out err status faults.NoMemory is (bytes, read, fits) reported =
+    let some = found_some words bytes fits in
+    inr (inr ([], inl (bytes, some.0, rw is read, some.1, (some.0.out, refl)), takes_none out, reported))

@@ -1,13 +1,15 @@
-use Rattle.std.proofs.Common.{Err, [], List, ℕ, refl, sym, inl, inr, subst, true≢false}
+use Rattle.std.proofs.Common.{None, [], arith, List, ℕ, refl, sym, inl, inr, subst, true≢false}
 use Rattle.std.specs.Prelude.{string_bytes}
 use Rattle.bd_cursor_request.specs.Refused.{reason_of}
 use Rattle.bd_cli_args.specs.FindWords.{find_words_of}
-use Rattle.bd_cli_find.specs.Asking.{refused_text}
+use Rattle.bd_bson_dump.specs.Collection.{bytes_of, documents}
+use Rattle.bd_cli_find.specs.{Asking.refused_text, Find.output_of_dump, inside.Asking.page_request_of}
+use Rattle.bd_cli_find.proofs.BatchLemmas.{five_each}
 use Rattle.bd_cli_find.proofs.AskingLemmas.{explain_refusal}
 use Rattle.bd_cli_files.specs.Output.{error_line, refusal_output}
 use Rattle.bd_cli_files.specs.Run.{ReportsMessage}
 use Rattle.bd_cli_files.specs.declared.output.Status.TheVariants.{Failed}
-use Rattle.bd_io_device.specs.Devices.{zero_reads, over, read_words}
+use Rattle.bd_io_device.specs.Devices.{zero_reads, over}
 use Rattle.bd_io_device.proofs.DevicesLemmas.{takes_none}
 use Rattle.bd_cli_find.proofs.FindLemmas as finds
 use Rattle.bd_cli_find.proofs.find.find.Goals as goal
@@ -31,23 +33,29 @@ returns-in-Err-Refused-clause-found g c =
     (finds.refusal_is_output (g.O.Output.state c.args.out.now) (g.O.Output.state c.args.out.now) (g.E.Output.state c.args.err.now)
     (g.E.Output.state c.report_refused.new.err) _ message (explain_refusal err why c.report_refused.result c.report_refused.ensures))
 
-pub returns-in-Ok-read_input-clause-found : goal.returns-in-Ok-read_input-clause-found
-returns-in-Ok-read_input-clause-found g c =
-    let s = c.find_in.ensures in
-    finds.output_found (find_words_of c.args.options.now) (over g.R.Input.state c.args.input.now c.read_input.new.input) c.in-Ok-read_input.bytes.items s.0 (rw c.in-Ok.ensures.asking c.in-Ok-read_input.ensures.input) (rw c.in-Ok.ensures.asking s.1) s.2
+pub print_found-requires-clause-within_limit : goal.print_found-requires-clause-within_limit
+print_found-requires-clause-within_limit g c =
+    let loaded = c.in-Ok-load.ensures.loaded in
+    let few = five_each (documents c.in-Ok-load.dump) (bytes_of c.in-Ok-load.dump) loaded.1 in
+    let short = loaded.0.2 in
+    omega (arith, few, short)
 
-pub returns-in-Ok-read_input-clause-unread : goal.returns-in-Ok-read_input-clause-unread
-returns-in-Ok-read_input-clause-unread g c none = let taken = rw c.in-Ok.ensures.asking at none in absurd (true≢false (sym taken))
+pub returns-in-Ok-load-clause-found : goal.returns-in-Ok-load-clause-found
+returns-in-Ok-load-clause-found g c =
+    let loaded = c.in-Ok-load.ensures.loaded in
+    let ds = documents c.in-Ok-load.dump in
+    let bytes = bytes_of c.in-Ok-load.dump in
+    finds.output_found (find_words_of c.args.options.now) (over g.R.Input.state c.args.input.now c.load.new.input) bytes
+    (output_of_dump bytes ds (page_request_of c.in-Ok.asking)) (rw c.in-Ok.ensures.asking loaded.0) (rw c.in-Ok.ensures.asking (ds, None, loaded.1, refl)) c.print_found.ensures
+
+pub returns-in-Ok-load-clause-unread : goal.returns-in-Ok-load-clause-unread
+returns-in-Ok-load-clause-unread g c none = let taken = rw c.in-Ok.ensures.asking at none in absurd (true≢false (sym taken))
 
 pub returns-in-Err-clause-found : goal.returns-in-Err-clause-found
 returns-in-Err-clause-found g c =
-    let words = read_words c.in-Err.fault in
-    inl (
-      refusal_output words,
-      (Err c.in-Err.fault, rw c.in-Ok.ensures.asking c.in-Err.ensures.input, rw c.in-Ok.ensures.asking refl),
-      takes_none (g.O.Output.state c.args.out.now),
-      c.report_read_fault.ensures,
-    )
+    finds.load_reported (find_words_of c.args.options.now) (page_request_of c.in-Ok.asking) (over g.R.Input.state c.args.input.now c.load.new.input)
+    (g.O.Output.state c.args.out.now) (over g.E.Output.state c.args.err.now c.report_load_fault.new.err) _ c.in-Err.fault c.in-Ok.ensures.asking
+    c.in-Err.ensures.fault c.report_load_fault.ensures
 
 pub returns-in-Err-NoMemory-clause-found : goal.returns-in-Err-NoMemory-clause-found
 returns-in-Err-NoMemory-clause-found g c = inr (inr ([], inr (refl, refl), takes_none (g.O.Output.state c.args.out.now), c.report_no_memory.ensures))
