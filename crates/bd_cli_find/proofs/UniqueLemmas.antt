@@ -74,6 +74,7 @@ bytes_print w bytes fits =
     let scan = scan_on [] [] bytes fits refl in
     (output_of_scan bytes scan.more scan.end w, (scan.more, scan.end, scan.scan, refl))
 
+-- options and all bytes of an input have an output
 pub found_some : (words : FindWords) (bytes : List ℕ) → IsBytes bytes → (output : Transcript) × IsOutputOfFind words (Ok bytes) output
 found_some words bytes fits = go (requested_by words)
   where
