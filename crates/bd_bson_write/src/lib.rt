@@ -13,7 +13,7 @@
 //!
 //! - `write`: `write_document`, and a document written in pieces.
 //! - `laws`: the bytes written for a document spell it.
-//! - `writing`: values, scalars and their parts, and why a document is not written.
+//! - `writing`: values, scalars and their parts, which `bd_extjson_pack` writes too, and why a document is not written.
 #![tactic(auto)]
 
 mod laws;
@@ -21,5 +21,7 @@ mod write;
 mod writing;
 
 pub use laws::plainly_spells;
-pub use write::{append_label, append_value, begin_body, end_body, write_document};
-pub use writing::WriteFault;
+pub use write::{append_value, begin_body, end_body, write_document};
+pub use writing::{
+    WriteFault, append_binary, append_label, append_long, append_number, append_string,
+};

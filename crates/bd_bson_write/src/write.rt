@@ -6,10 +6,10 @@ ghost use Rattle.bd_value.specs.Limits.{longest_document, most_levels};
 ghost use Rattle.bd_value.specs.Tree.{depth as depth_in, HasNoParts, Doc, doc, fields_of};
 ghost use Rattle.bd_value.specs.Fits.{zero_in, zero_in_parts};
 ghost use Rattle.bd_value.specs.View.{pairs};
-ghost use Rattle.bd_bson_view.specs.Spelling.{type_byte as byte_of, IsDocument, IsValue, framed, number, string};
+ghost use Rattle.bd_bson_view.specs.Spelling.{IsDocument, IsValue, framed, number, string};
 ghost use Rattle.bd_bson_write.specs.TreeBytes.{SpellsPlainly, bytes_of, OverrunsLimit};
 
-use crate::writing::{WriteFault, put_label, put_text, put_value, seal, write_number};
+use crate::writing::{WriteFault, append_number, put_value, seal};
 use bd_value::{
     Document, Kind, LONGEST_DOCUMENT, MOST_LEVELS, NoMemory, Reading, Scalar, Tree, depth, has_zero,
 };
@@ -60,28 +60,8 @@ pub fn begin_body(out: &mut Vec<u8>) -> Result<usize, NoMemory>
     ensures unchanged { OnErr result (out.new.items ≡ out.old.items) }
 {
     let at = out.len();
-    write_number(0, out)?;
+    append_number(0, out)?;
     Ok(at)
-}
-
-/// Appends what precedes an element's value, its type and its name: BSON 1.1, `element`.
-///
-/// # Errors
-/// `WriteFault::TooLong` if there are more than 16,793,600 bytes before it; `WriteFault::NoMemory`. In both cases `out` is
-/// unchanged.
-#[inline(always)]
-pub fn append_label(kind: Kind, name: &str, out: &mut Vec<u8>) -> Result<(), WriteFault>
-    ensures ok { OnOk result ((out.new.items ≡ out.old.items
-        ++ (byte_of kind ∷ (name.now ++ 0 ∷ []))) × (length out.old.items ≤ longest_document)) }
-    ensures err { IfErr result (OverrunsLimit (length out.old.items)) }
-    ensures unchanged { OnErr result (out.new.items ≡ out.old.items) }
-{
-    let before = out.len();
-    let label = put_label(kind, name, out);
-    if label.is_err() {
-        out.truncate(before);
-    }
-    label
 }
 
 /// Appends the bytes of a value. The names of an array's elements are their indexes from 0.

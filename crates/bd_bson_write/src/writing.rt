@@ -74,7 +74,7 @@ fn append_fields<N: Reading>(fields: N::Rest, out: &mut Vec<u8>) -> Result<(), W
     ensures prefix { OnErr result (StartsWith out.new.items out.old.items) }
 {
     let at = out.len();
-    write_number(0, out)?;
+    append_number(0, out)?;
     let mut rest = fields;
     while let Some(next) = N::next(&rest) {
         append_element(next.0, next.1, out)?;
@@ -98,7 +98,7 @@ fn append_items<N: Reading>(items: N::Rest, out: &mut Vec<u8>) -> Result<(), Wri
     ensures prefix { OnErr result (StartsWith out.new.items out.old.items) }
 {
     let at = out.len();
-    write_number(0, out)?;
+    append_number(0, out)?;
     let mut index: u32 = 0;
     let mut rest = items;
     while let Some(next) = N::next(&rest) {
@@ -126,7 +126,7 @@ fn append_element<N: Reading>(name: &str, node: N, out: &mut Vec<u8>) -> Result<
         + length (element (N.tree node) name.now (bytes_of (N.tree node))))) }
     ensures prefix { OnErr result (StartsWith out.new.items out.old.items) }
 {
-    put_label(node.kind(), name, out)?;
+    append_label(node.kind(), name, out)?;
     put_value(node, out)
 }
 
@@ -149,26 +149,33 @@ fn append_leaf<N: Reading>(node: N, out: &mut Vec<u8>) -> Result<(), WriteFault>
         return write_scalar(scalar_leaf, out);
     };
     let at = out.len();
-    write_number(0, out)?;
+    append_number(0, out)?;
     write_scalar(scalar_leaf, out)?;
     put_value(scope, out)?;
     seal(at, out)
 }
 
 /// Appends what precedes an element's value, its type and its name: BSON 1.1, `element`.
-#[tactic(auto, using(bd_value::proofs::PrefixLemmas::prefixes))]
+///
+/// # Errors
+/// `WriteFault::TooLong` if there are more than 16,793,600 bytes before it; `WriteFault::NoMemory`. In both cases `out` is
+/// unchanged.
 #[inline(always)]
-pub(crate) fn put_label(kind: Kind, name: &str, out: &mut Vec<u8>) -> Result<(), WriteFault>
+pub fn append_label(kind: Kind, name: &str, out: &mut Vec<u8>) -> Result<(), WriteFault>
     ensures ok { OnOk result ((out.new.items ≡ out.old.items
         ++ (byte_of kind ∷ (name.now ++ 0 ∷ []))) × (length out.old.items ≤ longest_document)) }
     ensures err { IfErr result (OverrunsLimit (length out.old.items)) }
-    ensures prefix { OnErr result (StartsWith out.new.items out.old.items) }
+    ensures unchanged { OnErr result (out.new.items ≡ out.old.items) }
 {
-    if out.len() > LONGEST_DOCUMENT {
+    let before = out.len();
+    if before > LONGEST_DOCUMENT {
         return Err(WriteFault::TooLong);
     }
     out.extend_from_slice(&[type_byte(kind)])?;
-    write_name(name, out)?;
+    if write_name(name, out).is_err() {
+        out.truncate(before);
+        return Err(WriteFault::NoMemory);
+    }
     Ok(())
 }
 
@@ -203,32 +210,36 @@ fn write_scalar(scalar: Scalar<'_>, out: &mut Vec<u8>) -> Result<(), WriteFault>
 {
     match scalar {
         Scalar::MinKey | Scalar::Undefined | Scalar::Null | Scalar::MaxKey => {}
-        Scalar::Int32(number) => write_number(number.cast_unsigned(), out)?,
-        Scalar::Int64(number) | Scalar::Date(number) => write_long(number.cast_unsigned(), out)?,
+        Scalar::Int32(number) => append_number(number.cast_unsigned(), out)?,
+        Scalar::Int64(number) | Scalar::Date(number) => append_long(number.cast_unsigned(), out)?,
         Scalar::Timestamp { seconds, increment } => {
-            write_number(increment, out)?;
-            write_number(seconds, out)?;
+            append_number(increment, out)?;
+            append_number(seconds, out)?;
         }
         Scalar::Bool(truth) => out.extend_from_slice(&[u8::from(truth)])?,
         Scalar::ObjectId(id) => out.extend_from_slice(&id)?,
         Scalar::Text(text) | Scalar::Symbol(text) | Scalar::Code(text) | Scalar::CodeScope(text) =>
-            { put_text(text, out)? }
+            { append_string(text, out)? }
         Scalar::DbPointer { space, id } => {
-            put_text(space, out)?;
+            append_string(space, out)?;
             out.extend_from_slice(&id)?;
         }
         Scalar::Regex { pattern, options } => {
             write_name(pattern, out)?;
             write_name(options, out)?;
         }
-        Scalar::Binary { subtype, payload } => write_binary(subtype, payload, out)?,
+        Scalar::Binary { subtype, payload } => append_binary(subtype, payload, out)?,
     }
     Ok(())
 }
 
-/// `binary`: the count of the bytes, the subtype, the bytes.
+/// Appends binary data: BSON 1.1, `binary`, the count of the bytes, the subtype, the bytes.
+///
+/// # Errors
+/// `WriteFault::TooLong` if there are more than 16,793,600 bytes; `WriteFault::NoMemory`. In both cases `out` may end with some
+/// of the bytes.
 #[tactic(auto, using(bd_value::proofs::PrefixLemmas::prefixes))]
-fn write_binary(subtype: u8, payload: &[u8], out: &mut Vec<u8>) -> Result<(), WriteFault>
+pub fn append_binary(subtype: u8, payload: &[u8], out: &mut Vec<u8>) -> Result<(), WriteFault>
     ensures ok { OnOk result
         ((out.new.items ≡ out.old.items
         ++ (number (length (data_of subtype payload.now)) ++ subtype ∷ data_of subtype payload.now))
@@ -241,7 +252,7 @@ fn write_binary(subtype: u8, payload: &[u8], out: &mut Vec<u8>) -> Result<(), Wr
     if payload.len() > LONGEST_DOCUMENT {
         return Err(WriteFault::TooLong);
     }
-    write_number(data_length(subtype, payload), out)?;
+    append_number(data_length(subtype, payload), out)?;
     out.extend_from_slice(&[subtype])?;
     write_data(subtype, payload, out)?;
     Ok(())
@@ -255,7 +266,7 @@ fn write_data(subtype: u8, payload: &[u8], out: &mut Vec<u8>) -> Result<(), NoMe
     ensures prefix { OnErr result (StartsWith out.new.items out.old.items) }
 {
     if subtype == 2 {
-        write_number(payload.len() as u32, out)?;
+        append_number(payload.len() as u32, out)?;
     }
     out.extend_from_slice(payload)?;
     Ok(())
@@ -271,10 +282,14 @@ fn data_length(subtype: u8, payload: &[u8]) -> u32
     if subtype == 2 { length + 4 } else { length }
 }
 
-/// `string`: the length with the zero at the end, the text, the zero.
+/// Appends a text: BSON 1.1, `string`, the length with the zero at the end, the text, the zero.
+///
+/// # Errors
+/// `WriteFault::TooLong` if the text has more than 16,793,600 bytes; `WriteFault::NoMemory`. In both cases `out` may end with
+/// some of the bytes.
 #[tactic(auto, using(bd_value::proofs::PrefixLemmas::prefixes))]
 #[inline(always)]
-pub(crate) fn put_text(text: &str, out: &mut Vec<u8>) -> Result<(), WriteFault>
+pub fn append_string(text: &str, out: &mut Vec<u8>) -> Result<(), WriteFault>
     ensures ok { OnOk result ((out.new.items ≡ out.old.items ++ string text.now)
         × (length text.now ≤ longest_document)) }
     ensures err { IfErr result (OverrunsLimit (length out.old.items + length (string text.now))) }
@@ -283,34 +298,42 @@ pub(crate) fn put_text(text: &str, out: &mut Vec<u8>) -> Result<(), WriteFault>
     if text.len() > LONGEST_DOCUMENT {
         return Err(WriteFault::TooLong);
     }
-    write_number(text.len() as u32 + 1, out)?;
+    append_number(text.len() as u32 + 1, out)?;
     write_name(text, out)?;
     Ok(())
 }
 
 /// `cstring`.
 #[tactic(auto, using(bd_value::proofs::PrefixLemmas::prefixes))]
+#[inline(always)]
 fn write_name(name: &str, out: &mut Vec<u8>) -> Result<(), NoMemory>
     ensures ok { OnOk result (out.new.items ≡ out.old.items ++ (name.now ++ 0 ∷ [])) }
     ensures prefix { OnErr result (StartsWith out.new.items out.old.items) }
 {
     out.extend_from_slice(name.as_bytes())?;
-    out.extend_from_slice(b"\0")?;
-    Ok(())
+    out.extend_from_slice(b"\0")
 }
 
-/// `int64`: eight bytes, least first.
+/// Appends eight bytes, least first: BSON 1.1, `int64`.
+///
+/// # Errors
+/// `NoMemory`: memory ran out, and `out` is unchanged.
+#[inline(always)]
 #[tactic(auto, unfolding(bd_bson_view::specs::Spelling::long))]
-fn write_long(n: u64, out: &mut Vec<u8>) -> Result<(), NoMemory>
+pub fn append_long(n: u64, out: &mut Vec<u8>) -> Result<(), NoMemory>
     ensures ok { OnOk result (out.new.items ≡ out.old.items ++ long n) }
     ensures unchanged { OnErr result (out.new.items ≡ out.old.items) }
 {
     out.extend_from_slice(&n.to_le_bytes())
 }
 
-/// `int32`: four bytes, least first.
+/// Appends four bytes, least first: BSON 1.1, `int32`.
+///
+/// # Errors
+/// `NoMemory`: memory ran out, and `out` is unchanged.
+#[inline(always)]
 #[tactic(auto, unfolding(bd_bson_view::specs::Spelling::number))]
-pub(crate) fn write_number(n: u32, out: &mut Vec<u8>) -> Result<(), NoMemory>
+pub fn append_number(n: u32, out: &mut Vec<u8>) -> Result<(), NoMemory>
     ensures ok { OnOk result (out.new.items ≡ out.old.items ++ number n) }
     ensures unchanged { OnErr result (out.new.items ≡ out.old.items) }
 {

@@ -1,7 +1,8 @@
 -- Reading and wrapping, one step at a time, and a whole text.
 use Rattle.std.proofs.Common.{◌≡◌, ℕ, zero, suc, ◌-◌, ◌<◌, ◌≤◌, Bool, true, false, List, [], ◌∷◌, ◌++◌, length, Option, Some, None, option_map, option_and_then}
 use Rattle.std.proofs.Common.{refl, sym, ap, ◌∙◌, arith, rules, inl, inr}
-use Rattle.std.specs.Prelude.{Result, Ok, Err, String, string_bytes}
+use Rattle.std.specs.Prelude.{Result, Ok, Err, IfErr, MatchOption, String, string_bytes}
+use Rattle.std.specs.Borrow.{Bor}
 use Rattle.std.specs.Str.{is_utf8, IsUtf8}
 use Rattle.std.specs.declared.alloc.Global.{Global}
 use Rattle.std.proofs.lemmas.Bool.{cases_Bool}
@@ -19,6 +20,8 @@ use Rattle.bd_value.specs.Fits.{has_zero}
 use Rattle.bd_value.proofs.ViewLemmas.{tree_of-Doc, tree_of-Array}
 use Rattle.bd_value.specs.declared.document.Value.TheFolds as folds
 use Rattle.bd_value.specs.declared.document.Value.TheVariants as values
+use Rattle.bd_extjson_fault.specs.JsonFault.{ReportsBadUtf8}
+use Rattle.bd_extjson_fault.specs.declared.json_fault.JsonFault.{JsonFault}
 use Rattle.bd_extjson_wrapper.specs.WholeNumber.{whole_64}
 use Rattle.bd_extjson_wrapper.specs.Wrapper.{wrapper_of, through, after_key, Fails, Gives}
 use Rattle.bd_extjson_wrapper.specs.declared.wrapper.Trouble.{Trouble}
@@ -241,6 +244,12 @@ first_name depth ts r key e =
     let less : length ts - 1 ≡ length r = omega (arith, one) in
     next_name depth (length ts) ts r key (omega arith) e ∙ ap (λ m. after_key depth m key r) less
 
+-- the wrapper of a first name, if there is one
+pub wrapper_is : (first : Option (Bor (List ℕ))) (w : Option Wrapper) → MatchOption first (w ≡ None) (λ s. w ≡ wrapper_of s.now)
+    → w ≡ option_and_then wrapper_of (option_map (λ s. s.now) first)
+wrapper_is None w is = is
+wrapper_is (Some s) w is = is
+
 -- an object whose first name is a wrapper's is read as this wrapper
 pub object_is_wrapper : {X : Type 0} (view : X → Tree) (result : Result X Trouble) (rest : List Token) (w : Wrapper) (depth_left depth n : ℕ)
     (ts : List Token) (key : Option (List ℕ)) → option_and_then wrapper_of key ≡ Some w
@@ -322,6 +331,11 @@ no_text text h = elim (cases_Bool (is_utf8 text)) [
       let none : json text ≡ None = rw not refl in
       ap (λ o. option_map pairs_of (option_and_then document (option_and_then (wrap most_levels) o))) none
 ]
+
+-- a text that is UTF-8 is reported as such, whatever its fault
+pub valid_text : {A : Type 0} (text : List ℕ) (r : Result A JsonFault) → IsUtf8 text → IfErr r (ReportsBadUtf8 text)
+valid_text text (Ok x) utf8 = tt
+valid_text text (Err f) utf8 = record { kind = λ bad. absurd (bad utf8); at = λ bad. absurd (bad utf8) }
 
 -- ---- the steps that functions name
 

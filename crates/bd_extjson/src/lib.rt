@@ -30,4 +30,4 @@ pub use laws::{
     document_or_fault, document_reads_back, reads_back, reads_what_fits, text_determines_document,
     texts_are_lines,
 };
-pub use read::{bare_number, read_doc, read_doc_with, read_wrapper, wrapper_named};
+pub use read::{bare_number, fault_of, read_doc, read_doc_text, read_doc_with, read_wrapper};

@@ -1,6 +1,5 @@
 //! The document that a text is: read from its tokens, in one pass.
-ghost use Rattle.std.specs.Prelude.{◌≡◌, ◌≢◌, ◌<◌, ◌≤◌, ◌-◌, ℕ, List, length, map, Option, Some, None, option_map, option_and_then, Err, IfOk, IfErr, OnOk};
-ghost use Rattle.std.specs.Str.{IsUtf8};
+ghost use Rattle.std.specs.Prelude.{◌≡◌, ◌≢◌, ◌<◌, ◌≤◌, ◌-◌, ℕ, List, length, map, Option, Some, None, option_map, option_and_then, IfOk, IfErr, OnOk};
 ghost use Rattle.json.specs.Find.{as_str};
 ghost use Rattle.json.specs.{Json.Json, Json.value, Json.items, Json.members, Json.read_key, Token.Token as JsonToken};
 ghost use Rattle.json.specs.Value.{value_view};
@@ -16,7 +15,7 @@ ghost use Rattle.bd_extjson_wrapper.specs.declared.wrapper.Trouble.TheVariants a
 ghost use Rattle.bd_extjson_wrapper.specs.declared.wrapper.Wrapper.TheVariants as kinds;
 ghost use Rattle.bd_extjson.specs.Read.{ReadsAs, json, reading, document, bare_number, with_scope, wrap, wrap_items, wrap_object, wrapped, wrap_fields};
 
-use bd_extjson_fault::{JsonFault, JsonFaultKind, diagnose};
+use bd_extjson_fault::{JsonFault, JsonFaultKind, diagnose, text_of};
 use bd_extjson_wrapper::{Trouble, Wrapper, names_code, names_scope, unwrap_single, whole};
 use bd_value::{Document, MOST_BRACKETS, MOST_LEVELS, Value, has_zero};
 use json::{Reader, Scratch, Token};
@@ -47,6 +46,7 @@ pub fn read_doc(alloc: Global, text: &[u8]) -> Result<Document, JsonFault>
 }
 
 /// `read_doc`, with a buffer for the texts that have escapes, which a caller reuses from text to text.
+#[tactic(auto, using(crate::proofs::ReadLemmas::no_text, crate::proofs::ReadLemmas::valid_text))]
 pub fn read_doc_with(
     alloc: Global,
     text: &[u8],
@@ -59,29 +59,49 @@ pub fn read_doc_with(
     ensures utf8 { IfErr result (ReportsBadUtf8 text.now) }
     ensures fault { IfErr result (λ f. f.kind ≢ faults.NoMemory → f ≡ text_fault text.now) }
 {
-    match read_bytes(alloc, text, scratch) {
+    read_doc_text(alloc, text_of(text)?, scratch)
+}
+
+/// `read_doc_with`, for a text that is known to be UTF-8.
+pub fn read_doc_text(
+    alloc: Global,
+    text: &str,
+    scratch: &mut Scratch,
+) -> Result<Document, JsonFault>
+    ensures found { IfOk result (λ d. ReadsAs text.now (pairs d)) }
+    ensures none { IfErr result (λ f. f.kind ≢ faults.NoMemory →
+        (d : Doc) → ReadsAs text.now d → ⊥) }
+    ensures offset { IfErr result (IsLocated (length text.now)) }
+    ensures fault { IfErr result (λ f. f.kind ≢ faults.NoMemory → f ≡ text_fault text.now) }
+{
+    match read_text(alloc, text, scratch) {
         Ok(document) => Ok(document),
+        // No pass looks for a fault.
         Err(Trouble::Memory) => Err(JsonFault {
             kind: JsonFaultKind::NoMemory,
             at: 0,
         }),
-        Err(Trouble::Refused) => Err(diagnose(alloc, text)),
+        Err(Trouble::Refused) => Err(fault_of(alloc, text)),
     }
 }
 
-fn read_bytes(alloc: Global, text: &[u8], scratch: &mut Scratch) -> Read<Document>
-    ensures gives { Gives pairs result (reading text.now) }
-    ensures utf8 { ¬ (IsUtf8 text.now) → result ≡ Err troubles.Refused }
+/// The fault of a text that is no document. The pass over the text that looks for it is made for no other.
+pub fn fault_of(alloc: Global, text: &str) -> JsonFault
+    requires { (d : Doc) → ReadsAs text.now d → ⊥ }
+    ensures offset { IsLocated (length text.now) result }
+    ensures fault { result.kind ≢ faults.NoMemory → result ≡ text_fault text.now }
 {
-    let text = match simdutf8::compat::from_utf8(text) {
-        Ok(text) => text,
-        Err(_) => return Err(Trouble::Refused),
-    };
-    let value = read_text(alloc, text, scratch)?;
+    diagnose(alloc, text)
+}
+
+fn read_text(alloc: Global, text: &str, scratch: &mut Scratch) -> Read<Document>
+    ensures { Gives pairs result (reading text.now) }
+{
+    let value = read_whole(alloc, text, scratch)?;
     document_of(value).ok_or(Trouble::Refused)
 }
 
-fn read_text(alloc: Global, text: &str, scratch: &mut Scratch) -> Read<Value>
+fn read_whole(alloc: Global, text: &str, scratch: &mut Scratch) -> Read<Value>
     ensures { Gives tree_of result (option_and_then (wrap most_levels) (json text.now)) }
 {
     let mut reader = Reader::new(text, scratch)?;
@@ -175,7 +195,7 @@ fn read_object(
     ensures shorter { OnOk result (length reader.new < length reader.old) }
 {
     let first = reader.next_key()?;
-    if let Some(wrapper) = wrapper_named(first) {
+    if let Some(wrapper) = first.and_then(Wrapper::from_name) {
         return read_wrapper(alloc, reader, wrapper, depth_left, depth);
     }
     if depth_left == 0 {
@@ -210,13 +230,6 @@ fn read_fields<'a>(
         next = reader.next_key()?;
     }
     Ok(read)
-}
-
-/// The wrapper of the first name of an object; None if the object is a document. An empty object has no first name.
-pub fn wrapper_named(first: Option<&str>) -> Option<Wrapper>
-    ensures { result ≡ option_and_then wrapper_of (option_map (λ s. s.now) first.entry) }
-{
-    Wrapper::from_name(first?)
 }
 
 /// Reads what follows the first name of an object, which is that wrapper's: the value that the object means, with at most

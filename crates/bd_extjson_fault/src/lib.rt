@@ -5,13 +5,14 @@
 //! An example, which `bd_extjson_tests` proves and runs as `examples::diagnosed`:
 //!
 //! ```
-//! let fault = diagnose(alloc, b"{\"a\":1.5}");
+//! let fault = diagnose(alloc, "{\"a\":1.5}");
 //! assert!(rt; fault.kind == JsonFaultKind::NotInProfile && fault.at == 5);
 //! ```
 //!
 //! - `json_fault`: the kinds of faults, and a fault.
 //! - `laws`: laws of the fault of each text.
-//! - `second_pass`: `diagnose`, a pass over the whole text: its first fault as JSON, and that of its tree.
+//! - `second_pass`: `text_of`, which checks bytes for UTF-8, and `diagnose`, a pass over the whole text: its first fault as
+//!   JSON, and that of its tree.
 //! - `skip`: the tokens of JSON, skipped one by one.
 //! - `tree_fault`: what is wrong with a part of a text that is JSON: a number, a name, a wrapper.
 #![tactic(auto)]
@@ -24,4 +25,4 @@ mod tree_fault;
 
 pub use json_fault::{JsonFault, JsonFaultKind};
 pub use laws::{fault_is_located, passes_numbers_of_json, wrapper_is_value_or_fault};
-pub use second_pass::diagnose;
+pub use second_pass::{diagnose, text_of};

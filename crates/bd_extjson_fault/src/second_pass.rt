@@ -2,7 +2,7 @@
 //!
 //! If the text is not JSON, the pass ends there. The first fault of the tree is remembered until all of the text is known to
 //! be JSON.
-ghost use Rattle.std.specs.Prelude.{◌≡◌, ◌≢◌, ◌-◌, ◌<◌, ◌≤◌, ◌==◌, ℕ, IfErr, IfOk, OnOk, MatchResult, Some, None, Ok, Err, if◌then◌else◌, [], ◌∷◌, map, drop, length, IfSome, option_and_then};
+ghost use Rattle.std.specs.Prelude.{◌≡◌, ◌≢◌, ◌-◌, ◌<◌, ◌≤◌, ◌==◌, ℕ, IfErr, IfOk, OnErr, OnOk, MatchResult, Some, None, Ok, Err, if◌then◌else◌, [], ◌∷◌, map, drop, length, IfSome, option_and_then};
 ghost use Rattle.std.specs.Option.{option_or};
 ghost use Rattle.std.specs.Str.{IsUtf8};
 ghost use Rattle.bd_value.specs.Limits.{most_brackets, most_levels};
@@ -31,19 +31,33 @@ use bd_value::{MOST_BRACKETS, MOST_LEVELS};
 use json::Scratch;
 use std::alloc::{AllocError, Global};
 
-/// The first fault of a text: of its UTF-8, of its JSON, of its tree from left to right, and last that it is not a document.
+/// The text that bytes are. All that reads or diagnoses them then takes this text, and checks them no more.
+///
+/// # Errors
+/// `Syntax` at the first byte that is not UTF-8.
+pub fn text_of(bytes: &[u8]) -> Result<&str, JsonFault>
+    ensures ok { IfOk result (λ text. (text.now ≡ bytes.now) × IsUtf8 bytes.now) }
+    ensures bad { OnErr result (¬ (IsUtf8 bytes.now)) }
+    ensures offset { IfErr result (IsLocated (length bytes.now)) }
+    ensures utf8 { IfErr result (ReportsBadUtf8 bytes.now) }
+    ensures is { IfErr result (λ f. f ≡ text_fault bytes.now) }
+{
+    match simdutf8::compat::from_utf8(bytes) {
+        Ok(text) => Ok(text),
+        Err(error) => Err(syntax_at(error.valid_up_to())),
+    }
+}
+
+/// The first fault of a text: of its JSON, of its tree from left to right, and last that it is not a document. `text_of` finds
+/// those of its UTF-8.
 ///
 /// Call it for texts that are refused. If it finds no fault, it returns `Syntax` at the text's end.
-pub fn diagnose(alloc: Global, text: &[u8]) -> JsonFault
+pub fn diagnose(alloc: Global, text: &str) -> JsonFault
     ensures offset { IsLocated (length text.now) result }
-    ensures utf8 { ReportsBadUtf8 text.now result }
     // The fault is that of the text, unless memory runs out.
     ensures is { result.kind ≢ kinds.NoMemory → result ≡ text_fault text.now }
 {
-    if let Err(error) = str::from_utf8(text) {
-        return syntax_at(error.valid_up_to());
-    }
-    let (scratch, rest, fault) = (Scratch::new(alloc), text, None);
+    let (scratch, rest, fault) = (Scratch::new(alloc), text.as_bytes(), None);
     let mut pass = Pass {
         alloc,
         scratch,

@@ -14,8 +14,8 @@ ghost use Rattle.bd_value.specs.Fits.{AreBytes, IsId, has_zero};
 ghost use Rattle.bd_value.specs.Tree as trees;
 
 use crate::elements::{
-    append_binary, append_bool, append_date, append_id, append_int32, append_int64, append_text,
-    push_label,
+    append_binary, append_bool, append_date, append_id, append_int32, append_int64, append_null,
+    append_text,
 };
 use base64::engine::general_purpose::STANDARD;
 use bd_bson_write::{append_label, begin_body, end_body};
@@ -156,9 +156,6 @@ fn append_wrapper<'a>(text: &'a str, name: &str, out: &mut Vec<u8>) -> Option<&'
         }
         b'"' => {
             let (subtype, payload, rest) = binary(*out.allocator(), text)?;
-            if subtype == 2 {
-                return None;
-            }
             append_binary(name, subtype, &payload, out)?;
             Some(rest)
         }
@@ -185,7 +182,7 @@ fn append_word<'a>(text: &'a str, name: &str, out: &mut Vec<u8>) -> Option<&'a s
         return Some(rest);
     }
     let rest = after_word(text, b"null")?;
-    push_label(Kind::Null, name, out)?;
+    append_null(name, out)?;
     Some(rest)
 }
 

@@ -13,7 +13,7 @@
 //! - `line`: `Packer`, which packs a line at a time.
 //! - `canonical_line`: the bytes straight from a line as `dump` writes it.
 //! - `tokens`: the bytes straight from the tokens of any other line.
-//! - `elements`: elements of scalars, and their pieces.
+//! - `elements`: elements of scalars.
 //! - `laws`: the packed bytes spell the line's document.
 #![tactic(auto)]
 

@@ -5,8 +5,8 @@ ghost use Rattle.bd_extjson_pack.specs.Packable.{plain, IsPackable, IsBad};
 
 use crate::tokens::spell_line;
 use bd_bson_write::{WriteFault, write_document};
-use bd_extjson::read_doc_with;
-use bd_extjson_fault::{JsonFault, JsonFaultKind};
+use bd_extjson::read_doc_text;
+use bd_extjson_fault::{JsonFault, JsonFaultKind, text_of};
 use bd_value::NoMemory;
 use json::Scratch;
 use std::alloc::{AllocError, Global};
@@ -57,31 +57,35 @@ impl Packer {
         ensures bad { IfOk result (λ o. IfSome o (λ f. IsBad line.now f × (out.new ≡ out.old))) }
         ensures err { OnErr result (out.new.items ≡ out.old.items) }
     {
+        let text = match text_of(line) {
+            Ok(text) => text,
+            Err(bad) => return Ok(Some(LineFault::Unread(bad))),
+        };
         // For nearly every line the bytes come straight from its tokens. The others are read again, by a tree.
-        match spell_line(self.alloc, line, &mut self.scratch, &mut self.spelled) {
+        match spell_line(self.alloc, text, &mut self.scratch, &mut self.spelled) {
             Some(()) => {
                 out.extend_from_slice(&self.spelled)?;
                 Ok(None)
             }
-            None => pack_tree(self.alloc, line, &mut self.scratch, out),
+            None => pack_tree(self.alloc, text, &mut self.scratch, out),
         }
     }
 }
 
-/// Packs a line by a tree of its document, and returns what is wrong with it.
+/// Packs a text by a tree of its document, and returns what is wrong with it.
 #[cold]
 fn pack_tree(
     alloc: Global,
-    line: &[u8],
+    text: &str,
     scratch: &mut Scratch,
     out: &mut Vec<u8>,
 ) -> Result<Option<LineFault>, NoMemory>
     ensures packed { result ≡ Ok None →
-        (d : Doc) × IsPackable line.now d × (out.new.items ≡ out.old.items ++ plain d) }
-    ensures bad { IfOk result (λ o. IfSome o (λ f. IsBad line.now f × (out.new ≡ out.old))) }
+        (d : Doc) × IsPackable text.now d × (out.new.items ≡ out.old.items ++ plain d) }
+    ensures bad { IfOk result (λ o. IfSome o (λ f. IsBad text.now f × (out.new ≡ out.old))) }
     ensures err { OnErr result (out.new.items ≡ out.old.items) }
 {
-    let document = match read_doc_with(alloc, line, scratch) {
+    let document = match read_doc_text(alloc, text, scratch) {
         Ok(document) => document,
         Err(fault) if fault.kind == JsonFaultKind::NoMemory => return Err(AllocError),
         Err(fault) => return Ok(Some(LineFault::Unread(fault))),

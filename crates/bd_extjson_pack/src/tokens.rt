@@ -16,27 +16,26 @@ ghost use Rattle.json.specs.Token.{begin_object, end_object, key, string};
 
 use crate::canonical_line::append_canonical;
 use crate::elements::{
-    append_bool, append_date, append_id, append_int32, append_int64, append_text, push_label,
+    append_bool, append_date, append_id, append_int32, append_int64, append_null, append_text,
 };
 use bd_bson_write::{append_label, append_value, begin_body, end_body};
-use bd_extjson::{bare_number, read_wrapper, wrapper_named};
+use bd_extjson::{bare_number, read_wrapper};
 use bd_extjson_wrapper::{Wrapper, id_of_text, whole, whole_of_32};
 use bd_value::{Kind, MOST_BRACKETS, MOST_LEVELS, Tree, Value, has_zero};
 use json::{Reader, Scratch, Token};
 use std::alloc::Global;
 
-/// Replaces the contents of `out` by the bytes of the document that the line is. None if it is not a document, and also if
+/// Replaces the contents of `out` by the bytes of the document that the text is. None if it is not a document, and also if
 /// memory runs out.
 pub(crate) fn spell_line(
     alloc: Global,
-    line: &[u8],
+    text: &str,
     scratch: &mut Scratch,
     out: &mut Vec<u8>,
 ) -> Option<()>
-    ensures { IfSome result (λ u. (d : Doc) × IsPackable line.now d × (out.new.items ≡ plain d)) }
+    ensures { IfSome result (λ u. (d : Doc) × IsPackable text.now d × (out.new.items ≡ plain d)) }
 {
     out.clear();
-    let text = simdutf8::compat::from_utf8(line).ok()?;
     if append_canonical(text, out).is_some() {
         return Some(());
     }
@@ -61,7 +60,7 @@ fn append_document(
         return None;
     };
     let first = reader.next_key().ok()?;
-    if wrapper_named(first).is_some() {
+    if first.and_then(Wrapper::from_name).is_some() {
         return None;
     }
     let (depth_left, depth) = (MOST_LEVELS - 1, MOST_BRACKETS - 1);
@@ -122,7 +121,7 @@ fn append_next(
         Token::String(text) => append_text(name, text, out),
         Token::Number(text) => append_number(name, text, out),
         Token::Bool(b) => append_bool(name, b, out),
-        Token::Null => push_label(Kind::Null, name, out),
+        Token::Null => append_null(name, out),
         Token::BeginArray if depth > 0 && depth_left > 0 => {
             append_label(Kind::Array, name, out).ok()?;
             append_items(alloc, reader, depth_left - 1, depth - 1, out)
@@ -177,7 +176,7 @@ fn append_object(
     ensures shorter { IfSome result (λ u. length reader.new < length reader.old) }
 {
     let first = reader.next_key().ok()?;
-    if let Some(wrapper) = wrapper_named(first) {
+    if let Some(wrapper) = first.and_then(Wrapper::from_name) {
         if is_short(wrapper) {
             return append_short(reader, wrapper, name, depth, out);
         }

@@ -15,7 +15,7 @@ fn takes_the_deepest_documents(rt: HostRuntime) -> Result<(), Fail> {
         let open = r#"{"a":"#.repeat(alloc, levels)?;
         let close = "}".repeat(alloc, levels)?;
         let text = format!(in alloc; "{open}{inside}{close}")?;
-        let reported = diagnose(alloc, text.as_bytes());
+        let reported = diagnose(alloc, &text);
         assert!(rt; reported.kind == JsonFaultKind::Syntax && reported.at == end);
     }
     Ok(())
@@ -29,6 +29,6 @@ fn has_limits_and_words(rt: HostRuntime) {
             && JsonFaultKind::NoMemory.words() == "no memory"
     );
     // It has no offset.
-    let reported = diagnose(rt.alloc(), b" [1]");
+    let reported = diagnose(rt.alloc(), " [1]");
     assert!(rt; reported.kind == JsonFaultKind::NotADocument && reported.at == 0);
 }

@@ -36,7 +36,7 @@ fn extjson(rt: HostRuntime) -> Result<(), Fail> {
 #[test]
 fn diagnosed(rt: HostRuntime) {
     let alloc = rt.alloc();
-    let fault = diagnose(alloc, b"{\"a\":1.5}");
+    let fault = diagnose(alloc, "{\"a\":1.5}");
     assert!(rt; fault.kind == JsonFaultKind::NotInProfile && fault.at == 5);
 }
 

@@ -1,5 +1,5 @@
 //! The functions that reading consists of, called once each.
-use bd_extjson::{bare_number, read_wrapper, wrapper_named};
+use bd_extjson::{bare_number, read_wrapper};
 use bd_extjson_wrapper::{
     Wrapper, is_whole_number, names_code, names_scope, number_of, only, pair, unwrap_single, whole,
 };
@@ -51,7 +51,7 @@ fn reads_a_wrapper(rt: HostRuntime) {
     let mut reader = Reader::new(r#"{"$minKey":1}"#, &mut scratch).expect(&rt, "a reader");
     let _ = reader.next();
     let name = reader.next_key().expect(&rt, "a name");
-    let wrapper = wrapper_named(name).expect(&rt, "a wrapper");
+    let wrapper = name.and_then(Wrapper::from_name).expect(&rt, "a wrapper");
     let least = read_wrapper(rt.alloc(), &mut reader, wrapper, MOST_LEVELS, MOST_BRACKETS);
     assert!(rt; matches!(least, Ok(Value::MinKey)));
 }

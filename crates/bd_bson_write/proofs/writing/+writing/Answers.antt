@@ -154,8 +154,8 @@ append_leaf-returns-in_err-write_scalar-clause-err g t c =
     let p = err_from_is_err_and r.result r.ensures.1 in
     let scalar_leaf = rw code.3 at c.in_err-write_scalar.ensures.err in
     let total = writes.scoped_size code.0 (bytes_of (doc code.1)) in
-    let le : length c.write_number.new.out.items + length (string code.0) ≤ length c.args.out.now.items + length (scoped code.0 (bytes_of (doc code.1))) =
-    omega (arith, total, ap (λ xs. length xs) c.in_ok-write_number.ensures.ok, length-append c.args.out.now.items (number 0), number_length 0) in
+    let le : length c.append_number.new.out.items + length (string code.0) ≤ length c.args.out.now.items + length (scoped code.0 (bytes_of (doc code.1))) =
+    omega (arith, total, ap (λ xs. length xs) c.in_ok-append_number.ensures.ok, length-append c.args.out.now.items (number 0), number_length 0) in
     rw (p.1, p.2, code.2) (writes.overruns_more _ _ c.in_err-write_scalar.field-0.0 le scalar_leaf)
 
 pub append_leaf-returns-in_err-put_value-clause-err : goal.append_leaf-returns-in_err-put_value-clause-err
@@ -168,7 +168,7 @@ append_leaf-returns-in_err-put_value-clause-err g t c =
     let le : length c.write_scalar-2.new.out.items + length (bytes_of (doc code.1)) ≤ length c.args.out.now.items + length (scoped code.0 (bytes_of (doc code.1))) =
     omega (
       arith,
-      writes.opened c.args.out.now.items c.write_number.new.out.items c.write_scalar-2.new.out.items (string code.0) c.in_ok-write_number.ensures.ok scalar_leaf,
+      writes.opened c.args.out.now.items c.append_number.new.out.items c.write_scalar-2.new.out.items (string code.0) c.in_ok-append_number.ensures.ok scalar_leaf,
       writes.scoped_size code.0 (bytes_of (doc code.1)),
     ) in
     rw (p.1, p.2, code.2) (writes.overruns_more _ _ c.in_err-put_value.field-0.0 le inside)
@@ -176,7 +176,7 @@ append_leaf-returns-in_err-put_value-clause-err g t c =
 pub append_leaf-seal-requires : goal.append_leaf-seal-requires
 append_leaf-seal-requires g t c =
     let code = writes.code_parts (g.N.Reading.tree c.args.node) _ _ (sym c.in-Some.ensures) (sym c.in-Some-scope.ensures.scope) in
-    let out = writes.code_out c.args.out.now.items _ _ c.put_value.new.out.items code.0 (bytes_of (doc code.1)) c.in_ok-write_number.ensures.ok
+    let out = writes.code_out c.args.out.now.items _ _ c.put_value.new.out.items code.0 (bytes_of (doc code.1)) c.in_ok-append_number.ensures.ok
     (rw code.3 at c.in_ok-write_scalar.ensures.ok) (rw code.4 at c.in_ok-put_value.ensures.ok) in
     let at : c.len-at.result ≡ length c.args.out.now.items = search rules in
     let size = writes.sealed_size c.args.out.now.items _ c.put_value.new.out.items out in
@@ -185,7 +185,7 @@ append_leaf-seal-requires g t c =
 pub append_leaf-returns-clause-ok : goal.append_leaf-returns-clause-ok
 append_leaf-returns-clause-ok g t c =
     let code = writes.code_parts (g.N.Reading.tree c.args.node) _ _ (sym c.in-Some.ensures) (sym c.in-Some-scope.ensures.scope) in
-    let out = writes.code_out c.args.out.now.items _ _ c.put_value.new.out.items code.0 (bytes_of (doc code.1)) c.in_ok-write_number.ensures.ok
+    let out = writes.code_out c.args.out.now.items _ _ c.put_value.new.out.items code.0 (bytes_of (doc code.1)) c.in_ok-append_number.ensures.ok
     (rw code.3 at c.in_ok-write_scalar.ensures.ok) (rw code.4 at c.in_ok-put_value.ensures.ok) in
     let at : c.len-at.result ≡ length c.args.out.now.items = search rules in
     rw code.2 (writes.ok_on c.seal.result _ _ c.seal.ensures.ok (λ e. e ∙ writes.scoped_ok c.args.out.now.items code.0 (bytes_of (doc code.1)) c.put_value.new.out.items c.len-at.result out at))
@@ -193,7 +193,7 @@ append_leaf-returns-clause-ok g t c =
 pub append_leaf-returns-clause-err : goal.append_leaf-returns-clause-err
 append_leaf-returns-clause-err g t c =
     let code = writes.code_parts (g.N.Reading.tree c.args.node) _ _ (sym c.in-Some.ensures) (sym c.in-Some-scope.ensures.scope) in
-    let out = writes.code_out c.args.out.now.items _ _ c.put_value.new.out.items code.0 (bytes_of (doc code.1)) c.in_ok-write_number.ensures.ok
+    let out = writes.code_out c.args.out.now.items _ _ c.put_value.new.out.items code.0 (bytes_of (doc code.1)) c.in_ok-append_number.ensures.ok
     (rw code.3 at c.in_ok-write_scalar.ensures.ok) (rw code.4 at c.in_ok-put_value.ensures.ok) in
     let size = writes.sealed_size c.args.out.now.items _ c.put_value.new.out.items out in
     let total = writes.scoped_size code.0 (bytes_of (doc code.1)) in
@@ -201,11 +201,11 @@ append_leaf-returns-clause-err g t c =
 
 pub append_leaf-returns-in_err-write_scalar-clause-prefix : goal.append_leaf-returns-in_err-write_scalar-clause-prefix
 append_leaf-returns-in_err-write_scalar-clause-prefix g t c =
-    let prefix : StartsWith c.write_scalar-2.new.out.items c.args.out.now.items = prefix_then _ _ _ (prefix_all _ _ c.in_ok-write_number.ensures.ok) c.in_err-write_scalar.ensures.prefix in
+    let prefix : StartsWith c.write_scalar-2.new.out.items c.args.out.now.items = prefix_then _ _ _ (prefix_all _ _ c.in_ok-append_number.ensures.ok) c.in_err-write_scalar.ensures.prefix in
     grind (arith, prefix)
 
 pub append_leaf-returns-in_err-put_value-clause-prefix : goal.append_leaf-returns-in_err-put_value-clause-prefix
 append_leaf-returns-in_err-put_value-clause-prefix g t c =
-    let code = prefix_more _ _ _ _ (prefix_all _ _ c.in_ok-write_number.ensures.ok) c.in_ok-write_scalar.ensures.ok in
+    let code = prefix_more _ _ _ _ (prefix_all _ _ c.in_ok-append_number.ensures.ok) c.in_ok-write_scalar.ensures.ok in
     let prefix : StartsWith c.put_value.new.out.items c.args.out.now.items = prefix_then _ _ _ code c.in_err-put_value.ensures.prefix in
     grind (arith, prefix)

@@ -65,13 +65,13 @@ read_object-returns-in-Some-clause-gives t c =
     let key = option_map (λ s. s.now) c.in_ok-first.first in
     let start = ap (through (wrap_object c.args.depth_left)) (steps.first_name c.args.depth c.args.reader.now c.next_key.new.self key c.in_ok-first.ensures.value) in
     rw start (steps.object_is_wrapper tree_of c.read_wrapper.result c.read_wrapper.new.reader c.in-Some.wrapper c.args.depth_left c.args.depth (length c.next_key.new.self) c.next_key.new.self key
-    (sym c.wrapper_named.ensures ∙ c.in-Some.is) (λ name is. c.read_wrapper.ensures.gives name is))
+    (sym (steps.wrapper_is _ _ c.and_then.ensures) ∙ c.in-Some.is) (λ name is. c.read_wrapper.ensures.gives name is))
 
 pub read_object-returns-then-depth_left-eq0-clause-gives : goal.read_object-returns-then-depth_left-eq0-clause-gives
 read_object-returns-then-depth_left-eq0-clause-gives t c =
     let key = option_map (λ s. s.now) c.in_ok-first.first in
     let start = ap (through (wrap_object c.args.depth_left)) (steps.first_name c.args.depth c.args.reader.now c.next_key.new.self key c.in_ok-first.ensures.value) in
-    start ∙ steps.object_refused c.args.depth_left c.args.depth _ c.next_key.new.self key (omega arith) (sym c.wrapper_named.ensures ∙ c.in_default.is)
+    start ∙ steps.object_refused c.args.depth_left c.args.depth _ c.next_key.new.self key (omega arith) (sym (steps.wrapper_is _ _ c.and_then.ensures) ∙ c.in_default.is)
 
 -- ---- read_value
 

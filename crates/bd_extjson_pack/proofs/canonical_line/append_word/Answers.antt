@@ -15,4 +15,4 @@ returns-in-Some-after_word c = (leaf (trees.boolean false), c.in-Some-after_word
 
 pub returns : goal.returns
 unfolding scalar_text
-returns c = (leaf trees.null, c.in_ok-rest.ensures, leaf_canonical trees.null tt refl, c.in_ok-push_label.ensures)
+returns c = (leaf trees.null, c.in_ok-rest.ensures, leaf_canonical trees.null tt refl, c.in_ok-append_null.ensures)

@@ -146,7 +146,7 @@ append_next-returns-in-Bool-clause-gives t c =
 pub append_next-returns-in-Null-clause-gives : goal.append_next-returns-in-Null-clause-gives
 append_next-returns-in-Null-clause-gives t c =
     let first : c.args.reader.now ≡ token_of c.in_ok-text.field-0 ∷ c.next.new.self = grind arith in
-    IfSome_then c.push_label.result c.push_label.ensures (λ u e. (leaf trees.null, rw (first, c.in-Null.is) (steps.read_null c.args.depth_left c.args.depth c.next.new.self), e))
+    IfSome_then c.append_null.result c.append_null.ensures (λ u e. (leaf trees.null, rw (first, c.in-Null.is) (steps.read_null c.args.depth_left c.args.depth c.next.new.self), e))
 
 pub append_next-returns-in_ok-ok-in-BeginArray-clause-gives :
     goal.append_next-returns-in_ok-ok-in-BeginArray-clause-gives
@@ -167,7 +167,7 @@ append_next-returns-in-BeginObject-clause-gives t c =
 -- ---- append_object
 
 pub append_object-append_wrapped-requires : goal.append_object-append_wrapped-requires
-append_object-append_wrapped-requires t c = named_by (option_map (λ s. s.now) c.in_ok-first.first) c.in-Some.wrapper (sym c.wrapper_named.ensures ∙ c.in-Some.is)
+append_object-append_wrapped-requires t c = named_by (option_map (λ s. s.now) c.in_ok-first.first) c.in-Some.wrapper (sym (steps.wrapper_is _ _ c.and_then.ensures) ∙ c.in-Some.is)
 
 pub append_object-returns-then-is_short-clause-gives : goal.append_object-returns-then-is_short-clause-gives
 append_object-returns-then-is_short-clause-gives t c =
@@ -176,7 +176,7 @@ append_object-returns-then-is_short-clause-gives t c =
     IfSome_then c.append_short.result c.append_short.ensures.gives
     (λ u g.
     let read = steps.object_is_wrapper (λ (x : Tree). x) (Ok g.0) c.append_short.new.reader c.in-Some.wrapper c.args.depth_left c.args.depth _ _ _
-    (sym c.wrapper_named.ensures ∙ c.in-Some.is) (λ name is. g.1 c.args.depth_left name is) in
+    (sym (steps.wrapper_is _ _ c.and_then.ensures) ∙ c.in-Some.is) (λ name is. g.1 c.args.depth_left name is) in
     (g.0, rw start read, g.2))
 
 pub append_object-returns-in-Some-clause-gives : goal.append_object-returns-in-Some-clause-gives
@@ -186,13 +186,13 @@ append_object-returns-in-Some-clause-gives t c =
     IfSome_then c.append_wrapped.result c.append_wrapped.ensures.gives
     (λ u g.
     let read = steps.object_is_wrapper (λ (x : Tree). x) (Ok g.0) c.append_wrapped.new.reader c.in-Some.wrapper c.args.depth_left c.args.depth _ _ _
-    (sym c.wrapper_named.ensures ∙ c.in-Some.is) (λ name is. g.1 name is) in
+    (sym (steps.wrapper_is _ _ c.and_then.ensures) ∙ c.in-Some.is) (λ name is. g.1 name is) in
     (g.0, rw start read, g.2))
 
 pub append_object-returns-clause-gives : goal.append_object-returns-clause-gives
 append_object-returns-clause-gives t c =
     let key = bodies.if_ok c.next_key.result c.in_ok-first.first _ _ c.in_ok-first.ensures.value c.next_key.ensures.value in
     let start = steps.first_name c.args.depth c.args.reader.now c.next_key.new.self _ key in
-    let plain = steps.object_is_plain c.args.depth_left c.args.depth (length c.next_key.new.self) c.next_key.new.self _ (omega arith) (sym c.wrapper_named.ensures ∙ c.in_default.is) in
+    let plain = steps.object_is_plain c.args.depth_left c.args.depth (length c.next_key.new.self) c.next_key.new.self _ (omega arith) (sym (steps.wrapper_is _ _ c.and_then.ensures) ∙ c.in_default.is) in
     let label = bodies.if_ok c.append_label.result _ _ _ c.in_ok-ok.ensures.value c.append_label.ensures.ok in
     IfSome_then c.append_fields.result c.append_fields.ensures.gives (λ u g. (doc g.0, rw start (plain ∙ ap (parse_map doc) g.1), rw (g.2, label.0) (simp append_assoc)))

@@ -22,7 +22,7 @@ returns-clause-gives c =
     ∙ steps.object_read most_levels most_brackets s (omega arith) in
     let read = bodies.if_ok c.next_key.result c.in_ok-first.first _ _ c.in_ok-first.ensures.value c.next_key.ensures.value in
     let start = ap (through (wrap_object most_levels)) (steps.first_name (most_brackets - 1) s r key read) in
-    let none : option_and_then wrapper_of key ≡ None = sym c.wrapper_named.ensures ∙ bodies.not_some c.wrapper_named.result (sym c.is_some.ensures ∙ c.if-is_some.false) in
+    let none : option_and_then wrapper_of key ≡ None = sym (steps.wrapper_is _ _ c.and_then.ensures) ∙ bodies.not_some c.and_then.result (sym c.is_some.ensures ∙ c.if-is_some.false) in
     let plain = steps.object_is_plain most_levels (most_brackets - 1) (length r) r key (omega arith) none in
     let empty : rest ≡ [] = grind arith in
     (g.0, whole_text c.args.text.now ts rest (doc g.0) c.utf8.text whole (opened ∙ start ∙ plain ∙ ap (parse_map doc) g.1) empty, g.2)

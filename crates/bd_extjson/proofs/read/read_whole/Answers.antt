@@ -1,7 +1,7 @@
 use Rattle.std.proofs.Common.{◌≡◌, arith, []}
 use Rattle.bd_value.specs.View.{tree_of}
 use Rattle.bd_extjson.proofs.ReadLemmas.{whole_text}
-use Rattle.bd_extjson.proofs.read.read_text.Goals as goal
+use Rattle.bd_extjson.proofs.read.read_whole.Goals as goal
 
 pub returns : goal.returns
 returns c =
