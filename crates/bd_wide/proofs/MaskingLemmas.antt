@@ -13,8 +13,8 @@ use Rattle.bd_bson_view.specs.declared.raw_parts.Holder.TheVariants as holders
 use Rattle.bd_bson_view.specs.{Spelling.type_at, Spelling.number, Unique.number_length}
 use Rattle.bd_wide.specs.inside.Changes.{Stays}
 use Rattle.bd_wide.specs.Mask.{IsMasked, masked_element, masked_others}
-use Rattle.bd_wide.specs.inside.Masking.{HasPlain, IsFirstOf, IsPlain, MasksBody, MasksElement, MasksElements, MasksNested, MasksScoped, plain_size}
-use Rattle.bd_wide.specs.Rewritten.{◌>>=◌, Adds, Nested, fixed, first_zero, first_element, least, part_of, path_of, scope_at, separator, size_at, AreElements, IsBody, IsElement, IsNested, IsRewritten}
+use Rattle.bd_wide.specs.inside.Masking.{HasPlain, IsFirstOf, IsPlain, MasksBody, MasksElement, MasksElements, MasksNested, MasksScoped, StaysFirst, plain_size}
+use Rattle.bd_wide.specs.Rewritten.{◌>>=◌, Adds, Nested, counted, fixed, first_zero, first_element, least, part_of, path_of, scope_at, separator, size_at, AreElements, IsBody, IsElement, IsNested, IsRewritten}
 use Rattle.bd_wide.specs.declared.element.Part.TheVariants as parts
 use borrow.Rule.Slice.PartMut.{put_mid, put_same}
 use Rattle.bd_wide.proofs.LengthLemmas.{WholeTurn}
@@ -275,6 +275,10 @@ begins_so : (b : ℕ) (rest : List ℕ) (size : ℕ) (bytes : List ℕ) → byte
 begins_so b rest zero bytes is some = absurd (omega (arith, some))
 begins_so b rest (suc size) bytes is some = ap (λ x. take (suc size) x) is ∙ ap (λ x. b ∷ drop 1 (take (suc size) x)) (sym is)
 
+has_double : HasPlain 1 8
+unfolding plain_size
+has_double = record { type = Double; fact = refl; plain = refl; kind = inl (refl, refl) }
+
 pub plain_is : (b k n m : ℕ) (bytes rest : List ℕ) → bytes ≡ b ∷ rest → HasPlain b n → Some k ≡ first_zero rest → n < length rest - k
     → (b ≡ 1 → m ≡ 18) → (b ≢ 1 → m ≡ b) → IsPlain m (k + 2 + n) bytes
 plain_is b k n m bytes rest is plain zero_at fits double other =
@@ -301,6 +305,44 @@ plain_is b k n m bytes rest is plain zero_at fits double other =
       most = omega arith;
       inside = long;
       masked = λ depth_left path. one depth_left path plain.kind;
+    }
+
+-- a double of ten bytes more than its name
+pub double_plain : (k size : ℕ) (bytes rest : List ℕ) → bytes ≡ 1 ∷ rest → Some k ≡ first_zero rest → k + 10 ≡ size → size ≤ length bytes → IsPlain 18 size bytes
+double_plain k size bytes rest is zero_at whole fits =
+    let has : HasPlain 1 8 = has_double in
+    let inside : 8 < length rest - k = omega (arith, fits, whole, ap (λ xs. length xs) is) in
+    let long : k + 2 + 8 ≡ size = omega (arith, whole) in
+    subst (λ n. IsPlain 18 n bytes) long (plain_is 1 k 8 18 bytes rest is has zero_at inside (λ _. refl) (λ no. absurd (no refl)))
+
+text_kind : Stays IsMasked (Kept kinds.Text)
+unfolding part_of
+text_kind = inl refl
+
+text_fits : (bytes : List ℕ) (n : ℕ) → Some n ≡ counted 1 4 bytes → size_at (Kept kinds.Text) bytes ≡ Some n
+unfolding size_at
+text_fits bytes n is = sym is
+
+-- a text is unchanged
+pub text_stays : (k n : ℕ) (bytes rest : List ℕ) → bytes ≡ 2 ∷ rest → Some k ≡ first_zero rest → Some n ≡ counted 1 4 (drop (k + 1) rest) → k + 2 + n ≤ length bytes
+    → StaysFirst (k + 2 + n) bytes
+text_stays k n bytes rest is zero_at counted_at fits = λ depth_left.
+    let head : List ℕ = take (k + 2) bytes in
+    let value : List ℕ = take n (drop (k + 2) bytes) in
+    let P : List ℕ → Type 0 = λ x. (path : List ℕ) → IsElement IsMasked (Below depth_left) path (Kept kinds.Text) head value x in
+    let same : P (head ++ value) = λ path. stays_as_it_is IsMasked (Below depth_left) path (Kept kinds.Text) head value text_kind in
+    record {
+      type = Kept kinds.Text;
+      head = k + 2;
+      value = n;
+      one = take (k + 2 + n) bytes;
+      is_first = ap (λ x. first_element x) is ∙ prefix_reported 2 rest (Kept kinds.Text) k n refl (sym zero_at) (text_fits (drop (k + 1) rest) n counted_at);
+      whole = refl;
+      most = omega arith;
+      inside = fits;
+      masked = subst P (sym (element_is bytes (k + 2) n)) same;
+      as_long = length-take-le (k + 2 + n) bytes fits;
+      written = sym (take-append-drop (k + 2 + n) bytes);
     }
 
 set_first : (xs : List ℕ) (x : ℕ) → 0 < length xs → slice_set xs 0 x ≡ x ∷ drop 1 xs

@@ -1,12 +1,12 @@
 //! A document masked in place: `Mask` keeps each length, so no byte moves.
 
-ghost use Rattle.std.specs.Prelude.{◌≡◌, ◌≢◌, ◌≤◌, ◌+◌, ◌++◌, length, take, drop, OnOk, OnErr, IfSome};
+ghost use Rattle.std.specs.Prelude.{◌≡◌, ◌≢◌, ◌≤◌, ◌+◌, ◌++◌, length, take, drop, OnOk, OnErr, IfSome, IsTrue};
 ghost use Rattle.bd_bson_view.specs.Spelling.{number};
 ghost use Rattle.bd_wide.specs.Mask.{IsMasked, masked_element, masked_others};
-ghost use Rattle.bd_wide.specs.inside.Masking.{HasPlain, IsFirst, IsPlain, MasksBody, MasksElement, MasksElements, MasksNested, MasksScoped};
+ghost use Rattle.bd_wide.specs.inside.Masking.{HasPlain, IsFirst, IsPlain, MasksBody, MasksElement, MasksElements, MasksNested, MasksScoped, StaysFirst};
 ghost use Rattle.bd_wide.specs.Rewritten.{Adds, IsRewritten, holder_least, least};
 
-use crate::element::{Part, first_element, looked_into};
+use crate::element::{Part, counted, first_element, looked_into};
 use crate::rewrite::{low_bytes, scope_at};
 use bd_bson_view::{ElementType, Holder, raw_parts as raw};
 use bd_value::{MOST_LEVELS, NoMemory};
@@ -92,25 +92,48 @@ fn elements(depth_left: u32, bytes: &mut [u8])
     ensures { MasksElements depth_left bytes.old bytes.new }
 {
     let mut at = 0;
-    while let Some(size) = first(depth_left, &mut bytes[at..]) {
+    let mut before = 0;
+    while let Some(size) = first(depth_left, before, &mut bytes[at..]) {
         at += size;
+        before = size;
     }
     others(&mut bytes[at..]);
 }
 
 /// Masks the first element, with `depth_left` levels left below it, and returns its size; None if it cannot be read.
+/// `before` is the size of the element before it: of doubles in a row most have the same.
 #[cycle(masking)]
 #[inline(always)]
-fn first(depth_left: u32, bytes: &mut [u8]) -> Option<usize>
+fn first(depth_left: u32, before: usize, bytes: &mut [u8]) -> Option<usize>
     ensures { IsFirst depth_left bytes.old bytes.new result }
 {
-    match plain(bytes) {
-        Some((byte, size)) => {
-            bytes[0] = byte;
-            Some(size)
-        }
-        None => next(depth_left, bytes),
+    if is_double(before, bytes) {
+        bytes[0] = 0x12;
+        return Some(before);
     }
+    if let Some((byte, size)) = plain(bytes) {
+        bytes[0] = byte;
+        return Some(size);
+    }
+    if let Some(size) = text(bytes) {
+        return Some(size);
+    }
+    next(depth_left, bytes)
+}
+
+/// Whether the first element is a double of this size. If it is, the next one is found without reading the name.
+#[inline(always)]
+fn is_double(size: usize, bytes: &[u8]) -> bool
+    ensures { IsTrue result → IsPlain 18 size bytes.now }
+{
+    if size < 10 || bytes.len() < size || bytes[0] != 1 {
+        return false;
+    }
+    let (_, rest) = bytes.split_at(1);
+    let Some(k) = raw::first_zero(rest) else {
+        return false;
+    };
+    k + 10 == size
 }
 
 /// For most elements the type alone determines the size of the value: the type that the first element gets, and its
@@ -130,6 +153,21 @@ fn plain(bytes: &[u8]) -> Option<(u8, usize)>
         return None;
     }
     Some((masked_type(byte), k + 2 + size))
+}
+
+/// The size of the first element, if it is a text. Nothing of it changes.
+#[inline(always)]
+fn text(bytes: &[u8]) -> Option<usize>
+    ensures { IfSome result (λ size. StaysFirst size bytes.now) }
+{
+    if bytes.is_empty() || bytes[0] != 2 {
+        return None;
+    }
+    let (_, rest) = bytes.split_at(1);
+    let k = raw::first_zero(rest)?;
+    let (_, value) = rest.split_at(k + 1);
+    let n = counted(1, 4, value)?;
+    Some(k + 2 + n)
 }
 
 /// The type that a plain element gets.

@@ -46,6 +46,10 @@ pub record IsFirstOf (depth_left : ℕ) (old new : List ℕ) (size : ℕ) : Type
   pub as_long : length one ≡ size
   pub written : new ≡ one ++ drop size old
 
+-- the first element has this size, and masking leaves it unchanged, at any depth
+abbrev pub StaysFirst : ℕ → List ℕ → Type 0
+StaysFirst size bytes = (depth_left : ℕ) → IsFirstOf depth_left bytes bytes size
+
 -- the first element is masked, or it cannot be read and the bytes are unchanged
 abbrev pub IsFirst : ℕ → List ℕ → List ℕ → Option ℕ → Type 0
 IsFirst depth_left old new None = (first_element old ≡ None) × (new ≡ old)

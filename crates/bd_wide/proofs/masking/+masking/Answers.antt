@@ -32,6 +32,9 @@ elements-returns t c =
 pub first-returns-in-Some : goal.first-returns-in-Some
 first-returns-in-Some t c = masks.first_plain c.args.depth_left c.args.bytes.now c.in-Some.byte c.in-Some.size c.in-Some.ensures
 
+pub first-returns-then-is_double : goal.first-returns-then-is_double
+first-returns-then-is_double t c = masks.first_plain c.args.depth_left c.args.bytes.now 18 c.args.before (c.if-is_double.ensures refl)
+
 pub nested-returns-then-depth_left-eq0 : goal.nested-returns-then-depth_left-eq0
 nested-returns-then-depth_left-eq0 t c = masks.deepest_stays c.args.depth_left c.args.holder c.args.value.now c.args.value.now c.if-depth_left-eq0.true refl
 
