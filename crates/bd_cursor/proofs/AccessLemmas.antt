@@ -1,16 +1,16 @@
 -- Which index is used, that it leads to the documents that match, and what is read on an access path.
 use Rattle.std.proofs.Common.{◌≡◌, ◌≢◌, ◌+◌, ◌<◌, ℕ, zero, suc, Bool, true, false, cond, List, [], ◌∷◌, length, get_or, Option, Some, None, refl, sym, ap, ap₂, ◌∙◌, subst, arith, eq-eqb}
-use Rattle.std.proofs.Common.{filter, map}
+use Rattle.std.proofs.Common.{drop, filter, map}
 use Rattle.std.proofs.lemmas.Bool.{and_parts, and_right, eqb-true, le-ltb, lt-ltb, ltb-true, ne_eqb, or_parts, true≢false, not-true}
 use Rattle.std.proofs.{Math.Bool.and-or_distrib_right, Math.Bool.and-true, Math.Bool.or-false, lemmas.List.FromFn.get_or-range_with_len, lemmas.List.FromFn.length-range_with_len}
 use Rattle.std.proofs.{lemmas.List.FromFn.sum_by-map-range_with_len_more, lemmas.List.Folds.Any-from_list_any, lemmas.List.Folds.list_any_at, lemmas.List.Kept.AllPairs-from_increasing}
 use Rattle.std.proofs.{lemmas.Cmp.on_total, lemmas.List.map-id, lemmas.List.get_or-map, lemmas.List.length-map, lemmas.List.Elements.filter_agree, lemmas.List.Sums.length-filter}
 use Rattle.std.proofs.{lemmas.List.Splits.join_with_byte-slice_split, lemmas.Slice.Eq.bytes_eq-Decides, lemmas.Slice.Eq.slice_eq-Decides, lemmas.List.Quantifiers.position-Some}
 use Rattle.std.proofs.{lemmas.Bool.Decides.same_from_decides, lemmas.Option.cond_some}
-use Rattle.std.specs.Prelude.{◌==◌, ◌&&◌, ◌||◌, nat_lt, Contains, count_by, not, string_bytes, is_some}
-use Rattle.std.specs.List.{list_any, range_with_len, join_with_byte, position, prefix_len, position_or_len}
+use Rattle.std.specs.Prelude.{◌==◌, ◌&&◌, ◌||◌, nat_lt, Contains, count_by, not, option_map, string_bytes, is_some, unwrap_or}
+use Rattle.std.specs.List.{find, list_any, range_with_len, join_with_byte, position, prefix_len, position_or_len}
 use Rattle.std.specs.declared.cmp.Ordering.TheVariants.{Less, Equal, Greater}
-use Rattle.std.specs.{Bool.Decides, Cmp.Lexicographic.pointwise, Borrow.Bor, Option.option_copied, List.Sorted.IsStrictlyIncreasing, Ordering.is_lt, Cmp.IsTotalOrder, Str.bytes_eq}
+use Rattle.std.specs.{Bool.Decides, Cmp.Lexicographic.pointwise, Borrow.Bor, Option.option_copied, Option.option_or, List.Sorted.IsStrictlyIncreasing, Ordering.is_lt, Cmp.IsTotalOrder, Str.bytes_eq}
 use Rattle.bd_value.specs.Tree.{Doc, Tree, doc, fields_of, leaf}
 use Rattle.bd_cursor_model.specs.Session.{IndexKey, is_on}
 use Rattle.bd_cursor_model.specs.{Answer.before, Answer.Selection, Answer.matching, Laws.IsAscending, Source.IsSource, Source.passes}
@@ -22,12 +22,13 @@ use Rattle.bd_query_filter.specs.{Filter.Filter, FilterMatch.matches, Filter.fil
 use Rattle.bd_cursor_request.specs.declared.request.Request.{Request}
 use Rattle.bd_cursor_sort.specs.Selection.{matches_at_of, order_of_keys, selection_of}
 use Rattle.bd_index_bounds.specs.{Bounds.KeyBounds, Bounds.bounds, Bounds.is_among, BoundsView.bounds_view, declared.bounds.Bounds.Bounds}
+use Rattle.bd_index_bounds.proofs.FilterBoundsLemmas.{one_off}
 use Rattle.bd_index_bounds.proofs.SoundLemmas.{is_fit, loses_no_match, sparse_loses_no_match}
 use Rattle.bd_index.specs.Entries.{KeyAt, entries_from, has_two_keys, is_multikey, keys_at, entries_of}
 use Rattle.bd_index.specs.{Places.AreWithin, Places.lent_bounds, declared.index.Index.Index, IndexView.IsIndexOf}
 use Rattle.bd_index.proofs.WalkLemmas.{any_in}
-use Rattle.bd_cursor.specs.Access.{bounded_or, HasMatchesWithin, ServesFilter, index_key_names, index_key, HasSortOrder, walk_dir, bounded, index_key_bounds, named_access, scanned, serving_bounds, walk_or}
-use Rattle.bd_cursor.specs.Access.{access_on}
+use Rattle.bd_cursor.specs.Access.{HasMatchesWithin, ServesFilter, index_key_names, index_key, HasSortOrder, walk_dir, bounded, index_key_bounds, named_access, scanned, serving_bounds, walked}
+use Rattle.bd_cursor.specs.Access.{by_order, find_map}
 use Rattle.bd_cursor.specs.Explanation.{entries_within, index_counts, places_within}
 use Rattle.bd_cursor_model.proofs.{OrderLemmas.filter_all, AnswerLemmas.in_contains, SourceLemmas.batch_in_order, SourceLemmas.all_places, SourceLemmas.unsorted_ordered}
 use Rattle.bd_value.specs.Tree as trees
@@ -262,9 +263,20 @@ walk_is i _ dir e = absurd (let z : Some dir ≡ None = e in cc)
 pub walk_leads : (dump : Dump) (r : Request) (i : Index) (dir : Dir) → IsIndexOf dump i → Some dir ≡ walk_dir (index_key i) (sort_paths r.sort.items) → HasSortOrder dump r i dir
 walk_leads dump r i dir h e = let w = walk_is i (sort_paths r.sort.items) dir e in record { of_dump = h; whole = w.0; order = w.1 }
 
+-- of an index that does not serve by its bounds
 pub named_other : (ds : List Doc) (f : Filter) (ss : List SortPath) (m : IndexKey) → None ≡ serving_bounds m (index_key_bounds ds f m)
-    → named_access ds f ss m ≡ cond m.is_sparse scanned (walk_or m (walk_dir m ss) (bounded m None))
-named_other ds f ss m h = ap (λ b. bounded_or m b (cond m.is_sparse scanned (walk_or m (walk_dir m ss) (bounded m None)))) (sym h)
+    → named_access ds f ss m ≡ unwrap_or (by_order ss m) (cond m.is_sparse scanned (bounded m None))
+named_other ds f ss m h = ap (λ b. unwrap_or (option_or (option_map (λ keys. bounded m (Some keys)) b) (by_order ss m)) (cond m.is_sparse scanned (bounded m None))) (sym h)
+
+-- of an index that does not serve in either way
+pub named_whole : (ds : List Doc) (f : Filter) (ss : List SortPath) (m : IndexKey) → None ≡ serving_bounds m (index_key_bounds ds f m) → None ≡ walk_dir m ss
+    → named_access ds f ss m ≡ cond m.is_sparse scanned (bounded m None)
+named_whole ds f ss m h k = named_other ds f ss m h ∙ ap (λ d. unwrap_or (option_map (walked m) d) (cond m.is_sparse scanned (bounded m None))) (sym k)
+
+-- the first that is found among those that remain is that of the next, otherwise of those after it
+pub found_next : {A B C : Type 0} (g : B → Option C) (f : A → B) (xs : List A) (i : ℕ) (x : A) → i < length xs → x ≡ get_or xs i x
+    → find_map g (map f (drop i xs)) ≡ find_map g (map f xs) → find_map g (map f xs) ≡ option_or (g (f x)) (find_map g (map f (drop (i + 1) xs)))
+found_next g f xs i x lt is so_far = sym so_far ∙ one_off (find_map g) f xs i x lt is
 
 -- its bounds are those of the filter
 bounds_of_index : (dump : Dump) (i : Index) (f : Filter) → IsIndexOf dump i → index_key_bounds (documents dump) f (index_key i) ≡ bounds f (names_of i.path) i.multikey
@@ -315,33 +327,28 @@ found_if_there p xs =
 
 -- ---- the access path that the first index on a path has
 
-pub access_at : (ds : List Doc) (f : Filter) (ss : List SortPath) (path : List ℕ) (is : List IndexKey) (i : ℕ) (d : IndexKey)
-    → i < length is → is_on path (get_or is i d) ≡ true → ((k : ℕ) → k < i → is_on path (get_or is k d) ≡ false)
-    → access_on ds f ss path is ≡ named_access ds f ss (get_or is i d)
-access_at ds f ss path [] i d lt on before = absurd (omega arith)
-access_at ds f ss path (m ∷ ms) zero d lt on before = ap (λ b. cond b (named_access ds f ss m) (access_on ds f ss path ms)) on
-access_at ds f ss path (m ∷ ms) (suc i) d lt on before =
-    ap (λ b. cond b (named_access ds f ss m) (access_on ds f ss path ms)) (before 0 (omega arith))
-    ∙ access_at ds f ss path ms i d (omega arith) on (λ k l. before (suc k) (omega arith))
+-- the index on a path, by its place
+pub found_at : {A : Type 0} (p : A → Bool) (xs : List A) (i : ℕ) (d : A) → i < length xs → p (get_or xs i d) ≡ true → ((k : ℕ) → k < i → p (get_or xs k d) ≡ false)
+    → find p xs ≡ Some (get_or xs i d)
+found_at p [] i d lt on before = absurd (omega arith)
+found_at p (x ∷ xs) zero d lt on before = ap (λ b. cond b (Some x) (find p xs)) on
+found_at p (x ∷ xs) (suc i) d lt on before = ap (λ b. cond b (Some x) (find p xs)) (before 0 (omega arith)) ∙ found_at p xs i d (omega arith) on (λ k l. before (suc k) (omega arith))
 
-pub access_elsewhere : (ds : List Doc) (f : Filter) (ss : List SortPath) (path : List ℕ) (is : List IndexKey) → list_any (is_on path) is ≡ false
-    → access_on ds f ss path is ≡ scanned
-access_elsewhere ds f ss path [] none = refl
-access_elsewhere ds f ss path (m ∷ ms) none =
-    let none = or_parts (is_on path m) (list_any (is_on path) ms) none in
-    ap (λ b. cond b (named_access ds f ss m) (access_on ds f ss path ms)) none.0 ∙ access_elsewhere ds f ss path ms none.1
+pub found_nowhere : {A : Type 0} (p : A → Bool) (xs : List A) → list_any p xs ≡ false → find p xs ≡ None
+found_nowhere p [] none = refl
+found_nowhere p (x ∷ xs) none = let none = or_parts (p x) (list_any p xs) none in ap (λ b. cond b (Some x) (find p xs)) none.0 ∙ found_nowhere p xs none.1
 
 pub found_below : (path : List ℕ) (is : List Index) (k : ℕ) (i : Index) → Some k ≡ position (is_on path) (map index_key is) → k < length is
 found_below path is k i found =
     let first = position-Some (is_on path) (map index_key is) k (index_key i) (cc) in
     omega (arith, first.0, length-map is index_key)
 
-pub access_named : (ds : List Doc) (f : Filter) (ss : List SortPath) (path : List ℕ) (is : List Index) (k : ℕ) (i : Index) → Some k ≡ position (is_on path) (map index_key is) → i ≡ get_or is k i
-    → named_access ds f ss (index_key i) ≡ access_on ds f ss path (map index_key is)
-access_named ds f ss path is k i found at =
+pub index_found : (path : List ℕ) (is : List Index) (k : ℕ) (i : Index) → Some k ≡ position (is_on path) (map index_key is) → i ≡ get_or is k i
+    → find (is_on path) (map index_key is) ≡ Some (index_key i)
+index_found path is k i found at =
     let index_keys = map index_key is in
     let m = index_key i in
     let first = position-Some (is_on path) index_keys k m (sym found) in
     let lt : k < length is = omega (arith, first.0, length-map is index_key) in
     let there : get_or index_keys k m ≡ m = get_or-map index_key is k i m lt ∙ ap index_key (sym at) in
-    sym (access_at ds f ss path index_keys k m first.0 first.1 (λ j l. first.2 j l) ∙ ap (named_access ds f ss) there)
+    found_at (is_on path) index_keys k m first.0 first.1 (λ j l. first.2 j l) ∙ ap Some there

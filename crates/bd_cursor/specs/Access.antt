@@ -1,8 +1,8 @@
 -- The access path of a request: how its documents are reached, by which index or without one;
 -- and that an access path in memory leads to all matches.
 use Rattle.std.specs.Prelude.{ℕ, Bool, false, ◌&&◌, not, List, [], ◌∷◌, Option, Some, None, if◌then◌else◌}
-use Rattle.std.specs.Prelude.{◌≡◌}
-use Rattle.std.specs.{Str.bytes_eq, Cmp.Lexicographic.pointwise}
+use Rattle.std.specs.Prelude.{◌≡◌, option_map, unwrap_or}
+use Rattle.std.specs.{List.find, Option.option_map_or, Option.option_or, Str.bytes_eq, Cmp.Lexicographic.pointwise}
 use Rattle.bd_value.specs.Tree.{Doc, leaf}
 use Rattle.bd_cursor_model.specs.Session.{IndexKey, is_on}
 use Rattle.bd_path.specs.{Sort.SortPath, Reach.Names, Path.components_of, declared.sort.Dir.Dir, PathNames.path_text}
@@ -62,43 +62,31 @@ walk_dir i [] = None
 walk_dir i (s ∷ []) = if not i.is_sparse && pointwise bytes_eq s.path (index_key_names i) then Some s.dir else None
 walk_dir i (s ∷ t ∷ ss) = None
 
--- by the bounds of an index; without bounds in another way
-abbrev pub bounded_or : IndexKey → KeyBounds → AccessPath → AccessPath
-bounded_or i None other = other
-bounded_or i (Some keys) other = bounded i (Some keys)
+-- by the bounds of an index, if it serves by them
+abbrev pub by_bounds : List Doc → Filter → IndexKey → Option AccessPath
+by_bounds ds f i = option_map (λ keys. bounded i (Some keys)) (serving_bounds i (index_key_bounds ds f i))
 
--- by a walk of an index, if it has the order of the sort in some direction; otherwise in another way
-abbrev pub walk_or : IndexKey → Option Dir → AccessPath → AccessPath
-walk_or i None other = other
-walk_or i (Some dir) other = walked i dir
+-- in the order of an index, if it has the order of the sort
+abbrev pub by_order : List SortPath → IndexKey → Option AccessPath
+by_order ss i = option_map (walked i) (walk_dir i ss)
 
--- the first index, in the order of creation, that serves by its bounds; without one another way
-abbrev pub first_bounded : List Doc → Filter → List IndexKey → AccessPath → AccessPath
-first_bounded ds f [] other = other
-first_bounded ds f (i ∷ is) other = bounded_or i (serving_bounds i (index_key_bounds ds f i)) (first_bounded ds f is other)
-
--- the first index, in the order of creation, that has the order of the sort;
--- without one another way
-abbrev pub first_walked : List SortPath → List IndexKey → AccessPath → AccessPath
-first_walked ss [] other = other
-first_walked ss (i ∷ is) other = walk_or i (walk_dir i ss) (first_walked ss is other)
+-- what a function gives of the first element of which it gives anything
+abbrev pub find_map : {A B : Type 0} → (A → Option B) → List A → Option B
+find_map f [] = None
+find_map f (x ∷ xs) = option_or (f x) (find_map f xs)
 
 -- the access path by a named index: by its bounds, otherwise in its order, otherwise by all of its entries;
 -- by a scan if it is sparse and its bounds do not serve
 abbrev pub named_access : List Doc → Filter → List SortPath → IndexKey → AccessPath
-named_access ds f ss i = bounded_or i (serving_bounds i (index_key_bounds ds f i))
-    (if i.is_sparse then scanned else walk_or i (walk_dir i ss) (bounded i None))
+named_access ds f ss i =
+    unwrap_or (option_or (by_bounds ds f i) (by_order ss i)) (if i.is_sparse then scanned else bounded i None)
 
--- by the index on that path; by a scan if there is none
-abbrev pub access_on : List Doc → Filter → List SortPath → List ℕ → List IndexKey → AccessPath
-access_on ds f ss path [] = scanned
-access_on ds f ss path (i ∷ is) = if is_on path i then named_access ds f ss i else access_on ds f ss path is
-
--- the access path for a choice; indexes are tried in the order of their creation
+-- the access path for a choice: by the first index that serves by its bounds, otherwise by the first that has the order
+-- of the sort, or by the one on a path; otherwise by a scan. Indexes are tried in the order of their creation.
 abbrev pub access_of : List Doc → Filter → List SortPath → Way → List IndexKey → AccessPath
 access_of ds f ss by_none is = scanned
-access_of ds f ss by_any is = first_bounded ds f is (first_walked ss is scanned)
-access_of ds f ss (by_one path) is = access_on ds f ss path is
+access_of ds f ss by_any is = unwrap_or (option_or (find_map (by_bounds ds f) is) (find_map (by_order ss) is)) scanned
+access_of ds f ss (by_one path) is = option_map_or (named_access ds f ss) (find (is_on path) is) scanned
 
 -- ---- an access path in memory
 

@@ -1,6 +1,7 @@
 //! How documents are reached: by which index, or without one.
 
-ghost use Rattle.std.specs.Prelude.{◌≡◌, ◌≤◌, ◌<◌, ◌↔◌, IfOk, IfSome, IsTrue, List, OnErr, Some, drop, is_some, length, map, position, take, ℕ};
+ghost use Rattle.std.specs.Prelude.{◌≡◌, ◌≤◌, ◌<◌, ◌↔◌, IfOk, IfSome, IsTrue, List, OnErr, Some, drop, is_some, length, map, position, take, unwrap_or, ℕ};
+ghost use Rattle.std.specs.Option.{option_or};
 ghost use Rattle.std.specs.List.Sorted.{IsStrictlyIncreasing};
 ghost use Rattle.bd_cursor_model.specs.Answer.{at_most, is_empty};
 ghost use Rattle.bd_cursor_model.specs.Session.{has_index, is_on};
@@ -12,7 +13,7 @@ ghost use Rattle.bd_query_filter.specs.Filter.{filter_tree};
 ghost use Rattle.bd_index.specs.IndexView.{AreIndexesOf, IsIndexOf};
 ghost use Rattle.bd_path.specs.{PathNames.path_text, Sort.sort_paths};
 ghost use Rattle.bd_cursor_sort.specs.Selection.{matches_at_of, selection_of};
-ghost use Rattle.bd_cursor.specs.Access.{IsAccessOf, access_of, access_path, first_bounded, first_walked, index_key};
+ghost use Rattle.bd_cursor.specs.Access.{IsAccessOf, access_of, access_path, by_bounds, by_order, find_map, index_key};
 ghost use Rattle.bd_cursor.specs.inside.Access.{Reaches};
 ghost use Rattle.bd_cursor.specs.Access.{index_key_bounds, named_access, scanned, serving_bounds, walk_dir, way_of};
 
@@ -140,11 +141,11 @@ fn named_access<'a>(
         let bounds = Some(bounds);
         return Ok(Access::Bounded { index, bounds });
     }
-    if index.sparse() {
-        return Ok(Access::Scan);
-    }
     if let Some(dir) = walk_dir(index, &request.sort) {
         return Ok(Access::Walk { index, dir });
+    }
+    if index.sparse() {
+        return Ok(Access::Scan);
     }
     let bounds = None;
     Ok(Access::Bounded { index, bounds })
@@ -158,9 +159,10 @@ fn serving_access<'a>(
 ) -> Result<Access<'a>, NoMemory>
     ensures { IfOk result (λ a. (dump : Dump) → AreIndexesOf dump indexes.now →
         let index_keys = map index_key indexes.now in
-        Reaches dump request.now
-        (first_bounded (documents dump) (filter_tree request.now.filter) index_keys
-        (first_walked (sort_paths request.now.sort.items) index_keys scanned)) a) }
+        let f = filter_tree request.now.filter in
+        let bounded = find_map (by_bounds (documents dump) f) index_keys in
+        let ordered = find_map (by_order (sort_paths request.now.sort.items)) index_keys in
+        Reaches dump request.now (unwrap_or (option_or bounded ordered) scanned) a) }
 {
     for index in indexes {
         if let Some(bounds) = serving_bounds(alloc, index, &request.filter)? {
@@ -173,8 +175,10 @@ fn serving_access<'a>(
 
 /// In the order of the first index that has that of the sort, otherwise by a scan.
 fn walk_or_scan<'a>(indexes: &'a [Index], request: &Request) -> Access<'a>
-    ensures { (dump : Dump) → AreIndexesOf dump indexes.now → Reaches dump request.now (first_walked
-        (sort_paths request.now.sort.items) (map index_key indexes.now) scanned) result }
+    ensures { (dump : Dump) → AreIndexesOf dump indexes.now →
+        let by = by_order (sort_paths request.now.sort.items) in
+        Reaches dump request.now
+        (unwrap_or (find_map by (map index_key indexes.now)) scanned) result }
 {
     for index in indexes {
         if let Some(dir) = walk_dir(index, &request.sort) {

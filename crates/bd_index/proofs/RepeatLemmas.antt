@@ -1,23 +1,19 @@
 -- Entries that were sorted and freed of repeats are the entries of the documents.
-use Rattle.std.proofs.Common.{◌≡◌, ◌+◌, ℕ, suc, Bool, true, false, cond, List, [], ◌∷◌, ◌++◌, filter, length, append_assoc, append-nil}
+use Rattle.std.proofs.Common.{◌≡◌, ◌+◌, ℕ, suc, Bool, true, false, cond, List, [], ◌∷◌, ◌++◌, filter, length}
 use Rattle.std.proofs.Common.{get_or, map, refl, sym, ap, ap₂, ◌∙◌, arith, eq-eqb}
-use Rattle.std.proofs.{Math.Path.fun_ext, lemmas.Bool.false_from_ne_true, lemmas.Bool.not-false, lemmas.Bool.Decides.nat_tests, lemmas.Cmp.eq_by_cmp_equiv}
-use Rattle.std.proofs.{lemmas.Cmp.on_equiv, lemmas.List.Folds.fold-map, lemmas.List.Folds.list_any-append, lemmas.List.Sums.length-filter, lemmas.List.Sums.sum_by-cons}
+use Rattle.std.proofs.{Math.Path.fun_ext, lemmas.Bool.false_from_ne_true, lemmas.Bool.not-false, lemmas.Bool.Decides.nat_tests}
+use Rattle.std.proofs.{lemmas.Cmp.on_equiv, lemmas.List.Folds.fold-map, lemmas.List.Sums.length-filter, lemmas.List.Sums.sum_by-cons}
 use Rattle.std.specs.Prelude.{◌&&◌, ◌||◌, nat_lt, not}
 use Rattle.std.specs.{Cmp.IsEquivalence, List.Sorted.IsStableBy, List.Sorted.ties, Ordering.is_lt, Ordering.on}
 use Rattle.std.specs.List.{All, count_by, dedup, dedup_from, list_any}
 use Rattle.std.proofs.lemmas.List.Elements.{All-cons, All-filter, All-from_recursion, All-head, All-tail, filter-append, filter_agree}
 use Rattle.bd_value.specs.{Order.equal, Tree.Tree}
-use Rattle.bd_value.proofs.OrderLemmas.{cmp_total}
-use Rattle.bd_path.specs.Key.{distinct, with_keys}
+use Rattle.bd_path.specs.Key.{distinct}
+use Rattle.bd_path.proofs.DistinctLemmas.{equal_laws, filter_both}
 use Rattle.bd_index.specs.{Entries.KeyAt, Entries.entry_cmp, inside.Entries.is_same_entry, Entries.keys_at, inside.IndexView.found_entry, declared.entry.FoundKey.FoundKey}
 use Rattle.bd_index.proofs.EntryLemmas.{Ascends, all_pass, any_by_count, any_filter, same_between, same_laws, ties_are_same}
 
 -- ---- filters
-
-pub filter_both : {A : Type 0} (p q : A → Bool) (xs : List A) → filter p (filter q xs) ≡ filter (λ x. q x && p x) xs
-filter_both p q [] = refl
-filter_both p q (x ∷ xs) = grind (arith, filter_both p q xs)
 
 filter_view : {A B : Type 0} (f : A → B) (p : B → Bool) (xs : List A) → filter p (map f xs) ≡ map f (filter (λ x. p (f x)) xs)
 filter_view f p [] = refl
@@ -165,41 +161,9 @@ once_sorted (x ∷ xs) up = after_one x xs up
 
 -- ---- distinct keys are the firsts
 
-equal_laws : IsEquivalence equal
-equal_laws = eq_by_cmp_equiv cmp_total
-
-distinct_after : (stored ts : List Tree) → with_keys stored ts ≡ stored ++ filter (λ e. not (list_any (λ k. equal k e) stored)) (firsts equal ts)
-distinct_after stored [] = sym (append-nil stored)
-distinct_after stored (t ∷ ts) = go (list_any (λ k. equal k t) stored) refl (distinct_after stored ts) (distinct_after (stored ++ t ∷ []) ts)
-  where
-    new : List Tree → Tree → Bool
-    new ks e = not (list_any (λ k. equal k e) ks)
-
-    rest : List Tree
-    rest = filter (λ e. not (equal t e)) (firsts equal ts)
-
-    -- a key that equals t is not new if t is not
-    passed : (e : Tree) (b : Bool) → equal t e ≡ b → list_any (λ k. equal k t) stored ≡ true → (not b && new stored e) ≡ new stored e
-    passed e true h old = ap not (sym old ∙ ap (λ (f : Tree → Bool). list_any f stored) (fun_ext (λ k. equal_laws.symm k t ∙ equal_laws.congr t e k h ∙ equal_laws.symm e k)))
-    passed e false h old = refl
-
-    neither : (a b : Bool) → not (a || (b || false)) ≡ (not b && not a)
-    neither a b = grind arith
-
-    go : (b : Bool) → list_any (λ k. equal k t) stored ≡ b → with_keys stored ts ≡ stored ++ filter (new stored) (firsts equal ts)
-        → with_keys (stored ++ t ∷ []) ts ≡ (stored ++ t ∷ []) ++ filter (new (stored ++ t ∷ [])) (firsts equal ts)
-        → with_keys (cond b stored (stored ++ t ∷ [])) ts ≡ stored ++ cond (not b) (t ∷ filter (new stored) rest) (filter (new stored) rest)
-    go true old on after =
-        on ∙ ap (λ (l : List Tree). stored ++ l) (sym (filter_both (new stored) (λ e. not (equal t e)) (firsts equal ts)
-        ∙ filter_agree _ (new stored) (λ e. passed e (equal t e) refl old) (firsts equal ts)))
-    go false old on after =
-        after ∙ append_assoc stored (t ∷ []) (filter (new (stored ++ t ∷ [])) (firsts equal ts))
-        ∙ ap (λ (l : List Tree). stored ++ t ∷ l) (filter_agree (new (stored ++ t ∷ [])) (λ e. not (equal t e) && new stored e)
-        (λ e. ap not (list_any-append (λ k. equal k e) stored (t ∷ [])) ∙ neither (list_any (λ k. equal k e) stored) (equal t e)) (firsts equal ts)
-        ∙ sym (filter_both (new stored) (λ e. not (equal t e)) (firsts equal ts)))
-
 distinct_firsts : (ks : List Tree) → distinct ks ≡ firsts equal ks
-distinct_firsts ks = distinct_after [] ks ∙ all_pass (λ e. true) (firsts equal ks) (λ i d lt. refl)
+distinct_firsts [] = refl
+distinct_firsts (k ∷ ks) = ap (λ (l : List Tree). k ∷ filter (λ x. not (equal k x)) l) (distinct_firsts ks)
 
 firsts_at : (place : ℕ) (ks : List Tree) → firsts is_same_entry (keys_at place ks) ≡ keys_at place (distinct ks)
 firsts_at place ks =

@@ -1,8 +1,8 @@
 -- Entries in the order of a direction give the walk: from the greatest key down, run by run, with the places in turn.
-use Rattle.std.proofs.Common.{◌≡◌, ◌≢◌, ◌+◌, ◌-◌, ◌<◌, ◌≤◌, ℕ, zero, suc, Bool, true, false, cond, List, [], ◌∷◌, ◌++◌, length, get_or, map, filter, take, drop, Option, Some, None}
+use Rattle.std.proofs.Common.{◌≡◌, ◌≢◌, ◌+◌, ◌-◌, ◌<◌, ◌≤◌, ℕ, zero, suc, Bool, true, false, cond, List, [], ◌∷◌, ◌++◌, length, get_or, map, filter, take, drop}
 use Rattle.std.proofs.Common.{inl, inr, refl, sym, ap, ap₂, ◌∙◌, subst, add-zero, append-nil, eq-eqb, arith}
 use Rattle.std.specs.Prelude.{◌==◌, ◌&&◌, ◌||◌, nat_lt, not, slice_range, unwrap_or}
-use Rattle.std.specs.{Cmp.IsStrictWeakOrder, Cmp.IsTotalOrder, List.All, List.AllByRecursion, List.AllPairs, List.count_by, List.list_any, List.Sorted.IsSortedBy}
+use Rattle.std.specs.{Cmp.IsStrictWeakOrder, Cmp.IsTotalOrder, List.All, List.AllByRecursion, List.AllPairs, List.count_by, List.fold, List.list_any, List.reduce, List.Sorted.IsSortedBy}
 use Rattle.std.specs.{declared.cmp.Ordering.Ordering, declared.cmp.Ordering.TheVariants.Equal, declared.cmp.Ordering.TheVariants.Less}
 use Rattle.std.specs.Ordering.{is_eq, is_lt, nat_cmp, on, ordering_reverse, ordering_then}
 use Rattle.std.proofs.{Math.ListN.set, Math.ListN.length-set, Math.Seq.take-add, lemmas.Bool.Decides.nat_tests, lemmas.List.Sorted.ranks_by, lemmas.List.Sums.sum_by-cons}
@@ -16,15 +16,16 @@ use Rattle.bd_value.specs.{Order.cmp, Order.equal, Tree.Tree, Tree.Doc, Tree.doc
 use Rattle.bd_value.proofs.OrderLemmas.{cmp_total}
 use Rattle.bd_bson_dump.specs.{Collection.bytes_of, Collection.document_at, declared.collection.Dump.Dump}
 use Rattle.bd_path.specs.{Key.keys, Reach.Names, declared.sort.Dir.Dir, declared.sort.Dir.TheVariants.Down, declared.sort.Dir.TheVariants.Up}
-use Rattle.bd_path.specs.Sort.{dir_cmp, earlier_key, earliest_key, sort_key}
+use Rattle.bd_path.specs.Sort.{dir_cmp, earlier, sort_key}
 use Rattle.bd_path.proofs.SortLemmas.{dir_total, equal_is, equal_itself, has_a_key}
+use Rattle.bd_path.proofs.DistinctLemmas.{filter_both}
 use Rattle.bd_index.specs.Entries.{AreEntries, KeyAt, downward, entries_from, entries_of, entry_cmp, keys_at, put_down}
 use Rattle.bd_index.specs.inside.Entries.{IsRun}
 use Rattle.bd_index.specs.IndexView.{IsIndexOf, IsIndexOf-prop, KeepsEntry}
 use Rattle.bd_index.specs.{Walk.WalksAll, Walk.fresh_places, declared.entry.Entry.Entry, declared.index.Index.Index}
 use Rattle.bd_index.proofs.EntryLemmas.{Rises, all_pass, any_as_counts, any_map, ascends, by_total, count_stored, entry_by, entry_total, first_not_less, keys_rise, neither_less, zip_at}
 use Rattle.bd_index.proofs.PlacesLemmas.{in_piece}
-use Rattle.bd_index.proofs.RepeatLemmas.{all_firsts, any_firsts, filter_both, firsts, firsts_map}
+use Rattle.bd_index.proofs.RepeatLemmas.{all_firsts, any_firsts, firsts, firsts_map}
 
 -- ---- a run comes before the entries with lesser keys
 
@@ -204,43 +205,35 @@ pub record IsBest (dir : Dir) (ks : List Tree) (best : Tree) : Type 0 where
   pub low : list_any (λ k. is_lt (dir_cmp dir k best)) ks ≡ false
   pub there : list_any (λ k. is_eq (dir_cmp dir k best)) ks ≡ true
 
-abbrev BestOf : Dir → List Tree → Option Tree → Type 0
-BestOf dir ks None = ⊥
-BestOf dir ks (Some best) = IsBest dir ks best
-
 weak : (dir : Dir) → IsStrictWeakOrder (λ x y. is_lt (dir_cmp dir x y))
 weak dir = ranks_by (dir_total dir) (λ x. x)
 
-all_after : (dir : Dir) (b k : Tree) (ks : List Tree) → is_lt (dir_cmp dir b k) ≡ false → list_any (λ x. is_lt (dir_cmp dir x b)) ks ≡ false
-    → list_any (λ x. is_lt (dir_cmp dir x k)) ks ≡ false
-all_after dir b k [] h low = refl
-all_after dir b k (x ∷ xs) h low = let p = or_parts _ _ low in or_from _ _ ((weak dir).chain x b k p.0 h) (all_after dir b k xs h p.1)
-
-has_best : (dir : Dir) (k : Tree) (ks : List Tree) → BestOf dir (k ∷ ks) (earliest_key dir (k ∷ ks))
-has_best dir k [] = let tied = tied_itself (dir_total dir) k in record { low = or_from _ _ (ap is_lt tied) refl; there = or_left _ _ (ap is_eq tied) }
-has_best dir k (x ∷ xs) = go (earliest_key dir (x ∷ xs)) (has_best dir x xs)
+-- a fold from the first key on finds the best of all
+folded_best : (dir : Dir) (a : Tree) (ks : List Tree) → IsBest dir (a ∷ ks) (fold (earlier dir) a ks)
+folded_best dir a [] = let tied = tied_itself (dir_total dir) a in record { low = or_from _ _ (ap is_lt tied) refl; there = or_left _ _ (ap is_eq tied) }
+folded_best dir a (k ∷ ks) = go (is_lt (dir_cmp dir k a)) refl (folded_best dir (earlier dir a k) ks)
   where
-    tied : dir_cmp dir k k ≡ Equal
-    tied = tied_itself (dir_total dir) k
+    skipped : (x y z : Bool) → (x || z) ≡ true → (x || (y || z)) ≡ true
+    skipped x y z h = grind arith
 
-    choose : (b : Tree) (c : Bool) → is_lt (dir_cmp dir b k) ≡ c → IsBest dir (x ∷ xs) b → BestOf dir (k ∷ x ∷ xs) (cond c (Some b) (Some k))
-    choose b true less among = record { low = or_from _ _ ((weak dir).one_way b k less) among.low; there = or_right _ _ among.there }
-    choose b false less among = record { low = or_from _ _ (ap is_lt tied) (all_after dir b k (x ∷ xs) less among.low); there = or_left _ _ (ap is_eq tied) }
-
-    go : (e : Option Tree) → BestOf dir (x ∷ xs) e → BestOf dir (k ∷ x ∷ xs) (earlier_key dir (Some k) e)
-    go None among = absurd among
-    go (Some b) among = choose b (is_lt (dir_cmp dir b k)) refl among
+    go : (less : Bool) → is_lt (dir_cmp dir k a) ≡ less → IsBest dir (cond less k a ∷ ks) (fold (earlier dir) (cond less k a) ks) → IsBest dir (a ∷ k ∷ ks) (fold (earlier dir) (cond less k a) ks)
+    go true less best =
+        let low = or_parts _ _ best.low in
+        record { low = or_from _ _ ((weak dir).chain a k (fold (earlier dir) k ks) ((weak dir).one_way k a less) low.0) best.low; there = or_right _ _ best.there }
+    go false less best =
+        let e = fold (earlier dir) a ks in
+        let low = or_parts _ _ best.low in
+        record {
+          low = or_from _ _ low.0 (or_from _ _ ((weak dir).chain k a e less low.0) low.1);
+          there = skipped (is_eq (dir_cmp dir a e)) (is_eq (dir_cmp dir k e)) (list_any (λ x. is_eq (dir_cmp dir x e)) ks) best.there;
+        }
 
 sort_key_best : (dir : Dir) (t : Tree) (path : Names) → IsBest dir (keys t path) (sort_key dir t path)
 sort_key_best dir t path = go (keys t path) (has_a_key t path)
   where
-    best : (ks : List Tree) (e : Option Tree) → BestOf dir ks e → IsBest dir ks (unwrap_or e (leaf null))
-    best ks None among = absurd among
-    best ks (Some b) among = among
-
-    go : (ks : List Tree) → ks ≢ [] → IsBest dir ks (unwrap_or (earliest_key dir ks) (leaf null))
+    go : (ks : List Tree) → ks ≢ [] → IsBest dir ks (unwrap_or (reduce (earlier dir) ks) (leaf null))
     go [] n = absurd (n refl)
-    go (k ∷ ks) n = best (k ∷ ks) (earliest_key dir (k ∷ ks)) (has_best dir k ks)
+    go (k ∷ ks) n = folded_best dir k ks
 
 -- ---- whether some entry of the documents passes
 

@@ -1,13 +1,13 @@
 -- The keys of a document, by what a path reaches in it.
-use Rattle.std.proofs.Common.{◌≡◌, ◌≢◌, ℕ, zero, suc, Bool, true, false, cond, List, [], ◌∷◌, ◌++◌, Option, Some, None, ◌⊎◌, inl, inr, refl, subst, append-nil}
-use Rattle.std.specs.{Str.bytes_eq, List.list_any}
+use Rattle.std.proofs.Common.{◌≡◌, ◌≢◌, ℕ, zero, suc, Bool, true, false, cond, List, [], ◌∷◌, ◌++◌, Option, Some, None, inl, inr, refl, subst, append-nil}
+use Rattle.std.specs.{Prelude.not, Str.bytes_eq}
 use Rattle.bd_value.specs.{Order.equal, Tree.elements_in}
 use Rattle.bd_value.specs.Tree.{Tree, leaf, doc, array, code_scope, Items, no_items, item, Fields, no_fields, field, list_of}
 use Rattle.bd_value.specs.Tree as trees
 use Rattle.bd_path.specs.{Reach.index_of, Reach.Names}
-use Rattle.bd_path.specs.Key.{all_keys, distinct, key_collecting, keys, or_else, with_key, with_keys}
+use Rattle.bd_path.specs.Key.{all_keys, distinct, key_collecting, keys, or_else}
 use Rattle.bd_path.specs.Reach.{ends, collecting_at, each_collecting, first_collecting, is_document, reach}
-use Rattle.bd_path.proofs.SortLemmas.{has_a_key, missing_gives_null}
+use Rattle.bd_path.proofs.SortLemmas.{from_filter, has_a_key, missing_gives_null}
 use Rattle.bd_path.proofs.ReachLemmas.{In, in_left, in_right, in_cases, in_either, Found}
 
 -- the key of a missing field
@@ -27,19 +27,13 @@ in_or_else k (x ∷ xs) other h = h
 
 -- ---- the distinct keys are among all keys
 
-one_of : (b : Bool) (ks : List Tree) (t x : Tree) → In x (cond b ks (ks ++ t ∷ [])) → In x ks ⊎ (x ≡ t)
-one_of true ks t x h = inl h
-one_of false ks t x h = elim (in_cases x ks (t ∷ []) h) [ inl a ↦ inl a | inr b ↦ elim b [ inl e ↦ inr e | inr n ↦ absurd n ] ]
-
-among_all : (ts ks : List Tree) (x : Tree) → In x (with_keys ks ts) → In x ks ⊎ In x ts
-among_all [] ks x h = inl h
-among_all (t ∷ ts) ks x h = elim (among_all ts (with_key ks t) x h) [
-  | inl a ↦ elim (one_of (list_any (λ y. equal y t) ks) ks t x a) [ inl b ↦ inl b | inr e ↦ inr (inl e) ]
-  | inr b ↦ inr (inr b)
-]
+among_all : (ts : List Tree) (x : Tree) → In x (distinct ts) → In x ts
+among_all [] x h = h
+among_all (t ∷ ts) x (inl e) = inl e
+among_all (t ∷ ts) x (inr h) = inr (among_all ts x (from_filter (λ y. not (equal t y)) x (distinct ts) h))
 
 pub key_is_key : (t x : Tree) (p : Names) → In x (keys t p) → In x (keys_of t p)
-key_is_key t x p h = elim (among_all (keys_of t p) [] x h) [ inl a ↦ absurd a | inr b ↦ b ]
+key_is_key t x p h = among_all (keys_of t p) x h
 
 pub missing : (t : Tree) (p : Names) → In None (reach t p) → In null (keys_of t p)
 missing t p h = key_is_key t null p (missing_gives_null t p h)

@@ -149,7 +149,7 @@ mutual
 -- each key equals a distinct one
 found_distinct : (test : Tree → Bool) (t : Tree) (p : Names) → ((x y : Tree) → equal x y ≡ true → test x ≡ test y) → Found test (keys_of t p) → Found test (keys t p)
 found_distinct test t p same f =
-    let r = distinct_has (keys_of t p) [] f.it f.is_in in
+    let r = distinct_has (keys_of t p) f.it f.is_in in
     record { it = r.it; is_in = r.is_in; passes = same r.it f.it r.same ∙ f.passes }
 
 one_member : (ks : List Tree) (x y : Tree) → length ks ≡ 1 → In x ks → In y ks → x ≡ y
@@ -162,8 +162,8 @@ one_member (k ∷ l ∷ ks) x y one h g = absurd (omega arith)
 -- if a document has one distinct key, its keys do not differ
 all_equal : (t : Tree) (p : Names) → length (keys t p) ≡ 1 → Fine false (keys_of t p)
 all_equal t p one x y h g =
-    let a = distinct_has (keys_of t p) [] x h in
-    let b = distinct_has (keys_of t p) [] y g in
+    let a = distinct_has (keys_of t p) x h in
+    let b = distinct_has (keys_of t p) y g in
     let same : a.it ≡ b.it = one_member (keys t p) a.it b.it one a.is_in b.is_in in
     equal_on x a.it y (equal_back a.it x a.same) (subst (λ k. equal k y ≡ true) (sym same) b.same)
 

@@ -7,12 +7,12 @@ use Rattle.std.proofs.lemmas.Bool.{not-false, not_from_true, or_from, or_parts}
 use Rattle.std.proofs.lemmas.List.Elements.{All-nil, All-weaker}
 use Rattle.bd_value.specs.{View.kind_of, Order.equal, Tree.Tree, Tree.array}
 use Rattle.bd_value.specs.declared.node.Kind.TheVariants as kinds
-use Rattle.bd_path.specs.Key.{distinct, end_keys, indexed_keys, with_key, with_keys}
-use Rattle.bd_path.specs.inside.Key.{AddsKeys, AreKeysFrom, gives_new, is_new, stop_keys}
+use Rattle.bd_path.specs.Key.{distinct, end_keys, indexed_keys}
+use Rattle.bd_path.specs.inside.Key.{AddsKeys, AreKeysFrom, gives_new, is_new, stop_keys, with_key, with_keys}
 use Rattle.bd_path.specs.{Key.AreKeysAt, Key.AreKeysOf, Key.IsKeyAt, Key.key_trees, Reach.Names, declared.key.Key.Key, declared.path_walk.Stop.Stop}
 use Rattle.bd_path.specs.PathWalk.{Stops, stops}
 use Rattle.bd_path.specs.inside.PathWalk.{TakesStops, TakesOrEnds}
-use Rattle.bd_path.proofs.{SortLemmas.distinct_has, SortLemmas.equal_itself, SortLemmas.equal_on, PathWalkLemmas.at_more, PathWalkLemmas.keys_are}
+use Rattle.bd_path.proofs.{DistinctLemmas.distinct_append, SortLemmas.distinct_has, SortLemmas.equal_itself, SortLemmas.equal_on, PathWalkLemmas.at_more, PathWalkLemmas.keys_are}
 use Rattle.bd_path.proofs.ReachLemmas.{any_at, any_still as none_passes, found_from}
 
 -- what holds in any case holds on success
@@ -21,10 +21,6 @@ on_ok_always (Ok x) h = h
 on_ok_always (Err e) h = tt
 
 -- ---- the first of equal keys
-
-with_append : (ks xs ys : List Tree) → with_keys ks (xs ++ ys) ≡ with_keys (with_keys ks xs) ys
-with_append ks [] ys = refl
-with_append ks (x ∷ xs) ys = with_append (with_key ks x) xs ys
 
 -- if none is new, they change nothing
 none_added : (ks xs : List Tree) → list_any (is_new ks) xs ≡ false → with_keys ks xs ≡ ks
@@ -54,7 +50,7 @@ all_added ks (x ∷ xs) = or_from _ _ (not_from_true _ (any_still (λ y. equal y
 pub one_more : {A : Type 0} (f : A → Tree) (xs : List A) (i : ℕ) (x : A) (old new : List Tree) → i < length xs → x ≡ get_or xs i x
     → new ≡ with_key old (f x) → old ≡ distinct (map f (take i xs)) → new ≡ distinct (map f (take (i + 1) xs))
 one_more {A} f xs i x old new lt is added so_far =
-    added ∙ ap (λ (l : List Tree). with_key l (f x)) so_far ∙ sym (with_append [] (map f (take i xs)) (f x ∷ []))
+    added ∙ ap (λ (l : List Tree). with_key l (f x)) so_far ∙ sym (distinct_append (map f (take i xs)) (f x ∷ []))
     ∙ ap distinct (sym (map_more f xs i x lt ∙ ap (λ (y : A). map f (take i xs) ++ f y ∷ []) (sym is)))
 
 any_map : {A : Type 0} (t : Tree → Bool) (f : A → Tree) (xs : List A) → list_any t (map f xs) ≡ list_any (λ x. t (f x)) xs
@@ -69,14 +65,14 @@ equal_there f xs ys k r is same = rw (any_map, ← same, is)
 pub equals_last : {A : Type 0} (f : A → Tree) (xs : List A) (i : ℕ) (x k : A) → slice_get xs i ≡ Some x → equal (f x) (f k) ≡ true → distinct (map f xs) ≡ distinct (map f xs ++ f k ∷ [])
 equals_last f xs i x k at e =
     let first = found_from (λ y. equal y (f k)) (map f xs) (any_map (λ y. equal y (f k)) f xs ∙ any_passes_from_place (λ y. equal (f y) (f k)) xs i x at e) in
-    let same_source = distinct_has (map f xs) [] first.it first.is_in in
+    let same_source = distinct_has (map f xs) first.it first.is_in in
     let any = any_at (λ y. equal y (f k)) (distinct (map f xs)) same_source.it same_source.is_in (equal_on same_source.it first.it (f k) same_source.same first.passes) in
-    rw (with_append [] (map f xs) (f k ∷ []), any)
+    rw (distinct_append (map f xs) (f k ∷ []), any)
 
 -- ---- the elements of an array
 
 pub one_passed : (old new : List Tree) (t : Tree) (us vs all : List Tree) → distinct new ≡ distinct (old ++ t ∷ []) → us ≡ t ∷ vs → distinct (old ++ us) ≡ all → distinct (new ++ vs) ≡ all
-one_passed old new t us vs all is e so_far = rw (with_append [] new vs, is, ← with_append [] (old ++ t ∷ []) vs, append_assoc, ← e) so_far
+one_passed old new t us vs all is e so_far = rw (distinct_append new vs, is, ← distinct_append (old ++ t ∷ []) vs, append_assoc, ← e) so_far
 
 -- a value that is not an array gives itself
 pub single_key : (t : Tree) → (kind_of t ≡ kinds.Array → ⊥) → end_keys t ≡ t ∷ []
@@ -86,7 +82,7 @@ single_key _ n = refl
 -- ---- the keys of one more stop
 
 flat_more : (sparse : Bool) (ss : Stops) (s : Stop Tree) → distinct (flat_map (stop_keys sparse) (ss ++ s ∷ [])) ≡ with_keys (distinct (flat_map (stop_keys sparse) ss)) (stop_keys sparse s)
-flat_more sparse ss s = rw (flat_map-append, append-nil) (with_append [] (flat_map (stop_keys sparse) ss) (stop_keys sparse s))
+flat_more sparse ss s = rw (flat_map-append, append-nil) (distinct_append (flat_map (stop_keys sparse) ss) (stop_keys sparse s))
 
 pub indexed : (sparse : Bool) (t : Tree) (p : Names) → distinct (flat_map (stop_keys sparse) (stops t p)) ≡ indexed_keys sparse t p
 indexed sparse t p = ap distinct (sym (keys_are sparse t p))
@@ -109,7 +105,7 @@ module _ {N : Type 0} (tree : N → Tree) (source : N → List ℕ) (sparse : Bo
     takes_keys is there =
         let more = stop_keys sparse s in
         let old = distinct (key_trees tree (items before)) in
-        let fact : distinct (key_trees tree (items after)) ≡ with_keys old more = is ∙ with_append [] (key_trees tree (items before)) more in
+        let fact : distinct (key_trees tree (items after)) ≡ with_keys old more = is ∙ distinct_append (key_trees tree (items before)) more in
         record {
           adds = λ ss are. record {
             listed = fact ∙ ap (λ (ks : List Tree). with_keys ks more) are.listed ∙ sym (flat_more sparse ss s);

@@ -1,3 +1,4 @@
+pub mod DistinctLemmas
 pub mod SortLemmas
 pub mod KeyLemmas
 pub mod ReachLemmas

@@ -1,6 +1,6 @@
 -- The earliest of some keys, by parts.
 use Rattle.std.proofs.Common.{◌≡◌, ◌≢◌, ◌⊎◌, inl, inr, ℕ, Bool, true, false, not, cond, filter, List, [], ◌∷◌, ◌++◌, Option, Some, None, Ordering, Equal, refl, sym, ap, ◌∙◌, append-nil, arith}
-use Rattle.std.specs.{Prelude.IfSome, Prelude.is_some, Prelude.option_map, Cmp.IsTotalOrder, List.flat_map, List.list_any, Ordering.is_eq, Ordering.is_lt, Ordering.ordering_reverse}
+use Rattle.std.specs.{Prelude.IfSome, Prelude.is_some, Prelude.option_map, Cmp.IsTotalOrder, List.flat_map, List.fold, List.list_any, List.reduce, Ordering.is_eq, Ordering.is_lt, Ordering.ordering_reverse}
 use Rattle.std.proofs.lemmas.Bool.{cond_both, not_from_false, or_cases, or_from, or_parts}
 use Rattle.std.proofs.{lemmas.Cmp.on_total, lemmas.Cmp.then_total, lemmas.Cmp.tied_back, lemmas.Cmp.tied_itself, lemmas.Grind.flat_map-append}
 use Rattle.std.proofs.{lemmas.List.Elements.filter-append, lemmas.List.Sorted.ranks_by, lemmas.Map.Views.any-filter_same, lemmas.Option.IfSome_then}
@@ -8,15 +8,16 @@ use Rattle.bd_value.specs.{View.kind_of, Order.cmp, Order.equal, Tree.elements_i
 use Rattle.bd_value.specs.Tree as trees
 use Rattle.bd_value.specs.declared.node.Kind.TheVariants as kinds
 use Rattle.bd_value.proofs.OrderLemmas.{cmp_total}
-use Rattle.bd_path.specs.Key.{IsKeyAt, IsKeyOf, all_keys, distinct, end_keys, key_tree, keys, or_else, sparse_keys, with_key, with_keys}
-use Rattle.bd_path.specs.inside.Key.{stop_keys}
+use Rattle.bd_path.specs.Key.{IsKeyAt, IsKeyOf, all_keys, distinct, end_keys, key_tree, keys, or_else, sparse_keys}
+use Rattle.bd_path.specs.inside.Key.{stop_keys, with_key, with_keys}
 use Rattle.bd_path.specs.{Reach.End, Reach.Names, Reach.reach, declared.key.Key.Key, declared.sort.Dir.Dir, declared.path_walk.Stop.Stop, declared.path_walk.Stop.TheVariants.Value}
-use Rattle.bd_path.specs.Sort.{SortPath, dir_cmp, earlier_key, earliest_key, sort_cmp, sort_key}
-use Rattle.bd_path.specs.inside.Sort.{IsEarliestFrom, gives_earlier, is_earlier}
+use Rattle.bd_path.specs.Sort.{SortPath, dir_cmp, earlier, sort_cmp, sort_key}
+use Rattle.bd_path.specs.inside.Sort.{IsEarliestFrom, earlier_key, earliest_key, gives_earlier, is_earlier}
 use Rattle.bd_path.specs.PathWalk.{Stops, or_stop, stops}
 use Rattle.bd_path.specs.inside.PathWalk.{TakesOrEnds, TakesStops}
 use Rattle.bd_path.specs.declared.sort.Dir.TheVariants.{Up, Down}
 use Rattle.bd_path.proofs.ReachLemmas.{In, any_still, found_from, in_left, in_right, scalar_is_no_array}
+use Rattle.bd_path.proofs.DistinctLemmas.{distinct_is}
 use Rattle.bd_path.proofs.PathWalkLemmas as stop
 use Rattle.bd_path.proofs.PathWalkLemmas.{ends_are, keys_are, some_stop, stop_ends}
 
@@ -54,6 +55,17 @@ module _ (dir : Dir) where
   in_turn (Some a) None c = refl
   in_turn (Some a) (Some b) None = sym (right_none (earlier_key dir (Some a) (Some b)))
   in_turn (Some a) (Some b) (Some c) = three a b c
+
+  -- a fold from the first key on finds the earliest
+  folded : (a : Tree) (ks : List Tree) → Some (fold (earlier dir) a ks) ≡ earlier_key dir (Some a) (earliest_key dir ks)
+  folded a [] = refl
+  folded a (k ∷ ks) =
+      let one : Some (earlier dir a k) ≡ earlier_key dir (Some a) (Some k) = grind arith in
+      folded (earlier dir a k) ks ∙ ap (λ e. earlier_key dir e (earliest_key dir ks)) one ∙ sym (in_turn (Some a) (Some k) (earliest_key dir ks))
+
+  reduced : (ks : List Tree) → reduce (earlier dir) ks ≡ earliest_key dir ks
+  reduced [] = refl
+  reduced (k ∷ ks) = folded k ks
 
   of_both : (xs ys : List Tree) → earliest_key dir (xs ++ ys) ≡ earlier_key dir (earliest_key dir xs) (earliest_key dir ys)
   of_both [] ys = refl
@@ -109,8 +121,8 @@ module _ (dir : Dir) where
   all_of_keys ks (t ∷ ts) =
       all_of_keys (with_key ks t) ts ∙ ap (λ e. earlier_key dir e (earliest_key dir ts)) (one_key ks t) ∙ sym (in_turn (earliest_key dir ks) (Some t) (earliest_key dir ts))
 
-  pub earliest_is : (t : Tree) (p : Names) → earliest_key dir (keys t p) ≡ earliest_key dir (flat_map (stop_keys false) (stops t p))
-  earliest_is t p = all_of_keys [] (all_keys false t p) ∙ ap (earliest_key dir) (stop.keys_are false t p)
+  pub earliest_is : (t : Tree) (p : Names) → reduce (earlier dir) (keys t p) ≡ earliest_key dir (flat_map (stop_keys false) (stops t p))
+  earliest_is t p = reduced (keys t p) ∙ ap (earliest_key dir) (sym (distinct_is (all_keys false t p))) ∙ all_of_keys [] (all_keys false t p) ∙ ap (earliest_key dir) (stop.keys_are false t p)
 
   -- ---- there is always a key
 
@@ -219,7 +231,7 @@ absent t p h = elim (no_values (reach t p) h) [
 
 -- a document has at least one key on each path
 pub has_a_key : (t : Tree) (p : Names) → keys t p ≢ []
-has_a_key t p none = earliest_there Up t p (ap (earliest_key Up) (sym none) ∙ earliest_is Up t p)
+has_a_key t p none = earliest_there Up t p (ap (reduce (earlier Up)) (sym none) ∙ earliest_is Up t p)
 
 -- ---- equal values
 
@@ -258,15 +270,19 @@ its_equal true ks k e = let f = found_from (λ y. equal y k) ks e in record { it
 its_equal false ks k e = record { it = k; is_in = in_right k ks (k ∷ []) (inl refl); same = equal_itself k }
 
 -- a key that was added is among the keys, or an equal one is
-pub distinct_has : (ts ks : List Tree) (x : Tree) → In x ts → HasEqual x (with_keys ks ts)
-distinct_has [] ks x h = absurd h
-distinct_has (t ∷ ts) ks x (inl e) =
+added_has : (ts ks : List Tree) (x : Tree) → In x ts → HasEqual x (with_keys ks ts)
+added_has [] ks x h = absurd h
+added_has (t ∷ ts) ks x (inl e) =
     let r = its_equal (list_any (λ y. equal y t) ks) ks t refl in
     record { it = r.it; is_in = still ts (with_key ks t) r.it r.is_in; same = rw e r.same }
-distinct_has (t ∷ ts) ks x (inr h) = distinct_has ts (with_key ks t) x h
+added_has (t ∷ ts) ks x (inr h) = added_has ts (with_key ks t) x h
+
+-- each of some keys equals one of the distinct ones
+pub distinct_has : (ts : List Tree) (x : Tree) → In x ts → HasEqual x (distinct ts)
+distinct_has ts x h = rw (distinct_is ts) at (added_has ts [] x h)
 
 null_is_key : (t : Tree) (p : Names) → In null (all_keys false t p) → In null (keys t p)
-null_is_key t p h = let r = distinct_has (all_keys false t p) [] null h in rw (only_null r.it r.same) at r.is_in
+null_is_key t p h = let r = distinct_has (all_keys false t p) null h in rw (only_null r.it r.same) at r.is_in
 
 -- a missing field on a path gives the key null
 pub missing_gives_null : (t : Tree) (p : Names) → In None (reach t p) → In null (keys t p)
@@ -293,6 +309,9 @@ others_of : (ks ts : List Tree) → filter is_other (with_keys ks ts) ≡ with_k
 others_of ks [] = refl
 others_of ks (t ∷ ts) = grind (arith, others_of (with_key ks t) ts, others_with ks t)
 
+distinct_others : (ks : List Tree) → filter is_other (distinct ks) ≡ distinct (filter is_other ks)
+distinct_others ks = ap (filter is_other) (sym (distinct_is ks)) ∙ others_of [] ks ∙ distinct_is (filter is_other ks)
+
 others_at : (ss : Stops) → filter is_other (flat_map (stop_keys true) ss) ≡ filter is_other (flat_map (stop_keys false) ss)
 others_at [] = refl
 others_at (Value t ∷ ss) = rw (filter-append is_other (end_keys t) (flat_map (stop_keys true) ss), filter-append is_other (end_keys t) (flat_map (stop_keys false) ss), others_at ss)
@@ -303,11 +322,12 @@ in_others x [] h o = absurd h
 in_others x (y ∷ xs) (inl e) o = rw (← e, o) (inl refl)
 in_others x (y ∷ xs) (inr h) o = cond_both (is_other y) (y ∷ filter is_other xs) (filter is_other xs) (λ zs. In x zs) (λ e. inr (in_others x xs h o)) (λ e. in_others x xs h o)
 
-from_others : (x : Tree) (xs : List Tree) → In x (filter is_other xs) → In x xs
-from_others x [] h = h
-from_others x (y ∷ xs) h = go (is_other y) h (from_others x xs)
+-- what passes a test among members is a member
+pub from_filter : {A : Type 0} (p : A → Bool) (x : A) (xs : List A) → In x (filter p xs) → In x xs
+from_filter p x [] h = h
+from_filter p x (y ∷ xs) h = go (p y) h (from_filter p x xs)
   where
-    go : (b : Bool) → In x (cond b (y ∷ filter is_other xs) (filter is_other xs)) → (In x (filter is_other xs) → In x xs) → In x (y ∷ xs)
+    go : (b : Bool) → In x (cond b (y ∷ filter p xs) (filter p xs)) → (In x (filter p xs) → In x xs) → In x (y ∷ xs)
     go true (inl e) more = inl e
     go true (inr r) more = inr (more r)
     go false r more = inr (more r)
@@ -316,8 +336,8 @@ from_others x (y ∷ xs) h = go (is_other y) h (from_others x xs)
 pub sparse_has : (t : Tree) (p : Names) (k : Tree) → In k (keys t p) → equal k null ≡ false → In k (sparse_keys t p)
 sparse_has t p k h other =
     let same : filter is_other (all_keys false t p) ≡ filter is_other (all_keys true t p) = rw (keys_are false t p, keys_are true t p) (sym (others_at (stops t p))) in
-    let all = others_of [] (all_keys false t p) ∙ ap distinct same ∙ sym (others_of [] (all_keys true t p)) in
-    from_others k (sparse_keys t p) (rw all at (in_others k (keys t p) h (not_from_false _ other)))
+    let all = distinct_others (all_keys false t p) ∙ ap distinct same ∙ sym (distinct_others (all_keys true t p)) in
+    from_filter is_other k (sparse_keys t p) (rw all at (in_others k (keys t p) h (not_from_false _ other)))
 
 -- ---- the order of a sort
 

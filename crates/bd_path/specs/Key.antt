@@ -1,6 +1,6 @@
 -- The keys of a document on a path: by them it is sorted, and an index has them as entries.
-use Rattle.std.specs.Prelude.{◌≡◌, ℕ, List, [], ◌∷◌, ◌++◌, Bool, true, false, map, All, if◌then◌else◌}
-use Rattle.std.specs.List.{list_any}
+use Rattle.std.specs.Prelude.{◌≡◌, ℕ, List, [], ◌∷◌, Bool, true, false, not, map, All}
+use Rattle.std.specs.List.{filter, list_any}
 use Rattle.bd_value.specs.Order.{equal}
 use Rattle.bd_value.specs.Tree.{Tree, leaf, null, undefined, array, no_items, list_of}
 use Rattle.bd_path.specs.{Reach.Collecting, Reach.Names, Reach.collecting, PathWalk.Stops, declared.key.Key.Key}
@@ -31,18 +31,10 @@ key_collecting missing = record { at_end = end_keys; missing = missing; of_array
 abbrev pub all_keys : Bool → Tree → Names → List Tree
 all_keys sparse t path = collecting (key_collecting (missing_key sparse)) t path
 
--- the keys and one more, unless it equals one of them
-abbrev pub with_key : List Tree → Tree → List Tree
-with_key ks k = if list_any (λ x. equal x k) ks then ks else ks ++ k ∷ []
-
--- the keys with some more after them, each of these dropped if it equals an earlier one
-abbrev pub with_keys : List Tree → List Tree → List Tree
-with_keys ks [] = ks
-with_keys ks (t ∷ ts) = with_keys (with_key ks t) ts
-
 -- the keys without those that equal an earlier one: of an int32 5 and an int64 5 the first stays
 abbrev pub distinct : List Tree → List Tree
-distinct ks = with_keys [] ks
+distinct [] = []
+distinct (k ∷ ks) = k ∷ filter (λ x. not (equal k x)) (distinct ks)
 
 -- the keys that an index has of a document, sparse or not: of equal ones the first
 abbrev pub indexed_keys : Bool → Tree → Names → List Tree

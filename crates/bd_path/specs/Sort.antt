@@ -1,7 +1,6 @@
 -- The sort key of a document, and the order of two documents in a sort (MongoDB manual, "cursor.sort()").
-use Rattle.std.specs.Prelude.{List, [], ◌∷◌, map, Option, Some, None}
-use Rattle.std.specs.Prelude.{unwrap_or, if◌then◌else◌}
-use Rattle.std.specs.{Ordering.is_lt, Ordering.ordering_reverse, Ordering.ordering_then}
+use Rattle.std.specs.Prelude.{List, [], ◌∷◌, map, unwrap_or, if◌then◌else◌}
+use Rattle.std.specs.{List.reduce, Ordering.is_lt, Ordering.ordering_reverse, Ordering.ordering_then}
 use Rattle.std.specs.{declared.cmp.Ordering.Ordering, declared.cmp.Ordering.TheVariants.Equal}
 use Rattle.bd_value.specs.{Order.cmp, Tree.Tree, Tree.leaf, Tree.null}
 use Rattle.bd_path.specs.{Key.keys, PathNames.names_of}
@@ -13,22 +12,14 @@ abbrev pub dir_cmp : Dir → Tree → Tree → Ordering
 dir_cmp Up a b = cmp a b
 dir_cmp Down a b = ordering_reverse (cmp a b)
 
--- the one of two keys that comes first in the direction, of equal ones the first;
--- if one is missing, the other
-abbrev pub earlier_key : Dir → Option Tree → Option Tree → Option Tree
-earlier_key dir None b = b
-earlier_key dir (Some a) None = Some a
-earlier_key dir (Some a) (Some b) = if is_lt (dir_cmp dir b a) then Some b else Some a
-
--- the key that comes first in the direction: the least for 1, the greatest for -1; of equal ones the first
-abbrev pub earliest_key : Dir → List Tree → Option Tree
-earliest_key dir [] = None
-earliest_key dir (k ∷ ks) = earlier_key dir (Some k) (earliest_key dir ks)
+-- the one of two keys that comes first in the direction; of equal ones the first
+abbrev pub earlier : Dir → Tree → Tree → Tree
+earlier dir a b = if is_lt (dir_cmp dir b a) then b else a
 
 -- the key by which a document is sorted: the least of its keys on the path for 1,
--- the greatest for -1 (MongoDB manual, "Sort")
+-- the greatest for -1 (MongoDB manual, "Sort"); of equal ones the first. It has at least one.
 abbrev pub sort_key : Dir → Tree → Names → Tree
-sort_key dir t path = unwrap_or (earliest_key dir (keys t path)) (leaf null)
+sort_key dir t path = unwrap_or (reduce (earlier dir) (keys t path)) (leaf null)
 
 -- one path of a sort, and its direction
 pub record SortPath : Type 0 where

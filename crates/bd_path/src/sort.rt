@@ -4,8 +4,8 @@ ghost use Rattle.std.specs.Prelude.{◌≡◌, ◌⊎◌, ◌∷◌, [], List, �
 ghost use Rattle.bd_value.specs.View.{tree_of};
 ghost use Rattle.bd_path.specs.Key.{IsKeyAt, IsKeyOf, end_keys, key_tree};
 ghost use Rattle.bd_path.specs.PathNames.{names_of};
-ghost use Rattle.bd_path.specs.Sort.{dir_cmp, earlier_key, earliest_key, sort_cmp, sort_key, sort_paths};
-ghost use Rattle.bd_path.specs.inside.Sort.{IsEarliestFrom, gives_earlier};
+ghost use Rattle.bd_path.specs.Sort.{dir_cmp, sort_cmp, sort_key, sort_paths};
+ghost use Rattle.bd_path.specs.inside.Sort.{IsEarliestFrom, earlier_key, earliest_key, gives_earlier};
 ghost use Rattle.bd_path.specs.PathWalk.{stops};
 ghost use Rattle.bd_path.specs.inside.PathWalk.{IsStopOf, TakesOrEnds, stop_tree};
 

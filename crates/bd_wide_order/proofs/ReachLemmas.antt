@@ -1,14 +1,14 @@
 -- What a path reaches in renumbered values, its keys, and its sort keys.
 use Rattle.std.proofs.Common.{◌≡◌, ℕ, zero, suc, List, [], ◌∷◌, ◌++◌, map, refl, sym, ap, ap₂, ◌∙◌, subst, Bool, true, false, cond, Option, Some, None, ◌||◌}
-use Rattle.std.specs.Prelude.{IsTrue, is_some, option_map, unwrap_or}
-use Rattle.std.specs.{List.AllByRecursion as Each, List.list_any, Str.bytes_eq, Str.Parse.digits_value}
+use Rattle.std.specs.Prelude.{IsTrue, is_some, not, option_map, unwrap_or}
+use Rattle.std.specs.{List.AllByRecursion as Each, List.filter, List.fold, List.list_any, List.reduce, Str.bytes_eq, Str.Parse.digits_value}
 use Rattle.std.specs.Ordering.{is_lt, ordering_reverse, ordering_then}
 use Rattle.std.proofs.lemmas.{List.map-append, List.Elements.recursion_from_All, Slice.Eq.bytes_eq-Decides}
 use Rattle.bd_value.specs.{Order.equal}
 use Rattle.bd_value.specs.Tree.{Tree, leaf, null, undefined, doc, array, code_scope, Items, no_items, item, Fields, no_fields, field, list_of}
 use Rattle.bd_path.specs.Reach.{Names, Collecting, collecting, first_collecting, each_collecting, collecting_at, index_of, is_index, is_document, End, ends, reach}
-use Rattle.bd_path.specs.Key.{missing_key, or_else, end_keys, key_collecting, all_keys, with_key, with_keys, indexed_keys, keys}
-use Rattle.bd_path.specs.Sort.{dir_cmp, earlier_key, earliest_key, sort_key, SortPath, sort_cmp}
+use Rattle.bd_path.specs.Key.{missing_key, or_else, distinct, end_keys, key_collecting, all_keys, indexed_keys, keys}
+use Rattle.bd_path.specs.Sort.{dir_cmp, earlier, sort_key, SortPath, sort_cmp}
 use Rattle.bd_path.specs.{declared.sort.Dir.Dir, declared.sort.Dir.TheVariants.Up, declared.sort.Dir.TheVariants.Down}
 use Rattle.bd_wide_order.specs.Renumber.{Codes, under, below, AreIncreasing, LeadTo, PassOverIndexes, ReadsAlike, SortsReadAlike, IsOf, ItemsAreOf, FieldsAreOf}
 use Rattle.bd_wide_order.specs.Renumber.{renumber, renumber_items, renumber_fields}
@@ -233,25 +233,30 @@ all_are_of c sparse t p lead a =
     (record { at_end = end_is_of (below p c); missing = missing_is_of (below p c) sparse; of_array = λ xs b. or_is_of (below p c) xs (missing_key sparse) b (missing_is_of (below p c) sparse) }) c t p a lead
 
 module _ (c : Codes) (up : AreIncreasing c) where
-  taken : (a b : Bool) (ks : List Tree) (k : Tree) → a ≡ b → cond a (map (renumber c) ks) (map (renumber c) ks ++ renumber c k ∷ []) ≡ map (renumber c) (cond b ks (ks ++ k ∷ []))
-  taken true true ks k e = refl
-  taken false false ks k e = sym (map-append (renumber c) ks (k ∷ []))
-  taken true false ks k e = absurd cc
-  taken false true ks k e = absurd cc
+  kept : (a b : Bool) (k : Tree) (xs ys : List Tree) → a ≡ b → xs ≡ map (renumber c) ys → cond a (renumber c k ∷ xs) xs ≡ map (renumber c) (cond b (k ∷ ys) ys)
+  kept true true k xs ys e same = ap (λ l. renumber c k ∷ l) same
+  kept false false k xs ys e same = same
+  kept true false k xs ys e same = absurd cc
+  kept false true k xs ys e same = absurd cc
 
-  one_key : (ks : List Tree) (k : Tree) → Each (IsOf c) ks → IsOf c k → with_key (map (renumber c) ks) (renumber c k) ≡ map (renumber c) (with_key ks k)
-  one_key ks k a b = taken _ _ ks k (any_map (λ x. equal x (renumber c k)) (λ x. equal x k) (renumber c) (IsOf c) (λ x d. equals_stay c up x k d b) ks a)
+  others_stay : (k : Tree) (ks : List Tree) → IsOf c k → Each (IsOf c) ks
+      → filter (λ x. not (equal (renumber c k) x)) (map (renumber c) ks) ≡ map (renumber c) (filter (λ x. not (equal k x)) ks)
+  others_stay k [] a b = refl
+  others_stay k (x ∷ xs) a b = kept _ _ x _ _ (ap not (equals_stay c up k x a b.0)) (others_stay k xs a b.1)
 
-  one_is_of : (ks : List Tree) (k : Tree) → Each (IsOf c) ks → IsOf c k → Each (IsOf c) (with_key ks k)
-  one_is_of ks k a b = each_chosen (IsOf c) (list_any (λ x. equal x k) ks) ks (ks ++ k ∷ []) (λ e. a) (each_append (IsOf c) ks (k ∷ []) a (b, tt))
+  others_are_of : (t : Tree → Bool) (ks : List Tree) → Each (IsOf c) ks → Each (IsOf c) (filter t ks)
+  others_are_of t [] b = tt
+  others_are_of t (x ∷ xs) b = each_chosen (IsOf c) (t x) (x ∷ filter t xs) (filter t xs) (λ e. (b.0, others_are_of t xs b.1)) (others_are_of t xs b.1)
 
-  more_keys : (ks ts : List Tree) → Each (IsOf c) ks → Each (IsOf c) ts → with_keys (map (renumber c) ks) (map (renumber c) ts) ≡ map (renumber c) (with_keys ks ts)
-  more_keys ks [] a b = refl
-  more_keys ks (t ∷ ts) a b = ap (λ us. with_keys us (map (renumber c) ts)) (one_key ks t a b.0) ∙ more_keys (with_key ks t) ts (one_is_of ks t a b.0) b.1
+  distinct_are_of : (ks : List Tree) → Each (IsOf c) ks → Each (IsOf c) (distinct ks)
+  distinct_are_of [] b = tt
+  distinct_are_of (k ∷ ks) b = (b.0, others_are_of (λ x. not (equal k x)) (distinct ks) (distinct_are_of ks b.1))
 
-  more_are_of : (ks ts : List Tree) → Each (IsOf c) ks → Each (IsOf c) ts → Each (IsOf c) (with_keys ks ts)
-  more_are_of ks [] a b = a
-  more_are_of ks (t ∷ ts) a b = more_are_of (with_key ks t) ts (one_is_of ks t a b.0) b.1
+  distinct_stay : (ks : List Tree) → Each (IsOf c) ks → distinct (map (renumber c) ks) ≡ map (renumber c) (distinct ks)
+  distinct_stay [] b = refl
+  distinct_stay (k ∷ ks) b =
+      ap (λ l. renumber c k ∷ filter (λ x. not (equal (renumber c k) x)) l) (distinct_stay ks b.1)
+      ∙ ap (λ l. renumber c k ∷ l) (others_stay k (distinct ks) b.0 (distinct_are_of ks b.1))
 
   -- ---- sort keys, of keys at one path
 
@@ -259,35 +264,36 @@ module _ (c : Codes) (up : AreIncreasing c) where
   dir_stays Up a b p q = order_stays c up a b p q
   dir_stays Down a b p q = ap ordering_reverse (order_stays c up a b p q)
 
-  chosen_key : (m n : Bool) (a b : Tree) → m ≡ n → cond m (Some (renumber c b)) (Some (renumber c a)) ≡ option_map (renumber c) (cond n (Some b) (Some a))
+  chosen_key : (m n : Bool) (a b : Tree) → m ≡ n → cond m (renumber c b) (renumber c a) ≡ renumber c (cond n b a)
   chosen_key true true a b e = refl
   chosen_key false false a b e = refl
   chosen_key true false a b e = absurd cc
   chosen_key false true a b e = absurd cc
 
-  chosen_is_of : (m : Bool) (a b : Tree) → IsOf c a → IsOf c b → EndIsOf c (cond m (Some b) (Some a))
+  chosen_is_of : (m : Bool) (a b : Tree) → IsOf c a → IsOf c b → IsOf c (cond m b a)
   chosen_is_of true a b p q = q
   chosen_is_of false a b p q = p
 
-  earlier_stays : (dir : Dir) (a b : Option Tree) → EndIsOf c a → EndIsOf c b
-      → earlier_key dir (option_map (renumber c) a) (option_map (renumber c) b) ≡ option_map (renumber c) (earlier_key dir a b)
-  earlier_stays dir None b p q = refl
-  earlier_stays dir (Some a) None p q = refl
-  earlier_stays dir (Some a) (Some b) p q = chosen_key _ _ a b (ap is_lt (dir_stays dir b a q p))
+  earlier_is_of : (dir : Dir) (a b : Tree) → IsOf c a → IsOf c b → IsOf c (earlier dir a b)
+  earlier_is_of dir a b p q = chosen_is_of (is_lt (dir_cmp dir b a)) a b p q
 
-  earlier_is_of : (dir : Dir) (a b : Option Tree) → EndIsOf c a → EndIsOf c b → EndIsOf c (earlier_key dir a b)
-  earlier_is_of dir None b p q = q
-  earlier_is_of dir (Some a) None p q = p
-  earlier_is_of dir (Some a) (Some b) p q = chosen_is_of (is_lt (dir_cmp dir b a)) a b p q
+  least_is_of : (dir : Dir) (a : Tree) (ks : List Tree) → IsOf c a → Each (IsOf c) ks → IsOf c (fold (earlier dir) a ks)
+  least_is_of dir a [] p q = p
+  least_is_of dir a (k ∷ ks) p q = least_is_of dir (earlier dir a k) ks (earlier_is_of dir a k p q.0) q.1
 
-  earliest_is_of : (dir : Dir) (ks : List Tree) → Each (IsOf c) ks → EndIsOf c (earliest_key dir ks)
+  least_stays : (dir : Dir) (a : Tree) (ks : List Tree) → IsOf c a → Each (IsOf c) ks → fold (earlier dir) (renumber c a) (map (renumber c) ks) ≡ renumber c (fold (earlier dir) a ks)
+  least_stays dir a [] p q = refl
+  least_stays dir a (k ∷ ks) p q =
+      ap (λ x. fold (earlier dir) x (map (renumber c) ks)) (chosen_key _ _ a k (ap is_lt (dir_stays dir k a q.0 p)))
+      ∙ least_stays dir (earlier dir a k) ks (earlier_is_of dir a k p q.0) q.1
+
+  earliest_is_of : (dir : Dir) (ks : List Tree) → Each (IsOf c) ks → EndIsOf c (reduce (earlier dir) ks)
   earliest_is_of dir [] p = tt
-  earliest_is_of dir (k ∷ ks) p = earlier_is_of dir (Some k) (earliest_key dir ks) p.0 (earliest_is_of dir ks p.1)
+  earliest_is_of dir (k ∷ ks) p = least_is_of dir k ks p.0 p.1
 
-  earliest_stays : (dir : Dir) (ks : List Tree) → Each (IsOf c) ks → earliest_key dir (map (renumber c) ks) ≡ option_map (renumber c) (earliest_key dir ks)
+  earliest_stays : (dir : Dir) (ks : List Tree) → Each (IsOf c) ks → reduce (earlier dir) (map (renumber c) ks) ≡ option_map (renumber c) (reduce (earlier dir) ks)
   earliest_stays dir [] p = refl
-  earliest_stays dir (k ∷ ks) p =
-      ap (earlier_key dir (Some (renumber c k))) (earliest_stays dir ks p.1) ∙ earlier_stays dir (Some k) (earliest_key dir ks) p.0 (earliest_is_of dir ks p.1)
+  earliest_stays dir (k ∷ ks) p = ap Some (least_stays dir k ks p.0 p.1)
 
 or_null : (c : Codes) (k : Option Tree) → unwrap_or (option_map (renumber c) k) (leaf null) ≡ renumber c (unwrap_or k (leaf null))
 or_null c None = refl
@@ -302,19 +308,19 @@ module _ (c : Codes) (up : AreIncreasing c) (p : Names) (lead : ReadsAlike c p) 
   up_below = λ names. up (p ++ names)
 
   pub keys_stay : (sparse : Bool) (t : Tree) → IsOf c t → indexed_keys sparse (renumber c t) p ≡ map (renumber (below p c)) (indexed_keys sparse t p)
-  keys_stay sparse t a = ap (with_keys []) (all_stay c sparse t p lead) ∙ more_keys (below p c) up_below [] (all_keys sparse t p) tt (all_are_of c sparse t p lead a)
+  keys_stay sparse t a = ap distinct (all_stay c sparse t p lead) ∙ distinct_stay (below p c) up_below (all_keys sparse t p) (all_are_of c sparse t p lead a)
 
   keys_are_of : (sparse : Bool) (t : Tree) → IsOf c t → Each (IsOf (below p c)) (indexed_keys sparse t p)
-  keys_are_of sparse t a = more_are_of (below p c) up_below [] (all_keys sparse t p) tt (all_are_of c sparse t p lead a)
+  keys_are_of sparse t a = distinct_are_of (below p c) up_below (all_keys sparse t p) (all_are_of c sparse t p lead a)
 
   sort_key_stays : (dir : Dir) (t : Tree) → IsOf c t → sort_key dir (renumber c t) p ≡ renumber (below p c) (sort_key dir t p)
   sort_key_stays dir t a =
-      ap (λ ks. unwrap_or (earliest_key dir ks) (leaf null)) (keys_stay false t a)
+      ap (λ ks. unwrap_or (reduce (earlier dir) ks) (leaf null)) (keys_stay false t a)
       ∙ ap (λ k. unwrap_or k (leaf null)) (earliest_stays (below p c) up_below dir (keys t p) (keys_are_of false t a))
-      ∙ or_null (below p c) (earliest_key dir (keys t p))
+      ∙ or_null (below p c) (reduce (earlier dir) (keys t p))
 
   sort_key_is_of : (dir : Dir) (t : Tree) → IsOf c t → IsOf (below p c) (sort_key dir t p)
-  sort_key_is_of dir t a = null_is_of (below p c) (earliest_key dir (keys t p)) (earliest_is_of (below p c) up_below dir (keys t p) (keys_are_of false t a))
+  sort_key_is_of dir t a = null_is_of (below p c) (reduce (earlier dir) (keys t p)) (earliest_is_of (below p c) up_below dir (keys t p) (keys_are_of false t a))
 
   sort_stays : (dir : Dir) (a b : Tree) → IsOf c a → IsOf c b
       → dir_cmp dir (sort_key dir (renumber c a) p) (sort_key dir (renumber c b) p) ≡ dir_cmp dir (sort_key dir a p) (sort_key dir b p)

@@ -1,11 +1,22 @@
 -- The keys of a document on a path: by them it is sorted, and an index has them as entries.
-use Rattle.std.specs.Prelude.{◌≡◌, ℕ, List, ◌++◌, Bool, not}
+use Rattle.std.specs.Prelude.{◌≡◌, ℕ, List, [], ◌∷◌, ◌++◌, Bool, not, if◌then◌else◌}
 use Rattle.std.specs.List.{flat_map, list_any}
 use Rattle.bd_value.specs.Order.{equal}
 use Rattle.bd_value.specs.Tree.{Tree}
 use Rattle.bd_path.specs.{PathWalk.Stops, declared.key.Key.Key}
 use Rattle.bd_path.specs.{declared.path_walk.Stop.Stop, declared.path_walk.Stop.TheVariants.Value}
 use Rattle.bd_path.specs.Key.{missing_key, end_keys, distinct, key_trees, AreKeysOf, AreKeysAt}
+
+-- ---- distinct keys, one at a time
+
+-- the keys and one more, unless it equals one of them
+abbrev pub with_key : List Tree → Tree → List Tree
+with_key ks k = if list_any (λ x. equal x k) ks then ks else ks ++ k ∷ []
+
+-- the keys with some more after them, each of these dropped if it equals an earlier one
+abbrev pub with_keys : List Tree → List Tree → List Tree
+with_keys ks [] = ks
+with_keys ks (t ∷ ts) = with_keys (with_key ks t) ts
 
 -- ---- keys found so far; those that equal an earlier one do not count
 

@@ -1,7 +1,7 @@
 use Rattle.std.proofs.Common.{◌≡◌, false, ◌||◌, None, sym, ap, ◌∙◌, [], ◌∷◌}
 use Rattle.bd_value.specs.{Tree.values_of, Tree.elements_in, Tree.leaf}
 use Rattle.bd_value.specs.Tree as trees
-use Rattle.bd_path.specs.{Sort.earliest_key, Key.or_else}
+use Rattle.bd_path.specs.{inside.Sort.earliest_key, Key.or_else}
 use Rattle.bd_path.proofs.SortLemmas as first
 use Rattle.bd_path.proofs.PathWalkLemmas as key
 use Rattle.bd_path.proofs.sort.earliest_end.Goals as goal

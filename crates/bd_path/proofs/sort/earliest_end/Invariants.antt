@@ -1,7 +1,7 @@
 use Rattle.std.proofs.Common.{◌≡◌, false, [], ◌∷◌, length, option_map}
 use Rattle.std.specs.Prelude.{IfSome}
 use Rattle.bd_value.specs.Tree.{values_of, elements_in}
-use Rattle.bd_path.specs.{Sort.earlier_key, Sort.earliest_key, Key.IsKeyAt, Key.IsKeyOf, Key.key_tree, declared.path_walk.Stop.TheVariants.Value}
+use Rattle.bd_path.specs.{inside.Sort.earlier_key, inside.Sort.earliest_key, Key.IsKeyAt, Key.IsKeyOf, Key.key_tree, declared.path_walk.Stop.TheVariants.Value}
 use Rattle.bd_path.proofs.sort.earliest_end.Given as goal
 
 -- the earliest so far, and that of those that remain, give the earliest of all

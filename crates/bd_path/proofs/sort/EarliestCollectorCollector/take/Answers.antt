@@ -1,5 +1,5 @@
 use Rattle.std.proofs.Common.{◌||◌, false, sym, ap, refl}
-use Rattle.bd_path.specs.{Sort.earliest_key, inside.PathWalk.stop_tree, declared.key.Key.TheVariants.Null, declared.path_walk.Stop.TheVariants.Value}
+use Rattle.bd_path.specs.{inside.Sort.earliest_key, inside.PathWalk.stop_tree, declared.key.Key.TheVariants.Null, declared.path_walk.Stop.TheVariants.Value}
 use Rattle.bd_path.proofs.{SortLemmas.takes_earliest, PathWalkLemmas.no_value, PathWalkLemmas.no_value_keys}
 use Rattle.bd_path.proofs.sort.EarliestCollectorCollector.take.Goals as goal
 
