@@ -1,8 +1,11 @@
-//! Tests of `bd_io_device` and `bd_io_lines`, over their public calls: devices that fail, or give one byte in a call.
+//! Tests of `bd_io_device`, `bd_io_lines` and `bd_io_stdout`, over their public calls: devices that fail, or give one byte in a
+//! call.
 #![tactic(auto)]
 
 #[cfg(test)]
 mod examples;
+#[cfg(test)]
+mod flushing_tests;
 #[cfg(test)]
 mod line_tests;
 #[cfg(test)]
