@@ -75,6 +75,7 @@ ended r at Q old body out reported index is =
 
 -- ---- what is read and written, or refused
 
+-- what is made of what is read, and written so
 pub if_read : {A B : Type 0} (make : A → B) (Written : A → Type 0) (Whole : B → Type 0) (rest : List Token) {X : Type 0} (r : Result X Refusal)
     (read : Option (A × List Token)) (whole : Option (B × List Token)) → whole ≡ parse_map make read → ((x : A) → Written x → Whole (make x))
     → Writes Written rest r read → Writes Whole rest r whole
@@ -91,6 +92,7 @@ pub if_wrapper : {X : Type 0} (Written : Tree → Type 0) (rest : List Token) (r
 if_wrapper Written rest r w depth_left depth n ts None e f = absurd cc
 if_wrapper Written rest r w depth_left depth n ts (Some name) e f = f name e
 
+-- what a clause says of a result that is Ok, and what follows
 pub ok_on : {X E : Type 0} (r : Result X E) (P Q : Type 0) → OnOk r P → (P → Q) → OnOk r Q
 ok_on (Ok x) P Q p f = f p
 ok_on (Err e) P Q p f = tt
@@ -114,10 +116,12 @@ pub taken : {X E : Type 0} (o : Option (Result X E)) (r : Result X E) (x : X) (P
 taken None r x P e f p = absurd cc
 taken (Some s) r x P e f p = let is : s ≡ Ok x = cc in rw is at p
 
+-- two clauses of one result
 pub both_ok : {X E : Type 0} (r : Result X E) (P Q : Type 0) → OnOk r P → OnOk r Q → OnOk r (P × Q)
 both_ok (Ok x) P Q p q = (p, q)
 both_ok (Err e) P Q p q = tt
 
+-- if nothing is read, nothing is read of the whole
 pub unread_by : {A B : Type 0} (e : Refusal) (x : Option A) (y : Option B) → (x ≡ None → y ≡ None) → NotRead e x → NotRead e y
 unread_by refusals.NoDocument x y f h = f h
 unread_by refusals.Undecided x y f h = tt

@@ -1,5 +1,5 @@
 //! The bytes of a document straight from its canonical text, as `dump` writes it. If a line is spelled in another way, or is
-//! not a document, the result is only None.
+//! not a document, or if memory runs out, the result is only None.
 ghost use Rattle.std.specs.Prelude.{◌≡◌, ◌<◌, ◌≤◌, ◌++◌, ◌∷◌, [], ℕ, List, length, false, None, IfSome, ◌^◌, string_bytes, decimal, get_or, IsTrue};
 ghost use Rattle.bd_value.specs.Limits.{longest_document};
 ghost use Rattle.bd_value.specs.Tree.{Tree, Doc, leaf, doc, array, fields_of, items_of};
