@@ -270,6 +270,7 @@ object_no_depth_left : (depth n : ℕ) (ts : List Token) (key : Option (List ℕ
 object_no_depth_left depth n ts None e = refl
 object_no_depth_left depth n ts (Some k) e = refused_member (wrap_object 0) k depth n ts (λ j ms. rw e refl)
 
+-- with no level left, an object whose first name is not a wrapper's is refused
 pub object_refused : (depth_left depth n : ℕ) (ts : List Token) (key : Option (List ℕ)) → depth_left ≡ 0 → option_and_then wrapper_of key ≡ None → through (wrap_object depth_left) (after_key depth n key ts) ≡ None
 object_refused depth_left depth n ts key z e = ap (λ r. through (wrap_object r) (after_key depth n key ts)) z ∙ object_no_depth_left depth n ts key e
 
@@ -314,6 +315,7 @@ last : (v : Option (Json × List Token)) (t : Tree) → through (wrap most_level
 last None t e = absurd cc
 last (Some (j, ts)) t e = let p = whole (wrap most_levels j) t ts e in rw p.1 p.0
 
+-- a text that is UTF-8 has the JSON value of its tokens, if none remains
 pub json_is : (text : List ℕ) → is_utf8 text ≡ true → json text ≡ option_and_then (λ p. if_last p.0 p.1) (value most_brackets (tokens text))
 json_is text e = rw e refl
 
@@ -324,6 +326,7 @@ whole_text text ts rest t u e r n =
     ap (option_and_then (wrap most_levels)) (json_is text (is_utf8-from_IsUtf8 text u))
     ∙ last (value most_brackets (tokens text)) t (ap (λ k. through (wrap most_levels) (value most_brackets k)) (sym e) ∙ r ∙ ap (λ l. Some (t, l)) n)
 
+-- bytes that are not UTF-8 are no document
 pub no_text : (text : List ℕ) → ¬ (IsUtf8 text) → reading text ≡ None
 no_text text h = elim (cases_Bool (is_utf8 text)) [
   | inl is ↦ absurd (h (IsUtf8-from_is_utf8 text is))

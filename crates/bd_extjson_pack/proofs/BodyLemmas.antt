@@ -11,13 +11,20 @@ use Rattle.bd_bson_write.specs.TreeBytes.{bytes_of, fields_bytes, items_bytes}
 use Rattle.bd_extjson_wrapper.specs.{Wrapper.Gives, Wrapper.through, Wrapper.after_key, Wrapper.wrapper_of, Wrapper.single, Wrapper.only}
 use Rattle.bd_extjson_wrapper.specs.{declared.wrapper.Trouble.Trouble, WholeNumber.fits_bits, WholeNumber.if_fits, WholeNumber.whole, WholeNumber.whole_32, WholeNumber.whole_64}
 use Rattle.bd_extjson_wrapper.specs.declared.wrapper.Wrapper.{Wrapper}
-use Rattle.bd_extjson.proofs.ReadLemmas.{items_before, fields_before, first_name}
+use Rattle.bd_extjson.proofs.ReadLemmas.{items_before, fields_before, first_name, json_is}
 use Rattle.std.proofs.{lemmas.Option.option_and_then_some, lemmas.Option.cond_some, lemmas.Int.ints, lemmas.Int.to_z-of_z}
 use Rattle.json.specs.Json as json
 use Rattle.json.proofs.Grammar.{value-begin_object, value_is, members_end}
 use Rattle.bd_value.specs.Tree as trees
-use Rattle.bd_extjson.specs.Read.{wrap_object}
+use Rattle.bd_extjson.specs.Read.{wrap, wrap_object, reading, document}
 use Rattle.bd_extjson.proofs.MemberLemmas as of_members
+use Rattle.std.specs.Str.{IsUtf8}
+use Rattle.std.proofs.lemmas.Str.{is_utf8-from_IsUtf8}
+use Rattle.json.specs.{Json.if_last, Lex.tokens}
+use Rattle.bd_value.specs.{Limits.most_brackets, Limits.most_levels, Tree.pairs_of}
+use Rattle.bd_extjson_pack.specs.inside.Writes.{Writes, NotRead}
+use Rattle.bd_extjson_pack.specs.declared.tokens.Refusal.{Refusal}
+use Rattle.bd_extjson_pack.specs.declared.tokens.Refusal.TheVariants as refusals
 use Rattle.bd_extjson_wrapper.specs.declared.wrapper.Wrapper.TheVariants as kinds
 
 -- the bytes of one more field come after those of the fields before it
@@ -66,11 +73,29 @@ ended r at Q old body out reported index is =
     let back : drop (at + 4) out ≡ body = ap (drop (at + 4)) is ∙ drop_at (old ++ number 0) body (at + 4) size in
     ap₂ (λ (x y : List ℕ). x ++ framed y) prefix back
 
--- ---- results
+-- ---- what is read and written, or refused
 
-pub some_ok : {A E : Type 0} (o : Option A) (r : Result A E) (P Q : Type 0) → o ≡ result_ok r → OnOk r P → (P → Q) → IfSome o (λ u. Q)
-some_ok None r P Q e p f = tt
-some_ok (Some x) r P Q e p f = f (if_ok r x (λ _. P) _ e p)
+-- what is made of what is read, and written so
+pub if_read : {A B : Type 0} (make : A → B) (Written : A → Type 0) (Whole : B → Type 0) (rest : List Token) {X : Type 0} (r : Result X Refusal)
+    (read : Option (A × List Token)) (whole : Option (B × List Token)) → whole ≡ parse_map make read → ((x : A) → Written x → Whole (make x))
+    → Writes Written rest r read → Writes Whole rest r whole
+if_read make Written Whole rest (Ok u) read whole e f w = (make w.0, e ∙ ap (parse_map make) w.1, f w.0 w.2)
+if_read make Written Whole rest (Err refusals.NoDocument) read whole e f w = e ∙ ap (parse_map make) w
+if_read make Written Whole rest (Err refusals.Undecided) read whole e f w = tt
+if_read make Written Whole rest (Err (refusals.Unwritten fault)) read whole e f w = tt
+
+-- an object whose first name is a wrapper's
+pub if_wrapper : {X : Type 0} (Written : Tree → Type 0) (rest : List Token) (r : Result X Refusal) (w : Wrapper) (depth_left depth n : ℕ)
+    (ts : List Token) (key : Option (List ℕ)) → option_and_then wrapper_of key ≡ Some w
+    → ((name : List ℕ) → wrapper_of name ≡ Some w → Writes Written rest r (through (wrap_object depth_left) (after_key depth n (Some name) ts)))
+    → Writes Written rest r (through (wrap_object depth_left) (after_key depth n key ts))
+if_wrapper Written rest r w depth_left depth n ts None e f = absurd cc
+if_wrapper Written rest r w depth_left depth n ts (Some name) e f = f name e
+
+-- what a clause says of a result that is Ok, and what follows
+pub ok_on : {X E : Type 0} (r : Result X E) (P Q : Type 0) → OnOk r P → (P → Q) → OnOk r Q
+ok_on (Ok x) P Q p f = f p
+ok_on (Err e) P Q p f = tt
 
 -- ---- what was read
 
@@ -82,18 +107,42 @@ pub no_items_before : (r : Option (Items × List Token)) → r ≡ parse_map (it
 no_items_before None = refl
 no_items_before (Some p) = refl
 
-pub gave : {X A : Type 0} (view : X → A) (r : Result X Trouble) (x : X) (rest : List Token) (read : Option (A × List Token)) → Some x ≡ result_ok r
-    → Gives (λ x. (view x, rest)) r read → read ≡ Some (view x, rest)
-gave view (Ok y) x rest read e g = let is : x ≡ y = cc in g ∙ ap (λ z. Some (view z, rest)) (sym is)
-gave view (Err f) x rest read e g = absurd cc
-
 pub not_some : {A : Type 0} (o : Option A) → is_some o ≡ false → o ≡ None
 not_some None e = refl
 not_some (Some x) e = absurd (true≢false e)
 
-pub both_some : {A : Type 0} (o : Option A) (P Q : Type 0) → IfSome o (λ u. P) → IfSome o (λ u. Q) → IfSome o (λ u. P × Q)
-both_some None P Q p q = tt
-both_some (Some x) P Q p q = (p, q)
+-- what is known of a result in an option, once it was taken out of both
+pub taken : {X E : Type 0} (o : Option (Result X E)) (r : Result X E) (x : X) (P : Type 0) → o ≡ Some r → r ≡ Ok x → IfSome o (λ r. OnOk r P) → P
+taken None r x P e f p = absurd cc
+taken (Some s) r x P e f p = let is : s ≡ Ok x = cc in rw is at p
+
+-- two clauses of one result
+pub both_ok : {X E : Type 0} (r : Result X E) (P Q : Type 0) → OnOk r P → OnOk r Q → OnOk r (P × Q)
+both_ok (Ok x) P Q p q = (p, q)
+both_ok (Err e) P Q p q = tt
+
+-- if nothing is read, nothing is read of the whole
+pub unread_by : {A B : Type 0} (e : Refusal) (x : Option A) (y : Option B) → (x ≡ None → y ≡ None) → NotRead e x → NotRead e y
+unread_by refusals.NoDocument x y f h = f h
+unread_by refusals.Undecided x y f h = tt
+unread_by (refusals.Unwritten fault) x y f h = tt
+
+-- ---- a whole text
+
+no_value : (o : Option Tree) (ts : List Token) → option_map {U = Tree × List Token} (λ a. (a, ts)) o ≡ None → o ≡ None
+no_value None ts e = refl
+no_value (Some t) ts e = absurd cc
+
+nothing : (v : Option (Json × List Token)) → through (wrap most_levels) v ≡ None → option_and_then (wrap most_levels) (option_and_then (λ p. if_last p.0 p.1) v) ≡ None
+nothing None e = refl
+nothing (Some (j, [])) e = no_value (wrap most_levels j) [] e
+nothing (Some (j, t ∷ ts)) e = refl
+
+-- a text whose tokens mean no value is no document
+pub unread : (text : List ℕ) (ts : List Token) → IsUtf8 text → ts ≡ tokens text → through (wrap most_levels) (value most_brackets ts) ≡ None → reading text ≡ None
+unread text ts utf8 e none =
+    ap (λ o. option_map pairs_of (option_and_then document (option_and_then (wrap most_levels) o))) (json_is text (is_utf8-from_IsUtf8 text utf8))
+    ∙ ap (λ o. option_map pairs_of (option_and_then document o)) (nothing (value most_brackets (tokens text)) (ap (λ k. through (wrap most_levels) (value most_brackets k)) (sym e) ∙ none))
 
 -- ---- wrappers of one string
 

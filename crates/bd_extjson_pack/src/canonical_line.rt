@@ -1,5 +1,5 @@
 //! The bytes of a document straight from its canonical text, as `dump` writes it. If a line is spelled in another way, or is
-//! not a document, the result is only None.
+//! not a document, or if memory runs out, the result is only None.
 ghost use Rattle.std.specs.Prelude.{◌≡◌, ◌<◌, ◌≤◌, ◌++◌, ◌∷◌, [], ℕ, List, length, false, None, IfSome, ◌^◌, string_bytes, decimal, get_or, IsTrue};
 ghost use Rattle.bd_value.specs.Limits.{longest_document};
 ghost use Rattle.bd_value.specs.Tree.{Tree, Doc, leaf, doc, array, fields_of, items_of};
@@ -141,27 +141,27 @@ fn append_wrapper<'a>(text: &'a str, name: &str, out: &mut Vec<u8>) -> Option<&'
     match text.as_bytes().get(9)? {
         b'I' => {
             let (n, rest) = int32(text)?;
-            append_int32(name, n, out)?;
+            append_int32(name, n, out).ok()?;
             Some(rest)
         }
         b'L' => {
             let (n, rest) = whole_number(after_word(text, b"{\"$numberLong\":")?)?;
-            append_int64(name, n, out)?;
+            append_int64(name, n, out).ok()?;
             after_word(rest, b"}")
         }
         b'{' => {
             let (n, rest) = whole_number(after_word(text, b"{\"$date\":{\"$numberLong\":")?)?;
-            append_date(name, n, out)?;
+            append_date(name, n, out).ok()?;
             after_word(rest, b"}}")
         }
         b'"' => {
             let (subtype, payload, rest) = binary(*out.allocator(), text)?;
-            append_binary(name, subtype, &payload, out)?;
+            append_binary(name, subtype, &payload, out).ok()?;
             Some(rest)
         }
         _ => {
             let (id, rest) = id_digits(after_word(text, b"{\"$oid\":")?)?;
-            append_id(name, &id, out)?;
+            append_id(name, &id, out).ok()?;
             after_word(rest, b"}")
         }
     }
@@ -174,15 +174,15 @@ fn append_word<'a>(text: &'a str, name: &str, out: &mut Vec<u8>) -> Option<&'a s
         × IsCanonical 0 t × (out.new.items ≡ out.old.items ++ element t name.now (bytes_of t))) }
 {
     if let Some(rest) = after_word(text, b"true") {
-        append_bool(name, true, out)?;
+        append_bool(name, true, out).ok()?;
         return Some(rest);
     }
     if let Some(rest) = after_word(text, b"false") {
-        append_bool(name, false, out)?;
+        append_bool(name, false, out).ok()?;
         return Some(rest);
     }
     let rest = after_word(text, b"null")?;
-    append_null(name, out)?;
+    append_null(name, out).ok()?;
     Some(rest)
 }
 
@@ -194,7 +194,7 @@ fn append_string<'a>(text: &'a str, name: &str, out: &mut Vec<u8>) -> Option<&'a
 {
     match string(text) {
         Some((inside, rest)) => {
-            append_text(name, inside, out)?;
+            append_text(name, inside, out).ok()?;
             Some(rest)
         }
         None => append_escaped(text, name, out),
@@ -209,7 +209,7 @@ fn append_escaped<'a>(text: &'a str, name: &str, out: &mut Vec<u8>) -> Option<&'
 {
     let mut inside = String::new(*out.allocator());
     let rest = append_unescaped(text, &mut inside)?;
-    append_text(name, &inside, out)?;
+    append_text(name, &inside, out).ok()?;
     Some(rest)
 }
 

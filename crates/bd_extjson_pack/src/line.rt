@@ -3,9 +3,9 @@ ghost use Rattle.std.specs.Prelude.{◌≡◌, ◌++◌, IfOk, IfSome, OnErr, No
 ghost use Rattle.bd_value.specs.Tree.{Doc};
 ghost use Rattle.bd_extjson_pack.specs.Packable.{plain, IsPackable, IsBad};
 
-use crate::tokens::spell_line;
+use crate::tokens::{Refusal, spell_line};
 use bd_bson_write::{WriteFault, write_document};
-use bd_extjson::read_doc_text;
+use bd_extjson::{fault_of, read_doc_text};
 use bd_extjson_fault::{JsonFault, JsonFaultKind, text_of};
 use bd_value::NoMemory;
 use json::Scratch;
@@ -61,13 +61,19 @@ impl Packer {
             Ok(text) => text,
             Err(bad) => return Ok(Some(LineFault::Unread(bad))),
         };
-        // For nearly every line the bytes come straight from its tokens. The others are read again, by a tree.
+        // For nearly every line the bytes come straight from its tokens. Few others are read again, by a tree.
         match spell_line(self.alloc, text, &mut self.scratch, &mut self.spelled) {
-            Some(()) => {
+            Ok(()) => {
                 out.extend_from_slice(&self.spelled)?;
                 Ok(None)
             }
-            None => pack_tree(self.alloc, text, &mut self.scratch, out),
+            // No pass follows.
+            Err(Refusal::Unwritten(WriteFault::NoMemory)) => Err(AllocError),
+            Err(Refusal::NoDocument) => match fault_of(self.alloc, text) {
+                fault if fault.kind == JsonFaultKind::NoMemory => Err(AllocError),
+                fault => Ok(Some(LineFault::Unread(fault))),
+            },
+            Err(_) => pack_tree(self.alloc, text, &mut self.scratch, out),
         }
     }
 }

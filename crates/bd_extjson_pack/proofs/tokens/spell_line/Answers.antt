@@ -1,15 +1,14 @@
 use Rattle.std.proofs.Common.{◌≡◌, length, option_map, option_and_then, sym, ap, ◌∙◌, arith}
-use Rattle.std.proofs.lemmas.Option.{IfSome_then}
 use Rattle.bd_value.specs.{Tree.doc, Tree.pairs_of, Tree.fields_of, Tree.fields_of-pairs_of}
 use Rattle.bd_bson_write.specs.TreeBytes.{bytes_of}
 use Rattle.bd_extjson.specs.{Read.document}
 use Rattle.bd_extjson_pack.proofs.BodyLemmas as bodies
 use Rattle.bd_extjson_pack.proofs.tokens.spell_line.Goals as goal
 
-pub returns : goal.returns
-returns c =
-    IfSome_then c.append_document.result (bodies.both_some c.append_document.result _ _ c.append_document.ensures.gives c.append_document.ensures.within)
-    (λ u g.
+pub returns-clause-spelled : goal.returns-clause-spelled
+returns-clause-spelled c =
+    bodies.ok_on c.append_document.result _ _ (bodies.both_ok c.append_document.result _ _ c.append_document.ensures.gives c.append_document.ensures.within)
+    (λ g.
     let fs = g.0.0 in
     let back : bytes_of (doc fs) ≡ bytes_of (doc (fields_of (pairs_of fs))) = ap (λ x. bytes_of (doc x)) (sym (fields_of-pairs_of fs)) in
     let out : c.append_document.new.out.items ≡ bytes_of (doc fs) = rw c.clear-2.ensures.items at g.0.2 in
