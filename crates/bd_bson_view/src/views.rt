@@ -59,6 +59,7 @@ impl<'a> RawDoc<'a> {
 
 impl<'a> RawValue<'a> {
     /// The elements of a document or an array; None for any other value.
+    #[inline(always)]
     pub fn elements(self) -> Option<Elements<'a>>
         ensures some { IfSome result (λ x. AreParts (value_tree self.entry) (remaining_pairs x)) }
         ensures same_source { IfSome result (λ x. elements_source x ≡ value_source self.entry) }
@@ -166,6 +167,7 @@ impl<'a> Reading for RawValue<'a> {
         }
     }
 
+    #[inline(always)]
     fn parts(self) -> Elements<'a> {
         match self.elements() {
             Some(elements) => elements,
