@@ -59,7 +59,6 @@ impl<'a> RawDoc<'a> {
 
 impl<'a> RawValue<'a> {
     /// The elements of a document or an array; None for any other value.
-    #[inline(always)]
     pub fn elements(self) -> Option<Elements<'a>>
         ensures some { IfSome result (λ x. AreParts (value_tree self.entry) (remaining_pairs x)) }
         ensures same_source { IfSome result (λ x. elements_source x ≡ value_source self.entry) }
@@ -167,7 +166,6 @@ impl<'a> Reading for RawValue<'a> {
         }
     }
 
-    #[inline(always)]
     fn parts(self) -> Elements<'a> {
         match self.elements() {
             Some(elements) => elements,
