@@ -1,8 +1,8 @@
 -- Skipping values that contain values, and elements one after the other.
 use Rattle.std.proofs.Common.{◌≡◌, ℕ, List, Result, Ok, Err, refl, ap, ◌∙◌, [], arith, zero, suc, ◌+◌, ◌-◌, ◌<◌, ◌≤◌, ◌∷◌, length, get_or, drop, Option, Some, None, sym}
-use Rattle.std.proofs.Common.{Bool, true, false, Bor, take, inl, inr, codes, option_map, IfSome, ◌||◌, ◌==◌, nat_lt, IsAscii}
+use Rattle.std.proofs.Common.{Bool, true, false, Bor, take, inl, inr, codes, option_map, IfSome, ◌||◌, ◌==◌, ◌⊎◌, nat_lt, IsAscii}
 use Rattle.bd_bson_check.specs.declared.fault.FaultKind.TheVariants.{TooDeep, NameUnended}
-use Rattle.bd_bson_check.specs.FirstFault.{◌>>=◌, within, skip_name, skip_string, skip_code_frame, label, fault, Nested, skip_typed, skip_element, skip_elements, skip_body}
+use Rattle.bd_bson_check.specs.FirstFault.{◌>>=◌, within, skip_name, skip_string, skip_code_frame, label, fault, Nested, skip_typed, skip_element, skip_elements, skip_body, skip_frame}
 use Rattle.bd_bson_check.specs.FirstFault.{skip_code_scope, skip_nested, skip_value}
 use Rattle.bd_bson_check.specs.{Fault.Fault, inside.Fault.found_fault, Fault.longer, inside.Fault.ReportsStop, inside.Fault.FailsAtItem, declared.fault.Stop.Stop}
 use Rattle.bd_bson_view.specs.{declared.raw_parts.ElementType.ElementType, declared.raw_parts.Holder.Holder, Spelling.type_at, declared.raw_parts.ElementType.TheVariants.Kept}
@@ -11,6 +11,7 @@ use Rattle.std.specs.{List.position, Str.is_utf8}
 use Rattle.std.proofs.lemmas.{Bool.cases_lt, Bool.ltb-false, Bool.or_parts, Bool.Decides.nat_tests, List.get_or-take, List.get_or_past, List.length-take}
 use Rattle.std.proofs.lemmas.{List.Quantifiers.position-Some, List.Sums.position_or_len_is, Str.is_utf8-from_IsUtf8, Str.IsUtf8-from_ascii}
 use Rattle.bd_value.specs.declared.node.Kind.{Kind}
+use Rattle.bd_value.specs.declared.node.Kind.TheVariants as kinds
 use Rattle.bd_bson_check.specs.declared.fault.Stop.TheVariants as stops
 use Rattle.bd_bson_view.specs.declared.raw_parts.Holder.TheVariants as holders
 
@@ -133,11 +134,44 @@ named bytes k is zero_here =
     ] in
     (grind (arith, nat_tests, e, at.0), is_utf8-from_IsUtf8 (take k bytes) (IsUtf8-from_ascii (take k bytes) ascii), at.0)
 
-pub element_gives : (bytes named value : List ℕ) (kind : Kind) (r : Option (Bor (List ℕ))) → 0 < length bytes → drop 1 bytes ≡ named → type_at (get_or bytes 0 0) ≡ Some (Kept kind)
+-- an element whose name is text is skipped as its value is
+pub element_gives : (bytes named value : List ℕ) (kind : Kind) → 0 < length bytes → drop 1 bytes ≡ named → type_at (get_or bytes 0 0) ≡ Some (Kept kind)
     → (k : ℕ) × (position is_zero named ≡ Some k) × (is_utf8 (take k named) ≡ true) × (k < length named) × (value ≡ drop (k + 1) named)
-    → IfSome r (λ x. (nested : Nested) (q e : ℕ) → skip_value nested kind q e value ≡ Ok x.now)
-    → IfSome r (λ x. (nested : Nested) (index : Option ℕ) (e : ℕ) → skip_element nested index e bytes ≡ Ok x.now)
+    → (nested : Nested) (index : Option ℕ) (e : ℕ) (after : List ℕ) → skip_value nested kind (e - length bytes) e value ≡ Ok after → skip_element nested index e bytes ≡ Ok after
 unfolding skip_element skip_name
-element_gives bytes named value kind None lt splits type name above = tt
-element_gives [] named value kind (Some x) lt splits type name above = absurd (omega arith)
-element_gives (b ∷ bytes) named value kind (Some x) lt splits type name above = λ nested index e. rw (splits, type, name.1, name.2, ← name.4, above nested (e - suc (length named)) e) refl
+element_gives [] named value kind lt splits type name nested index e after is = absurd (omega arith)
+element_gives (b ∷ bytes) named value kind lt splits type name nested index e after is = rw (splits, type, name.1, name.2, ← name.4, ← splits, is) refl
+
+-- a name that is text, and the bytes after it
+abbrev pub IsNamed : List ℕ → List ℕ → Type 0
+IsNamed bytes after = (k : ℕ) × (position is_zero bytes ≡ Some k) × (is_utf8 (take k bytes) ≡ true) × (k < length bytes) × (after ≡ drop (k + 1) bytes)
+
+-- ---- what is skipped quickly
+
+pub regex_gives : (kind : Kind) (bytes mid : List ℕ) (r : Option (Bor (List ℕ))) → kind ≡ kinds.Regex → IsNamed bytes mid → IfSome r (λ x. IsNamed mid x.now)
+    → IfSome r (λ x. (nested : Nested) (q e : ℕ) → skip_value nested kind q e bytes ≡ Ok x.now)
+unfolding skip_name
+regex_gives kind bytes mid None is first second = tt
+regex_gives kind bytes mid (Some x) is first second = λ nested q e. rw (is, first.1, first.2, ← first.4, second.1, second.2, ← second.4) refl
+
+module _ (nested : Nested) (kind : Kind) (bytes value : List ℕ)
+    (named : (nested : Nested) (index : Option ℕ) (e : ℕ) (after : List ℕ) → skip_value nested kind (e - length bytes) e value ≡ Ok after → skip_element nested index e bytes ≡ Ok after) where
+  pub value_gives : (r : Option (Bor (List ℕ))) → IfSome r (λ x. (nested : Nested) (q e : ℕ) → skip_value nested kind q e value ≡ Ok x.now)
+      → IfSome r (λ x. (index : Option ℕ) (e : ℕ) → skip_element nested index e bytes ≡ Ok x.now)
+  value_gives None above = tt
+  value_gives (Some x) above = λ index e. named nested index e x.now (above nested (e - length bytes) e)
+
+  pub nested_gives : (r : Option (Bor (List ℕ))) → (kind ≡ kinds.Doc) ⊎ (kind ≡ kinds.Array)
+      → IfSome r (λ x. (q e : ℕ) → (nested holders.Document q e value ≡ Ok x.now) × (nested holders.Array q e value ≡ Ok x.now))
+      → IfSome r (λ x. (index : Option ℕ) (e : ℕ) → skip_element nested index e bytes ≡ Ok x.now)
+  nested_gives None one above = tt
+  nested_gives (Some x) (inl is) above = λ index e. named nested index e x.now (rw is (above (e - length bytes) e).0)
+  nested_gives (Some x) (inr is) above = λ index e. named nested index e x.now (rw is (above (e - length bytes) e).1)
+
+-- a document or an array whose elements have no fault
+pub body_gives : (depth_left : ℕ) (bytes body after : List ℕ) (end : ℕ → ℕ) → 0 < depth_left → ((e : ℕ) → skip_frame false e bytes ≡ Ok (body, end e, after))
+    → ((index : Option ℕ) (e : ℕ) → skip_elements (skip_nested (depth_left - 1)) index (length body) e body ≡ Ok tt)
+    → (q e : ℕ) → (skip_nested depth_left holders.Document q e bytes ≡ Ok after) × (skip_nested depth_left holders.Array q e bytes ≡ Ok after)
+body_gives depth_left bytes body after end deep frame sound q e =
+    let parts = below depth_left q e bytes deep in
+    (parts.0 ∙ rw (frame e, sound None (end e)) refl, parts.1 ∙ rw (frame e, sound (Some 0) (end e)) refl)

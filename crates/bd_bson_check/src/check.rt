@@ -14,7 +14,8 @@ ghost use Rattle.bd_bson_check.specs.Dump.{frame_length, frame_fault, IsNext};
 use crate::fault::{
     Fault, FaultKind, Skipped, Stop, fault_at, fault_of, frame_fault, want_of_memory, within,
 };
-use crate::parts::{binary, boolean, code_frame, fixed, frame, name, regex, skip_scalar, string};
+use crate::parts::{binary, boolean, code_frame, fixed, frame, name, regex, string};
+use crate::quick::is_sound;
 use bd_bson_view::{ElementType, Holder, RawDoc, element_type, raw_parts};
 use bd_value::{Document, Kind, LONGEST_DOCUMENT, MOST_LEVELS};
 use std::alloc::Global;
@@ -37,6 +38,9 @@ pub fn check_document<'a>(
     ensures first { MatchResult result (λ _.
         first_fault base bytes.now ≡ None) (ReportsFault number (first_fault base bytes.now)) }
 {
+    if is_sound(bytes) {
+        return Ok(RawDoc::whole(bytes));
+    }
     match document(alloc, base + bytes.len() as u64, bytes) {
         Ok(()) => Ok(RawDoc::whole(bytes)),
         Err(stop) => Err(fault_of(alloc, stop, number)),
@@ -156,10 +160,7 @@ fn elements(
     let mut index = if in_array { Some(0) } else { None };
     let mut rest = bytes;
     while !rest.is_empty() {
-        rest = match skip_scalar(rest) {
-            Some(after) => after,
-            None => element(alloc, depth_left, index, e, rest)?,
-        };
+        rest = element(alloc, depth_left, index, e, rest)?;
         index = next(index);
     }
     Ok(())

@@ -15,7 +15,8 @@
 //! ```
 //!
 //! - `check`: `check_document`, which descends into nested values, and the documents of a dump in turn.
-//! - `parts`: values that contain no other value, and the frames of documents; and a fast check of elements without a fault.
+//! - `quick`: whether bytes are a document, without saying which fault they have.
+//! - `parts`: values that contain no other value, and the frames of documents, for both.
 //! - `fault`: why bytes are not a document, and where.
 //! - `laws`: bytes have no fault exactly if they spell a document; bytes are a dump or have one first fault.
 #![tactic(auto)]
@@ -24,6 +25,7 @@ mod check;
 mod fault;
 mod laws;
 mod parts;
+mod quick;
 
 pub use check::{Frame, check_document, next_document, next_frame, read_document};
 pub use fault::{Fault, FaultKind, frame_fault, want_of_memory};

@@ -1,9 +1,9 @@
 //! The parts of a document's bytes, except nested values.
 //!
 //! `e` is the offset that an item may not exceed, and `bytes` are those up to it: the offset of the item is `e` less their
-//! number. Most elements have no fault, and `skip_scalar` skips these quickly; the others are checked part by part.
+//! number. Most documents have no fault. The second half skips their parts quickly, and gives None where there may be one.
 
-ghost use Rattle.std.specs.Prelude.{◌≡◌, ◌≤◌, ◌<◌, ◌+◌, ◌^◌, ◌==◌, ◌||◌, ℕ, length, drop, take, map, position, nat_lt, IfOk, IfSome, IsAscii, IsTrue, Option, Some, Ok, true};
+ghost use Rattle.std.specs.Prelude.{◌≡◌, ◌≤◌, ◌<◌, ◌+◌, ◌-◌, ◌^◌, ◌==◌, ◌||◌, ℕ, List, length, drop, take, map, position, nat_lt, IfOk, IfSome, IsAscii, IsTrue, Option, Some, Ok, true};
 ghost use Rattle.std.specs.List.{list_any};
 ghost use Rattle.std.specs.Simd.Lanes.{mask_l};
 ghost use Rattle.std.specs.Str.{is_utf8};
@@ -197,25 +197,28 @@ fn text(alloc: Global, at: u64, bytes: &[u8]) -> Result<&str, Stop>
     }
 }
 
-/// The bytes after an element that is a scalar without a fault; None if it is another, or may have a fault.
+// ---- quickly
+
+/// The kind of an element, and the bytes after its name; None if it has no supported type, or its name has a fault.
 #[inline(always)]
-pub fn skip_scalar(bytes: &[u8]) -> Option<&[u8]>
+pub fn kind_and_value(bytes: &[u8]) -> Option<(Kind, &[u8])>
     requires { 0 < length bytes.now }
-    ensures gives { IfSome result (λ x. (nested : Nested) (index : Option ℕ) (e : ℕ) →
-        skip_element nested index e bytes.now ≡ Ok x.now) }
-    ensures after { IfSome result (λ x. length x.now < length bytes.now) }
+    ensures gives { IfSome result (λ x. (nested : Nested) (index : Option ℕ) (e : ℕ) (after : List ℕ) →
+        skip_value nested x.0 (e - length bytes.now) e x.1.now ≡ Ok after →
+        skip_element nested index e bytes.now ≡ Ok after) }
+    ensures after { IfSome result (λ x. length x.1.now < length bytes.now) }
 {
     let (_, named) = bytes.split_at(1);
     let value = after_name(named)?;
     match element_type(bytes[0]) {
-        Some(ElementType::Kept(kind)) => after_value(kind, value),
+        Some(ElementType::Kept(kind)) => Some((kind, value)),
         _ => None,
     }
 }
 
-/// The bytes after a value of that kind.
+/// The bytes after a value of that kind, which contains no value; None if it is another, or has a fault.
 #[inline(always)]
-fn after_value(kind: Kind, bytes: &[u8]) -> Option<&[u8]>
+pub fn after_value(kind: Kind, bytes: &[u8]) -> Option<&[u8]>
     ensures gives { IfSome result (λ x. (nested : Nested) (q e : ℕ) →
         skip_value nested kind q e bytes.now ≡ Ok x.now) }
     ensures after { IfSome result (λ x. length x.now ≤ length bytes.now) }
@@ -229,9 +232,55 @@ fn after_value(kind: Kind, bytes: &[u8]) -> Option<&[u8]>
             [0 | 1, rest @ ..] => Some(rest),
             _ => None,
         },
-        Kind::Text => after_string(bytes),
+        Kind::Text | Kind::Symbol | Kind::Code => after_string(bytes),
+        Kind::DbPointer => after(12, after_string(bytes)?),
+        Kind::Binary => after_binary(bytes),
+        Kind::Regex => after_name(after_name(bytes)?),
+        Kind::Doc | Kind::Array | Kind::CodeScope => None,
+    }
+}
+
+/// The bytes of a document's elements, and the bytes after the document; None if its frame has a fault. If `top`, the
+/// document must be all of the bytes.
+#[inline(always)]
+#[tactic(auto, unfolding(crate::specs::FirstFault::skip_frame))]
+pub fn after_frame(top: bool, bytes: &[u8]) -> Option<(&[u8], &[u8])>
+    ensures gives { IfSome result (λ x. (e : ℕ) →
+        skip_frame top e bytes.now ≡ Ok (x.0.now, e - (length x.1.now + 1), x.1.now)) }
+    ensures after { IfSome result (λ x. length x.1.now ≤ length bytes.now) }
+{
+    if bytes.len() < 4 {
+        return None;
+    }
+    let n = raw::number(bytes) as usize;
+    let (_, rest) = bytes.split_at(4);
+    if n < 5 || n > LONGEST_DOCUMENT || n > bytes.len() || (top && n != bytes.len()) {
+        return None;
+    }
+    let (body, end) = rest.split_at(n - 5);
+    match end {
+        [0, after @ ..] => Some((body, after)),
         _ => None,
     }
+}
+
+/// The bytes after binary, if its subtype is not 02.
+#[inline(always)]
+#[tactic(auto, unfolding(crate::specs::FirstFault::skip_binary))]
+fn after_binary(bytes: &[u8]) -> Option<&[u8]>
+    ensures gives { IfSome result (λ x. (e : ℕ) → skip_binary e bytes.now ≡ Ok x.now) }
+    ensures after { IfSome result (λ x. length x.now ≤ length bytes.now) }
+{
+    if bytes.len() < 5 {
+        return None;
+    }
+    let count = raw::number(bytes);
+    let (head, rest) = bytes.split_at(5);
+    if count > 2_147_483_647 || count as usize > rest.len() || head[4] == 2 {
+        return None;
+    }
+    let (_, after) = rest.split_at(count as usize);
+    Some(after)
 }
 
 /// The bytes after a string.
@@ -268,7 +317,7 @@ fn after(n: usize, bytes: &[u8]) -> Option<&[u8]>
     Some(rest)
 }
 
-/// The bytes after an ASCII name.
+/// The bytes after a name.
 #[inline(always)]
 fn after_name(bytes: &[u8]) -> Option<&[u8]>
     ensures { IfSome result (λ x. (k : ℕ)
@@ -277,6 +326,21 @@ fn after_name(bytes: &[u8]) -> Option<&[u8]>
 {
     let k = ascii_end(bytes)?;
     if bytes[k] != 0 {
+        return after_other_name(bytes);
+    }
+    let (_, after) = bytes.split_at(k + 1);
+    Some(after)
+}
+
+/// The same of a name that is not ASCII.
+fn after_other_name(bytes: &[u8]) -> Option<&[u8]>
+    ensures { IfSome result (λ x. (k : ℕ)
+        × (position (λ b. b == 0) bytes.now ≡ Some k) × (is_utf8 (take k bytes.now) ≡ true)
+        × (k < length bytes.now) × (x.now ≡ drop (k + 1) bytes.now)) }
+{
+    let k = raw::first_zero(bytes)?;
+    let (name, _) = bytes.split_at(k);
+    if !is_text(name) {
         return None;
     }
     let (_, after) = bytes.split_at(k + 1);

@@ -220,15 +220,24 @@ equal a b = cond (eqb a b) 255 0
 abbrev below : ℕ → ℕ → ℕ
 below a b = cond (ltb a b) 255 0
 
-pub stops_mask : (v : List ℕ) → length v ≡ 32 → mask_l (map (top 7) (zip2 bit_or
-    (zip2 bit_or (zip2 equal v (replicate 32 34)) (zip2 equal v (replicate 32 92))) (zip2 below v (replicate 32 32)))) % 2 ^ 64 ≡ mask_l (map needs_escape v)
-stops_mask v long =
-    let quotes = zip2_splat equal v 32 34 long in
-    let slashes = zip2_splat equal v 32 92 long in
-    let controls = zip2_splat below v 32 32 long in
+pub stops_mask : (n : ℕ) (v : List ℕ) → n ≤ 64 → length v ≡ n → mask_l (map (top 7) (zip2 bit_or
+    (zip2 bit_or (zip2 equal v (replicate n 34)) (zip2 equal v (replicate n 92))) (zip2 below v (replicate n 32)))) % 2 ^ 64 ≡ mask_l (map needs_escape v)
+stops_mask n v few long =
+    let quotes = zip2_splat equal v n 34 long in
+    let slashes = zip2_splat equal v n 92 long in
+    let controls = zip2_splat below v n 32 long in
     let both = zip2_of_maps bit_or _ _ v quotes slashes in
     let all = zip2_of_maps bit_or _ _ v both controls in
     ap (λ ms. mask_l ms % 2 ^ 64) (ap (map (top 7)) all ∙ map-map (top 7) _ v ∙ each_tested v) ∙ mask_l-mod (map needs_escape v) 64 (omega (arith, length-map v needs_escape, long))
+
+-- if no lane has a bit, no byte passes
+pub unmasked : (p : ℕ → Bool) (v : List ℕ) → mask_l (map p v) ≡ 0 → list_any p v ≡ false
+unmasked p [] none = refl
+unmasked p (x ∷ v) none = one (p x) refl none (unmasked p v)
+  where
+    one : (b : Bool) → p x ≡ b → cond b 1 0 + 2 * mask_l (map p v) ≡ 0 → (mask_l (map p v) ≡ 0 → list_any p v ≡ false) → (p x || list_any p v) ≡ false
+    one true e none more = absurd (omega (arith, none))
+    one false e none more = rw e (more (omega (arith, none)))
 
 -- ---- bytes before the first that stops
 

@@ -145,8 +145,10 @@ fn copy_plain(text: &[u8], buffer: &mut [u8], end: usize) -> bool
     ensures plain { IsTrue result → list_any needs_escape text.now ≡ false }
     ensures unchanged { take end buffer.new ≡ take end buffer.old }
 {
-    if text.len() < 4 {
+    if text.len() < 2 {
         copy_few(text, buffer, end)
+    } else if text.len() < 4 {
+        copy_ends::<2>(text, buffer, end)
     } else if text.len() < 8 {
         copy_ends::<4>(text, buffer, end)
     } else if text.len() < 16 {
@@ -178,6 +180,7 @@ fn copy_few(text: &[u8], buffer: &mut [u8], end: usize) -> bool
 /// bytes are copied, so that each copy is of a known length.
 #[inline(always)]
 fn copy_ends<const N: usize>(text: &[u8], buffer: &mut [u8], end: usize) -> bool
+    requires lanes { N ≤ 16 }
     requires size { (N ≤ length text.now) × (length text.now ≤ N + N) }
     requires buffer { end + length text.now ≤ length buffer.old }
     ensures copied { take (end + length text.now) buffer.new ≡ take end buffer.old ++ text.now }
@@ -191,7 +194,17 @@ fn copy_ends<const N: usize>(text: &[u8], buffer: &mut [u8], end: usize) -> bool
     };
     put_known(*first, buffer, end);
     put_known(*last, buffer, end + start.len());
-    !any_escape(first) && !any_escape(last)
+    are_plain(first, last)
+}
+
+/// Whether no byte of two parts must be escaped. Both are examined together.
+#[inline(always)]
+fn are_plain<const N: usize>(first: &[u8; N], last: &[u8; N]) -> bool
+    requires { N ≤ 16 }
+    ensures { IsTrue result → (list_any needs_escape first.now ≡ false)
+        × (list_any needs_escape last.now ≡ false) }
+{
+    (stops(Simd::from_array(*first)) == 0) & (stops(Simd::from_array(*last)) == 0)
 }
 
 /// Copies a text of at least 16 bytes, and returns whether none needs an escape. If one does, a prefix was copied.
@@ -288,12 +301,13 @@ fn plain_length_from(text: &[u8], passed: usize) -> usize
 
 /// A bit for each byte that must be escaped in a string, the lowest for the first.
 #[inline(always)]
-fn stops(bytes: u8x32) -> u64
-    ensures { result ≡ mask_l (map needs_escape bytes) }
+fn stops<const N: usize>(bytes: Simd<u8, N>) -> u64
+    requires { N ≤ 64 }
+    ensures { result ≡ mask_l (map needs_escape bytes.entry) }
 {
-    (bytes.simd_eq(u8x32::splat(b'"'))
-        | bytes.simd_eq(u8x32::splat(b'\\'))
-        | bytes.simd_lt(u8x32::splat(32))).to_bitmask()
+    (bytes.simd_eq(Simd::splat(b'"'))
+        | bytes.simd_eq(Simd::splat(b'\\'))
+        | bytes.simd_lt(Simd::splat(32))).to_bitmask()
 }
 
 /// Writes the escape of a byte that needs one after the text.

@@ -87,7 +87,7 @@ pub(crate) fn put_short<N: Reading>(node: N, buffer: &mut [u8], end: usize) -> u
 }
 
 /// An int32.
-#[inline(always)]
+#[inline(never)]
 #[tactic(auto, using(crate::proofs::TextLemmas::int32_steps))]
 fn put_int32(n: i32, buffer: &mut [u8], end: usize) -> usize
     requires { end + VALUE ≤ length buffer.old }
@@ -100,7 +100,7 @@ fn put_int32(n: i32, buffer: &mut [u8], end: usize) -> usize
 }
 
 /// An int64.
-#[inline(always)]
+#[inline(never)]
 fn put_int64(n: i64, buffer: &mut [u8], end: usize) -> usize
     requires { end + VALUE ≤ length buffer.old }
     ensures appended { take result buffer.new ≡ take end buffer.old ++ scalar_text (int64 n) }
@@ -112,7 +112,7 @@ fn put_int64(n: i64, buffer: &mut [u8], end: usize) -> usize
 }
 
 /// A datetime: the milliseconds as an int64, also before 1970 and after 9999.
-#[inline(always)]
+#[inline(never)]
 #[tactic(auto, using(crate::proofs::TextLemmas::date_steps))]
 fn put_date(milliseconds: i64, buffer: &mut [u8], end: usize) -> usize
     requires { end + VALUE ≤ length buffer.old }

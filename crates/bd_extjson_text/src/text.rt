@@ -101,10 +101,10 @@ fn append_node<N: Reading>(node: N, out: &mut Vec<u8>, end: usize) -> End
     }
 }
 
-/// The same of what holds values, text or bytes, and is no string. It is a function of its own, so that the loops above it keep
-/// no node in memory for the others.
+/// The same of what holds values, text or bytes, and is no string. It is a function of its own, so that no node is kept in
+/// memory for the others.
 #[cycle(text)]
-#[inline(never)]
+#[inline(always)]
 fn append_long<N: Reading>(node: N, out: &mut Vec<u8>, end: usize) -> End
     requires long { HasShortText (N.tree node) → ⊥ }
     requires other { kind_of (N.tree node) ≢ kinds.Text }
@@ -121,6 +121,7 @@ fn append_long<N: Reading>(node: N, out: &mut Vec<u8>, end: usize) -> End
 
 /// Appends the text of code with scope.
 #[cycle(text)]
+#[inline(never)]
 fn append_scope<N: Reading>(node: N, out: &mut Vec<u8>, end: usize) -> End
     requires kind { kind_of (N.tree node) ≡ kinds.CodeScope }
     requires buffer { end ≤ length out.old.items }

@@ -1,7 +1,6 @@
-use Rattle.std.proofs.Common.{◌≡◌, ◌<◌, Ok, length, arith, sym, subst, ◌∙◌, codes}
+use Rattle.std.proofs.Common.{◌<◌, length, arith, sym, subst, ◌∙◌, codes}
 use Rattle.std.proofs.lemmas.{Result.err_from_is_err_and, List.nil_from_length, Bool.eqb-true, Bool.Decides.nat_tests}
-use Rattle.bd_bson_check.specs.{inside.Fault.FailsAtItem, FirstFault.label, FirstFault.skip_element, FirstFault.skip_nested}
-use Rattle.bd_bson_check.proofs.check.+checking.Goals.{elements-in-Some, elements-in-None+in_ok-rest-in-None}
+use Rattle.bd_bson_check.specs.{inside.Fault.FailsAtItem, FirstFault.label, FirstFault.skip_nested}
 use Rattle.bd_bson_check.proofs.{CheckingLemmas.reported_fails, CheckingLemmas.fails_within, FirstFaultLemmas.elements_nil}
 use Rattle.bd_bson_check.proofs.CheckingLemmas as above
 use Rattle.bd_bson_check.proofs.check.+checking.Goals as goal
@@ -13,24 +12,19 @@ element-returns-in-Err-clause-gives t c =
     (sym c.split_at.ensures.back) c.in_ok-name.ensures.gives
     (fails_within c.in-Err.stop c.within.result (label c.args.index c.in_ok-name.name.now) _ c.within.ensures c.in-Err.ensures.gives)
 
-pub elements-returns-in_err-rest-in-None : goal.elements-returns-in_err-rest-in-None
-elements-returns-in_err-rest-in-None t c =
+pub elements-returns-in_err-rest : goal.elements-returns-in_err-rest
+elements-returns-in_err-rest t c =
     let p = err_from_is_err_and c.from_residual.result c.from_residual.ensures.1 in
     let l = c.loop-rest in
-    let stop = c.in_err-rest-in-None.field-0.0 in
+    let stop = c.in_err-rest.field-0.0 in
     let some : 0 < length l.rest.now = grind (arith, nat_tests, c.loop-rest-test.ensures) in
-    rw (p.1, p.2) (subst (FailsAtItem stop) l.invariant.so_far (above.no_first stop l.index c.args.depth_left c.args.e l.rest.now some c.in_err-rest-in-None.ensures.gives))
+    rw (p.1, p.2) (subst (FailsAtItem stop) l.invariant.so_far (above.no_first stop l.index c.args.depth_left c.args.e l.rest.now some c.in_err-rest.ensures.gives))
 
 pub elements-loop-rest-preserved : goal.elements-loop-rest-preserved
 elements-loop-rest-preserved t c =
     let l = c.loop-rest in
     let i = l.invariant in
-    let gives : skip_element (skip_nested c.args.depth_left) l.index c.args.e l.rest.now ≡ Ok c.match-skip_scalar.rest.now =
-    elim c.match-skip_scalar.branch [
-      | elements-in-Some w ↦ rw w.rest-is (w.in-Some.ensures.gives (skip_nested c.args.depth_left) l.index c.args.e)
-      | elements-in-None+in_ok-rest-in-None w ↦ rw w.rest-is w.in_ok-rest-in-None.ensures.gives
-    ] in
-    let on = above.goes_on l.index c.args.depth_left c.args.e l.rest.now c.match-skip_scalar.rest.now i.fits gives in
+    let on = above.goes_on l.index c.args.depth_left c.args.e l.rest.now c.in_ok-rest.rest.now i.fits c.in_ok-rest.ensures.gives in
     record {
       inside = omega (arith, i.inside, on.0);
       fits = on.1;
