@@ -40,8 +40,9 @@ fn filter(rt: &HostRuntime) -> Result<(Filter, String), WordsFault> {
     }
 }
 
-/// How many bytes are requested from the system at once. It returns what is available.
-const BUFFER: usize = 65_536;
+/// How many bytes are requested from the system at once. It returns what is available. Output is flushed before each request,
+/// so most writes are as large: a quarter of a pipe, so that its reader works beside this program, and not in turns with it.
+const BUFFER: usize = 16_384;
 
 /// The buffer of standard output.
 type Waiting = RefCell<OutputBuffer<SystemOutput<Stdout>>>;
