@@ -26,6 +26,8 @@ from support import ROOT, Tests
 PROGRAM = Path(sys.argv[1]).resolve() if len(sys.argv) > 1 else ROOT / "bsonwide"
 DOCUMENTS = int(sys.argv[2]) if len(sys.argv) > 2 else 20_000
 USAGE = b"usage: bsonwide mask FILE\n       bsonwide wrap FILE\n       bsonwide order FILE [PATH..]\n"
+# What tests/faults/failing.c counts: whether it was loaded, the reads of standard input, the writes to standard output.
+LAYOUT, LOADED, READS, WRITES = struct.Struct("19q"), 0, 3, 12
 
 # Texts that stand in the pages of Go's driver, of bsondump, of Extended JSON v2 and of the decimal128 specification.
 DOUBLES = {
@@ -226,10 +228,14 @@ def order_paths(tests: Tests) -> None:
 
 
 def fail_each(tests: Tests, command: str, data: bytes, whole: bytes, *paths: bytes) -> None:
-    """Fails each growth of memory, each read and each write in turn: a prefix is written, and why no more is."""
+    """Fails each growth of memory, each read and each write in turn: a prefix is written, and why no more is.
+
+    Each read finds the end in turn. No call follows one that failed or found the end.
+    """
     ways = (
         (b"bsonwide: no memory\n", {}, "FAILING_GROWTH"),
         (b"bsonwide: cannot read\n", {"FAILING_INPUT": "0", "FAILING_ERROR": "5"}, "FAILING_READ"),
+        (b"", {"FAILING_INPUT": "0", "FAILING_ERROR": "0"}, "FAILING_READ"),
         (b"bsonwide: cannot write\n", {"FAILING_OUTPUT": "1", "FAILING_ERROR": "28"}, "FAILING_WRITE"),
         (b"bsonwide: cannot write\n", {"FAILING_OUTPUT": "1", "FAILING_ERROR": "0"}, "FAILING_WRITE"),
     )  # fmt: skip
@@ -237,18 +243,22 @@ def fail_each(tests: Tests, command: str, data: bytes, whole: bytes, *paths: byt
         library = f"{room}/failing.so"
         subprocess.run(["cc", "-shared", "-fPIC", "-O2", "-o", library, ROOT / "tests/faults/failing.c"], check=True)
         for message, how, name in ways:
-            failed = 0
+            failed, finds_end = 0, not message
             for at in range(1, 1000):
                 counts = Path(room, "counts")
                 counts.write_bytes(bytes(19 * 8))
                 env = {"LD_PRELOAD": library, "FAILING_COUNTS": str(counts), "FAILING_SINGLE": "1", name: str(at), **how}
                 made = subprocess.run([PROGRAM, command, "-", *paths], input=data, capture_output=True, env=env, check=False)
-                tests.want(f"{command}: {name} {at}, loaded", counts.read_bytes()[:8] != bytes(8))
-                if (made.returncode, made.stdout, made.stderr) == (0, whole, b""):
+                told = LAYOUT.unpack(counts.read_bytes())
+                tests.want(f"{command}: {name} {at}, loaded", told[LOADED] == 1)
+                if (told[READS] < at) if finds_end else ((made.returncode, made.stdout, made.stderr) == (0, whole, b"")):
                     break
                 failed += 1
-                told = made.returncode == 1 and made.stderr == message and whole.startswith(made.stdout)
-                tests.want(f"{command}: {name} {at}", told, made)
+                is_told = (made.returncode, made.stderr) == (int(not finds_end), message)
+                tests.want(f"{command}: {name} {at}", is_told and (finds_end or whole.startswith(made.stdout)), made)
+                if name != "FAILING_GROWTH":
+                    calls = told[READS if name == "FAILING_READ" else WRITES]
+                    tests.want(f"{command}: {name} {at}, none follows", calls == at, calls)
             tests.want(f"{command}: {name}, some failed", failed > 0)
 
 
