@@ -255,7 +255,7 @@ pub fn after_frame(top: bool, bytes: &[u8]) -> Option<(&[u8], &[u8])>
     }
     let n = raw::number(bytes) as usize;
     let (_, rest) = bytes.split_at(4);
-    if n < 5 || n > LONGEST_DOCUMENT || n > bytes.len() || (top && n != bytes.len()) {
+    if n < 5 || n > LONGEST_DOCUMENT || bytes.len() < n || (top && bytes.len() != n) {
         return None;
     }
     let (body, end) = rest.split_at(n - 5);
