@@ -1,7 +1,7 @@
 //! The parts of a document's bytes, except nested values.
 //!
 //! `e` is the offset that an item may not exceed, and `bytes` are those up to it: the offset of the item is `e` less their
-//! number. Most documents have no fault. The second half skips their parts quickly, and gives None where there may be one.
+//! number. Most documents have no fault. The second half skips their parts quickly, and gives None if there may be one.
 
 ghost use Rattle.std.specs.Prelude.{◌≡◌, ◌≤◌, ◌<◌, ◌+◌, ◌-◌, ◌^◌, ◌==◌, ◌||◌, ℕ, List, length, drop, take, map, position, nat_lt, IfOk, IfSome, IsAscii, IsTrue, Option, Some, Ok, true};
 ghost use Rattle.std.specs.List.{list_any};
@@ -203,7 +203,8 @@ fn text(alloc: Global, at: u64, bytes: &[u8]) -> Result<&str, Stop>
 #[inline(always)]
 pub fn kind_and_value(bytes: &[u8]) -> Option<(Kind, &[u8])>
     requires { 0 < length bytes.now }
-    ensures gives { IfSome result (λ x. (nested : Nested) (index : Option ℕ) (e : ℕ) (after : List ℕ) →
+    ensures gives { IfSome result (λ x.
+        (nested : Nested) (index : Option ℕ) (e : ℕ) (after : List ℕ) →
         skip_value nested x.0 (e - length bytes.now) e x.1.now ≡ Ok after →
         skip_element nested index e bytes.now ≡ Ok after) }
     ensures after { IfSome result (λ x. length x.1.now < length bytes.now) }
@@ -254,7 +255,7 @@ pub fn after_frame(top: bool, bytes: &[u8]) -> Option<(&[u8], &[u8])>
     }
     let n = raw::number(bytes) as usize;
     let (_, rest) = bytes.split_at(4);
-    if n < 5 || n > LONGEST_DOCUMENT || n > bytes.len() || (top && n != bytes.len()) {
+    if n < 5 || n > LONGEST_DOCUMENT || bytes.len() < n || (top && bytes.len() != n) {
         return None;
     }
     let (body, end) = rest.split_at(n - 5);

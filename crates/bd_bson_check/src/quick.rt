@@ -1,4 +1,4 @@
-//! Whether bytes are a document, found quickly: no fault is made, and none is told. Where it says no, `check` finds the fault.
+//! Whether bytes are a document, found quickly: no fault is made. Where it says no, `check` finds the fault.
 
 ghost use Rattle.std.specs.Prelude.{◌≡◌, ◌<◌, ◌≤◌, ℕ, List, Option, length, IfSome, IsTrue, Ok};
 ghost use Rattle.bd_bson_view.specs.declared.raw_parts.Holder.TheVariants as holders;
