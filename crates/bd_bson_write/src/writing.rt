@@ -171,7 +171,9 @@ pub fn append_label(kind: Kind, name: &str, out: &mut Vec<u8>) -> Result<(), Wri
     if before > LONGEST_DOCUMENT {
         return Err(WriteFault::TooLong);
     }
-    out.extend_from_slice(&[type_byte(kind)])?;
+    if out.push(type_byte(kind)).is_err() {
+        return Err(WriteFault::NoMemory);
+    }
     if write_name(name, out).is_err() {
         out.truncate(before);
         return Err(WriteFault::NoMemory);
@@ -311,7 +313,10 @@ fn write_name(name: &str, out: &mut Vec<u8>) -> Result<(), NoMemory>
     ensures prefix { OnErr result (StartsWith out.new.items out.old.items) }
 {
     out.extend_from_slice(name.as_bytes())?;
-    out.extend_from_slice(b"\0")
+    if out.push(0).is_err() {
+        return Err(AllocError);
+    }
+    Ok(())
 }
 
 /// Appends eight bytes, least first: BSON 1.1, `int64`.
