@@ -265,7 +265,7 @@ pub fn after_frame(top: bool, bytes: &[u8]) -> Option<(&[u8], &[u8])>
     }
 }
 
-/// The bytes after binary, if its subtype is not 02.
+/// The bytes after binary.
 #[inline(always)]
 #[tactic(auto, unfolding(crate::specs::FirstFault::skip_binary))]
 fn after_binary(bytes: &[u8]) -> Option<&[u8]>
@@ -277,7 +277,10 @@ fn after_binary(bytes: &[u8]) -> Option<&[u8]>
     }
     let count = raw::number(bytes);
     let (head, rest) = bytes.split_at(5);
-    if count > 2_147_483_647 || count as usize > rest.len() || head[4] == 2 {
+    if count > 2_147_483_647 || count as usize > rest.len() {
+        return None;
+    }
+    if head[4] == 2 && (count < 4 || raw::number(rest) != count - 4) {
         return None;
     }
     let (_, after) = rest.split_at(count as usize);

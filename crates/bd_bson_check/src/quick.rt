@@ -7,7 +7,7 @@ ghost use Rattle.bd_bson_check.specs.FirstFault.{skip_document, skip_element, sk
 use crate::parts::{after_frame, after_value, kind_and_value};
 use bd_value::{Kind, MOST_LEVELS};
 
-/// Whether all of the bytes are one document. It may also say no of a document with code with scope, or binary of subtype 02.
+/// Whether all of the bytes are one document. It may also say no of a document with code with scope.
 #[inline(always)]
 #[tactic(auto, unfolding(crate::specs::FirstFault::skip_document))]
 pub fn is_sound(bytes: &[u8]) -> bool
