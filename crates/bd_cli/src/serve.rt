@@ -47,7 +47,7 @@ fn serve_dump<C: Input, O: Output, E: Output>(
         (over E.state err.old err.new) result }
 {
     let mut service = Service::new(alloc, dump);
-    match bd_io_lines::serve(alloc, LIMITS, commands, &mut service, out) {
+    match bd_io_lines::reply_to_lines(alloc, LIMITS, commands, &mut service, out) {
         Ok(()) => Status::Done,
         Err(ServeFault::Unread(fault)) => report_read_fault(fault, err),
         Err(ServeFault::NoMemory) => report_no_memory(err),

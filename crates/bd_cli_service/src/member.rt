@@ -74,7 +74,7 @@ fn write_field(value: Field<'_, '_, '_>, out: &mut Vec<u8>) -> Result<(), NoMemo
         Field::Count(count) => write_wrapped(b"{\"$numberLong\":", count, out),
         Field::Text(text) => write_string(text, out),
         Field::Names(names) => write_path(names, out),
-        Field::Documents(dump, places) => write_documents(dump, places, out),
+        Field::Documents(dump, places) => write_array(dump, places, out),
     }
 }
 
@@ -107,7 +107,7 @@ fn write_wrapped(lead: &[u8], number: u64, out: &mut Vec<u8>) -> Result<(), NoMe
 
 /// Appends the documents of a dump with these numbers, as an array. A number after the last document has none.
 #[tactic(auto, using(bd_value::proofs::PrefixLemmas::prefixes))]
-fn write_documents(dump: &Dump, places: &[u32], out: &mut Vec<u8>) -> Result<(), NoMemory>
+fn write_array(dump: &Dump, places: &[u32], out: &mut Vec<u8>) -> Result<(), NoMemory>
     ensures ok { OnOk result (out.new.items
         ≡ out.old.items ++ text (documents_value (documents_at (documents dump.now) places.now))) }
     ensures err { OnErr result (StartsWith out.new.items out.old.items) }
@@ -116,7 +116,7 @@ fn write_documents(dump: &Dump, places: &[u32], out: &mut Vec<u8>) -> Result<(),
     let mut later = false;
     for place in places {
         if *place < dump.len() {
-            write_document(dump, *place, later, out)?;
+            write_element(dump, *place, later, out)?;
             later = true;
         }
     }
@@ -126,7 +126,7 @@ fn write_documents(dump: &Dump, places: &[u32], out: &mut Vec<u8>) -> Result<(),
 
 /// Appends a document, after a comma unless it is the first.
 #[tactic(auto, using(bd_value::proofs::PrefixLemmas::prefixes))]
-fn write_document(dump: &Dump, place: u32, later: bool, out: &mut Vec<u8>) -> Result<(), NoMemory>
+fn write_element(dump: &Dump, place: u32, later: bool, out: &mut Vec<u8>) -> Result<(), NoMemory>
     requires { place < length (documents dump.now) }
     ensures ok { OnOk result (out.new.items ≡ out.old.items
         ++ ((if later then 44 ∷ [] else []) ++ text (document_at (documents dump.now) place))) }

@@ -2,7 +2,7 @@
 
 ghost use Rattle.std.specs.Prelude.{◌≡◌, ◌++◌, IfErr, IfOk, OnErr, OnOk, List, ℕ};
 ghost use Rattle.bd_value.specs.{View.pairs};
-ghost use Rattle.bd_cursor_model.specs.{Answer.answer, Laws.new_state};
+ghost use Rattle.bd_cursor_model.specs.{Laws.new_state};
 ghost use Rattle.bd_bson_dump.specs.Collection.{bytes_of, documents};
 ghost use Rattle.bd_bson_dump.specs.declared.collection.Dump.{Dump};
 ghost use Rattle.bd_cursor_request.specs.Refused.{error_as};
@@ -48,7 +48,7 @@ impl Service {
     }
 
     /// The reply to a line. It fails only if memory runs out, and then the session is unchanged.
-    fn answer(&mut self, line: &[u8]) -> Result<Reply, NoMemory>
+    fn reply_to(&mut self, line: &[u8]) -> Result<Reply, NoMemory>
         ensures answers { IfOk result (λ r. Answers (bytes_of (service_dump self.old))
             (documents (service_dump self.old)) (service_state self.old) line.now
             (line_reply (documents (service_dump self.old)) r) (service_state self.new)) }
@@ -78,7 +78,7 @@ impl Replier for Service {
             (RunsOutAt KeepsState RepliesTo self.old command.now self.new) }
         ensures dump { service_dump self.new ≡ service_dump self.old }
     {
-        let reply = self.answer(command)?;
+        let reply = self.reply_to(command)?;
         write_reply(self.alloc, self.session.dump(), &reply, text)
     }
 }

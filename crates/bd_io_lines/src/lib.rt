@@ -17,11 +17,11 @@
 //! ```
 //!
 //! - `line_buffer`: `LineBuffer`, the next line of a device.
-//! - `serving`: `serve`, which writes what a `Replier` replies to each command; `is_empty_line`, whether a line is no command.
+//! - `serving`: `reply_to_lines`, which writes what a `Replier` replies to each command; `is_empty_line`, whether a line is no command.
 #![tactic(auto)]
 
 mod line_buffer;
 mod serving;
 
 pub use line_buffer::LineBuffer;
-pub use serving::{Replier, ServeFault, is_empty_line, serve};
+pub use serving::{Replier, ServeFault, is_empty_line, reply_to_lines};

@@ -69,7 +69,7 @@ impl From<DeviceFault> for ServeFault {
 
 /// Writes the reply to a line, if it is a command. `text` is a buffer that the lines share.
 #[tactic(auto, using(crate::proofs::ServingLemmas::replied_none, crate::proofs::ServingLemmas::replied_one, bd_io_device::proofs::DevicesLemmas::takes_none))]
-fn answer<O: Output, S: Replier>(
+fn reply_to_line<O: Output, S: Replier>(
     line: &[u8],
     session: &mut S,
     text: &mut Vec<u8>,
@@ -105,7 +105,7 @@ fn answer<O: Output, S: Replier>(
 /// - `ServeFault::Unread`: a line was not read; the causes are those of `LineBuffer::read_next`;
 /// - `ServeFault::NoMemory`: memory for a reply ran out, and nothing of it is written; for the state see `Replier::reply`;
 /// - `ServeFault::Unwritten`: a write failed, and a prefix of the reply was written. No line is read after it.
-pub fn serve<R: Input, O: Output, S: Replier>(
+pub fn reply_to_lines<R: Input, O: Output, S: Replier>(
     alloc: Global,
     limits: Limits,
     reader: &mut R,
@@ -121,7 +121,7 @@ pub fn serve<R: Input, O: Output, S: Replier>(
     let mut lines = LineBuffer::new(alloc, limits);
     let mut text = Vec::new(alloc);
     while lines.read_next(reader)? {
-        answer(lines.line(), session, &mut text, out)?;
+        reply_to_line(lines.line(), session, &mut text, out)?;
     }
     Ok(())
 }

@@ -1,7 +1,7 @@
 //! The examples of use in the roots of `bd_io_device`, `bd_io_stdout` and `bd_io_lines`.
 use crate::numbered::Numbered;
 use bd_io_device::{Limits, MemoryInput, MemoryOutput, SystemOutput, read_all, write_all};
-use bd_io_lines::{LineBuffer, serve};
+use bd_io_lines::{LineBuffer, reply_to_lines};
 use bd_io_stdout::{BufferedOutput, OutputBuffer, WriteState, hand_on};
 use std::cell::RefCell;
 use std::test::Fail;
@@ -34,7 +34,7 @@ fn replies(rt: HostRuntime) -> Result<(), Fail> {
     };
     let mut buffer = [0; 20];
     let mut output = MemoryOutput::new(&mut buffer, 20, None);
-    serve(rt.alloc(), limits, &mut input, &mut session, &mut output)?;
+    reply_to_lines(rt.alloc(), limits, &mut input, &mut session, &mut output)?;
     assert!(rt; output.bytes() == b"1find\n2count\n".as_slice());
     Ok(())
 }

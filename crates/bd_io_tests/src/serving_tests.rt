@@ -4,7 +4,7 @@ use bd_io_device::FailingWrite::{Error, Zero};
 use bd_io_device::ReadFault::{Device, TooLong, TooManyTurns};
 use bd_io_device::{Limits, MemoryInput, MemoryOutput};
 use bd_io_lines::ServeFault::{NoMemory, Unread, Unwritten};
-use bd_io_lines::serve;
+use bd_io_lines::reply_to_lines;
 
 const AMPLE: Limits = Limits {
     bytes: 1000,
@@ -35,7 +35,7 @@ fn a_reply_to_each_command(rt: HostRuntime) {
                 digit: b'1',
                 last: b'9',
             };
-            let result = serve(rt.alloc(), AMPLE, &mut input, &mut session, &mut output);
+            let result = reply_to_lines(rt.alloc(), AMPLE, &mut input, &mut session, &mut output);
             assert!(rt; result == Ok(()), "{most} a read");
             assert!(rt; output.bytes() == wanted, "{most} a read");
         }
@@ -74,7 +74,7 @@ fn a_call_that_fails(rt: HostRuntime) {
         let mut session = Numbered { digit: b'1', last };
         let mut buffer = [0; 64];
         let mut output = MemoryOutput::new(&mut buffer, 2, write_failed);
-        let result = serve(rt.alloc(), limits, &mut input, &mut session, &mut output);
+        let result = reply_to_lines(rt.alloc(), limits, &mut input, &mut session, &mut output);
         assert!(rt; result == Err(fault), "{printed} bytes, {calls} reads");
         assert!(rt;
             output.bytes() == &replies[..printed],

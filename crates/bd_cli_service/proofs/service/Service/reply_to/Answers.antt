@@ -1,7 +1,7 @@
 use Rattle.bd_cursor.specs.SessionView.{dump_of}
 use Rattle.bd_cli_service.specs.inside.ServiceView.{session_call}
 use Rattle.bd_cli_service.proofs.AnswerLemmas.{answered, turned_away}
-use Rattle.bd_cli_service.proofs.service.Service.answer.Goals as goal
+use Rattle.bd_cli_service.proofs.service.Service.reply_to.Goals as goal
 
 pub returns-in-Ok-clause-answers : goal.returns-in-Ok-clause-answers
 returns-in-Ok-clause-answers c =

@@ -1,6 +1,6 @@
 use Rattle.std.proofs.Common.{◌≡◌, None, length, ◌+◌}
 use Rattle.bd_io_lines.proofs.ServingLemmas.{Serving}
-use Rattle.bd_io_lines.proofs.serving.serve.Given as goal
+use Rattle.bd_io_lines.proofs.serving.reply_to_lines.Given as goal
 
 abbrev pub invariant-loop-text : goal.invariant-loop-text
 invariant-loop-text g l = record {

@@ -1,7 +1,7 @@
 use Rattle.std.proofs.Common.{rules, ◌≡◌, Ok, Err, true, false, ap}
 use Rattle.std.proofs.{lemmas.Result.err_from_is_err_and, lemmas.Bool.cases_Bool, lemmas.Bool.false_from_ne_true}
 use Rattle.bd_io_lines.proofs.ServingLemmas as serving
-use Rattle.bd_io_lines.proofs.serving.serve.Goals as goal
+use Rattle.bd_io_lines.proofs.serving.reply_to_lines.Goals as goal
 
 pub loop-text-init : goal.loop-text-init
 loop-text-init g c = record {
@@ -32,24 +32,24 @@ loop-text-preserved g c =
     let was : c.read_next.result ≡ Ok true = search rules in
     let going : l.lines.ended ≡ false = false_from_ne_true l.lines.ended (λ over. let x = c.read_next.ensures.ends over l.invariant.not_failed in search (rules, was, x)) in
     let r = c.read_next.ensures.reads was in
-    let fact = rw c.line.ensures.0 at c.in_ok-answer.ensures.replied in
+    let fact = rw c.line.ensures.0 at c.in_ok-reply_to_line.ensures.replied in
     record {
-      so_far = serving.goes_on l.invariant.so_far going r (g.O.Output.state c.answer.new.out) c.answer.new.session fact.0 fact.1 fact.2;
+      so_far = serving.goes_on l.invariant.so_far going r (g.O.Output.state c.reply_to_line.new.out) c.reply_to_line.new.session fact.0 fact.1 fact.2;
       not_failed = search rules;
     }
 
-pub returns-in_err-answer-clause-stops : goal.returns-in_err-answer-clause-stops
-returns-in_err-answer-clause-stops g c =
+pub returns-in_err-reply_to_line-clause-stops : goal.returns-in_err-reply_to_line-clause-stops
+returns-in_err-reply_to_line-clause-stops g c =
     let l = c.loop-text in
     let was : c.read_next.result ≡ Ok true = search rules in
     let going : l.lines.ended ≡ false = false_from_ne_true l.lines.ended (λ over. let x = c.read_next.ensures.ends over l.invariant.not_failed in search (rules, was, x)) in
     let r = c.read_next.ensures.reads was in
-    let e = c.in_err-answer.ensures in
+    let e = c.in_err-reply_to_line.ensures in
     let out_of_memory = rw c.line.ensures.0 at e.out_of_memory in
     let failed_write = rw c.line.ensures.0 at e.failed_write in
-    let p = err_from_is_err_and c.from_residual-in_err-answer.result c.from_residual-in_err-answer.ensures.1 in
-    rw (p.1, p.2) (serving.stops_answer l.invariant.so_far going r g.S.Replier.stays (g.O.Output.state c.answer.new.out) c.answer.new.session
-    c.in_err-answer.field-0.0 e.read (λ h. let x = out_of_memory (ap Err h) in (x.0, ap g.O.Output.state x.1, x.2)) (λ h. failed_write (ap Err h)))
+    let p = err_from_is_err_and c.from_residual-in_err-reply_to_line.result c.from_residual-in_err-reply_to_line.ensures.1 in
+    rw (p.1, p.2) (serving.stops_answer l.invariant.so_far going r g.S.Replier.stays (g.O.Output.state c.reply_to_line.new.out) c.reply_to_line.new.session
+    c.in_err-reply_to_line.field-0.0 e.read (λ h. let x = out_of_memory (ap Err h) in (x.0, ap g.O.Output.state x.1, x.2)) (λ h. failed_write (ap Err h)))
 
 pub returns-clause-serves : goal.returns-clause-serves
 returns-clause-serves g c =

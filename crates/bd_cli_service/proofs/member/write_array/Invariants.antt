@@ -4,7 +4,7 @@ use Rattle.bd_bson_dump.specs.{Collection.documents, Collection.documents_at}
 use Rattle.bd_extjson_text.specs.Text.{text}
 use Rattle.bd_cli_service.specs.Reply.{documents_value}
 use Rattle.bd_cli_service.proofs.MemberLemmas.{rest_of_array}
-use Rattle.bd_cli_service.proofs.member.write_documents.Given as goal
+use Rattle.bd_cli_service.proofs.member.write_array.Given as goal
 
 -- the text so far, and the rest of it
 abbrev pub invariant-loop-place : goal.invariant-loop-place

@@ -3,8 +3,8 @@ use Rattle.std.proofs.lemmas.List.{drop_more}
 use Rattle.bd_value.proofs.PrefixLemmas.{prefix_all, prefix_more}
 use Rattle.bd_bson_dump.specs.Collection.{documents}
 use Rattle.bd_cli_service.proofs.MemberLemmas.{array_begins, array_goes_on, array_stays}
-use Rattle.bd_cli_service.proofs.member.write_documents.Goals.{then-place-len+in_ok-write_document, else-place-len}
-use Rattle.bd_cli_service.proofs.member.write_documents.Goals as goal
+use Rattle.bd_cli_service.proofs.member.write_array.Goals.{then-place-len+in_ok-write_element, else-place-len}
+use Rattle.bd_cli_service.proofs.member.write_array.Goals as goal
 
 pub loop-place-init : goal.loop-place-init
 loop-place-init c = record {
@@ -19,12 +19,12 @@ loop-place-preserved c =
     let i = c.loop-place.place-index in
     let splits = drop_more ps i 0 c.loop-place-test.true in
     elim c.if-place-len.branch [
-      | then-place-len+in_ok-write_document w ↦
+      | then-place-len+in_ok-write_element w ↦
           let inside : get_or ps i 0 < length ds = omega (arith, w.if-place-len.true, c.len.ensures) in
           record {
             whole = rw (w.out-is, w.later-is) (array_goes_on ds (get_or ps i 0) (drop (i + 1) ps) (drop i ps) c.loop-place.later c.loop-place.out.items
-                w.write_document.new.out.items _ splits inside w.in_ok-write_document.ensures.ok c.loop-place.invariant.whole);
-            prefix = rw w.out-is (prefix_more _ _ _ _ c.loop-place.invariant.prefix w.in_ok-write_document.ensures.ok);
+                w.write_element.new.out.items _ splits inside w.in_ok-write_element.ensures.ok c.loop-place.invariant.whole);
+            prefix = rw w.out-is (prefix_more _ _ _ _ c.loop-place.invariant.prefix w.in_ok-write_element.ensures.ok);
           }
       | else-place-len w ↦
           let outside : length ds ≤ get_or ps i 0 = omega (arith, w.if-place-len.false, c.len.ensures) in
