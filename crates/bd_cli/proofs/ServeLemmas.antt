@@ -12,11 +12,11 @@ use Rattle.bd_cli_service.specs.ServiceView.{KeepsState, RepliesTo, service_dump
 use Rattle.bd_cli_service.specs.Talk.{IsUnchanged, RepliesInText}
 use Rattle.bd_cli_service.specs.declared.service.Service.{Service}
 use Rattle.bd_cli_service.proofs.ServedLemmas.{served, stopped}
-use Rattle.bd_cli_files.specs.{Load.FailsToLoad, Load.LoadsDump, Load.ReportsLoadFault, declared.load.LoadFault.LoadFault, declared.output.Status.Status, declared.output.Status.TheVariants.Done, declared.output.Status.TheVariants.Failed}
+use Rattle.bd_cli_files.specs.{Load.FailsToLoad, Load.LoadsDump, Load.ReportsLoadFault, declared.input.InputFault.InputFault, declared.output.Status.Status, declared.output.Status.TheVariants.Done, declared.output.Status.TheVariants.Failed}
 use Rattle.bd_cli_files.specs.Output.{cannot_write, error_line, fault_text, no_memory, output_before, refusal_output}
 use Rattle.bd_cli_files.specs.Run.{Prints, ReportsMessage}
 use Rattle.bd_cli.specs.Serve.{command_limits, serve_run, talk_run}
-use Rattle.bd_cli_files.specs.declared.load.LoadFault.TheVariants as loads
+use Rattle.bd_cli_files.specs.declared.input.InputFault.TheVariants as loads
 use Rattle.bd_io_device.specs.declared.reading.ReadFault.TheVariants as reads
 use Rattle.bd_io_lines.specs.declared.serving.ServeFault.TheVariants as faults
 
@@ -69,9 +69,9 @@ module _ {C : Type 0} (state : C → Reader) (gives : C → Option (List ℕ) �
   over_dump bytes ds loaded old new out err status (inr (inr (text, begun, wrote, reported))) = inr (inr (text, inr (bytes, ds, loaded, begun), wrote, reported))
 
   -- the file is no dump in memory, which is reported
-  pub load_reported : (old : C) (out : Writer) (err : Over Writer) (status : Status) (fault : LoadFault) → FailsToLoad file fault → ReportsLoadFault err status fault
+  pub load_reported : (old : C) (out : Writer) (err : Over Writer) (status : Status) (fault : InputFault) → FailsToLoad file fault → ReportsLoadFault err status fault
       → Prints (serve_run state gives old old file) (between out out) err status
-  load_reported old out err status (loads.Unread fault) read reported = inl (refusal_output (read_words fault), inl (Err fault, read, refl, refl), takes_none out, reported)
+  load_reported old out err status (loads.Unread fault) (inl read) (inl reported) = inl (refusal_output (read_words fault), inl (Err fault, read, refl, refl), takes_none out, reported)
   load_reported old out err status (loads.Faulty fault) (bytes, ds, read, scan, numbered) (inl reported) =
       let words = ap (λ n. error_line (fault_text n (fault_view fault))) numbered in
       inl (
@@ -80,5 +80,9 @@ module _ {C : Type 0} (state : C → Reader) (gives : C → Option (List ℕ) �
         takes_none out,
         subst (λ (x : List ℕ). ReportsMessage err x Failed status) words reported,
       )
-  load_reported old out err status (loads.Faulty fault) (bytes, ds, read, scan, numbered) (inr reported) = inr (inr ([], inl (bytes, read, refl, refl), takes_none out, reported))
-  load_reported old out err status loads.NoMemory (bytes, read, fits) reported = inr (inr ([], inl (bytes, read, refl, refl), takes_none out, reported))
+  load_reported old out err status (loads.Unread fault) (inr (memory, (bytes, read, fits))) (inl reported) =
+      let reports = subst (λ f. ReportsMessage err (error_line (read_words f)) Failed status) memory reported in
+      inr (inr ([], inl (bytes, read, refl, refl), takes_none out, reports))
+  load_reported old out err status (loads.Unread fault) fails (inr (f, same, reported)) = absurd cc
+  load_reported old out err status (loads.Faulty fault) (bytes, ds, read, scan, numbered) (inr (f, same, reported)) =
+      inr (inr ([], inl (bytes, read, refl, refl), takes_none out, reported))

@@ -4,7 +4,7 @@ use Rattle.std.proofs.Common.{append-nil, arith, length-append, map}
 use Rattle.std.proofs.lemmas.List.{take_at, drop_at}
 use Rattle.std.specs.Prelude.{IfSome, option_map}
 use Rattle.bd_value.specs.{Limits.longest_input, Tree.Doc}
-use Rattle.bd_io_device.specs.Devices.{Reader, TakesText, Writer, between}
+use Rattle.bd_io_device.specs.Devices.{Reader, TakesText, Writer, between, read_words}
 use Rattle.bd_io_device.specs.declared.reading.ReadFault.{ReadFault}
 use Rattle.bd_bson_check.specs.{Dump.frame_length, Dump.framed_fault, Fault.Fault, FirstFault.first_fault, Fault.fault_view}
 use Rattle.bd_bson_check.proofs.DumpLemmas.{document_faultless}
@@ -12,7 +12,7 @@ use Rattle.bd_bson_stream.specs.Stream.{IsFrame}
 use Rattle.bd_bson_stream.proofs.StreamLemmas.{frame_on, frames_once}
 use Rattle.bd_bson_dump.specs.CheckResults.{check_results_at, check_results, BeginAs}
 use Rattle.bd_bson_dump.proofs.CheckResultLemmas.{none_at, turn_at, last_at, as_scan}
-use Rattle.bd_cli_files.specs.{Input.StopsInside, Input.StreamsInput, declared.scan.Ending.Ending, declared.output.OutputFault.OutputFault}
+use Rattle.bd_cli_files.specs.{Input.StopsInside, Input.StreamsInput, declared.input.InputFault.InputFault, declared.output.OutputFault.OutputFault}
 use Rattle.bd_cli_files.specs.{declared.output.Status.Status, declared.output.Status.TheVariants.Failed}
 use Rattle.bd_cli_files.specs.Check.{AreCheckResults, ChecksWithinLimit, HasResultsFirst, IsOutputOfCheck, check_message, check_status, check_output, check_result_line, check_result_lines, check_run}
 use Rattle.bd_cli_files.specs.inside.Scan.{AreVisited, IsTextOf, StopsScan}
@@ -25,7 +25,7 @@ use Rattle.bd_cli_files.specs.declared.output.OutputFault.TheVariants.{NoMemory,
 use Rattle.bd_cli_files.proofs.ScanLemmas.{faulty_append, faulty_count, known_whole, rest_of, visited_frames}
 use Rattle.bd_io_device.proofs.DevicesLemmas.{no_write_fails}
 use Rattle.bd_bson_check.specs.declared.fault.Fault as reported
-use Rattle.bd_cli_files.specs.declared.scan.Ending.TheVariants as endings
+use Rattle.bd_cli_files.specs.declared.input.InputFault.TheVariants as inputs
 
 check_results_once : (bytes : List ℕ) (fault : Option ReadFault) (vs ws : List (Option Fault)) → AreCheckResults bytes fault vs → AreCheckResults bytes fault ws → vs ≡ ws
 check_results_once bytes None vs ws p q = p ∙ sym q
@@ -150,10 +150,12 @@ module _ (old new : Reader) (out_old out_new : Writer) (err_old err_new : Writer
   PrintsCheck = Prints (check_run (between old new)) (between out_old out_new) (between err_old err_new) status
 
   abbrev Reported : ℕ → ℕ → Option ReadFault → Type 0
-  Reported count worse unread = ReportsMessage (between err_old err_new) (check_message unread count worse) (check_status unread worse) status
+  Reported count worse unread =
+      let message = option_map read_words unread in
+      ReportsMessage (between err_old err_new) (check_message message count worse) (check_status message worse) status
 
-  abbrev Scanned : ℕ → ℕ → Ending → Type 0
-  Scanned documents bad ending = ScansDocuments check_texts (between old new) (between out_old out_new) (record { count = documents; bad = bad; ending = ending })
+  abbrev Scanned : ℕ → ℕ → Option InputFault → Type 0
+  Scanned documents bad fault = ScansDocuments check_texts (between old new) (between out_old out_new) (record { count = documents; bad = bad; fault = fault })
 
   -- all documents were checked: their lines were written, and these are their counts
   prints : (bytes : List ℕ) (unread : Option ReadFault) (vs : List CheckResult) (documents faulty : ℕ) → StreamsInput (between old new) bytes unread
@@ -169,19 +171,19 @@ module _ (old new : Reader) (out_old out_new : Writer) (err_old err_new : Writer
   lines_taken vs given text visited wrote =
       subst (λ (x : List ℕ). TakesText (between out_old out_new) x) (append-nil text ∙ (checked vs given text visited).0) wrote
 
-  pub prints_whole : (documents bad : ℕ) → Scanned documents bad endings.Whole → Reported documents bad None → PrintsCheck
+  pub prints_whole : (documents bad : ℕ) → Scanned documents bad None → Reported documents bad None → PrintsCheck
   prints_whole documents bad (vs, given, text, visited, counted, faulty, (was, (part, at)), wrote) reported =
       let short : length given ≤ longest_input = let all = at.1 in omega (arith, length-append given part) in
       prints given None vs documents bad was (inl short) (all_checked visited) counted faulty (lines_taken vs given text visited wrote) reported
 
-  pub prints_unread : (documents bad : ℕ) (f : ReadFault) → Scanned documents bad (endings.Unread f) → Reported documents bad (Some f) → PrintsCheck
+  pub prints_unread : (documents bad : ℕ) (f : ReadFault) → Scanned documents bad (Some (inputs.Unread f)) → Reported documents bad (Some f) → PrintsCheck
   prints_unread documents bad f (vs, given, text, visited, counted, faulty, (part, was, splits), wrote) reported =
       let frames = visited_frames vs given text visited in
       let are : AreCheckResults (given ++ part) (Some f) vs = (frames.0, given, part, frames.1, splits, refl, all_checked visited) in
       prints (given ++ part) (Some f) vs documents bad was tt are counted faulty (lines_taken vs given text visited wrote) reported
 
   -- the last document has a bad length
-  pub prints_faulty : (documents bad : ℕ) (f : reported.Fault) → Scanned documents bad (endings.Faulty f) → Reported (documents + 1) (bad + 1) None → PrintsCheck
+  pub prints_faulty : (documents bad : ℕ) (f : reported.Fault) → Scanned documents bad (Some (inputs.Faulty f)) → Reported (documents + 1) (bad + 1) None → PrintsCheck
   prints_faulty documents bad f (vs, given, text, visited, counted, faulty, (part, rest, was, at, numbered, fails, inl none), wrote) reported = absurd cc
   prints_faulty documents bad f (vs, given, text, visited, counted, faulty, (part, rest, was, at, numbered, fails, inr (is, long)), wrote) reported =
       let v = Some (fault_view f) in

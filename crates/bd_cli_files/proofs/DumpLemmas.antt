@@ -9,16 +9,16 @@ use Rattle.bd_bson_check.specs.{Fault.Fault, Dump.AreJoined, Dump.IsDumpScan, Fa
 use Rattle.bd_bson_check.proofs.FirstFaultLemmas.{IsBytes}
 use Rattle.bd_bson_check.proofs.DumpLemmas.{joined_append, joined_once, joined_one, scan_on, scan_once}
 use Rattle.bd_bson_stream.proofs.StreamLemmas.{cut_short_stuck}
-use Rattle.bd_cli_files.specs.{declared.scan.Ending.Ending, declared.output.OutputFault.OutputFault, declared.output.OutputFault.TheVariants.NoMemory}
+use Rattle.bd_cli_files.specs.{declared.input.InputFault.InputFault, declared.output.OutputFault.OutputFault, declared.output.OutputFault.TheVariants.NoMemory}
 use Rattle.bd_cli_files.specs.{declared.output.OutputFault.TheVariants.Unwritten, declared.output.Status.Status, declared.output.Status.TheVariants.Failed, declared.scan.DumpScan.DumpScan}
 use Rattle.bd_cli_files.specs.Dump.{IsOutputOfDump, ReadsToFirstFault, dump_output, dump_run, objects_found}
 use Rattle.bd_cli_files.specs.inside.Scan.{more_visited, none_visited}
-use Rattle.bd_cli_files.specs.inside.Scan.{AreVisited, EndsScan, StopsScan, ScansDocuments, dump_texts, ending_words, text_at_end}
-use Rattle.bd_cli_files.specs.Output.{Transcript, error_line, fault_text, lines, no_memory, wrong_line, wrong_status, stop_words}
+use Rattle.bd_cli_files.specs.inside.Scan.{AreVisited, EndsScan, StopsScan, ScansDocuments, dump_texts, text_at_end}
+use Rattle.bd_cli_files.specs.Output.{Transcript, error_line, fault_text, input_words, lines, no_memory, wrong_line, wrong_status, stop_words}
 use Rattle.bd_cli_files.specs.Run.{Prints, ReportsMessage}
 use Rattle.bd_cli_files.proofs.OutputLemmas.{lines-append}
 use Rattle.bd_bson_check.specs.declared.fault.Fault as reported
-use Rattle.bd_cli_files.specs.declared.scan.Ending.TheVariants as endings
+use Rattle.bd_cli_files.specs.declared.input.InputFault.TheVariants as inputs
 
 -- the documents that were scanned, and their lines
 printed : (vs : List (Option Fault)) (given text : List ℕ) → AreVisited dump_texts vs given text
@@ -33,10 +33,10 @@ printed vs given text (more_visited us prefix before None frame piece visited is
     )
 printed vs given text (more_visited us prefix before (Some f) frame piece visited is prints) = let e = prints.1 in absurd cc
 
-none_at_end : (number : ℕ) (ending : Ending) → text_at_end dump_texts number ending ≡ []
-none_at_end number endings.Whole = refl
-none_at_end number (endings.Faulty f) = refl
-none_at_end number (endings.Unread f) = refl
+none_at_end : (number : ℕ) (fault : Option InputFault) → text_at_end dump_texts number fault ≡ []
+none_at_end number None = refl
+none_at_end number (Some (inputs.Faulty f)) = refl
+none_at_end number (Some (inputs.Unread f)) = refl
 
 module _ (old new : Reader) (out_old out_new : Writer) (err_old err_new : Writer) (status : Status) where
   -- `dump` ran as its contract says
@@ -47,32 +47,32 @@ module _ (old new : Reader) (out_old out_new : Writer) (err_old err_new : Writer
   Reports text wanted = ReportsMessage (between err_old err_new) text wanted status
 
   -- the end after n documents was reported, or memory ran out for the report
-  abbrev ReportsEnding : ℕ → Ending → Type 0
-  ReportsEnding count ending =
-      Reports (wrong_line (ending_words ending) ++ (decimal count ++ objects_found)) (wrong_status (ending_words ending))
-      ⊎ ((f : reported.Fault) × (ending ≡ endings.Faulty f) × Reports (error_line no_memory) Failed)
+  abbrev ReportsEnding : ℕ → Option InputFault → Type 0
+  ReportsEnding count fault =
+      Reports (wrong_line (option_map input_words fault) ++ (decimal count ++ objects_found)) (wrong_status (option_map input_words fault))
+      ⊎ ((f : reported.Fault) × (fault ≡ Some (inputs.Faulty f)) × Reports (error_line no_memory) Failed)
 
   module _ (ds : List Doc) (given : List ℕ) (joined : AreJoined ds given) (wrote : TakesText (between out_old out_new) (lines ds)) where
-    ends : (ending : Ending) → EndsScan dump_texts (between old new) (length ds) given ending → ReportsEnding (length ds) ending → PrintsDump
-    ends endings.Whole (was, at) (inl reported) =
+    ends : (fault : Option InputFault) → EndsScan dump_texts (between old new) (length ds) given fault → ReportsEnding (length ds) fault → PrintsDump
+    ends None (was, at) (inl reported) =
         inl (dump_output ds None, (given, None, was, (ds, None, joined, refl), λ e. (ds, given, [], joined, sym (append-nil given), inl refl, at)), wrote, reported)
-    ends (endings.Faulty f) (part, rest, was, at, numbered, fails, last) (inl reported) =
+    ends (Some (inputs.Faulty f)) (part, rest, was, at, numbered, fails, last) (inl reported) =
         let fault = fault_view f in
         let line = subst (λ n. Reports (error_line (fault_text n fault) ++ (decimal (length ds) ++ objects_found)) Failed) numbered reported in
         let here : ReadsToFirstFault (between old new) (given ++ (part ++ rest)) = (ds, given, part ++ rest, joined, refl, inr (fault, fails), (part, at)) in
         inl (dump_output ds (Some (fault_text (length ds) fault)), (given ++ (part ++ rest), None, was, (ds, Some fault, (given, part ++ rest, joined, refl, fails), refl), λ e. here), wrote, line)
-    ends (endings.Unread f) (part, was, splits) (inl reported) =
+    ends (Some (inputs.Unread f)) (part, was, splits) (inl reported) =
         inl (dump_output ds (Some (read_words f)), (given ++ part, Some f, was, (ds, given, part, joined, splits, refl, refl), λ e. absurd cc), wrote, reported)
-    ends endings.Whole at (inr reported) = let e = reported.1 in absurd cc
-    ends (endings.Faulty f) (part, rest, was, at, numbered, fails, last) (inr reported) =
+    ends None at (inr reported) = let e = reported.1 in absurd cc
+    ends (Some (inputs.Faulty f)) (part, rest, was, at, numbered, fails, last) (inr reported) =
         inr (inr (lines ds, (ds, given, joined, (part, at), was.2, refl), wrote, reported.2))
-    ends (endings.Unread f) at (inr reported) = let e = reported.1 in absurd cc
+    ends (Some (inputs.Unread f)) at (inr reported) = let e = reported.1 in absurd cc
 
-  pub prints_scan : (scan : DumpScan) → ScansDocuments dump_texts (between old new) (between out_old out_new) scan → ReportsEnding scan.count scan.ending → PrintsDump
+  pub prints_scan : (scan : DumpScan) → ScansDocuments dump_texts (between old new) (between out_old out_new) scan → ReportsEnding scan.count scan.fault → PrintsDump
   prints_scan scan (vs, given, text, visited, counted, bad, end, wrote) reported =
       let p = printed vs given text visited in
-      ends p.0 given p.1 (subst (λ (x : List ℕ). TakesText (between out_old out_new) x) (ap (λ x. text ++ x) (none_at_end (length vs) scan.ending) ∙ append-nil text ∙ p.3) wrote) scan.ending
-      (subst (λ n. EndsScan dump_texts (between old new) n given scan.ending) (sym p.2) end) (subst (λ n. ReportsEnding n scan.ending) (counted ∙ sym p.2) reported)
+      ends p.0 given p.1 (subst (λ (x : List ℕ). TakesText (between out_old out_new) x) (ap (λ x. text ++ x) (none_at_end (length vs) scan.fault) ∙ append-nil text ∙ p.3) wrote) scan.fault
+      (subst (λ n. EndsScan dump_texts (between old new) n given scan.fault) (sym p.2) end) (subst (λ n. ReportsEnding n scan.fault) (counted ∙ sym p.2) reported)
 
   pub prints_stop : (stopped : OutputFault) → StopsScan dump_texts (between old new) (between out_old out_new) stopped → Reports (error_line (stop_words stopped)) Failed → PrintsDump
   prints_stop NoMemory (vs, given, text, visited, at, no_failure, wrote) reported =

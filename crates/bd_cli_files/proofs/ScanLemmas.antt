@@ -1,5 +1,5 @@
 -- A scan of the documents of an input, step by step.
-use Rattle.std.proofs.Common.{inl, inr, ◌≡◌, ◌≤◌, ◌<◌, ℕ, ◌+◌, ◌-◌, List, [], ◌∷◌, ◌++◌, length, length-take-le, map, append-nil, append_assoc, Option, Some, None, Result, Ok, Err, Bool, true, false, true≢false, refl, sym, ap, ap₂, ◌∙◌, subst}
+use Rattle.std.proofs.Common.{inl, inr, ◌≡◌, ◌≤◌, ◌<◌, ℕ, ◌+◌, ◌-◌, List, [], ◌∷◌, ◌++◌, length, length-take-le, map, append-nil, append_assoc, Option, Some, None, Err, true, false, true≢false, refl, sym, ap, ap₂, ◌∙◌, subst}
 use Rattle.std.proofs.Common.{arith, length-append}
 use Rattle.std.proofs.{lemmas.List.take_at, lemmas.List.Sums.sum_by-append}
 use Rattle.std.proofs.KnownBytes.{Consumes-trans, Consumes-nil}
@@ -14,7 +14,7 @@ use Rattle.bd_bson_check.specs.Dump.{frame_fault, frame_length, framed_fault}
 use Rattle.bd_bson_stream.specs.declared.doc_buffer.{DocBuffer.DocBuffer, DocFault.DocFault, FrameFault.FrameFault}
 use Rattle.bd_bson_stream.specs.Stream.{FailsToRead, FindsEnd, IsReason, ReadsDocument, ReadsToFault, buffered_bytes, AreFrames, EndsWithinOne, HasNoFrame, IsFrame, IsWithinOne}
 use Rattle.bd_bson_stream.proofs.StreamLemmas.{cut_short_within, frame_on, frame_within, frames_more}
-use Rattle.bd_cli_files.specs.{Input.ReadsNoFurther, Input.StopsInside, Input.StreamsInput, inside.Output.StopsWriting, declared.scan.Ending.Ending, declared.output.OutputFault.OutputFault}
+use Rattle.bd_cli_files.specs.{Input.ReadsNoFurther, Input.StopsInside, Input.StreamsInput, inside.Output.StopsWriting, declared.input.InputFault.InputFault, declared.output.OutputFault.OutputFault}
 use Rattle.bd_cli_files.specs.inside.Scan.{more_visited, none_visited}
 use Rattle.bd_cli_files.specs.inside.Scan.{AreVisited, EndsScan, IsTextOf, StopsScan, Texts, ScansDocuments, text_at_end}
 use Rattle.bd_cli_files.specs.declared.output.OutputFault.TheVariants.{NoMemory, Unwritten}
@@ -23,7 +23,7 @@ use Rattle.bd_io_device.specs.declared.reading.ReadFault.TheVariants as reads
 use Rattle.bd_bson_check.specs.declared.fault.Fault as reported
 use Rattle.bd_bson_check.specs.declared.fault.FaultKind.TheVariants as kinds
 use Rattle.bd_bson_stream.specs.declared.doc_buffer.DocFault.TheVariants as faults
-use Rattle.bd_cli_files.specs.declared.scan.Ending.TheVariants as endings
+use Rattle.bd_cli_files.specs.declared.input.InputFault.TheVariants as inputs
 
 abbrev pub faulty_count : List (Option Fault) → ℕ
 faulty_count = count_by is_some
@@ -230,19 +230,19 @@ module _ {texts : Texts} {old mid : Reader} {out_old out_mid : Writer} {buffer :
   within : (part : List ℕ) → length part ≤ buffer.remaining.bytes → length (s.given ++ part) ≤ longest_input
   within part le = let f = s.fits in let p = s.located in omega (arith, length-append s.given part)
 
-  abbrev Ended : Reader → Writer → Ending → Type 0
-  Ended new out ending = ScansDocuments texts (between old new) (between out_old out) (record { count = buffer.number; bad = bad; ending = ending })
+  abbrev Ended : Reader → Writer → Option InputFault → Type 0
+  Ended new out fault = ScansDocuments texts (between old new) (between out_old out) (record { count = buffer.number; bad = bad; fault = fault })
 
-  ends : (new : Reader) (out : Writer) (ending : Ending) → EndsScan texts (between old new) (length s.done) s.given ending
-      → TakesText (between out_old out) (s.text ++ text_at_end texts (length s.done) ending) → Ended new out ending
-  ends new out ending end wrote = (s.done, s.given, s.text, s.visited, s.counted, s.bad_counted, end, wrote)
+  ends : (new : Reader) (out : Writer) (fault : Option InputFault) → EndsScan texts (between old new) (length s.done) s.given fault
+      → TakesText (between out_old out) (s.text ++ text_at_end texts (length s.done) fault) → Ended new out fault
+  ends new out fault end wrote = (s.done, s.given, s.text, s.visited, s.counted, s.bad_counted, end, wrote)
 
   -- nothing is written at the end
-  ends_so : (new : Reader) (ending : Ending) → EndsScan texts (between old new) (length s.done) s.given ending
-      → text_at_end texts (length s.done) ending ≡ [] → Ended new out_mid ending
-  ends_so new ending end none =
+  ends_so : (new : Reader) (fault : Option InputFault) → EndsScan texts (between old new) (length s.done) s.given fault
+      → text_at_end texts (length s.done) fault ≡ [] → Ended new out_mid fault
+  ends_so new fault end none =
       let all = sym (append-nil s.text) ∙ ap (λ x. s.text ++ x) (sym none) in
-      ends new out_mid ending end (subst (λ (x : List ℕ). TakesText (between out_old out_mid) x) all s.wrote)
+      ends new out_mid fault end (subst (λ (x : List ℕ). TakesText (between out_old out_mid) x) all s.wrote)
 
   -- the scan is after its documents and a part of the next one
   module _ {new : Reader} {part : List ℕ} (g : Gives mid new buffer.remaining.bytes part) where
@@ -265,31 +265,31 @@ module _ {texts : Texts} {old mid : Reader} {out_old out_mid : Writer} {buffer :
         (s.done, s.given, s.text, piece, s.visited, after, inl (v, part, is, next_of part v piece prints, at, g.no_failure ∙ s.no_failure))
 
     -- the input is at its end
-    pub ends_whole : part ≡ [] → IsAtEnd new.remaining → Ended new out_mid endings.Whole
+    pub ends_whole : part ≡ [] → IsAtEnd new.remaining → Ended new out_mid None
     ends_whole none end =
         let all = subst (λ (x : List ℕ). Consumes old.remaining new.remaining x) (ap (λ x. s.given ++ x) none ∙ append-nil s.given) at.0 in
-        ends_so new endings.Whole (streams s.given (known_end old.remaining new.remaining s.given all end), (part, at)) refl
+        ends_so new None (streams s.given (known_end old.remaining new.remaining s.given all end), (part, at)) refl
 
     -- the scan ends at the fault, or the length of its document is bad
     abbrev IsLast : ℕ → List ℕ → reported.Fault → Type 0
     IsLast number bytes f = (texts.bad number (fault_view f) ≡ None) ⊎ ((frame_length part ≡ Err f.kind) × (frame_length bytes ≡ Err f.kind))
 
     ends_at : (rest : List ℕ) (f : reported.Fault) → IfSome mid.remaining (λ xs. part ++ rest ≡ xs) → f.document ≡ buffer.number → frame_fault buffer.offset (part ++ rest) ≡ Some (fault_view f)
-        → IsLast buffer.number (part ++ rest) f → EndsScan texts (between old new) (length s.done) s.given (endings.Faulty f)
+        → IsLast buffer.number (part ++ rest) f → EndsScan texts (between old new) (length s.done) s.given (Some (inputs.Faulty f))
     ends_at rest f known numbered fails last =
         let all = streams (s.given ++ (part ++ rest)) (known_after old.remaining mid.remaining s.given (part ++ rest) s.gave known) in
         let fault = subst (λ p. frame_fault p (part ++ rest) ≡ Some (fault_view f)) s.located fails in
         (part, rest, all, at, numbered ∙ s.counted, fault, subst (λ n. IsLast n (part ++ rest) f) s.counted last)
 
     pub ends_faulty : (f : reported.Fault) → IsFrame part → first_fault buffer.offset part ≡ Some (fault_view f) → f.document ≡ buffer.number
-        → texts.bad buffer.number (fault_view f) ≡ None → Ended new out_mid (endings.Faulty f)
+        → texts.bad buffer.number (fault_view f) ≡ None → Ended new out_mid (Some (inputs.Faulty f))
     ends_faulty f is first numbered none =
         let rest = rest_of new.remaining in
         let end = ends_at rest f (known_whole mid.remaining new.remaining part g.gave) numbered (fault_inside buffer.offset part rest (fault_view f) is first) (inl none) in
-        ends_so new (endings.Faulty f) end (ap (λ (o : Option (List ℕ)). unwrap_or o []) (subst (λ n. texts.bad n (fault_view f) ≡ None) s.counted none))
+        ends_so new (Some (inputs.Faulty f)) end (ap (λ (o : Option (List ℕ)). unwrap_or o []) (subst (λ n. texts.bad n (fault_view f) ≡ None) s.counted none))
 
     pub ends_framed : (f : reported.Fault) → HasNoFrame [] mid.remaining f.kind → frame_length part ≡ Err f.kind → f.offset ≡ buffer.offset → f.document ≡ buffer.number → f.path.items ≡ []
-        → EndsScan texts (between old new) (length s.done) s.given (endings.Faulty f)
+        → EndsScan texts (between old new) (length s.done) s.given (Some (inputs.Faulty f))
     ends_framed f none is offset numbered path =
         let r = framed_rest mid.remaining new.remaining part f g.gave none is in
         let fails = ap (framed_fault buffer.offset (part ++ r.0)) r.2
@@ -305,7 +305,7 @@ module _ {texts : Texts} {R : Type 0} {state : R → Reader} {gives : R → Opti
     number : f.document ≡ length s.done
     number = same.1 ∙ fails.reason.1 ∙ s.counted
 
-    end : EndsScan texts (between old (state n)) (length s.done) s.given (endings.Faulty f)
+    end : EndsScan texts (between old (state n)) (length s.done) s.given (Some (inputs.Faulty f))
     end =
         let reason = fails.reason in
         let g : Gives (state m) (state n) buffer.remaining.bytes fails.given = record { gave = fails.gave; short = reason.4; within = reason.6; no_failure = reason.5 } in
@@ -315,10 +315,10 @@ module _ {texts : Texts} {R : Type 0} {state : R → Reader} {gives : R → Opti
     abbrev line : List ℕ
     line = unwrap_or (texts.bad f.document (fault_view f)) []
 
-    pub ends_by_length : (out : Writer) → TakesText (between out_mid out) line → Ended s (state n) out (endings.Faulty f)
+    pub ends_by_length : (out : Writer) → TakesText (between out_mid out) line → Ended s (state n) out (Some (inputs.Faulty f))
     ends_by_length out took =
         let all = ap (λ k. s.text ++ unwrap_or (texts.bad k (fault_view f)) []) number in
-        ends s (state n) out (endings.Faulty f) end (subst (λ (x : List ℕ). TakesText (between out_old out) x) all (takes_both out_old out_mid out s.text line s.wrote took))
+        ends s (state n) out (Some (inputs.Faulty f)) end (subst (λ (x : List ℕ). TakesText (between out_old out) x) all (takes_both out_old out_mid out s.text line s.wrote took))
 
     pub stops_by_length : (out : Writer) (stopped : OutputFault) → StopsWriting line (between out_mid out) stopped → StopsScan texts (between old (state n)) (between out_old out) stopped
     stops_by_length out NoMemory same =
@@ -347,14 +347,14 @@ module _ {texts : Texts} {R : Type 0} {state : R → Reader} {gives : R → Opti
       = record { gave = fails.gave; short = reason.1; within = cut_short_within fails.given reason.0; no_failure = reason.2 } in
       runs_out s g
 
-  pub ends_unread : (f : ReadFault) → ¬ (f ≡ reads.NoMemory) → FailsToRead state gives [] buffer after m n (faults.Read f) → Ended s (state n) out_mid (endings.Unread f)
-  ends_unread f other fails = ends_so s (state n) (endings.Unread f) (by_fault f other fails.given moved fails.reason) refl
+  pub ends_unread : (f : ReadFault) → ¬ (f ≡ reads.NoMemory) → FailsToRead state gives [] buffer after m n (faults.Read f) → Ended s (state n) out_mid (Some (inputs.Unread f))
+  ends_unread f other fails = ends_so s (state n) (Some (inputs.Unread f)) (by_fault f other fails.given moved fails.reason) refl
     where
       moved : Consumes old.remaining (state n).remaining (s.given ++ fails.given)
       moved = Consumes-trans old.remaining (state m).remaining (state n).remaining s.given fails.given s.gave fails.gave
 
       by_fault : (f : ReadFault) → ¬ (f ≡ reads.NoMemory) → (part : List ℕ) → Consumes old.remaining (state n).remaining (s.given ++ part)
-          → IsReason state gives buffer m n [] part (faults.Read f) → EndsScan texts (between old (state n)) (length s.done) s.given (endings.Unread f)
+          → IsReason state gives buffer m n [] part (faults.Read f) → EndsScan texts (between old (state n)) (length s.done) s.given (Some (inputs.Unread f))
       by_fault reads.Device other part gave reason = (part, (gave, within s part reason.1, reason.2 ∙ ap (λ k. after_more k 1) s.no_failure), reason.0)
       by_fault reads.TooLong other part gave reason =
           let parts = ap (λ (x : List ℕ). s.given ++ x) reason.2 ∙ sym (append_assoc s.given reason.0 reason.1) in

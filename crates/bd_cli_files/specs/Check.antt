@@ -27,22 +27,22 @@ check_result_lines number (v ∷ vs) = check_result_line number v ++ check_resul
 
 -- what `check` writes on standard error: why the input was not read to its end, if so,
 -- then how many documents there are and how many are faulty
-abbrev pub check_message : Option ReadFault → ℕ → ℕ → List ℕ
-check_message unread documents faulty =
-    (wrong_line (option_map read_words unread) ++ (decimal documents ++ codes " documents, "))
+abbrev pub check_message : Option (List ℕ) → ℕ → ℕ → List ℕ
+check_message message documents faulty =
+    (wrong_line message ++ (decimal documents ++ codes " documents, "))
     ++ (decimal faulty ++ (codes " faulty" ++ 10 ∷ []))
 
 -- the status of `check`: done if each document is well-formed and the input was read completely, otherwise failed (1)
-abbrev pub check_status : Option ReadFault → ℕ → Status
+abbrev pub check_status : Option (List ℕ) → ℕ → Status
 check_status None zero = Done
 check_status _ faulty = Failed
 
 -- the output of `check` for documents, or for those before a failed read
 abbrev pub check_output : List (Option Fault) → Option ReadFault → Transcript
-check_output vs unread = record {
+check_output vs unread = let message = option_map read_words unread in record {
   out = check_result_lines 0 vs;
-  err = check_message unread (length vs) (count_by is_some vs);
-  status = check_status unread (count_by is_some vs);
+  err = check_message message (length vs) (count_by is_some vs);
+  status = check_status message (count_by is_some vs);
 }
 
 -- For each document of an input its first fault or None;

@@ -2,13 +2,15 @@
 use Rattle.std.specs.Prelude.{ℕ, List, [], ◌∷◌, ◌++◌, codes, decimal, Option, Some, None}
 use Rattle.std.specs.{List.join_with_byte}
 use Rattle.bd_value.specs.Tree.{Doc, doc, fields_of}
-use Rattle.bd_io_device.specs.declared.reading.ReadFault.{ReadFault}
-use Rattle.bd_bson_check.specs.Fault.{Fault, fault_words}
+use Rattle.bd_io_device.specs.{Devices.read_words}
+use Rattle.bd_bson_check.specs.Fault.{Fault, fault_view, fault_words}
 use Rattle.bd_extjson_text.specs.Text.{text, quoted}
+use Rattle.bd_cli_files.specs.{declared.input.InputFault.InputFault}
 use Rattle.bd_cli_files.specs.{declared.output.OutputFault.OutputFault, declared.output.Status.Status}
 use Rattle.bd_cli_files.specs.{declared.output.OutputFault.TheVariants.NoMemory}
 use Rattle.bd_cli_files.specs.{declared.output.OutputFault.TheVariants.Unwritten, declared.output.Status.TheVariants.Done}
 use Rattle.bd_cli_files.specs.{declared.output.Status.TheVariants.Failed}
+use Rattle.bd_cli_files.specs.declared.input.InputFault.TheVariants as faults
 
 -- the output of a run: the text on standard output, the text on standard error, and the exit status
 pub record Transcript : Type 0 where
@@ -37,6 +39,11 @@ abbrev pub fault_text : ℕ → Fault → List ℕ
 fault_text number f =
     location_text number f.offset
     ++ (codes ", path " ++ (quoted (join_with_byte 46 f.path) ++ (codes ": " ++ fault_words f.kind)))
+
+-- the message of a fault of an input
+abbrev pub input_words : InputFault → List ℕ
+input_words (faults.Unread f) = read_words f
+input_words (faults.Faulty f) = fault_text f.document (fault_view f)
 
 -- the message of a run that ran out of memory
 abbrev pub no_memory : List ℕ

@@ -3,17 +3,18 @@
 ghost use Rattle.std.specs.Prelude.{OnErr, OnOk};
 ghost use Rattle.bd_io_device.specs.Devices.{WriteFailsWithin, TakesText, over};
 ghost use Rattle.bd_cli_files.specs.Check.{check_message, check_run, check_status};
-ghost use Rattle.bd_cli_files.specs.inside.Scan.{check_texts};
+ghost use Rattle.bd_cli_files.specs.inside.{Output.reported_bytes, Scan.check_texts};
 ghost use Rattle.bd_cli_files.specs.Input.{ReadsNoFurther};
 ghost use Rattle.bd_cli_files.specs.Run.{Prints, ReportsMessage};
 
+use crate::input::InputFault;
 use crate::output::{
-    OutputFault, Status, push_fault, report_stop, status_of, words_of, write_count, write_end,
+    OutputFault, Status, push_fault, report_stop, status_of, write_count, write_end,
 };
-use crate::scan::{Ending, Visitor, scan_documents};
+use crate::scan::{Visitor, scan_documents};
 use bd_bson_check::Fault;
 use bd_bson_view::RawDoc;
-use bd_io_device::{DeviceFault, Input, Output, ReadFault, write_all};
+use bd_io_device::{DeviceFault, Input, Output, write_all};
 use std::alloc::Global;
 
 /// After the number of documents.
@@ -35,11 +36,15 @@ pub fn check<R: Input, O: Output, E: Output>(
 {
     let line = String::new(alloc);
     match scan_documents(alloc, input, &mut Checker { line }, out) {
-        Ok(scan) => match scan.ending {
-            Ending::Whole => report_findings(scan.count, scan.bad, None, err),
+        Ok(scan) => match scan.fault {
+            None => report_findings(scan.count, scan.bad, None, err),
             // A bad length: the scan cannot find the next document.
-            Ending::Faulty(_) => report_findings(scan.count + 1, scan.bad + 1, None, err),
-            Ending::Unread(fault) => report_findings(scan.count, scan.bad, Some(fault), err),
+            Some(InputFault::Faulty(_)) => {
+                report_findings(scan.count + 1, scan.bad + 1, None, err)
+            }
+            Some(InputFault::Unread(fault)) => {
+                report_findings(scan.count, scan.bad, Some(fault.words()), err)
+            }
         },
         Err(fault) => report_stop(fault, err),
     }
@@ -75,17 +80,18 @@ impl<O: Output> Visitor<O> for Checker {
 fn report_findings<E: Output>(
     documents: u32,
     faulty: u32,
-    unread: Option<ReadFault>,
+    message: Option<&str>,
     err: &mut E,
 ) -> Status
     ensures { ReportsMessage (over E.state err.old err.new)
-        (check_message unread documents faulty) (check_status unread faulty) result }
+        (check_message (reported_bytes message.entry) documents faulty)
+        (check_status (reported_bytes message.entry) faulty) result }
 {
-    let wanted = match (faulty, unread) {
+    let wanted = match (faulty, message) {
         (0, None) => Status::Done,
         _ => Status::Failed,
     };
-    status_of(write_findings(documents, faulty, unread, err), wanted)
+    status_of(write_findings(documents, faulty, message, err), wanted)
 }
 
 /// Writes the text for standard error.
@@ -93,14 +99,14 @@ fn report_findings<E: Output>(
 fn write_findings<E: Output>(
     documents: u32,
     faulty: u32,
-    unread: Option<ReadFault>,
+    message: Option<&str>,
     err: &mut E,
 ) -> Result<(), DeviceFault>
-    ensures ok { OnOk result
-        (TakesText (over E.state err.old err.new) (check_message unread documents faulty)) }
-    ensures err { OnErr result
-        (WriteFailsWithin (over E.state err.old err.new) (check_message unread documents faulty)) }
+    ensures ok { OnOk result (TakesText (over E.state err.old err.new)
+        (check_message (reported_bytes message.entry) documents faulty)) }
+    ensures err { OnErr result (WriteFailsWithin (over E.state err.old err.new)
+        (check_message (reported_bytes message.entry) documents faulty)) }
 {
-    write_end(words_of(unread), u64::from(documents), DOCUMENTS, err)?;
+    write_end(message, u64::from(documents), DOCUMENTS, err)?;
     write_count(u64::from(faulty), FAULTY, err)
 }

@@ -1,18 +1,17 @@
 //! `dump`: the documents of an input, one per line.
 
-ghost use Rattle.std.specs.Prelude.{◌≡◌, ◌⊎◌, ◌++◌, decimal};
+ghost use Rattle.std.specs.Prelude.{◌≡◌, ◌⊎◌, ◌++◌, Some, decimal, option_map};
 ghost use Rattle.bd_io_device.specs.Devices.{over};
 ghost use Rattle.bd_cli_files.specs.Dump.{dump_run, objects_found};
-ghost use Rattle.bd_cli_files.specs.inside.Scan.{dump_texts, ending_words};
+ghost use Rattle.bd_cli_files.specs.inside.Scan.{dump_texts};
 ghost use Rattle.bd_cli_files.specs.Input.{ReadsNoFurther};
-ghost use Rattle.bd_cli_files.specs.Output.{error_line, no_memory, wrong_line, wrong_status};
+ghost use Rattle.bd_cli_files.specs.Output.{error_line, input_words, no_memory, wrong_line, wrong_status};
 ghost use Rattle.bd_cli_files.specs.Run.{Prints, ReportsMessage};
 ghost use Rattle.bd_cli_files.specs.declared.output.Status.TheVariants.{Failed};
 
-use crate::output::{
-    OutputFault, Status, fault_message, report_end, report_no_memory, report_stop, words_of,
-};
-use crate::scan::{DumpScan, Ending, Visitor, scan_documents};
+use crate::input::InputFault;
+use crate::output::{OutputFault, Status, message_of, report_end, report_no_memory, report_stop};
+use crate::scan::{DumpScan, Visitor, scan_documents};
 use bd_bson_check::Fault;
 use bd_bson_view::RawDoc;
 use bd_extjson_text::TextBuffer;
@@ -67,18 +66,17 @@ impl<O: Output> Visitor<O> for Printer {
 /// Reports the end of a scan on standard error, after its lines on standard output. Memory is taken only for the path of a fault.
 fn report_scan<E: Output>(alloc: Global, scan: &DumpScan, err: &mut E) -> Status
     ensures { ReportsMessage (over E.state err.old err.new)
-        (wrong_line (ending_words scan.now.ending) ++ (decimal scan.now.count ++ objects_found))
-        (wrong_status (ending_words scan.now.ending)) result
-        ⊎ ((fault : Fault) × (scan.now.ending ≡ Ending.Faulty fault)
+        (wrong_line (option_map input_words scan.now.fault) ++ (decimal scan.now.count
+        ++ objects_found)) (wrong_status (option_map input_words scan.now.fault)) result
+        ⊎ ((fault : Fault) × (scan.now.fault ≡ Some (InputFault.Faulty fault))
         × ReportsMessage (over E.state err.old err.new) (error_line no_memory) Failed result) }
 {
     let count = u64::from(scan.count);
-    match &scan.ending {
-        Ending::Whole => report_end(None, count, OBJECTS_FOUND, err),
-        Ending::Faulty(fault) => match fault_message(alloc, fault) {
-            Ok(message) => report_end(Some(&message), count, OBJECTS_FOUND, err),
+    match &scan.fault {
+        None => report_end(None, count, OBJECTS_FOUND, err),
+        Some(fault) => match message_of(fault, &mut String::new(alloc)) {
+            Ok(message) => report_end(Some(message), count, OBJECTS_FOUND, err),
             Err(_) => report_no_memory(err),
         },
-        Ending::Unread(fault) => report_end(words_of(Some(*fault)), count, OBJECTS_FOUND, err),
     }
 }

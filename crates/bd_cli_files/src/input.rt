@@ -1,9 +1,10 @@
-//! An input that is read completely, and how much of an input is read.
+//! An input that is read completely, how much of an input is read, and why it is not read to its end.
 
 ghost use Rattle.std.specs.Prelude.{MatchResult, Ok, Err};
 ghost use Rattle.bd_io_device.specs.Devices.{over};
 ghost use Rattle.bd_cli_files.specs.Input.{ReadsInput, ReadsNoFurther};
 
+use bd_bson_check::Fault;
 use bd_io_device::{Input, Limits, ReadFault, read_all};
 use bd_value::{LONGEST_INPUT, MOST_READS};
 use std::alloc::Global;
@@ -13,6 +14,15 @@ pub const LIMITS: Limits = Limits {
     bytes: LONGEST_INPUT,
     turns: MOST_READS,
 };
+
+/// Why an input is not read to its end as documents.
+#[derive(Debug, Drop)]
+pub enum InputFault {
+    /// The bytes were not read, or memory ran out.
+    Unread(ReadFault),
+    /// A document has this fault.
+    Faulty(Fault),
+}
 
 /// All bytes of an input, at most 4,294,967,295.
 ///

@@ -14,7 +14,7 @@
 //!
 //! - `dump` and `check`, which scan a file document by document; `pack`, which reads its whole file into memory.
 //! - `scan`: the scan of `dump` and `check`.
-//! - `input`: a file that is read completely, and how much of a file is read.
+//! - `input`: a file that is read completely, how much of a file is read, and why it is not read to its end.
 //! - `load`: a dump that is read into memory, for `find` and `serve`.
 //! - `output`: the messages of a run, and its exit status.
 #![tactic(auto)]
@@ -27,5 +27,5 @@ pub mod output;
 pub mod pack;
 mod scan;
 
-pub use input::{LIMITS, read_input};
+pub use input::{InputFault, LIMITS, read_input};
 pub use output::Status;

@@ -6,34 +6,19 @@ ghost use Rattle.bd_bson_dump.specs.Collection.{bytes_of, documents};
 ghost use Rattle.bd_cli_files.specs.Input.{ReadsNoFurther};
 ghost use Rattle.bd_cli_files.specs.Load.{FailsToLoad, LoadsDump, ReportsLoadFault};
 
-use crate::input::read_input;
-use crate::output::{
-    Status, is_want_of_memory, report_dump_fault, report_no_memory, report_read_fault,
-};
-use bd_bson_check::Fault;
+use crate::input::{InputFault, read_input};
+use crate::output::{Status, is_want_of_memory, message_of, report_error, report_no_memory};
 use bd_bson_dump::{Dump, read_dump};
 use bd_io_device::{Input, Output, ReadFault};
 use std::alloc::Global;
-
-/// Why an input is no dump in memory.
-#[derive(Debug, Drop)]
-pub enum LoadFault {
-    /// It was not read completely.
-    Unread(ReadFault),
-    /// A document has this fault, the first of the dump.
-    Faulty(Fault),
-    /// Memory for the dump ran out.
-    NoMemory,
-}
 
 /// Reads the whole input, which must be a dump of at most 4,294,967,295 bytes.
 ///
 /// # Errors
 ///
-/// - `Unread`: the input was not read completely; no read is made after a failed one.
+/// - `Unread`: the input was not read completely, and no read is made after a failed one; or memory for the dump ran out.
 /// - `Faulty`: the first fault of the first document that has one.
-/// - `NoMemory`: memory for the dump ran out.
-pub fn load<R: Input>(alloc: Global, input: &mut R) -> Result<Dump, LoadFault>
+pub fn load<R: Input>(alloc: Global, input: &mut R) -> Result<Dump, InputFault>
     ensures loaded { IfOk result (λ dump. LoadsDump
         (over R.state input.old input.new) (bytes_of dump) (documents dump)) }
     ensures fault { IfErr result (FailsToLoad (over R.state input.old input.new)) }
@@ -41,16 +26,16 @@ pub fn load<R: Input>(alloc: Global, input: &mut R) -> Result<Dump, LoadFault>
 {
     let bytes = match read_input(alloc, input) {
         Ok(bytes) => bytes,
-        Err(fault) => return Err(LoadFault::Unread(fault)),
+        Err(fault) => return Err(InputFault::Unread(fault)),
     };
     are_bytes(&bytes);
     match read_dump(alloc, bytes) {
         Ok(dump) => Ok(dump),
         Err(fault) => {
             if is_want_of_memory(&fault) {
-                return Err(LoadFault::NoMemory);
+                return Err(InputFault::Unread(ReadFault::NoMemory));
             }
-            Err(LoadFault::Faulty(fault))
+            Err(InputFault::Faulty(fault))
         }
     }
 }
@@ -61,12 +46,11 @@ fn are_bytes(bytes: &[u8])
 {}
 
 /// Reports why an input is no dump in memory.
-pub fn report_load_fault<E: Output>(alloc: Global, fault: &LoadFault, err: &mut E) -> Status
+pub fn report_load_fault<E: Output>(alloc: Global, fault: &InputFault, err: &mut E) -> Status
     ensures { ReportsLoadFault (over E.state err.old err.new) result fault.now }
 {
-    match fault {
-        LoadFault::Unread(fault) => report_read_fault(*fault, err),
-        LoadFault::Faulty(fault) => report_dump_fault(alloc, fault, err),
-        LoadFault::NoMemory => report_no_memory(err),
+    match message_of(fault, &mut String::new(alloc)) {
+        Ok(message) => report_error(message, err),
+        Err(_) => report_no_memory(err),
     }
 }

@@ -1,23 +1,24 @@
 //! The messages of a run, and how it ends. Only the path of a fault takes memory.
 
-ghost use Rattle.std.specs.Prelude.{◌≡◌, ◌++◌, ◌↔◌, ◌⊎◌, IfOk, IsTrue, OnErr, OnOk, decimal, map, option_map, string_bytes};
+ghost use Rattle.std.specs.Prelude.{◌≡◌, ◌++◌, ◌↔◌, ◌⊎◌, IfOk, IsTrue, OnErr, OnOk, decimal, map, string_bytes};
 ghost use Rattle.std.specs.List.{join_with_byte};
 ghost use Rattle.bd_io_device.specs.Devices.{WriteFailsWithin, TakesText, over, read_words};
 ghost use Rattle.bd_bson_check.specs.Fault.{fault_view};
 ghost use Rattle.bd_bson_check.specs.declared.fault.FaultKind.TheVariants as kinds;
 ghost use Rattle.bd_extjson_text.specs.Text.{quoted};
 ghost use Rattle.bd_cli_files.specs.Run.{ReportsMessage};
-ghost use Rattle.bd_cli_files.specs.Output.{cannot_write, error_line, fault_text, no_memory, location_text, stop_words, wrong_line, wrong_status};
+ghost use Rattle.bd_cli_files.specs.Output.{cannot_write, error_line, fault_text, input_words, no_memory, location_text, stop_words, wrong_line, wrong_status};
 ghost use Rattle.bd_cli_files.specs.inside.Output.{reported_bytes};
 ghost use Rattle.bd_cli_files.specs.declared.output.OutputFault.TheVariants.{NoMemory as memory, Unwritten};
 ghost use Rattle.bd_cli_files.specs.declared.output.Status.TheVariants.{Failed};
 
+use crate::input::InputFault;
 use bd_bson_check::{Fault, FaultKind};
 use bd_extjson_text::write_path;
 use bd_io_device::{DeviceFault, Output, ReadFault, write_all};
 use bd_value::NoMemory;
 use itoa::Buffer;
-use std::alloc::{AllocError, Global};
+use std::alloc::AllocError;
 
 /// The exit status of a run.
 #[derive(Clone, Copy, Debug, PartialEq, Eq)]
@@ -93,30 +94,20 @@ pub fn write_count<E: Output>(count: u64, words: &str, err: &mut E) -> Result<()
     write_all(err, words.as_bytes())
 }
 
-/// The message of a read fault, if any.
-pub(crate) fn words_of(unread: Option<ReadFault>) -> Option<&'static str>
-    ensures { reported_bytes result ≡ option_map read_words unread }
-{
-    match unread {
-        None => None,
-        Some(fault) => Some(fault.words()),
-    }
-}
-
-/// Writes what is wrong, if anything is, and then a number and the text after it.
+/// Writes a message, if there is one, and then a number and the text after it.
 #[tactic(auto, using(crate::proofs::OutputLemmas::taking))]
 pub(crate) fn write_end<E: Output>(
-    wrong: Option<&str>,
+    message: Option<&str>,
     count: u64,
     words: &str,
     err: &mut E,
 ) -> Result<(), DeviceFault>
     ensures ok { OnOk result (TakesText (over E.state err.old err.new)
-        (wrong_line (reported_bytes wrong.entry) ++ (decimal count ++ words.now))) }
+        (wrong_line (reported_bytes message.entry) ++ (decimal count ++ words.now))) }
     ensures err { OnErr result (WriteFailsWithin (over E.state err.old err.new)
-        (wrong_line (reported_bytes wrong.entry) ++ (decimal count ++ words.now))) }
+        (wrong_line (reported_bytes message.entry) ++ (decimal count ++ words.now))) }
 {
-    match wrong {
+    match message {
         None => write_count(count, words, err),
         Some(message) => {
             write_error(message, err)?;
@@ -136,21 +127,22 @@ pub fn status_of(written: Result<(), DeviceFault>, wanted: Status) -> Status
     }
 }
 
-/// Reports what is wrong, if anything is, and a count. It takes no memory.
+/// Reports a message of what is wrong, if there is one, and a count. It takes no memory.
 pub(crate) fn report_end<E: Output>(
-    wrong: Option<&str>,
+    message: Option<&str>,
     count: u64,
     words: &str,
     err: &mut E,
 ) -> Status
-    ensures { ReportsMessage (over E.state err.old err.new) (wrong_line (reported_bytes wrong.entry)
-        ++ (decimal count ++ words.now)) (wrong_status (reported_bytes wrong.entry)) result }
+    ensures { ReportsMessage (over E.state err.old err.new)
+        (wrong_line (reported_bytes message.entry) ++ (decimal count ++ words.now))
+        (wrong_status (reported_bytes message.entry)) result }
 {
-    let wanted = match wrong {
+    let wanted = match message {
         None => Status::Done,
         Some(_) => Status::Failed,
     };
-    status_of(write_end(wrong, count, words, err), wanted)
+    status_of(write_end(message, count, words, err), wanted)
 }
 
 /// Reports an error. It takes no memory.
@@ -192,18 +184,6 @@ pub fn report_read_fault<E: Output>(fault: ReadFault, err: &mut E) -> Status
         (over E.state err.old err.new) (error_line (read_words fault)) Failed result }
 {
     report_error(fault.words(), err)
-}
-
-/// Reports why an input is not a dump.
-pub fn report_dump_fault<E: Output>(alloc: Global, fault: &Fault, err: &mut E) -> Status
-    ensures { ReportsMessage (over E.state err.old err.new)
-        (error_line (fault_text fault.now.document (fault_view fault.now))) Failed result
-        ⊎ ReportsMessage (over E.state err.old err.new) (error_line no_memory) Failed result }
-{
-    match fault_message(alloc, fault) {
-        Ok(message) => report_error(&message, err),
-        Err(_) => report_no_memory(err),
-    }
 }
 
 /// Appends a number in decimal.
@@ -256,12 +236,17 @@ pub(crate) fn push_fault(fault: &Fault, text: &mut String) -> Result<(), NoMemor
     text.push_str(fault.kind.words())
 }
 
-/// The message of a fault. `NoMemory` is its only error.
-pub(crate) fn fault_message(alloc: Global, fault: &Fault) -> Result<String, NoMemory>
-    ensures { IfOk result (λ s.
-        string_bytes s ≡ fault_text fault.now.document (fault_view fault.now)) }
+/// The message of a fault of an input. Only that of a document takes memory, in `text`, which has no other use.
+pub(crate) fn message_of<'a>(fault: &InputFault, text: &'a mut String) -> Result<&'a str, NoMemory>
+    ensures message { IfOk result (λ message. message.now ≡ input_words fault.now) }
+    ensures memory { OnErr result ((f : Fault) × (fault.now ≡ InputFault.Faulty f)) }
 {
-    let mut text = String::new(alloc);
-    push_fault(fault, &mut text)?;
-    Ok(text)
+    match fault {
+        InputFault::Unread(fault) => Ok(fault.words()),
+        InputFault::Faulty(fault) => {
+            text.clear();
+            push_fault(fault, text)?;
+            Ok(text.as_str())
+        }
+    }
 }

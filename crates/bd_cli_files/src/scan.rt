@@ -9,7 +9,7 @@ ghost use Rattle.bd_cli_files.specs.inside.Scan.{ScansDocuments, StopsScan, Text
 ghost use Rattle.bd_cli_files.specs.Input.{ReadsNoFurther};
 ghost use Rattle.bd_cli_files.specs.inside.Output.{Writes};
 
-use crate::input::LIMITS;
+use crate::input::{InputFault, LIMITS};
 use crate::output::{OutputFault, is_want_of_memory};
 use bd_bson_check::{Fault, check_document};
 use bd_bson_stream::{DocBuffer, DocFault};
@@ -64,28 +64,28 @@ pub(crate) fn scan_documents<R: Input, O: Output, V: Visitor<O>>(
                         return Err(OutputFault::NoMemory);
                     }
                     if visitor.ends_at_fault() {
-                        let ending = Ending::Faulty(fault);
-                        return Ok(DumpScan { count, bad, ending });
+                        let fault = Some(InputFault::Faulty(fault));
+                        return Ok(DumpScan { count, bad, fault });
                     }
                     visitor.meet(&fault, out)?;
                     bad += 1;
                 }
             },
             Ok(false) => {
-                let ending = Ending::Whole;
-                return Ok(DumpScan { count, bad, ending });
+                let fault = None;
+                return Ok(DumpScan { count, bad, fault });
             }
             Err(DocFault::Frame(fault)) => {
                 let fault = fault.to_fault(alloc);
                 // A bad length: the scan cannot find the next document.
                 visitor.meet(&fault, out)?;
-                let ending = Ending::Faulty(fault);
-                return Ok(DumpScan { count, bad, ending });
+                let fault = Some(InputFault::Faulty(fault));
+                return Ok(DumpScan { count, bad, fault });
             }
             Err(DocFault::Read(ReadFault::NoMemory)) => return Err(OutputFault::NoMemory),
             Err(DocFault::Read(fault)) => {
-                let ending = Ending::Unread(fault);
-                return Ok(DumpScan { count, bad, ending });
+                let fault = Some(InputFault::Unread(fault));
+                return Ok(DumpScan { count, bad, fault });
             }
             Err(DocFault::Failed) => unreachable!(),
         }
@@ -99,17 +99,6 @@ pub struct DumpScan {
     pub count: u32,
     /// How many of them have a fault.
     pub bad: u32,
-    /// What is after them.
-    pub ending: Ending,
-}
-
-/// What comes after the scanned documents of an input.
-#[derive(Debug, Drop)]
-pub enum Ending {
-    /// Nothing.
-    Whole,
-    /// A document that has this fault.
-    Faulty(Fault),
-    /// A document that was not read to its end.
-    Unread(ReadFault),
+    /// Why the scan ended before the end of the input, if it did.
+    pub fault: Option<InputFault>,
 }

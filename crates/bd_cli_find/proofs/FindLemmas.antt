@@ -19,9 +19,9 @@ use Rattle.bd_cli_files.proofs.OutputLemmas.{after_input}
 use Rattle.bd_cursor_sort.specs.Selection.{query_to}
 use Rattle.bd_cli_files.proofs.OutputLemmas.{lines-append}
 use Rattle.bd_io_device.specs.Devices.{Over, Reader, Writer, between, read_words}
-use Rattle.bd_cli_files.specs.{Load.FailsToLoad, Load.ReportsLoadFault, declared.load.LoadFault.LoadFault}
+use Rattle.bd_cli_files.specs.{Load.FailsToLoad, Load.ReportsLoadFault, declared.input.InputFault.InputFault}
 use Rattle.bd_cli_find.proofs.UniqueLemmas.{found_some}
-use Rattle.bd_cli_files.specs.declared.load.LoadFault.TheVariants as faults
+use Rattle.bd_cli_files.specs.declared.input.InputFault.TheVariants as faults
 
 -- the lines of the documents at the first places
 abbrev pub lines_to : List Doc → List ℕ → ℕ → List ℕ
@@ -84,9 +84,9 @@ output_found words file {out} {err} {status} bytes output read is prints = by_ca
     by_case (inr (inr (text, begun, wrote, reported))) = inr (inr (text, inl begun, wrote, reported))
 
 -- the input is no dump in memory, which is reported
-pub load_reported : (words : FindWords) (w : PageRequest) (file : Over Reader) (out : Writer) (err : Over Writer) (status : Status) (fault : LoadFault) → requested_by words ≡ Ok w
+pub load_reported : (words : FindWords) (w : PageRequest) (file : Over Reader) (out : Writer) (err : Over Writer) (status : Status) (fault : InputFault) → requested_by words ≡ Ok w
     → FailsToLoad file fault → ReportsLoadFault err status fault → Prints (find_run words file) (between out out) err status
-load_reported words w file out err status (faults.Unread fault) is read reported =
+load_reported words w file out err status (faults.Unread fault) is (inl read) (inl reported) =
     inl (refusal_output (read_words fault), (Err fault, rw is read, rw is refl), takes_none out, reported)
 load_reported words w file out err status (faults.Faulty fault) is (bytes, ds, read, scan, numbered) (inl reported) =
     let words_of = ap (λ n. error_line (fault_text n (fault_view fault))) numbered in
@@ -96,9 +96,11 @@ load_reported words w file out err status (faults.Faulty fault) is (bytes, ds, r
       takes_none out,
       subst (λ (x : List ℕ). ReportsMessage err x Failed status) words_of reported,
     )
-load_reported words w file out err status (faults.Faulty fault) is (bytes, ds, read, scan, numbered) (inr reported) =
+load_reported words w file out err status (faults.Unread fault) is (inr (memory, (bytes, read, fits))) (inl reported) =
+    let some = found_some words bytes fits in
+    let reports = subst (λ f. ReportsMessage err (error_line (read_words f)) Failed status) memory reported in
+    inr (inr ([], inl (bytes, some.0, rw is read, some.1, (some.0.out, refl)), takes_none out, reports))
+load_reported words w file out err status (faults.Unread fault) is fails (inr (f, same, reported)) = absurd cc
+load_reported words w file out err status (faults.Faulty fault) is (bytes, ds, read, scan, numbered) (inr (f, same, reported)) =
     let output = refusal_output (fault_text (length ds) (fault_view fault)) in
     inr (inr ([], inl (bytes, output, rw is read, rw is (ds, Some (fault_view fault), scan, refl), ([], refl)), takes_none out, reported))
-load_reported words w file out err status faults.NoMemory is (bytes, read, fits) reported =
-    let some = found_some words bytes fits in
-    inr (inr ([], inl (bytes, some.0, rw is read, some.1, (some.0.out, refl)), takes_none out, reported))

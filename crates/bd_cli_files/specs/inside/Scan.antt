@@ -4,19 +4,19 @@ use Rattle.std.specs.Prelude.{Option, Some, None}
 use Rattle.std.specs.Prelude.{is_some, unwrap_or, Err}
 use Rattle.std.specs.{List.count_by}
 use Rattle.bd_value.specs.{Tree.Doc}
-use Rattle.bd_io_device.specs.Devices.{WriteFailsAfter, Over, Reader, TakesText, Writer, read_words}
+use Rattle.bd_io_device.specs.Devices.{WriteFailsAfter, Over, Reader, TakesText, Writer}
 use Rattle.bd_bson_view.specs.Spelling.{IsDocument}
 use Rattle.bd_bson_check.specs.{Fault.fault_view, Fault.Fault, FirstFault.first_fault}
 use Rattle.bd_bson_check.specs.Dump.{frame_fault, frame_length}
 use Rattle.bd_bson_stream.specs.Stream.{IsCutShort, IsFrame}
-use Rattle.bd_cli_files.specs.{declared.scan.Ending.Ending, declared.scan.DumpScan.DumpScan}
+use Rattle.bd_cli_files.specs.{declared.input.InputFault.InputFault, declared.scan.DumpScan.DumpScan}
 use Rattle.bd_cli_files.specs.{declared.output.OutputFault.OutputFault}
 use Rattle.bd_cli_files.specs.{declared.output.OutputFault.TheVariants.NoMemory}
 use Rattle.bd_cli_files.specs.{declared.output.OutputFault.TheVariants.Unwritten}
 use Rattle.bd_cli_files.specs.Input.{StopsInside, StopsWithinOne, StreamsInput}
-use Rattle.bd_cli_files.specs.Output.{fault_text, lines}
+use Rattle.bd_cli_files.specs.Output.{lines}
 use Rattle.bd_bson_check.specs.declared.fault.Fault as reported
-use Rattle.bd_cli_files.specs.declared.scan.Ending.TheVariants as endings
+use Rattle.bd_cli_files.specs.declared.input.InputFault.TheVariants as faults
 use Rattle.bd_cli_files.specs.Check.{check_result_line}
 
 -- ---- the scan of the documents
@@ -51,26 +51,20 @@ pub data AreVisited (texts : Texts) : List (Option Fault) → List ℕ → List 
 
 -- How the scan ended after that many documents of these bytes:
 -- at the end of the input, at a fault, or at a failed read.
-abbrev pub EndsScan : Texts → Over Reader → ℕ → List ℕ → Ending → Type 0
-EndsScan texts file number given endings.Whole = StreamsInput file given None × StopsWithinOne given file
-EndsScan texts file number given (endings.Faulty f) =
+abbrev pub EndsScan : Texts → Over Reader → ℕ → List ℕ → Option InputFault → Type 0
+EndsScan texts file number given None = StreamsInput file given None × StopsWithinOne given file
+EndsScan texts file number given (Some (faults.Faulty f)) =
     (part : List ℕ) × (rest : List ℕ) × StreamsInput file (given ++ (part ++ rest)) None × StopsInside given part file
     × (f.document ≡ number) × (frame_fault (length given) (part ++ rest) ≡ Some (fault_view f))
     × ((texts.bad number (fault_view f) ≡ None)
     ⊎ ((frame_length part ≡ Err f.kind) × (frame_length (part ++ rest) ≡ Err f.kind)))
-EndsScan texts file number given (endings.Unread f) =
+EndsScan texts file number given (Some (faults.Unread f)) =
     (part : List ℕ) × StreamsInput file (given ++ part) (Some f) × IsCutShort part
-
--- the message for the end of the scan; None at the end of the input
-abbrev pub ending_words : Ending → Option (List ℕ)
-ending_words endings.Whole = None
-ending_words (endings.Faulty f) = Some (fault_text f.document (fault_view f))
-ending_words (endings.Unread f) = Some (read_words f)
 
 -- the text for the fault that ends the scan, if it is a bad length:
 -- the offset of the next document is then unknown
-abbrev pub text_at_end : Texts → ℕ → Ending → List ℕ
-text_at_end texts number (endings.Faulty f) = unwrap_or (texts.bad number (fault_view f)) []
+abbrev pub text_at_end : Texts → ℕ → Option InputFault → List ℕ
+text_at_end texts number (Some (faults.Faulty f)) = unwrap_or (texts.bad number (fault_view f)) []
 text_at_end texts number _ = []
 
 -- The scan reached its end, and the writer took the text for its documents.
@@ -78,8 +72,8 @@ abbrev pub ScansDocuments : Texts → Over Reader → Over Writer → DumpScan �
 ScansDocuments texts file out scan =
     (vs : List (Option Fault)) × (given : List ℕ) × (text : List ℕ) × AreVisited texts vs given text
     × (scan.count ≡ length vs) × (scan.bad ≡ count_by is_some vs)
-    × EndsScan texts file (length vs) given scan.ending
-    × TakesText out (text ++ text_at_end texts (length vs) scan.ending)
+    × EndsScan texts file (length vs) given scan.fault
+    × TakesText out (text ++ text_at_end texts (length vs) scan.fault)
 
 -- The scan was stopped: memory ran out after these documents,
 -- or a write failed in the text for the next one or for the fault that ends the scan.
@@ -93,5 +87,5 @@ StopsScan texts file out Unwritten =
     × (((v : Option Fault) × (frame : List ℕ) × IsFrame frame
     × IsTextOf texts (length vs) (length given) frame v piece × StopsInside given frame file
     × (file.after.failures ≡ file.before.failures))
-    ⊎ ((f : reported.Fault) × EndsScan texts file (length vs) given (endings.Faulty f)
+    ⊎ ((f : reported.Fault) × EndsScan texts file (length vs) given (Some (faults.Faulty f))
     × (texts.bad (length vs) (fault_view f) ≡ Some piece)))
