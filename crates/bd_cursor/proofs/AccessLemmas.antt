@@ -334,10 +334,6 @@ found_at p [] i d lt on before = absurd (omega arith)
 found_at p (x ∷ xs) zero d lt on before = ap (λ b. cond b (Some x) (find p xs)) on
 found_at p (x ∷ xs) (suc i) d lt on before = ap (λ b. cond b (Some x) (find p xs)) (before 0 (omega arith)) ∙ found_at p xs i d (omega arith) on (λ k l. before (suc k) (omega arith))
 
-pub found_nowhere : {A : Type 0} (p : A → Bool) (xs : List A) → list_any p xs ≡ false → find p xs ≡ None
-found_nowhere p [] none = refl
-found_nowhere p (x ∷ xs) none = let none = or_parts (p x) (list_any p xs) none in ap (λ b. cond b (Some x) (find p xs)) none.0 ∙ found_nowhere p xs none.1
-
 pub found_below : (path : List ℕ) (is : List Index) (k : ℕ) (i : Index) → Some k ≡ position (is_on path) (map index_key is) → k < length is
 found_below path is k i found =
     let first = position-Some (is_on path) (map index_key is) k (index_key i) (cc) in

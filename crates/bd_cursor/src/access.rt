@@ -1,6 +1,6 @@
 //! How documents are reached: by which index, or without one.
 
-ghost use Rattle.std.specs.Prelude.{◌≡◌, ◌≤◌, ◌<◌, ◌↔◌, IfOk, IfSome, IsTrue, List, OnErr, Some, drop, is_some, length, map, position, take, unwrap_or, ℕ};
+ghost use Rattle.std.specs.Prelude.{◌≡◌, ◌≤◌, ◌<◌, ◌↔◌, IfErr, IfOk, IfSome, IsTrue, List, OnErr, OnOk, Some, drop, if◌then◌else◌, is_some, length, map, position, take, unwrap_or, ℕ};
 ghost use Rattle.std.specs.Option.{option_or};
 ghost use Rattle.std.specs.List.Sorted.{IsStrictlyIncreasing};
 ghost use Rattle.bd_cursor_model.specs.Answer.{at_most, is_empty};
@@ -12,14 +12,16 @@ ghost use Rattle.bd_bson_dump.specs.declared.collection.Dump.{Dump};
 ghost use Rattle.bd_query_filter.specs.Filter.{filter_tree};
 ghost use Rattle.bd_index.specs.IndexView.{AreIndexesOf, IsIndexOf};
 ghost use Rattle.bd_path.specs.{PathNames.path_text, Sort.sort_paths};
+ghost use Rattle.bd_cursor_request.specs.declared.results.Refused.TheVariants.{NoIndex, NoMemory};
 ghost use Rattle.bd_cursor_sort.specs.Selection.{matches_at_of, selection_of};
 ghost use Rattle.bd_cursor.specs.Access.{IsAccessOf, access_of, access_path, by_bounds, by_order, find_map, index_key};
+ghost use Rattle.bd_cursor.specs.SessionView.{hint_of};
 ghost use Rattle.bd_cursor.specs.inside.Access.{Reaches};
 ghost use Rattle.bd_cursor.specs.Access.{index_key_bounds, named_access, scanned, serving_bounds, walk_dir, way_of};
 
 use bd_bson_dump::Dump;
 use bd_cursor_model::{PlaceSource, Scan};
-use bd_cursor_request::Request;
+use bd_cursor_request::{Refused, Request};
 use bd_cursor_sort::{places_in_order, sorted_places};
 use bd_index::Index;
 use bd_index_bounds::Bounds;
@@ -60,27 +62,36 @@ pub enum Access<'a> {
 impl<'a> Access<'a> {
     /// The access path of a request to the dump of these indexes, by a choice: each document is examined; or by the named
     /// index, in the way in which it serves; or by the first index whose bounds serve, otherwise by the first that has
-    /// the order of the sort. It reads no document, and fails only if memory runs out.
+    /// the order of the sort. It reads no document.
+    ///
+    /// # Errors
+    ///
+    /// `NoIndex` if the named index does not exist. `NoMemory` if memory runs out.
     pub fn of(
         alloc: Global,
         dump: &Dump,
         indexes: &'a [Index],
         request: &'a Request,
         choice: &Choice,
-    ) -> Result<Access<'a>, NoMemory>
+    ) -> Result<Access<'a>, Refused>
         requires { AreIndexesOf dump.now indexes.now }
         ensures path { IfOk result (λ a.
             access_path a ≡ access_of (documents dump.now) (filter_tree request.now.filter)
             (sort_paths request.now.sort.items) (way_of choice.now) (map index_key indexes.now)) }
         ensures leads { IfOk result (IsAccessOf dump.now request.now) }
+        ensures has_index { OnOk result
+            (IsTrue (has_index (map index_key indexes.now) (hint_of choice.now))) }
+        ensures refused { IfErr result (λ why. why
+            ≡ (if has_index (map index_key indexes.now) (hint_of choice.now)
+            then NoMemory else NoIndex)) }
     {
         match choice {
             Choice::Scan => Ok(Access::Scan),
             Choice::Index(path) => match index_on(indexes, path) {
-                Some(position) => named_access(alloc, &indexes[position], request),
-                None => Ok(Access::Scan),
+                Some(position) => Ok(named_access(alloc, &indexes[position], request)?),
+                None => Err(Refused::NoIndex),
             },
-            Choice::Auto => serving_access(alloc, indexes, request),
+            Choice::Auto => Ok(serving_access(alloc, indexes, request)?),
         }
     }
 
@@ -262,6 +273,8 @@ pub(crate) struct PlaceList {
 }
 
 impl Model for PlaceList {
+    ghost use Rattle.std.specs.Prelude.{◌≤◌, List, drop, length, ℕ};
+
     ghost Value = { List ℕ };
 
     ghost view = { λ a. drop a.at a.places.items };

@@ -7,18 +7,17 @@ ghost use Rattle.bd_cursor_model.specs.Source.{HandsOut};
 ghost use Rattle.bd_bson_dump.specs.Collection.{documents};
 ghost use Rattle.bd_bson_dump.specs.declared.collection.Dump.{Dump};
 ghost use Rattle.bd_query_filter.specs.Filter.{filter_tree};
-ghost use Rattle.bd_index.specs.IndexView.{AreIndexesOf};
 ghost use Rattle.bd_cursor_sort.specs.Selection.{matches_at_of, query_of, selection_of};
 ghost use Rattle.bd_value.specs.Tree.{Doc};
+ghost use Rattle.bd_cursor.specs.Access.{IsAccessOf};
 ghost use Rattle.bd_cursor.specs.SessionView.{given_batch, positioned_token, open_cursor, places_remaining, scan_remaining};
 ghost use Rattle.bd_cursor.specs.inside.SessionView.{scan_remaining_in};
 
-use crate::access::{Access, Choice, PlaceList};
+use crate::access::{Access, PlaceList};
 use crate::session::DigestedDump;
 use bd_bson_dump::Dump;
 use bd_cursor_request::{Batch, Request, Token, request_digest};
 use bd_cursor_sort::is_match;
-use bd_index::Index;
 use bd_query_filter::Filter;
 use bd_value::NoMemory;
 use std::alloc::Global;
@@ -155,23 +154,21 @@ pub(crate) enum Remainder {
 }
 
 impl Remainder {
-    /// What remains of a request: its answer, or the rest of it after a token.
+    /// What remains of a request on an access path: its answer, or the rest of it after a token.
     #[tactic(auto, using(bd_bson_dump::proofs::CollectionLemmas::documents_length))]
     pub(crate) fn of(
         alloc: Global,
         dump: &Dump,
-        indexes: &[Index],
         request: &Request,
-        choice: &Choice,
+        access: Access<'_>,
         token: Option<Token>,
     ) -> Result<Remainder, NoMemory>
-        requires indexes { AreIndexesOf dump.now indexes.now }
+        requires leads { IsAccessOf dump.now request.now access }
         requires in_range { IfSome token (λ t. t.last < length (documents dump.now)) }
         ensures { IfOk result (λ remaining. places_remaining
             (selection_of (documents dump.now) request.now) remaining ≡ remaining_after
             (selection_of (documents dump.now) request.now) (option_map positioned_token token)) }
     {
-        let access = Access::of(alloc, dump, indexes, request, choice)?;
         if access.is_scan() && request.sort.is_empty() {
             return Ok(Remainder::Scanned(ScanPosition::of(request, token)));
         }

@@ -1,20 +1,18 @@
 //! How the documents of a request are found, and what is read for them.
 
-ghost use Rattle.std.specs.Prelude.{◌≡◌, ◌<◌, All, IfOk, count_by, length, map};
+ghost use Rattle.std.specs.Prelude.{◌≡◌, ◌<◌, All, IfOk, count_by, length};
 ghost use Rattle.std.specs.List.{range_with_len};
 ghost use Rattle.bd_cursor_model.specs.Answer.{matching};
 ghost use Rattle.bd_bson_dump.specs.Collection.{documents};
 ghost use Rattle.bd_query_filter.specs.Filter.{filter_tree};
 ghost use Rattle.bd_cursor_sort.specs.Selection.{selection_of, matches_at_of};
-ghost use Rattle.bd_index.specs.IndexView.{AreIndexesOf};
-ghost use Rattle.bd_cursor.specs.Access.{IsAccessOf, access_path, index_key};
-ghost use Rattle.bd_cursor.specs.Explanation.{explained_access, explanation_of, explain_doc};
+ghost use Rattle.bd_cursor.specs.Access.{IsAccessOf, access_path};
+ghost use Rattle.bd_cursor.specs.Explanation.{explained_access, explain_doc};
 
-use crate::access::{Access, Choice};
+use crate::access::Access;
 use bd_bson_dump::Dump;
 use bd_cursor_request::Request;
 use bd_cursor_sort::is_match;
-use bd_index::Index;
 use bd_query_filter::Filter;
 use bd_value::NoMemory;
 use std::alloc::Global;
@@ -44,24 +42,8 @@ pub struct Explain {
     pub matches: u64,
 }
 
-/// The plan of a request, and how much it reads. It fails only if memory runs out.
-pub(crate) fn explanation_of(
-    alloc: Global,
-    dump: &Dump,
-    indexes: &[Index],
-    request: &Request,
-    choice: &Choice,
-) -> Result<Explain, NoMemory>
-    requires { AreIndexesOf dump.now indexes.now }
-    ensures { IfOk result (λ e. explain_doc e
-        ≡ explanation_of (documents dump.now) request.now choice.now (map index_key indexes.now)) }
-{
-    let access = Access::of(alloc, dump, indexes, request, choice)?;
-    explain_access(alloc, dump, request, &access)
-}
-
-/// What is read on an access path.
-fn explain_access(
+/// What is read on an access path. It fails only if memory runs out.
+pub(crate) fn explain_access(
     alloc: Global,
     dump: &Dump,
     request: &Request,

@@ -8,9 +8,9 @@ ghost use Rattle.bd_bson_dump.specs.Collection.{bytes_of};
 ghost use Rattle.bd_index.specs.IndexView.{AreIndexesOf, AreIndexesOf-prop};
 ghost use Rattle.bd_cursor_sort.specs.Selection.{query_of};
 
-use crate::access::{Choice, index_on};
+use crate::access::{Access, Choice, index_on};
 use crate::cursor::{Cursor, Remainder, close, close_at_end, place_of};
-use crate::explaining::{Explain, explanation_of};
+use crate::explaining::{Explain, explain_access};
 use bd_bson_dump::Dump;
 use bd_cursor_request::{Batch, Made, Refused, Request, Token, dump_digest, request_digest};
 use bd_index::Index;
@@ -37,7 +37,7 @@ impl Session {
     ghost use Rattle.std.specs.Prelude.{◌≤◌, ◌<◌, IfErr, IfOk, IfSome, IsFalse, IsTrue, List, None, OnOk, Option, Some, ℕ, false, length, option_map, true};
     ghost use Rattle.bd_path.specs.PathNames.{path_text};
     ghost use Rattle.bd_cursor_model.specs.Laws.{new_state};
-    ghost use Rattle.bd_cursor_model.specs.Session.{Call, drop_call, dropped, explained, find_call, gave, has_index, kill_call, killed, made, next_call};
+    ghost use Rattle.bd_cursor_model.specs.Session.{Call, drop_call, dropped, explained, find_call, gave, is_full, kill_call, killed, made, next_call};
     ghost use Rattle.bd_cursor_model.specs.Session.{open_reply, opened, reply, resume_call};
     ghost use Rattle.bd_bson_dump.specs.Collection.{documents};
     ghost use Rattle.bd_index.specs.IndexView.{IsIndexOf};
@@ -121,9 +121,9 @@ impl Session {
         ensures steps { Steps (λ e. explained (explain_doc e))
             (explain_request (dump_of self.now) request.now choice.now) self.now result self.now }
     {
-        self.has_choice(choice)?;
         let dump = &self.documents.dump;
-        let explanation = explanation_of(self.alloc, dump, &self.indexes, request, choice)?;
+        let access = Access::of(self.alloc, dump, &self.indexes, request, choice)?;
+        let explanation = explain_access(self.alloc, dump, request, &access)?;
         Ok(explanation)
     }
 
@@ -204,22 +204,6 @@ impl Session {
         Ok(())
     }
 
-    /// Whether the requested index exists.
-    fn has_choice(&self, choice: &Choice) -> Result<(), Refused>
-        ensures has_index { OnOk result
-            (IsTrue (has_index (state_of self.now).indexes (hint_of choice.now))) }
-        ensures refused { IfErr result (λ r. (r ≡ Refused.NoIndex)
-            × IsFalse (has_index (state_of self.now).indexes (hint_of choice.now))) }
-    {
-        match choice {
-            Choice::Index(path) => match index_on(&self.indexes, path) {
-                Some(_) => Ok(()),
-                None => Err(Refused::NoIndex),
-            },
-            Choice::Scan | Choice::Auto => Ok(()),
-        }
-    }
-
     /// Creates an index, sparse or not.
     fn make(&mut self, path: Path, sparse: bool) -> Result<Made, Refused>
         ensures steps { Steps (λ m. made (made_counts m))
@@ -294,19 +278,20 @@ impl Session {
         Ok(())
     }
 
-    /// Whether a cursor may be opened, and why not.
+    /// Whether one more cursor may be open. If not, a requested index that does not exist is reported first.
     fn may_open(&self, choice: &Choice) -> Result<(), Refused>
-        ensures opened { OnOk result
-            (open_reply (state_of self.now) (hint_of choice.now) ≡ opened self.now.next_id) }
+        ensures opened { OnOk result (IsFalse (is_full (state_of self.now))) }
         ensures number { OnOk result (self.now.next_id ≤ 9223372036854775807) }
         ensures refused { IfErr result
             (IsRefusedCall (open_reply (state_of self.now) (hint_of choice.now))) }
     {
-        self.has_choice(choice)?;
-        if self.cursors.len() >= MOST_CURSORS || self.next_id > LAST_ID {
-            return Err(Refused::TooManyCursors);
+        if self.cursors.len() < MOST_CURSORS && self.next_id <= LAST_ID {
+            return Ok(());
         }
-        Ok(())
+        match choice {
+            Choice::Index(path) if index_on(&self.indexes, path).is_none() => Err(Refused::NoIndex),
+            _ => Err(Refused::TooManyCursors),
+        }
     }
 
     /// Opens a cursor on what remains of a request.
@@ -319,7 +304,8 @@ impl Session {
     {
         self.may_open(by)?;
         let data = &self.documents;
-        let remaining = Remainder::of(self.alloc, &data.dump, &self.indexes, &request, by, token)?;
+        let access = Access::of(self.alloc, &data.dump, &self.indexes, &request, by)?;
+        let remaining = Remainder::of(self.alloc, &data.dump, &request, access, token)?;
         let id = self.next_id;
         self.cursors.push(Cursor {
             id,
