@@ -4,9 +4,9 @@ use Rattle.bd_io_device.specs.Devices.{Over, Reader, Writer}
 use Rattle.bd_cli_files.specs.{Check.check_run, Dump.dump_run, Pack.pack_run, Run.Run}
 use Rattle.bd_cli_files.specs.declared.output.Status.TheVariants.{Done, Usage}
 use Rattle.bd_cli_files.specs.Output.{no_memory, refusal_output, Transcript}
-use Rattle.bd_cli_args.specs.{FindWords.find_words_of, declared.order.Order.Order}
+use Rattle.bd_cli_args.specs.{declared.order.Order.Order}
 use Rattle.bd_cli_args.specs.{declared.command_line.TheConstants.USAGE, declared.order.WordsFault.WordsFault}
-use Rattle.bd_cli_find.specs.{Find.find_run, Asking.RequestsNothing}
+use Rattle.bd_cli_find.specs.{Find.find_run, Options.RequestsNothing}
 use Rattle.bd_cli.specs.Serve.{serve_run}
 use Rattle.bd_cli_args.specs.declared.order.Order.TheVariants as orders
 use Rattle.bd_cli_args.specs.declared.order.WordsFault.TheVariants as words
@@ -18,12 +18,12 @@ module _ {C : Type 0} (state : C → Reader) (gives : C → Option (List ℕ) �
   order_run (orders.Dump path) file = dump_run file
   order_run (orders.Check path) file = check_run file
   order_run (orders.Pack path) file = pack_run file
-  order_run (orders.Find path options) file = find_run (find_words_of options) file
+  order_run (orders.Find path options) file = find_run options file
   order_run (orders.Serve path) file = serve_run state gives old new file
 
 -- The command is a `find` whose options are refused, whatever the file contains, so the file is not read.
 abbrev pub ReadsNoFile : Order → Type 0
-ReadsNoFile (orders.Find path options) = RequestsNothing (find_words_of options)
+ReadsNoFile (orders.Find path options) = RequestsNothing options
 ReadsNoFile _ = ⊥
 
 -- The command is not `serve`, so no commands are read.

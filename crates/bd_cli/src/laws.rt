@@ -5,7 +5,7 @@ ghost use Rattle.bd_value.specs.{Tree.Doc};
 ghost use Rattle.bd_cursor_model.specs.{Session.State, Laws.new_state};
 ghost use Rattle.bd_io_device.specs.{declared.reading.ReadFault.ReadFault};
 ghost use Rattle.bd_bson_check.specs.Dump.{AreJoined};
-ghost use Rattle.bd_cli_args.specs.FindWords.{FindWords};
+ghost use Rattle.bd_cli_args.specs.FindOptions.{FindOptions};
 ghost use Rattle.bd_io_lines.specs.{Lines.commands_of, Lines.text_lines, Serving.RepliesInTurn};
 ghost use Rattle.bd_cli_service.specs.Talk.{RepliesInText};
 ghost use Rattle.bd_bson_check.specs.Fault.{Fault};
@@ -17,7 +17,7 @@ ghost use Rattle.bd_cli_files.specs.declared.pack.BadLine.{BadLine};
 ghost use Rattle.bd_cli_find.specs.Find.{IsOutputOfFind};
 
 /// One thing is printed for each input, and for each list of bytes there is something to print; so also for `check`, for `pack`, and
-/// for `find`, of each words. `serve` has one text of replies to each text of commands.
+/// for `find` with any options. `serve` has one text of replies to each text of commands.
 pub fn prints_one_thing()
     ensures one { (bytes : List ℕ) (fault : Option ReadFault) (output other : Transcript) →
         IsOutputOfDump bytes fault output → IsOutputOfDump bytes fault other → output ≡ other }
@@ -27,12 +27,12 @@ pub fn prints_one_thing()
         IsOutputOfCheck bytes fault output → IsOutputOfCheck bytes fault other → output ≡ other }
     ensures checked_some { (bytes : List ℕ) →
         (output : Transcript) × IsOutputOfCheck bytes None output }
-    ensures found_one { (words : FindWords) (input : Result (List ℕ) ReadFault)
-        (output other : Transcript) → IsOutputOfFind words input output →
-        IsOutputOfFind words input other → output ≡ other }
-    ensures found_some { (words : FindWords) (bytes : List ℕ) →
+    ensures found_one { (options : FindOptions) (input : Result (List ℕ) ReadFault)
+        (output other : Transcript) → IsOutputOfFind options input output →
+        IsOutputOfFind options input other → output ≡ other }
+    ensures found_some { (options : FindOptions) (bytes : List ℕ) →
         ((i : ℕ) → slice_index bytes i < 256) →
-        (output : Transcript) × IsOutputOfFind words (Ok bytes) output }
+        (output : Transcript) × IsOutputOfFind options (Ok bytes) output }
     ensures packed_one { (input : Result (List ℕ) ReadFault) (output other : Transcript) →
         IsOutputOfPack input output → IsOutputOfPack input other → output ≡ other }
     // The documents of a text, and its bad line, are determined too.

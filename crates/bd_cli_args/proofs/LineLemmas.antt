@@ -18,7 +18,7 @@ use Rattle.clap.specs.{Faults.fault_of, Faults.is_simple_and_free, Faults.level_
 use Rattle.clap.specs.{Words.ReadsOne, ValueTests.is_unsigned_in, declared.builder.value_parser.ValueParser.TheVariants.Unsigned}
 use Rattle.clap.proofs.ValueTestLemmas.{accepts-Accepts, Accepts-accepts}
 use Rattle.clap.proofs.{OnLiterals.clap_on_literals, WalkLemmas.first_value-rows, WalkLemmas.one_text-rows}
-use Rattle.bd_cli_args.specs.CommandLine.{OrderView, GivesOrder, meant, check, dump, pack, serve, fault_for, find_app, find_words_in}
+use Rattle.bd_cli_args.specs.CommandLine.{OrderView, GivesOrder, meant, check, dump, pack, serve, fault_for, find_app, find_options_in}
 use Rattle.bd_cli_args.specs.FileCommands.{explain_refusal, file_app}
 use Rattle.bd_cli_args.specs.CommandLine.{commands, is_help_line, is_serve_of_input, line_app, order_of, ordered_by, parser_refusal, serves_input, IsFileCommand, is_file_word}
 use Rattle.bd_cli_args.specs.CommandLine.{number_read}
@@ -83,7 +83,7 @@ find_shape = built_leaf (inherited (on_top with_leaf_noted (on_top marked_built 
 find_orders : HasOrders find_shape
 find_orders words e =
     let rows = rows_after find_shape.rules [] words in
-    some_mapped (λ file. OrderView.find file (find_words_in rows)) (first_of (codes "file") rows)
+    some_mapped (λ file. OrderView.find file (find_options_in rows)) (first_of (codes "file") rows)
     (file_there find_shape words refl (λ rows c. file_given _ _ c) e)
 
 commands_order : EachShape HasOrders (built line_app).subs

@@ -11,7 +11,7 @@ use Rattle.clap.specs.declared.builder.{value_parser.ValueParser.ValueParser, ac
 use Rattle.clap.specs.{Faults.fault_of, ValueTests.is_unsigned_in}
 use Rattle.bd_value.specs.Limits.{greatest_count}
 use Rattle.bd_cli_args.specs.FileCommands.{explain_refusal, file_app, program_app}
-use Rattle.bd_cli_args.specs.{FindWords.FindWords, FindWords.find_words_of}
+use Rattle.bd_cli_args.specs.FindOptions.{FindOptions}
 use Rattle.bd_cli_args.specs.declared.order.{Order.Order, WordsFault.WordsFault}
 
 -- ---- the command lines that are accepted, as the parser defines them
@@ -45,7 +45,7 @@ pub data OrderView : Type 0 where
   dump : Text → OrderView
   check : Text → OrderView
   pack : Text → OrderView
-  find : Text → FindWords → OrderView
+  find : Text → FindOptions → OrderView
   serve : Text → OrderView
 
 -- The name is that of a command that takes one file and nothing else, and this is the meaning of its arguments.
@@ -58,7 +58,7 @@ abbrev pub meant : Order → OrderView
 meant (Order.Dump file) = dump (string_bytes file)
 meant (Order.Check file) = check (string_bytes file)
 meant (Order.Pack file) = pack (string_bytes file)
-meant (Order.Find file options) = find (string_bytes file) (find_words_of options)
+meant (Order.Find file options) = find (string_bytes file) options
 meant (Order.Serve file) = serve (string_bytes file)
 
 -- arguments in memory, each as its UTF-8 bytes
@@ -74,8 +74,8 @@ abbrev pub option_number : Text → List Row → Option ℕ
 option_number name rows = option_and_then number_read (one_of name rows)
 
 -- the options of `find`; skip and limit are 0 if they are not given
-abbrev pub find_words_in : List Row → FindWords
-find_words_in rows = record {
+abbrev pub find_options_in : List Row → FindOptions
+find_options_in rows = record {
   query = first_of (codes "query") rows;
   sort = first_of (codes "sort") rows;
   skip = unwrap_or (option_number (codes "skip") rows) 0;
@@ -89,7 +89,7 @@ find_words_in rows = record {
 abbrev pub commands : List Row → List (Text × (Text → OrderView))
 commands rows =
     (codes "dump", dump) ∷ (codes "check", check) ∷ (codes "pack", pack) ∷ (codes "serve", serve)
-    ∷ (codes "find", λ file. find file (find_words_in rows)) ∷ []
+    ∷ (codes "find", λ file. find file (find_options_in rows)) ∷ []
 
 -- the command that a name and its parsed arguments mean
 abbrev pub ordered_by : Text → List Row → Option OrderView

@@ -1,4 +1,4 @@
 pub mod CommandLine
 pub mod FileCommands
-pub mod FindWords
+pub mod FindOptions
 pub mod inside

@@ -3,10 +3,9 @@
 ghost use Rattle.std.specs.Prelude.{◌≡◌, ◌⊎◌, [], ◌∷◌, ℕ, List, map, true, false, IfErr, IfOk, IsErrOf, IsSome, IsTrue, None, Some, option_map, codes, string_bytes};
 ghost use Rattle.clap.specs.Words.{app_of, first_of, found_of, rows_of, rule_of, takes};
 ghost use Rattle.clap.specs.declared.builder.command.Command.TheViews.{out-Command as fields_of};
-ghost use Rattle.bd_cli_args.specs.CommandLine.{GivesOrder, IsFileCommand, OrderView, fault_for, find_app, find_words_in, is_file_word, is_help_line, is_serve_of_input, line_app, meant, option_number, option_rule, order_of, ordered_by, parser_refusal, serves_input, with_options, words_of};
+ghost use Rattle.bd_cli_args.specs.CommandLine.{GivesOrder, IsFileCommand, OrderView, fault_for, find_app, find_options_in, is_file_word, is_help_line, is_serve_of_input, line_app, meant, option_number, option_rule, order_of, ordered_by, parser_refusal, serves_input, with_options, words_of};
 ghost use Rattle.bd_cli_args.specs.inside.CommandLine.{is_serve_input_line};
 ghost use Rattle.bd_cli_args.specs.FileCommands.{IsBuiltAs};
-ghost use Rattle.bd_cli_args.specs.FindWords.{find_words_of};
 ghost use Rattle.bd_cli_args.specs.declared.order.WordsFault.TheVariants.{NoMemory};
 
 use crate::file_commands::{Made, explain_error, of_file, program_command};
@@ -153,8 +152,7 @@ fn order_named(alloc: Global, name: &str, matches: &ArgMatches<'_>) -> Result<Or
 
 /// The options in these matches.
 fn options_of(alloc: Global, matches: &ArgMatches<'_>) -> Result<FindOptions, WordsFault>
-    ensures words { IfOk result (λ o.
-        find_words_of o ≡ find_words_in (rows_of (found_of matches.now))) }
+    ensures options { IfOk result (λ o. o ≡ find_options_in (rows_of (found_of matches.now))) }
     ensures fault { IfErr result (λ f. f ≡ NoMemory) }
 {
     let query = text_of(alloc, matches, "query")?;

@@ -1,7 +1,7 @@
 //! The arguments of the command line, and the command that they mean.
 //!
 //! Which arguments are accepted, and what they mean: `specs/CommandLine.antt`; the options of `find`:
-//! `specs/FindWords.antt`.
+//! `specs/FindOptions.antt`.
 //!
 //! An example, which `bd_cli_tests` proves and runs as `examples::command_line`:
 //!

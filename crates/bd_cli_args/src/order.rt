@@ -3,6 +3,7 @@ ghost use Rattle.std.specs.Prelude.{◌≡◌};
 ghost use Rattle.bd_cli_args.specs.declared.order.WordsFault.TheVariants.{NoMemory};
 
 use std::alloc::AllocError;
+use std::marker::Model;
 use thiserror::Error;
 
 /// A command with its file and options.
@@ -37,6 +38,23 @@ pub struct FindOptions {
     pub index: Option<String>,
     /// The text of a token, after which the answer resumes; without one it begins at its start.
     pub after: Option<String>,
+}
+
+impl Model for FindOptions {
+    ghost use Rattle.std.specs.Prelude.{option_map, string_bytes};
+    ghost use Rattle.bd_cli_args.specs.FindOptions as options;
+
+    ghost Value = { options.FindOptions };
+
+    ghost view = { λ o. record {
+        query = option_map string_bytes o.query;
+        sort = option_map string_bytes o.sort;
+        skip = o.skip;
+        limit = o.limit;
+        batch = o.batch;
+        index = option_map string_bytes o.index;
+        after = option_map string_bytes o.after;
+    } };
 }
 
 /// Why arguments are not accepted.

@@ -18,7 +18,7 @@ use Rattle.bd_cursor.specs.declared.session.Session.{Session}
 use Rattle.bd_cursor_request.specs.{Refused.plain, Refused.reason_of, declared.results.Refused.Refused, declared.token.Token.Token}
 use Rattle.bd_cli_find.specs.Find.{remaining_over, cursor_for, places_from}
 use Rattle.bd_cli_find.specs.inside.Find.{AwaitsFirst, IsOpenedOn, IsReady, before_first}
-use Rattle.bd_cli_find.specs.Asking.{fits_batch}
+use Rattle.bd_cli_find.specs.Options.{fits_batch}
 use Rattle.bd_cursor_request.specs.declared.results.Refused.TheVariants as reasons
 
 -- ---- a dump has no more documents than a batch may have

@@ -1,4 +1,4 @@
-pub mod AskingLemmas
+pub mod OptionsLemmas
 pub mod BatchLemmas
 pub mod FindLemmas
 pub mod UniqueLemmas

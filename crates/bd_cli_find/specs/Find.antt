@@ -7,14 +7,14 @@ use Rattle.bd_cursor_model.specs.Answer.{answer, rest, at_most, is_empty}
 use Rattle.bd_cursor_model.specs.Session.{OpenCursor, Query, PositionedToken, token_after}
 use Rattle.bd_cursor_model.specs.Laws.{DocumentRequest}
 use Rattle.bd_cursor.specs.{SessionView.position_of, SessionView.positioned_token}
-use Rattle.bd_cursor_request.specs.{declared.token.Token.Token, Results.positioned_text}
+use Rattle.bd_cursor_request.specs.{Request.Request, declared.token.Token.Token, Results.positioned_text}
 use Rattle.bd_cursor_request.specs.Refused.{Reason, plain}
 use Rattle.bd_bson_dump.specs.Collection.{documents_at}
 use Rattle.bd_io_device.specs.{Devices.Over, Devices.Reader, Devices.read_words}
 use Rattle.bd_io_device.specs.{declared.reading.ReadFault.ReadFault}
 use Rattle.bd_bson_check.specs.{Fault.Fault, Dump.IsDumpScan}
-use Rattle.bd_cli_args.specs.FindWords.{FindWords}
-use Rattle.bd_cli_find.specs.Asking.{PageRequest, refused_text, requested_by}
+use Rattle.bd_cli_args.specs.FindOptions.{FindOptions}
+use Rattle.bd_cli_find.specs.Options.{refused_text, requested_by}
 use Rattle.bd_cursor_sort.specs.Selection.{query_to, selection_for}
 use Rattle.bd_cli_files.specs.{Input.ReadsInput, Run.Run, Run.run_after}
 use Rattle.bd_cli_files.specs.declared.output.Status.TheVariants.{Done}
@@ -63,44 +63,46 @@ batch_output size ds c = let ps = at_most size c.remaining in record {
   status = Done;
 }
 
--- the output of `find` for a dump: the first batch of the requested documents, or why the token is refused
-abbrev pub output_places : List ℕ → List Doc → PageRequest → Result (List ℕ) Reason → Transcript
-output_places bytes ds w (Ok ps) = batch_output w.batch ds (cursor_for 1 (query_to bytes ds w.request) w.token ps)
-output_places bytes ds w (Err why) = refusal_output (refused_text why)
+-- the output of `find` for a query and a token: the first batch of the requested documents, with this size;
+-- or why the token is refused
+abbrev pub output_places : Option ℕ → List Doc → Query → Option Token → Result (List ℕ) Reason → Transcript
+output_places size ds q token (Ok ps) = batch_output size ds (cursor_for 1 q token ps)
+output_places size ds q token (Err why) = refusal_output (refused_text why)
 
 -- the output of `find` for a well-formed dump: the first batch, or why the token is refused
-abbrev pub output_of_dump : List ℕ → List Doc → PageRequest → Transcript
-output_of_dump bytes ds w = output_places bytes ds w (places_from (query_to bytes ds w.request) w.token)
+abbrev pub output_of_dump : Option ℕ → Request × Option Token → List ℕ → List Doc → Transcript
+output_of_dump size w bytes ds =
+    let q = query_to bytes ds w.0 in output_places size ds q w.1 (places_from q w.1)
 
 -- the output of `find` for bytes that are these documents; if one has a fault, only that
-abbrev pub output_of_scan : List ℕ → List Doc → Option Fault → PageRequest → Transcript
-output_of_scan bytes ds None w = output_of_dump bytes ds w
-output_of_scan bytes ds (Some fault) w = refusal_output (fault_text (length ds) fault)
+abbrev pub output_of_scan : Option ℕ → Request × Option Token → List ℕ → List Doc → Option Fault → Transcript
+output_of_scan size w bytes ds None = output_of_dump size w bytes ds
+output_of_scan size w bytes ds (Some fault) = refusal_output (fault_text (length ds) fault)
 
 -- This is the output of `find` for the bytes of its input.
-abbrev pub IsOutputOfBytes : PageRequest → List ℕ → Transcript → Type 0
-IsOutputOfBytes w bytes output =
-    (ds : List Doc) × (end : Option Fault) × IsDumpScan ds end bytes × (output ≡ output_of_scan bytes ds end w)
+abbrev pub IsOutputOfBytes : Option ℕ → Request × Option Token → List ℕ → Transcript → Type 0
+IsOutputOfBytes size w bytes output =
+    (ds : List Doc) × (end : Option Fault) × IsDumpScan ds end bytes × (output ≡ output_of_scan size w bytes ds end)
 
--- This is the output of `find` for a request and an input: the first error alone, or the first batch.
-abbrev pub IsOutputOf : Result PageRequest (List ℕ) → Result (List ℕ) ReadFault → Transcript → Type 0
-IsOutputOf (Err message) input output = output ≡ refusal_output message
-IsOutputOf (Ok w) (Err fault) output = output ≡ refusal_output (read_words fault)
-IsOutputOf (Ok w) (Ok bytes) output = IsOutputOfBytes w bytes output
+-- This is the output of `find` for a batch size, a request and an input: the first error alone, or the first batch.
+abbrev pub IsOutputOf : Option ℕ → Result (Request × Option Token) (List ℕ) → Result (List ℕ) ReadFault → Transcript → Type 0
+IsOutputOf size (Err message) input output = output ≡ refusal_output message
+IsOutputOf size (Ok w) (Err fault) output = output ≡ refusal_output (read_words fault)
+IsOutputOf size (Ok w) (Ok bytes) output = IsOutputOfBytes size w bytes output
 
 -- This is the output of `find` for its options and an input.
-abbrev pub IsOutputOfFind : FindWords → Result (List ℕ) ReadFault → Transcript → Type 0
-IsOutputOfFind words input output = IsOutputOf (requested_by words) input output
+abbrev pub IsOutputOfFind : FindOptions → Result (List ℕ) ReadFault → Transcript → Type 0
+IsOutputOfFind options input output = IsOutputOf options.batch (requested_by options) input output
 
 -- The file was read if something is asked for; it was not read if the options are refused.
-abbrev pub ReadsIfRequested : Result PageRequest (List ℕ) → Over Reader → Result (List ℕ) ReadFault → Type 0
+abbrev pub ReadsIfRequested : Result (Request × Option Token) (List ℕ) → Over Reader → Result (List ℕ) ReadFault → Type 0
 ReadsIfRequested (Ok w) file input = ReadsInput file input
 ReadsIfRequested (Err message) file input = file.after ≡ file.before
 
 -- A run of `find`: it reads its whole input first, unless an option is refused;
 -- or memory ran out before, and nothing was read.
-abbrev pub find_run : FindWords → Over Reader → Run
-find_run words file = let run = run_after (ReadsIfRequested (requested_by words) file) (IsOutputOfFind words) in record {
+abbrev pub find_run : FindOptions → Over Reader → Run
+find_run options file = let run = run_after (ReadsIfRequested (requested_by options) file) (IsOutputOfFind options) in record {
   IsOutput = run.IsOutput;
   IsNext = run.IsNext;
   IsBegun = λ text. run.IsBegun text ⊎ ((text ≡ []) × (file.after ≡ file.before));

@@ -1,3 +1,3 @@
-pub mod Asking
 pub mod Find
+pub mod Options
 pub mod inside

@@ -9,17 +9,17 @@ ghost use Rattle.bd_cursor_model.specs.{Session.OpenCursor, Session.cursor_of, L
 ghost use Rattle.bd_bson_dump.specs.{Collection.bytes_of, Collection.documents, Collection.documents_at};
 ghost use Rattle.bd_cursor_sort.specs.Selection.{query_of};
 ghost use Rattle.bd_cursor.specs.{Access.way_of, SessionView.dump_of, SessionView.hint_of, SessionView.positioned_token, SessionView.state_of};
+ghost use Rattle.bd_cursor_request.specs.Request.{request_view};
 ghost use Rattle.bd_cursor_request.specs.declared.results.Refused.TheVariants.{NoMemory as memory};
 ghost use Rattle.bd_cli_files.specs.Output.{error_line, lines, no_memory};
 ghost use Rattle.bd_cli_files.specs.Run.{Prints, ReportsMessage, StopsWithin, part_of};
 ghost use Rattle.bd_cli_files.specs.declared.output.Status.TheVariants.{Done, Failed};
-ghost use Rattle.bd_cli_find.specs.Asking.{fits_batch};
-ghost use Rattle.bd_cli_find.specs.inside.Asking.{page_request_of};
+ghost use Rattle.bd_cli_find.specs.Options.{fits_batch};
 ghost use Rattle.bd_cli_find.specs.Find.{end_words, find_count_line, batch_output};
 ghost use Rattle.bd_cli_find.specs.inside.Find.{AwaitsFirst, IsOpenedOn, IsReady, index_way};
 ghost use Rattle.bd_cli_find.specs.Find.{output_of_dump, token_words};
 
-use crate::asking::{Asking, report_refused};
+use crate::options::{Search, report_refused};
 use bd_bson_dump::Dump;
 use bd_cli_files::Status;
 use bd_cli_files::output::{OutputFault, push_number, report_no_memory, report_stop, status_of};
@@ -40,39 +40,39 @@ const DOCUMENTS_MORE: &str = " documents, more";
 /// Before a token.
 const TOKEN: &str = ", token ";
 
-/// Prints the first batch of a request to a dump.
+/// Prints the first batch, of this size, of a search in a dump; without a size all of its documents.
 pub(crate) fn print_found<O: Output, E: Output>(
     alloc: Global,
     dump: Dump,
-    asking: Asking,
+    search: Search,
+    size: Option<u32>,
     out: &mut O,
     err: &mut E,
 ) -> Status
     requires within_limit { length (documents dump) ≤ greatest_count }
-    requires fits { fits_batch asking.size ≡ true }
-    ensures { Prints
-        (part_of (output_of_dump (bytes_of dump) (documents dump) (page_request_of asking)))
+    requires fits { fits_batch size ≡ true }
+    ensures { Prints (part_of (output_of_dump size
+        (request_view search.request, search.token) (bytes_of dump) (documents dump)))
         (over O.state out.old out.new) (over E.state err.old err.new) result }
 {
-    let size = asking.size;
     let mut session = Session::new(alloc, dump);
-    match open_first(alloc, &mut session, asking) {
+    match open_first(alloc, &mut session, search) {
         Ok(id) => print_batch(alloc, &mut session, id, size, out, err),
         Err(refused) => report_refused(alloc, &refused, err),
     }
 }
 
 /// Opens the first cursor of a session: on an answer, or on what follows a token.
-fn open_first(alloc: Global, session: &mut Session, asking: Asking) -> Result<u64, Refused>
+fn open_first(alloc: Global, session: &mut Session, search: Search) -> Result<u64, Refused>
     requires { state_of session.now ≡ new_state }
     ensures opened { IsOpenedOn
-        (query_of (dump_of session.old) asking.request) asking.token (state_of session.new) result }
+        (query_of (dump_of session.old) search.request) search.token (state_of session.new) result }
     ensures dump { dump_of session.new ≡ dump_of session.old }
 {
-    let choice = choose(alloc, session, asking.index)?;
-    match asking.token {
-        Some(token) => session.resume(asking.request, choice, &token),
-        None => session.find(asking.request, choice),
+    let choice = choose(alloc, session, search.index)?;
+    match search.token {
+        Some(token) => session.resume(search.request, choice, &token),
+        None => session.find(search.request, choice),
     }
 }
 

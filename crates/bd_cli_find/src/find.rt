@@ -2,14 +2,13 @@
 //! not the output.
 
 ghost use Rattle.std.specs.Prelude.{◌≡◌};
-ghost use Rattle.bd_cli_args.specs.FindWords.{find_words_of};
-ghost use Rattle.bd_cli_find.specs.Asking.{RequestsNothing};
+ghost use Rattle.bd_cli_find.specs.Options.{RequestsNothing};
 ghost use Rattle.bd_cli_find.specs.Find.{find_run};
 ghost use Rattle.bd_cli_files.specs.{Input.ReadsNoFurther, Run.Prints};
 ghost use Rattle.bd_io_device.specs.Devices.{over};
 
-use crate::asking::{AskingFault, read_asking, report_refused};
 use crate::batch::print_found;
+use crate::options::{SearchFault, read_search, report_refused};
 use bd_cli_args::FindOptions;
 use bd_cli_files::Status;
 use bd_cli_files::load::{load, report_load_fault};
@@ -26,19 +25,19 @@ pub fn find<R: Input, O: Output, E: Output>(
     out: &mut O,
     err: &mut E,
 ) -> Status
-    ensures found { Prints (find_run (find_words_of options.now) (over R.state input.old input.new))
+    ensures found { Prints (find_run options.now (over R.state input.old input.new))
         (over O.state out.old out.new) (over E.state err.old err.new) result }
     ensures stops_reading { ReadsNoFurther R.read_gives input.old input.new }
-    ensures unread { RequestsNothing (find_words_of options.now) → input.new ≡ input.old }
+    ensures unread { RequestsNothing options.now → input.new ≡ input.old }
 {
-    let asking = match read_asking(alloc, options) {
-        Ok(asking) => asking,
-        Err(AskingFault::NoMemory) => return report_no_memory(err),
-        Err(AskingFault::Refused(refused)) => return report_refused(alloc, &refused, err),
-        Err(AskingFault::Message(message)) => return report_error(&message, err),
+    let search = match read_search(alloc, options) {
+        Ok(search) => search,
+        Err(SearchFault::NoMemory) => return report_no_memory(err),
+        Err(SearchFault::Refused(refused)) => return report_refused(alloc, &refused, err),
+        Err(SearchFault::Message(message)) => return report_error(&message, err),
     };
     match load(alloc, input) {
-        Ok(dump) => print_found(alloc, dump, asking, out, err),
+        Ok(dump) => print_found(alloc, dump, search, options.batch, out, err),
         Err(fault) => report_load_fault(alloc, &fault, err),
     }
 }

@@ -24,14 +24,14 @@
 //! ```
 //!
 //! - `find`: the command, and searches of the parts of a collection.
-//! - `asking`: what its arguments request: `specs/Asking.antt`.
+//! - `options`: what its arguments request: `specs/Options.antt`.
 //! - `batch`: the first batch of a dump, and its output.
 //! - `laws`: the parts have the output of the whole.
 #![tactic(auto)]
 
-mod asking;
 mod batch;
 pub mod find;
 mod laws;
+mod options;
 
 pub use laws::parts_print_the_whole;

@@ -1,5 +1,4 @@
 use Rattle.std.proofs.Common.{refl}
-use Rattle.bd_cli_args.specs.FindWords.{find_words_of}
 use Rattle.bd_io_device.specs.Devices.{over}
 use Rattle.bd_cli.proofs.RunsLemmas.{found_failed}
 use Rattle.bd_cli.proofs.runs.run.Goals as goal
@@ -21,7 +20,7 @@ returns-in-Find-clause-file g c = rw c.in-Find.is c.find.ensures.unread
 
 pub returns-in-Find-clause-failed : goal.returns-in-Find-clause-failed
 returns-in-Find-clause-failed g c fails =
-    found_failed (find_words_of c.in-Find.options) (over g.F.Input.state c.args.file.now c.find.new.input) (over g.C.Input.state c.args.commands.now c.args.commands.now)
+    found_failed c.in-Find.options (over g.F.Input.state c.args.file.now c.find.new.input) (over g.C.Input.state c.args.commands.now c.args.commands.now)
     (over g.O.Output.state c.args.out.now c.find.new.out) (over g.E.Output.state c.args.err.now c.find.new.err) _ refl c.find.ensures.found fails
 
 pub returns-in-Serve-clause-ran : goal.returns-in-Serve-clause-ran

@@ -16,14 +16,14 @@ returns-in_err-choice-clause-opened c =
 
 pub returns-in-Some-clause-opened : goal.returns-in-Some-clause-opened
 returns-in-Some-clause-opened c =
-    let q = query_of (dump_of c.choose.new.session) c.args.asking.request in
+    let q = query_of (dump_of c.choose.new.session) c.args.search.request in
     let opened = resume_opens q (hint_of c.in_ok-choice.choice) c.choose.new.session c.resume.new.self c.in_ok-choice.ensures.choice c.in-Some.token c.resume.result c.resume.ensures.steps in
-    subst (λ (dump : Dump). IsOpenedOn (query_of dump c.args.asking.request) c.args.asking.token (state_of c.resume.new.self) c.resume.result) c.choose.ensures.dump
+    subst (λ (dump : Dump). IsOpenedOn (query_of dump c.args.search.request) c.args.search.token (state_of c.resume.new.self) c.resume.result) c.choose.ensures.dump
     (subst (λ (token : Option Token). IsOpenedOn q token (state_of c.resume.new.self) c.resume.result) (sym c.in-Some.is) opened)
 
 pub returns-in-None-clause-opened : goal.returns-in-None-clause-opened
 returns-in-None-clause-opened c =
-    let q = query_of (dump_of c.choose.new.session) c.args.asking.request in
+    let q = query_of (dump_of c.choose.new.session) c.args.search.request in
     let opened = find_opens q (hint_of c.in_ok-choice.choice) c.choose.new.session c.find.new.self c.in_ok-choice.ensures.choice c.find.result c.find.ensures.steps in
-    subst (λ (dump : Dump). IsOpenedOn (query_of dump c.args.asking.request) c.args.asking.token (state_of c.find.new.self) c.find.result) c.choose.ensures.dump
+    subst (λ (dump : Dump). IsOpenedOn (query_of dump c.args.search.request) c.args.search.token (state_of c.find.new.self) c.find.result) c.choose.ensures.dump
     (subst (λ (token : Option Token). IsOpenedOn q token (state_of c.find.new.self) c.find.result) (sym c.in-None.is) opened)

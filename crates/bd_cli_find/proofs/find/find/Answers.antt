@@ -1,11 +1,11 @@
-use Rattle.std.proofs.Common.{None, [], arith, List, ℕ, refl, sym, inl, inr, subst, true≢false}
+use Rattle.std.proofs.Common.{◌≡◌, ap, None, [], arith, List, ℕ, refl, sym, inl, inr, subst, true≢false}
 use Rattle.std.specs.Prelude.{string_bytes}
-use Rattle.bd_cursor_request.specs.Refused.{reason_of}
-use Rattle.bd_cli_args.specs.FindWords.{find_words_of}
+use Rattle.bd_cursor_request.specs.{Refused.reason_of, Request.request_view}
+use Rattle.bd_cli_args.specs.FindOptions.{FindOptions}
 use Rattle.bd_bson_dump.specs.Collection.{bytes_of, documents}
-use Rattle.bd_cli_find.specs.{Asking.refused_text, Find.output_of_dump, inside.Asking.page_request_of}
+use Rattle.bd_cli_find.specs.{Options.refused_text, Find.output_of_dump}
 use Rattle.bd_cli_find.proofs.BatchLemmas.{five_each}
-use Rattle.bd_cli_find.proofs.AskingLemmas.{explain_refusal}
+use Rattle.bd_cli_find.proofs.OptionsLemmas.{explain_refusal}
 use Rattle.bd_cli_files.specs.Output.{error_line, refusal_output}
 use Rattle.bd_cli_files.specs.Run.{ReportsMessage}
 use Rattle.bd_cli_files.specs.declared.output.Status.TheVariants.{Failed}
@@ -19,7 +19,7 @@ returns-in-Err-Message-clause-found g c =
     let message = string_bytes c.in-Err-Message.message in
     let none = rw c.in-Err-Message.field-0-is at c.in-Err-Message.ensures.fault in
     let reported = subst (λ (text : List ℕ). ReportsMessage (over g.E.Output.state c.args.err.now c.report_error.new.err) (error_line text) Failed c.report_error.result) c.deref.ensures c.report_error.ensures in
-    finds.output_found (find_words_of c.args.options.now) (over g.R.Input.state c.args.input.now c.args.input.now) [] (refusal_output message) (rw none refl) (rw none refl)
+    finds.output_found c.args.options.now (over g.R.Input.state c.args.input.now c.args.input.now) [] (refusal_output message) (rw none refl) (rw none refl)
     (finds.refusal_is_output (g.O.Output.state c.args.out.now) (g.O.Output.state c.args.out.now) (g.E.Output.state c.args.err.now)
     (g.E.Output.state c.report_error.new.err) _ message (inl reported))
 
@@ -29,7 +29,7 @@ returns-in-Err-Refused-clause-found g c =
     let message = refused_text why in
     let none = rw c.in-Err-Refused.field-0-is at c.in-Err-Refused.ensures.fault in
     let err = over g.E.Output.state c.args.err.now c.report_refused.new.err in
-    finds.output_found (find_words_of c.args.options.now) (over g.R.Input.state c.args.input.now c.args.input.now) [] (refusal_output message) (rw none refl) (rw none refl)
+    finds.output_found c.args.options.now (over g.R.Input.state c.args.input.now c.args.input.now) [] (refusal_output message) (rw none refl) (rw none refl)
     (finds.refusal_is_output (g.O.Output.state c.args.out.now) (g.O.Output.state c.args.out.now) (g.E.Output.state c.args.err.now)
     (g.E.Output.state c.report_refused.new.err) _ message (explain_refusal err why c.report_refused.result c.report_refused.ensures))
 
@@ -45,23 +45,24 @@ returns-in-Ok-load-clause-found g c =
     let loaded = c.in-Ok-load.ensures.loaded in
     let ds = documents c.in-Ok-load.dump in
     let bytes = bytes_of c.in-Ok-load.dump in
-    finds.output_found (find_words_of c.args.options.now) (over g.R.Input.state c.args.input.now c.load.new.input) bytes
-    (output_of_dump bytes ds (page_request_of c.in-Ok.asking)) (rw c.in-Ok.ensures.asking loaded.0) (rw c.in-Ok.ensures.asking (ds, None, loaded.1, refl)) c.print_found.ensures
+    let batch : c.options.inside.batch ≡ c.args.options.now.batch = ap (λ (o : FindOptions). o.batch) c.options.view_is in
+    finds.output_found c.args.options.now (over g.R.Input.state c.args.input.now c.load.new.input) bytes
+    (output_of_dump c.args.options.now.batch (request_view c.in-Ok.search.request, c.in-Ok.search.token) bytes ds) (rw c.in-Ok.ensures.search loaded.0) (rw c.in-Ok.ensures.search (ds, None, loaded.1, refl)) (rw batch at c.print_found.ensures)
 
 pub returns-in-Ok-load-clause-unread : goal.returns-in-Ok-load-clause-unread
-returns-in-Ok-load-clause-unread g c none = let taken = rw c.in-Ok.ensures.asking at none in absurd (true≢false (sym taken))
+returns-in-Ok-load-clause-unread g c none = let taken = rw c.in-Ok.ensures.search at none in absurd (true≢false (sym taken))
 
 pub returns-in-Err-clause-found : goal.returns-in-Err-clause-found
 returns-in-Err-clause-found g c =
-    finds.load_reported (find_words_of c.args.options.now) (page_request_of c.in-Ok.asking) (over g.R.Input.state c.args.input.now c.load.new.input)
-    (g.O.Output.state c.args.out.now) (over g.E.Output.state c.args.err.now c.report_load_fault.new.err) _ c.in-Err.fault c.in-Ok.ensures.asking
+    finds.load_reported c.args.options.now (request_view c.in-Ok.search.request, c.in-Ok.search.token) (over g.R.Input.state c.args.input.now c.load.new.input)
+    (g.O.Output.state c.args.out.now) (over g.E.Output.state c.args.err.now c.report_load_fault.new.err) _ c.in-Err.fault c.in-Ok.ensures.search
     c.in-Err.ensures.fault c.report_load_fault.ensures
 
 pub returns-in-Err-NoMemory-clause-found : goal.returns-in-Err-NoMemory-clause-found
 returns-in-Err-NoMemory-clause-found g c = inr (inr ([], inr (refl, refl), takes_none (g.O.Output.state c.args.out.now), c.report_no_memory.ensures))
 
 pub returns-in-Err-clause-unread : goal.returns-in-Err-clause-unread
-returns-in-Err-clause-unread g c none = let taken = rw c.in-Ok.ensures.asking at none in absurd (true≢false (sym taken))
+returns-in-Err-clause-unread g c none = let taken = rw c.in-Ok.ensures.search at none in absurd (true≢false (sym taken))
 
 pub returns-in-Err-NoMemory-clause-stops_reading : goal.returns-in-Err-NoMemory-clause-stops_reading
 returns-in-Err-NoMemory-clause-stops_reading g c = (0, [], c.args.input.now, zero_reads c.args.input.now, inl refl)

@@ -12,15 +12,9 @@ use Rattle.bd_query_filter.specs.Fault.{Refusal, filter_fault_words}
 use Rattle.bd_cursor_request.specs.{declared.results.Refused.Refused, declared.token.Token.Token}
 use Rattle.bd_cursor_request.specs.Refused.{Reason, bad_filter, plain, refused_words, then_part, error_as}
 use Rattle.bd_cursor_request.specs.Request.{Request, named_index, request_of, token_part}
-use Rattle.bd_cli_args.specs.FindWords.{FindWords}
+use Rattle.bd_cli_args.specs.FindOptions.{FindOptions}
 use Rattle.bd_cli_files.specs.{Pack.byte_text}
 use Rattle.bd_cursor_request.specs.declared.results.Refused.TheVariants as reasons
-
--- what the options of `find` request: a request, the size of the batch, and the token that it resumes after
-pub record PageRequest : Type 0 where
-  pub request : Request
-  pub batch : Option ℕ
-  pub token : Option Token
 
 -- ---- the texts of faults
 
@@ -72,21 +66,20 @@ after_part (Some text) = then_part (token_part text) (λ t. Ok (Some t))
 
 -- What a query, a sort and the other options request, or the message of the first refusal:
 -- of the request, the batch size, the path of the index, the token.
-abbrev pub page_of : FindWords → Doc → Doc → Result PageRequest (List ℕ)
-page_of words query sort =
-    then_part (error_as refused_text (request_of query sort words.skip words.limit)) (λ request.
-    then_part (error_as refused_text (batch_part words.batch)) (λ _.
-    then_part (error_as index_fault_text (named_index words.index)) (λ _.
-    then_part (error_as refused_text (after_part words.after)) (λ token.
-    Ok (record { request = request; batch = words.batch; token = token })))))
+abbrev pub search_of : FindOptions → Doc → Doc → Result (Request × Option Token) (List ℕ)
+search_of options query sort =
+    then_part (error_as refused_text (request_of query sort options.skip options.limit)) (λ request.
+    then_part (error_as refused_text (batch_part options.batch)) (λ _.
+    then_part (error_as index_fault_text (named_index options.index)) (λ _.
+    then_part (error_as refused_text (after_part options.after)) (λ token. Ok (request, token)))))
 
--- What the options of `find` request, or the message of the first refusal:
+-- What the options of `find` request, and the token after which it resumes; or the message of the first refusal:
 -- of the query's text, the sort's text, then the rest.
-abbrev pub requested_by : FindWords → Result PageRequest (List ℕ)
-requested_by words =
-    then_part (document_in (codes "query") words.query) (λ query.
-    then_part (document_in (codes "sort") words.sort) (λ sort. page_of words query sort))
+abbrev pub requested_by : FindOptions → Result (Request × Option Token) (List ℕ)
+requested_by options =
+    then_part (document_in (codes "query") options.query) (λ query.
+    then_part (document_in (codes "sort") options.sort) (λ sort. search_of options query sort))
 
 -- The options of `find` are refused, whatever the file contains.
-abbrev pub RequestsNothing : FindWords → Type 0
-RequestsNothing words = IsErr (requested_by words)
+abbrev pub RequestsNothing : FindOptions → Type 0
+RequestsNothing options = IsErr (requested_by options)

@@ -7,13 +7,11 @@ ghost use Rattle.bd_path.specs.PathNames.{path_text};
 ghost use Rattle.bd_query_filter.specs.Fault.{refusal_of};
 ghost use Rattle.bd_cursor_request.specs.Refused.{reason_of, refused_words, error_as};
 ghost use Rattle.bd_cursor_request.specs.Request.{named_index, request_of, request_view};
-ghost use Rattle.bd_cli_args.specs.FindWords.{find_words_of};
 ghost use Rattle.bd_cli_files.specs.Output.{error_line};
-ghost use Rattle.bd_cli_find.specs.Asking.{after_part, batch_part, document_in};
-ghost use Rattle.bd_cli_find.specs.inside.Asking.{ReportsAskingFault, ReportsReason, ReportsRefusal};
-ghost use Rattle.bd_cli_find.specs.Asking.{fits_batch, index_fault_text, json_fault_text, page_of, refusal_text, refused_option, requested_by};
-ghost use Rattle.bd_cli_find.specs.inside.Asking.{page_request_of};
-ghost use Rattle.bd_cli_find.specs.declared.asking.AskingFault.TheVariants.{NoMemory as no_memory};
+ghost use Rattle.bd_cli_find.specs.Options.{after_part, batch_part, document_in};
+ghost use Rattle.bd_cli_find.specs.inside.Options.{ReportsSearchFault, ReportsReason, ReportsRefusal};
+ghost use Rattle.bd_cli_find.specs.Options.{fits_batch, index_fault_text, json_fault_text, refusal_text, refused_option, requested_by, search_of};
+ghost use Rattle.bd_cli_find.specs.declared.options.SearchFault.TheVariants.{NoMemory as no_memory};
 
 use bd_cli_args::FindOptions;
 use bd_cli_files::Status;
@@ -27,13 +25,11 @@ use bd_query_filter::FilterFault;
 use bd_value::{Document, GREATEST_COUNT, NoMemory};
 use std::alloc::{AllocError, Global};
 
-/// A request, with its page.
+/// What `find` searches.
 #[derive(Drop)]
-pub struct Asking {
+pub struct Search {
     /// Which documents, in which order.
     pub request: Request,
-    /// The batch size; without one all of them are printed.
-    pub size: Option<u32>,
     /// The path of the index for the search; without one each document is examined.
     pub index: Option<Path>,
     /// The token after which the answer resumes.
@@ -42,7 +38,7 @@ pub struct Asking {
 
 /// Why there is no request.
 #[derive(Debug, Drop)]
-pub enum AskingFault {
+pub enum SearchFault {
     /// Memory ran out.
     NoMemory,
     /// A filter, a sort, a number or a token is refused.
@@ -51,62 +47,58 @@ pub enum AskingFault {
     Message(String),
 }
 
-impl From<AllocError> for AskingFault {
+impl From<AllocError> for SearchFault {
     ghost from_gives = { λ _ f. f ≡ no_memory };
 
-    fn from(_error: AllocError) -> AskingFault {
-        AskingFault::NoMemory
+    fn from(_error: AllocError) -> SearchFault {
+        SearchFault::NoMemory
     }
 }
 
 /// What the options of `find` request. Without a query all documents match; without a sort they are in file order.
-pub(crate) fn read_asking(alloc: Global, options: &FindOptions) -> Result<Asking, AskingFault>
-    ensures asking { IfOk result (λ a.
-        requested_by (find_words_of options.now) ≡ Ok (page_request_of a)) }
-    ensures fits { IfOk result (λ a. fits_batch a.size ≡ true) }
-    ensures index { IfOk result (λ a.
-        option_map path_text a.index ≡ (find_words_of options.now).index) }
-    ensures fault { IfErr result
-        (ReportsAskingFault (requested_by (find_words_of options.now))) }
+pub(crate) fn read_search(alloc: Global, options: &FindOptions) -> Result<Search, SearchFault>
+    ensures search { IfOk result (λ s.
+        requested_by options.now ≡ Ok (request_view s.request, s.token)) }
+    ensures fits { OnOk result (fits_batch options.now.batch ≡ true) }
+    ensures index { IfOk result (λ s. option_map path_text s.index ≡ options.now.index) }
+    ensures fault { IfErr result (ReportsSearchFault (requested_by options.now)) }
 {
     let query = read_text(alloc, "query", &options.query)?;
     let sort = read_text(alloc, "sort", &options.sort)?;
-    read_page(alloc, query, sort, options)
+    search_of(alloc, query, sort, options)
 }
 
 /// What a query and a sort request, with the other options.
-fn read_page(
+fn search_of(
     alloc: Global,
     query: Document,
     sort: Document,
     options: &FindOptions,
-) -> Result<Asking, AskingFault>
-    ensures page { IfOk result (λ a.
-        page_of (find_words_of options.now) (pairs query) (pairs sort) ≡ Ok (page_request_of a)) }
-    ensures fits { IfOk result (λ a. fits_batch a.size ≡ true) }
-    ensures index { IfOk result (λ a.
-        option_map path_text a.index ≡ (find_words_of options.now).index) }
-    ensures fault { IfErr result (ReportsAskingFault
-        (page_of (find_words_of options.now) (pairs query) (pairs sort))) }
+) -> Result<Search, SearchFault>
+    ensures search { IfOk result (λ s.
+        search_of options.now (pairs query) (pairs sort) ≡ Ok (request_view s.request, s.token)) }
+    ensures fits { OnOk result (fits_batch options.now.batch ≡ true) }
+    ensures index { IfOk result (λ s. option_map path_text s.index ≡ options.now.index) }
+    ensures fault { IfErr result
+        (ReportsSearchFault (search_of options.now (pairs query) (pairs sort))) }
 {
     let request = read_request(alloc, query, sort, options)?;
     check_batch(options.batch)?;
     let index = read_index(alloc, &options.index)?;
     let token = read_token(&options.after)?;
-    Ok(Asking {
+    Ok(Search {
         request,
-        size: options.batch,
         index,
         token,
     })
 }
 
 /// The document of a query or a sort, named by `name`; without a text it has no pairs.
-fn read_text(alloc: Global, name: &str, text: &Option<String>) -> Result<Document, AskingFault>
+fn read_text(alloc: Global, name: &str, text: &Option<String>) -> Result<Document, SearchFault>
     ensures document { IfOk result (λ d.
         document_in name.now (option_map string_bytes text.now) ≡ Ok (pairs d)) }
     ensures fault { IfErr result
-        (ReportsAskingFault (document_in name.now (option_map string_bytes text.now))) }
+        (ReportsSearchFault (document_in name.now (option_map string_bytes text.now))) }
 {
     let Some(text) = text else {
         return Ok(Document::new(alloc));
@@ -114,8 +106,8 @@ fn read_text(alloc: Global, name: &str, text: &Option<String>) -> Result<Documen
     match read_doc(alloc, text.as_bytes()) {
         Ok(document) => Ok(document),
         Err(fault) => match fault.kind {
-            JsonFaultKind::NoMemory => Err(AskingFault::NoMemory),
-            _ => Err(AskingFault::Message(json_message(alloc, name, fault)?)),
+            JsonFaultKind::NoMemory => Err(SearchFault::NoMemory),
+            _ => Err(SearchFault::Message(json_message(alloc, name, fault)?)),
         },
     }
 }
@@ -144,7 +136,7 @@ fn read_request(
     query: Document,
     sort: Document,
     options: &FindOptions,
-) -> Result<Request, AskingFault>
+) -> Result<Request, SearchFault>
     ensures request { IfOk result (λ r. request_of
         (pairs query) (pairs sort) options.now.skip options.now.limit ≡ Ok (request_view r)) }
     ensures fault { IfErr result
@@ -153,29 +145,29 @@ fn read_request(
     let (skip, limit) = (u64::from(options.skip), u64::from(options.limit));
     match Request::new(alloc, query, sort, skip, limit) {
         Ok(request) => Ok(request),
-        Err(Refused::NoMemory) => Err(AskingFault::NoMemory),
-        Err(refused) => Err(AskingFault::Refused(refused)),
+        Err(Refused::NoMemory) => Err(SearchFault::NoMemory),
+        Err(refused) => Err(SearchFault::Refused(refused)),
     }
 }
 
 /// Refuses a batch size that is too great. It takes no memory.
-fn check_batch(size: Option<u32>) -> Result<(), AskingFault>
+fn check_batch(size: Option<u32>) -> Result<(), SearchFault>
     ensures fits { OnOk result (fits_batch size ≡ true) }
     ensures fault { IfErr result (ReportsReason (batch_part size)) }
     ensures known { IfErr result (λ fault. fault ≢ no_memory) }
 {
     match size {
-        Some(size) if u64::from(size) > GREATEST_COUNT => Err(AskingFault::Refused(Refused::Range)),
+        Some(size) if u64::from(size) > GREATEST_COUNT => Err(SearchFault::Refused(Refused::Range)),
         _ => Ok(()),
     }
 }
 
 /// The path in the text of an index, if there is one.
-fn read_index(alloc: Global, text: &Option<String>) -> Result<Option<Path>, AskingFault>
+fn read_index(alloc: Global, text: &Option<String>) -> Result<Option<Path>, SearchFault>
     ensures path { OnOk result (named_index (option_map string_bytes text.now) ≡ Ok tt) }
     ensures text { IfOk result (λ index.
         option_map path_text index ≡ option_map string_bytes text.now) }
-    ensures fault { IfErr result (ReportsAskingFault
+    ensures fault { IfErr result (ReportsSearchFault
         (error_as index_fault_text (named_index (option_map string_bytes text.now)))) }
 {
     let Some(text) = text else {
@@ -183,13 +175,13 @@ fn read_index(alloc: Global, text: &Option<String>) -> Result<Option<Path>, Aski
     };
     match Path::parse(alloc, text) {
         Ok(path) => Ok(Some(path)),
-        Err(PathFault::NoMemory) => Err(AskingFault::NoMemory),
-        Err(fault) => Err(AskingFault::Message(option_message(alloc, "index: ", fault.words())?)),
+        Err(PathFault::NoMemory) => Err(SearchFault::NoMemory),
+        Err(fault) => Err(SearchFault::Message(option_message(alloc, "index: ", fault.words())?)),
     }
 }
 
 /// The token in a text, if there is one. It takes no memory.
-fn read_token(text: &Option<String>) -> Result<Option<Token>, AskingFault>
+fn read_token(text: &Option<String>) -> Result<Option<Token>, SearchFault>
     ensures token { IfOk result (λ token.
         after_part (option_map string_bytes text.now) ≡ Ok token) }
     ensures fault { IfErr result (ReportsReason (after_part (option_map string_bytes text.now))) }
@@ -200,7 +192,7 @@ fn read_token(text: &Option<String>) -> Result<Option<Token>, AskingFault>
     };
     match Token::parse(text) {
         Ok(token) => Ok(Some(token)),
-        Err(refusal) => Err(AskingFault::Refused(refusal)),
+        Err(refusal) => Err(SearchFault::Refused(refusal)),
     }
 }
 

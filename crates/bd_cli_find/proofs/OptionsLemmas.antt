@@ -1,16 +1,15 @@
 -- What the options of `find` request.
 use Rattle.std.proofs.Common.{◌≡◌, ◌≢◌, ◌⊎◌, ◌++◌, ℕ, List, Result, Ok, codes, refl, inl, inr, subst}
-use Rattle.std.specs.Prelude.{string_bytes}
 use Rattle.bd_value.specs.Tree.{Doc}
 use Rattle.bd_io_device.specs.Devices.{Over, Writer}
 use Rattle.bd_cursor_request.specs.{Refused.IsRefusedPart, Refused.Reason, Refused.bad_filter, Refused.plain, Refused.reason_of, Refused.refused_words, Refused.then_part, declared.results.Refused.Refused}
 use Rattle.bd_query_filter.specs.{Fault.refusal_of, declared.fault.FilterFault.FilterFault}
-use Rattle.bd_cli_args.specs.FindWords.{FindWords}
+use Rattle.bd_cli_args.specs.FindOptions.{FindOptions}
 use Rattle.bd_cli_files.specs.{Run.ReportsMessage, Output.error_line, Output.no_memory, declared.output.Status.Status, declared.output.Status.TheVariants.Failed}
-use Rattle.bd_cli_find.specs.Asking.{document_in, page_of, refusal_text, refused_option, refused_text, requested_by}
-use Rattle.bd_cli_find.specs.inside.Asking.{ReportsAskingFault, ReportsReason, ReportsRefusal}
-use Rattle.bd_cli_find.specs.declared.asking.AskingFault.{AskingFault}
-use Rattle.bd_cli_find.specs.declared.asking.AskingFault.TheVariants as faults
+use Rattle.bd_cli_find.specs.Options.{document_in, search_of, refusal_text, refused_option, refused_text, requested_by}
+use Rattle.bd_cli_find.specs.inside.Options.{ReportsSearchFault, ReportsReason, ReportsRefusal}
+use Rattle.bd_cli_find.specs.declared.options.SearchFault.{SearchFault}
+use Rattle.bd_cli_find.specs.declared.options.SearchFault.TheVariants as faults
 use Rattle.bd_cursor_request.specs.declared.results.Refused.TheVariants as reasons
 
 -- if a part is refused for a reason, the reason is reported
@@ -36,20 +35,20 @@ explain_refusal err (plain refused) status reported = inl reported
 explain_refusal err (bad_filter r) status reported = reported
 
 -- what needs a part that is refused is refused with its message
-part_refused : {Given Wanted : Type 0} (part : Result Given (List ℕ)) (next : Given → Result Wanted (List ℕ)) (fault : AskingFault)
-    → ReportsAskingFault part fault → ReportsAskingFault (then_part part next) fault
+part_refused : {Given Wanted : Type 0} (part : Result Given (List ℕ)) (next : Given → Result Wanted (List ℕ)) (fault : SearchFault)
+    → ReportsSearchFault part fault → ReportsSearchFault (then_part part next) fault
 part_refused part next faults.NoMemory is = tt
 part_refused part next (faults.Refused r) is = rw is refl
 part_refused part next (faults.Message m) is = rw is refl
 
-module _ (words : FindWords) where
-  pub query_refused : (fault : AskingFault) → ReportsAskingFault (document_in (codes "query") words.query) fault → ReportsAskingFault (requested_by words) fault
-  query_refused = part_refused (document_in (codes "query") words.query) (λ query. then_part (document_in (codes "sort") words.sort) (λ sort. page_of words query sort))
+module _ (options : FindOptions) where
+  pub query_refused : (fault : SearchFault) → ReportsSearchFault (document_in (codes "query") options.query) fault → ReportsSearchFault (requested_by options) fault
+  query_refused = part_refused (document_in (codes "query") options.query) (λ query. then_part (document_in (codes "sort") options.sort) (λ sort. search_of options query sort))
 
-  pub sort_refused : (query : Doc) (fault : AskingFault) → document_in (codes "query") words.query ≡ Ok query
-      → ReportsAskingFault (document_in (codes "sort") words.sort) fault → ReportsAskingFault (requested_by words) fault
-  sort_refused query fault q none = rw q (part_refused (document_in (codes "sort") words.sort) (page_of words query) fault none)
+  pub sort_refused : (query : Doc) (fault : SearchFault) → document_in (codes "query") options.query ≡ Ok query
+      → ReportsSearchFault (document_in (codes "sort") options.sort) fault → ReportsSearchFault (requested_by options) fault
+  sort_refused query fault q none = rw q (part_refused (document_in (codes "sort") options.sort) (search_of options query) fault none)
 
-  pub page_refused : (query sort : Doc) (fault : AskingFault) → document_in (codes "query") words.query ≡ Ok query
-      → document_in (codes "sort") words.sort ≡ Ok sort → ReportsAskingFault (page_of words query sort) fault → ReportsAskingFault (requested_by words) fault
-  page_refused query sort fault q s none = rw (q, s) none
+  pub search_refused : (query sort : Doc) (fault : SearchFault) → document_in (codes "query") options.query ≡ Ok query
+      → document_in (codes "sort") options.sort ≡ Ok sort → ReportsSearchFault (search_of options query sort) fault → ReportsSearchFault (requested_by options) fault
+  search_refused query sort fault q s none = rw (q, s) none

@@ -2,9 +2,9 @@ use Rattle.std.proofs.Common.{◌++◌, ◌∙◌, rules}
 use Rattle.bd_io_device.specs.Devices.{over}
 use Rattle.bd_cursor_request.specs.Refused.{refused_words}
 use Rattle.bd_cli_files.specs.{Run.ReportsMessage, Output.error_line, declared.output.Status.TheVariants.Failed}
-use Rattle.bd_cli_find.specs.Asking.{refused_option}
-use Rattle.bd_cli_find.proofs.AskingLemmas.{filter_reported, plain_reported}
-use Rattle.bd_cli_find.proofs.asking.report_refused.Goals as goal
+use Rattle.bd_cli_find.specs.Options.{refused_option}
+use Rattle.bd_cli_find.proofs.OptionsLemmas.{filter_reported, plain_reported}
+use Rattle.bd_cli_find.proofs.options.report_refused.Goals as goal
 
 pub returns-in-Ok : goal.returns-in-Ok
 returns-in-Ok g c =

@@ -2,8 +2,8 @@ use Rattle.std.proofs.Common.{◌++◌, ◌∷◌, [], codes}
 use Rattle.bd_io_device.proofs.DevicesLemmas.{write_fails_first, write_fails_second}
 use Rattle.bd_cli_files.proofs.OutputLemmas.{on_err, on_err_map}
 use Rattle.bd_cursor_request.specs.Refused.{refused_words}
-use Rattle.bd_cli_find.specs.Asking.{refused_option}
-use Rattle.bd_cli_find.proofs.asking.write_refused.Goals as goal
+use Rattle.bd_cli_find.specs.Options.{refused_option}
+use Rattle.bd_cli_find.proofs.options.write_refused.Goals as goal
 
 pub returns-in_err-write_all-clause-err : goal.returns-in_err-write_all-clause-err
 returns-in_err-write_all-clause-err g c =

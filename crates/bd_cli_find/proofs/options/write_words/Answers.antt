@@ -1,6 +1,6 @@
 use Rattle.bd_io_device.proofs.DevicesLemmas.{write_fails_first}
 use Rattle.bd_cli_files.proofs.OutputLemmas.{on_err, second_err}
-use Rattle.bd_cli_find.proofs.asking.write_words.Goals as goal
+use Rattle.bd_cli_find.proofs.options.write_words.Goals as goal
 
 pub returns-in_err-write_all-clause-err : goal.returns-in_err-write_all-clause-err
 returns-in_err-write_all-clause-err g c =
