@@ -47,13 +47,13 @@ impl Model for FindOptions {
     ghost Value = { options.FindOptions };
 
     ghost view = { λ o. record {
-        query = option_map string_bytes o.query;
-        sort = option_map string_bytes o.sort;
-        skip = o.skip;
-        limit = o.limit;
-        batch = o.batch;
-        index = option_map string_bytes o.index;
-        after = option_map string_bytes o.after;
+      query = option_map string_bytes o.query;
+      sort = option_map string_bytes o.sort;
+      skip = o.skip;
+      limit = o.limit;
+      batch = o.batch;
+      index = option_map string_bytes o.index;
+      after = option_map string_bytes o.after;
     } };
 }
 
