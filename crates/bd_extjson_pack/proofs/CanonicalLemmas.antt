@@ -1,7 +1,7 @@
 -- Canonical text, read from its start.
 use Rattle.std.proofs.Common.{◌-◌, ◌≡◌, ◌<◌, ◌≤◌, ℕ, suc, ℤ, List, [], ◌∷◌, ◌++◌, eqb, get_or, Bor, length, take, drop, Bool, true, false, cond, Option, Some, None, refl}
 use Rattle.std.proofs.Common.{sym, ap, ap₂, ◌∙◌, arith, append_assoc, append-nil, length-append, take-append-drop, Result, Ok, Err, zero, ◌^◌, pos, neg_ℤ, decimal}
-use Rattle.std.proofs.Common.{inl, inr, ◌+◌, ◌*◌, not}
+use Rattle.std.proofs.Common.{inl, inr, ◌+◌, ◌*◌}
 use Rattle.std.specs.Prelude.{codes, ◌||◌, ◌==◌, ◌/◌, ◌%◌, nat_lt, slice_range, IfSome, IfOk, IsUtf8, OnOk}
 use Rattle.std.specs.{List.list_any, List.join_with_byte, List.prefix_len, Char.digit_char, Char.is_ascii_digit, Str.bytes_eq}
 use Rattle.std.specs.{Fmt.signed_decimal, Result.result_ok, Result.is_err, Str.Parse.digits_value, Str.Parse.AllDigits}

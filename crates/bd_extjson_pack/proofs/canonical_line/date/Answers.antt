@@ -1,4 +1,4 @@
-use Rattle.std.proofs.Common.{rules, refl, append_assoc}
+use Rattle.std.proofs.Common.{rules, append_assoc}
 use Rattle.std.specs.Prelude.{codes}
 use Rattle.bd_value.specs.Tree as trees
 use Rattle.bd_extjson_text.specs.Text.{scalar_text, quoted, escape_byte}
