@@ -1,30 +1,32 @@
--- Bytes of elements, one after the other; wrappers of one string, from their tokens.
-use Rattle.std.proofs.Common.{◌≡◌, ◌≤◌, ◌+◌, ℕ, suc, List, [], ◌∷◌, ◌++◌, length, take, drop, take_at, drop_at, refl, sym, ap, ap₂, ◌∙◌, arith, append_assoc, append-nil}
-use Rattle.std.proofs.Common.{length-append, false, true≢false, Option, Some, None, Result, Ok, Err, ◌-◌, ◌<◌, ◌^◌, ℤ, pos, negsuc, true, option_map, option_and_then}
-use Rattle.std.proofs.Common.{to_z, of_z}
-use Rattle.std.specs.{Option.is_some, Result.result_ok, Int.w32, Int.w64, Int.RustNames.FitsSigned}
-use Rattle.std.specs.Prelude.{decimal, IfSome, OnOk, MatchResult, codes}
-use Rattle.json.specs.{Token.Token, Json.parse_map, Json.Json, Json.members, Json.value}
-use Rattle.bd_value.specs.Tree.{Tree, Items, Fields, Doc, fields_of, items_of, Scalar, leaf}
+-- Bytes of elements, one after the other; a whole text, from its tokens.
+use Rattle.std.proofs.Common.{◌≡◌, ◌≢◌, ◌≤◌, ◌+◌, ℕ, zero, suc, List, [], ◌∷◌, ◌++◌, length, take, drop, take_at, drop_at, refl, sym, ap, ap₂, ◌∙◌, arith, append_assoc, append-nil}
+use Rattle.std.proofs.Common.{length-append, false, true≢false, Option, Some, None, Result, Ok, Err, ◌-◌, ℤ, true, option_map, option_and_then}
+use Rattle.std.specs.{Option.is_some}
+use Rattle.std.specs.Prelude.{decimal}
+use Rattle.json.specs.{Token.Token, Json.parse_map, Json.Json, Json.members, Json.value, Json.read_key, Find.as_str}
+use Rattle.bd_value.specs.Tree.{Tree, Items, Fields, Doc, fields_of, items_of, Scalar, leaf, doc, array}
 use Rattle.bd_bson_view.specs.{Unique.number_length, Spelling.number, Spelling.framed, Spelling.element}
 use Rattle.bd_bson_write.specs.TreeBytes.{bytes_of, fields_bytes, items_bytes}
-use Rattle.bd_extjson_wrapper.specs.{Wrapper.Gives, Wrapper.through, Wrapper.after_key, Wrapper.wrapper_of, Wrapper.single, Wrapper.only}
-use Rattle.bd_extjson_wrapper.specs.{declared.wrapper.Trouble.Trouble, WholeNumber.fits_bits, WholeNumber.if_fits, WholeNumber.whole, WholeNumber.whole_32, WholeNumber.whole_64}
+use Rattle.bd_extjson_wrapper.specs.{Wrapper.through, Wrapper.after_key, Wrapper.wrapper_of, Wrapper.single}
+use Rattle.bd_extjson_wrapper.specs.{WholeNumber.whole_64}
 use Rattle.bd_extjson_wrapper.specs.declared.wrapper.Wrapper.{Wrapper}
-use Rattle.bd_extjson.proofs.ReadLemmas.{items_before, fields_before, first_name, json_is}
-use Rattle.std.proofs.{lemmas.Option.option_and_then_some, lemmas.Option.cond_some, lemmas.Int.ints, lemmas.Int.to_z-of_z}
+use Rattle.bd_extjson.proofs.ReadLemmas as steps
+use Rattle.bd_extjson.proofs.ReadLemmas.{items_before, fields_before, json_is}
 use Rattle.json.specs.Json as json
-use Rattle.json.proofs.Grammar.{value-begin_object, value_is, members_end}
-use Rattle.bd_value.specs.Tree as trees
-use Rattle.bd_extjson.specs.Read.{wrap, wrap_object, reading, document}
+use Rattle.json.specs.Reads.{token_of}
+use Rattle.json.specs.declared.token.Token.{Token as Read}
+use Rattle.json.specs.declared.token.Token.TheVariants as read
+use Rattle.json.proofs.Grammar.{value_is}
+use Rattle.bd_extjson.specs.Read.{wrap, wrap_object, wrap_fields, wrapped, with_scope, two, bare_number, reading, document}
 use Rattle.bd_extjson.proofs.MemberLemmas as of_members
 use Rattle.std.specs.Str.{IsUtf8}
 use Rattle.std.proofs.lemmas.Str.{is_utf8-from_IsUtf8}
 use Rattle.json.specs.{Json.if_last, Lex.tokens}
-use Rattle.bd_value.specs.{Limits.most_brackets, Limits.most_levels, Tree.pairs_of}
-use Rattle.bd_extjson_pack.specs.inside.Writes.{Writes, NotRead}
-use Rattle.bd_extjson_pack.specs.declared.tokens.Refusal.{Refusal}
-use Rattle.bd_extjson_pack.specs.declared.tokens.Refusal.TheVariants as refusals
+use Rattle.bd_value.specs.{Limits.most_brackets, Limits.most_levels, Limits.longest_document, Tree.pairs_of, Tree.fields_of-pairs_of}
+use Rattle.bd_extjson_pack.specs.Packable.{plain, IsPackable}
+use Rattle.bd_extjson_pack.specs.inside.Writes.{Writes, NotRead, if_document}
+use Rattle.bd_extjson_pack.specs.declared.refusal.Refusal.{Refusal}
+use Rattle.bd_extjson_pack.specs.declared.refusal.Refusal.TheVariants as refusals
 use Rattle.bd_extjson_wrapper.specs.declared.wrapper.Wrapper.TheVariants as kinds
 
 -- the bytes of one more field come after those of the fields before it
@@ -50,23 +52,14 @@ one_more_item ts t =
     let here : 0 + length ts ≡ length ts = omega arith in
     more_items 0 ts t ∙ ap (λ n. items_bytes 0 (items_of ts) ++ element t (decimal n) (bytes_of t)) here
 
--- what a clause says of a result whose ok() was taken
-pub if_ok : {A E : Type 0} (r : Result A E) (x : A) (P : A → Type 0) (Q : E → Type 0) → Some x ≡ result_ok r → MatchResult r P Q → P x
-if_ok (Ok y) x P Q e p = let is : x ≡ y = cc in rw is p
-if_ok (Err f) x P Q e p = absurd cc
-
--- a body after the four bytes of its length, which are at the reported offset
-pub body_size : {E : Type 0} (r : Result ℕ E) (at : ℕ) (Q : E → Type 0) (old body out : List ℕ) → Some at ≡ result_ok r → MatchResult r (λ x. x ≡ length old) Q
-    → out ≡ (old ++ number 0) ++ body → at + 4 ≤ length out
-body_size r at Q old body out reported index is =
-    let here = if_ok r at (λ x. x ≡ length old) Q reported index in
+-- a body after the four bytes of its length, which are at its offset
+pub body_size : (at : ℕ) (old body out : List ℕ) → at ≡ length old → out ≡ (old ++ number 0) ++ body → at + 4 ≤ length out
+body_size at old body out here is =
     omega (arith, here, ap (λ xs. length xs) is, length-append (old ++ number 0) body, length-append old (number 0), number_length 0)
 
 -- a body that is ended at the offset where it began is framed
-pub ended : {E : Type 0} (r : Result ℕ E) (at : ℕ) (Q : E → Type 0) (old body out : List ℕ) → Some at ≡ result_ok r → MatchResult r (λ x. x ≡ length old) Q
-    → out ≡ (old ++ number 0) ++ body → take at out ++ framed (drop (at + 4) out) ≡ old ++ framed body
-ended r at Q old body out reported index is =
-    let here = if_ok r at (λ x. x ≡ length old) Q reported index in
+pub ended : (at : ℕ) (old body out : List ℕ) → at ≡ length old → out ≡ (old ++ number 0) ++ body → take at out ++ framed (drop (at + 4) out) ≡ old ++ framed body
+ended at old body out here is =
     let whole : out ≡ old ++ (number 0 ++ body) = is ∙ append_assoc old (number 0) body in
     let size : length (old ++ number 0) ≡ at + 4 = omega (arith, here, length-append old (number 0), number_length 0) in
     let prefix : take at out ≡ old = ap (take at) whole ∙ take_at old (number 0 ++ body) at (sym here) in
@@ -80,8 +73,7 @@ pub if_read : {A B : Type 0} (make : A → B) (Written : A → Type 0) (Whole : 
     (read : Option (A × List Token)) (whole : Option (B × List Token)) → whole ≡ parse_map make read → ((x : A) → Written x → Whole (make x))
     → Writes Written rest r read → Writes Whole rest r whole
 if_read make Written Whole rest (Ok u) read whole e f w = (make w.0, e ∙ ap (parse_map make) w.1, f w.0 w.2)
-if_read make Written Whole rest (Err refusals.NoDocument) read whole e f w = e ∙ ap (parse_map make) w
-if_read make Written Whole rest (Err refusals.Undecided) read whole e f w = tt
+if_read make Written Whole rest (Err refusals.Unread) read whole e f w = e ∙ ap (parse_map make) w
 if_read make Written Whole rest (Err (refusals.Unwritten fault)) read whole e f w = tt
 
 -- an object whose first name is a wrapper's
@@ -91,11 +83,6 @@ pub if_wrapper : {X : Type 0} (Written : Tree → Type 0) (rest : List Token) (r
     → Writes Written rest r (through (wrap_object depth_left) (after_key depth n key ts))
 if_wrapper Written rest r w depth_left depth n ts None e f = absurd cc
 if_wrapper Written rest r w depth_left depth n ts (Some name) e f = f name e
-
--- what a clause says of a result that is Ok, and what follows
-pub ok_on : {X E : Type 0} (r : Result X E) (P Q : Type 0) → OnOk r P → (P → Q) → OnOk r Q
-ok_on (Ok x) P Q p f = f p
-ok_on (Err e) P Q p f = tt
 
 -- ---- what was read
 
@@ -107,102 +94,142 @@ pub no_items_before : (r : Option (Items × List Token)) → r ≡ parse_map (it
 no_items_before None = refl
 no_items_before (Some p) = refl
 
-pub not_some : {A : Type 0} (o : Option A) → is_some o ≡ false → o ≡ None
+not_some : {A : Type 0} (o : Option A) → is_some o ≡ false → o ≡ None
 not_some None e = refl
 not_some (Some x) e = absurd (true≢false e)
 
--- what is known of a result in an option, once it was taken out of both
-pub taken : {X E : Type 0} (o : Option (Result X E)) (r : Result X E) (x : X) (P : Type 0) → o ≡ Some r → r ≡ Ok x → IfSome o (λ r. OnOk r P) → P
-taken None r x P e f p = absurd cc
-taken (Some s) r x P e f p = let is : s ≡ Ok x = cc in rw is at p
-
--- two clauses of one result
-pub both_ok : {X E : Type 0} (r : Result X E) (P Q : Type 0) → OnOk r P → OnOk r Q → OnOk r (P × Q)
-both_ok (Ok x) P Q p q = (p, q)
-both_ok (Err e) P Q p q = tt
-
 -- if nothing is read, nothing is read of the whole
 pub unread_by : {A B : Type 0} (e : Refusal) (x : Option A) (y : Option B) → (x ≡ None → y ≡ None) → NotRead e x → NotRead e y
-unread_by refusals.NoDocument x y f h = f h
-unread_by refusals.Undecided x y f h = tt
+unread_by refusals.Unread x y f h = f h
 unread_by (refusals.Unwritten fault) x y f h = tt
 
 -- ---- a whole text
 
-no_value : (o : Option Tree) (ts : List Token) → option_map {U = Tree × List Token} (λ a. (a, ts)) o ≡ None → o ≡ None
-no_value None ts e = refl
-no_value (Some t) ts e = absurd cc
+-- the document that all of some tokens are
+abbrev whole : Option (Fields × List Token) → Option Doc
+whole (Some (fs, [])) = Some (pairs_of fs)
+whole _ = None
 
-nothing : (v : Option (Json × List Token)) → through (wrap most_levels) v ≡ None → option_and_then (wrap most_levels) (option_and_then (λ p. if_last p.0 p.1) v) ≡ None
-nothing None e = refl
-nothing (Some (j, [])) e = no_value (wrap most_levels j) [] e
-nothing (Some (j, t ∷ ts)) e = refl
+last : (v : Option (Json × List Token))
+    → option_map pairs_of (option_and_then document (option_and_then (wrap most_levels) (option_and_then (λ p. if_last p.0 p.1) v))) ≡ whole (if_document (through (wrap most_levels) v))
+last None = refl
+last (Some (j, [])) = go (wrap most_levels j)
+  where
+    go : (o : Option Tree) → option_map pairs_of (option_and_then document o) ≡ whole (if_document (option_map (λ (t : Tree). (t, [])) o))
+    go (Some (doc fs)) = refl
+    go _ = refl
+last (Some (j, t ∷ ts)) = go (wrap most_levels j)
+  where
+    go : (o : Option Tree) → None ≡ whole (if_document (option_map (λ (u : Tree). (u, t ∷ ts)) o))
+    go (Some (doc fs)) = refl
+    go _ = refl
 
--- a text whose tokens mean no value is no document
-pub unread : (text : List ℕ) (ts : List Token) → IsUtf8 text → ts ≡ tokens text → through (wrap most_levels) (value most_brackets ts) ≡ None → reading text ≡ None
-unread text ts utf8 e none =
+-- a text is the document of its tokens
+reading_is : (text : List ℕ) (ts : List Token) → IsUtf8 text → ts ≡ tokens text → reading text ≡ whole (if_document (through (wrap most_levels) (value most_brackets ts)))
+reading_is text ts utf8 e =
     ap (λ o. option_map pairs_of (option_and_then document (option_and_then (wrap most_levels) o))) (json_is text (is_utf8-from_IsUtf8 text utf8))
-    ∙ ap (λ o. option_map pairs_of (option_and_then document o)) (nothing (value most_brackets (tokens text)) (ap (λ k. through (wrap most_levels) (value most_brackets k)) (sym e) ∙ none))
+    ∙ last (value most_brackets (tokens text)) ∙ ap (λ k. whole (if_document (through (wrap most_levels) (value most_brackets k)))) (sym e)
 
--- ---- wrappers of one string
+pub unread : (text : List ℕ) (ts : List Token) → IsUtf8 text → ts ≡ tokens text → if_document (through (wrap most_levels) (value most_brackets ts)) ≡ None → reading text ≡ None
+unread text ts utf8 e none = reading_is text ts utf8 e ∙ ap whole none
 
--- a wrapper's name, a value and the brace that ends the object
-unwrapped : (depth_left depth : ℕ) (first : List ℕ) (w : Wrapper) (j : Json) (ts rest : List Token) → wrapper_of first ≡ Some w → value depth ts ≡ Some (j, Token.end_object ∷ rest)
-    → length (Token.end_object ∷ rest) ≤ length ts → through (wrap_object depth_left) (after_key depth (length ts) (Some first) ts) ≡ option_map (λ (a : Tree). (a, rest)) (option_map leaf (single w j))
-unwrapped depth_left depth first w j ts rest named read less =
-    of_members.member_is (wrap_object depth_left) first depth (length ts) ts (Token.end_object ∷ rest) j read
-    ∙ of_members.ended (λ ms. wrap_object depth_left (json.member first j ms)) depth (length ts) (Token.end_object ∷ rest) rest less refl
-    ∙ rw named refl
+-- a text whose tokens do not end with the document is none
+pub unended : (text : List ℕ) (ts rest : List Token) (fs : Fields) → IsUtf8 text → ts ≡ tokens text → if_document (through (wrap most_levels) (value most_brackets ts)) ≡ Some (fs, rest)
+    → rest ≢ [] → reading text ≡ None
+unended text ts [] fs utf8 e read more = absurd (more refl)
+unended text ts (t ∷ rest) fs utf8 e read more = reading_is text ts utf8 e ∙ ap whole read
 
-pub string_gives : (depth : ℕ) (w v : Wrapper) (s : List ℕ) (x : Scalar) (ts rest : List Token) → w ≡ v → ts ≡ Token.string s ∷ Token.end_object ∷ rest
-    → single v (json.string s) ≡ Some x
-    → (depth_left : ℕ) (first : List ℕ) → wrapper_of first ≡ Some w → through (wrap_object depth_left) (after_key depth (length ts) (Some first) ts) ≡ Some (leaf x, rest)
-string_gives depth w v s x ts rest same is is_at depth_left first named =
-    rw is
-    (unwrapped depth_left depth first v (json.string s) (Token.string s ∷ Token.end_object ∷ rest) rest (named ∙ ap Some same) (value_is depth (Token.string s ∷ Token.end_object ∷ rest)) (omega arith)
-    ∙ ap (λ o. option_map (λ (a : Tree). (a, rest)) (option_map leaf o)) is_at)
+pub packs : (text : List ℕ) (ts rest : List Token) (fs : Fields) (new old : List ℕ) → IsUtf8 text → ts ≡ tokens text → if_document (through (wrap most_levels) (value most_brackets ts)) ≡ Some (fs, rest)
+    → rest ≡ [] → new ≡ old ++ bytes_of (doc fs) → length new ≤ longest_document → (d : Doc) × IsPackable text d × (new ≡ old ++ plain d)
+packs text ts rest fs new old utf8 e read none put short =
+    let written = put ∙ ap (λ x. old ++ bytes_of (doc x)) (sym (fields_of-pairs_of fs)) in (
+      pairs_of fs,
+      (reading_is text ts utf8 e ∙ ap whole (read ∙ ap (λ r. Some (fs, r)) none), omega (arith, short, ap (λ x. length x) written, length-append old (plain (pairs_of fs)))),
+      written,
+    )
 
--- an object of one name and a string
-inner : (depth : ℕ) (k s : List ℕ) (rest : List Token) → 0 < depth
-    → value depth (Token.begin_object ∷ Token.key k ∷ Token.string s ∷ Token.end_object ∷ rest) ≡ Some (json.object (json.member k (json.string s) json.no_members), rest)
-inner depth k s rest some =
-    let after : List Token = Token.string s ∷ Token.end_object ∷ rest in
-    let d = depth - 1 in
-    value-begin_object depth (Token.key k ∷ after) some
-    ∙ ap (parse_map json.object) (first_name d (Token.key k ∷ after) after (Some k) refl
-    ∙ ap (λ v. option_and_then (λ p. parse_map (json.member k p.0) (members (value d) (length after) p.1)) v) (value_is d after)
-    ∙ ap (parse_map (json.member k (json.string s))) (members_end (value d) (length after) (Token.end_object ∷ rest) rest (omega arith) refl))
+if_doc : (o : Option (Fields × List Token)) → if_document (parse_map doc o) ≡ o
+if_doc None = refl
+if_doc (Some p) = refl
 
-dated : (s : List ℕ) → single kinds.Date (json.object (json.member (codes "$numberLong") (json.string s) json.no_members)) ≡ option_map (λ z. trees.date z) (whole_64 s)
-unfolding only
-dated s = refl
+no_array : (o : Option (Items × List Token)) → if_document (parse_map array o) ≡ None
+no_array None = refl
+no_array (Some p) = refl
 
-pub date_gives : (depth : ℕ) (w : Wrapper) (s : List ℕ) (x : Scalar) (ts rest : List Token) → 0 < depth → w ≡ kinds.Date
-    → ts ≡ Token.begin_object ∷ Token.key (codes "$numberLong") ∷ Token.string s ∷ Token.end_object ∷ Token.end_object ∷ rest → option_map (λ z. trees.date z) (whole_64 s) ≡ Some x
-    → (depth_left : ℕ) (first : List ℕ) → wrapper_of first ≡ Some w → through (wrap_object depth_left) (after_key depth (length ts) (Some first) ts) ≡ Some (leaf x, rest)
-date_gives depth w s x ts rest some same is is_at depth_left first named =
-    let name = codes "$numberLong" in
-    let whole : List Token = Token.begin_object ∷ Token.key name ∷ Token.string s ∷ Token.end_object ∷ Token.end_object ∷ rest in
-    rw is
-    (unwrapped depth_left depth first kinds.Date (json.object (json.member name (json.string s) json.no_members)) whole rest (named ∙ ap Some same)
-    (inner depth name s (Token.end_object ∷ rest) some) (omega arith)
-    ∙ ap (λ o. option_map (λ (a : Tree). (a, rest)) (option_map leaf o)) (dated s ∙ is_at))
+no_number : (o : Option ℤ) (ts : List Token) → if_document (option_map (λ (t : Tree). (t, ts)) (bare_number o)) ≡ None
+no_number None ts = refl
+no_number (Some z) ts = refl
 
--- ---- a number of a signed type, by its bits
+-- what does not begin with a brace is no document
+pub no_brace : (t : Read) (ts : List Token) → (t ≡ read.BeginObject → ⊥) → if_document (through (wrap most_levels) (value most_brackets (token_of t ∷ ts))) ≡ None
+no_brace read.BeginObject ts not = absurd (not refl)
+no_brace read.BeginArray ts not = ap if_document (steps.array_read most_levels most_brackets ts (omega arith) (omega arith)) ∙ no_array _
+no_brace (read.String s) ts not = ap if_document (steps.read_string most_levels most_brackets s.now ts)
+no_brace (read.Number s) ts not = ap if_document (steps.read_number most_levels most_brackets s.now ts) ∙ no_number (whole_64 s.now) ts
+no_brace (read.Bool b) ts not = ap if_document (steps.read_boolean most_levels most_brackets b ts)
+no_brace read.Null ts not = ap if_document (steps.read_null most_levels most_brackets ts)
+no_brace read.EndObject ts not = ap (λ v. if_document (through (wrap most_levels) v)) (value_is most_brackets (Token.end_object ∷ ts))
+no_brace read.EndArray ts not = ap (λ v. if_document (through (wrap most_levels) v)) (value_is most_brackets (Token.end_array ∷ ts))
+no_brace (read.Key s) ts not = ap (λ v. if_document (through (wrap most_levels) v)) (value_is most_brackets (Token.key s.now ∷ ts))
+no_brace read.Bad ts not = ap (λ v. if_document (through (wrap most_levels) v)) (value_is most_brackets (Token.bad ∷ ts))
 
-whole_fits : (k : ℕ) (o : Option ℤ) (z : ℤ) → option_and_then (if_fits k) o ≡ Some z → fits_bits k z ≡ true
-whole_fits k o z is = option_and_then_some (if_fits k) o z is (λ x _ e. let p = cond_some (fits_bits k x) x z e in rw p.1 at p.0)
+pub no_token : if_document (through (wrap most_levels) (value most_brackets [])) ≡ None
+no_token = ap (λ v. if_document (through (wrap most_levels) v)) (value_is most_brackets [])
 
-fits_32 : (z : ℤ) → fits_bits 31 z ≡ true → FitsSigned w32 z
-fits_32 (pos n) e = let low : n < 2 ^ 31 = grind arith in record { sfits = omega (arith, ints) }
-fits_32 (negsuc n) e = let low : n < 2 ^ 31 = grind arith in record { sfits = omega (arith, ints) }
+-- a wrapper means no document
+no_fields : (depth_left : ℕ) (w : Wrapper) (j : Json) (t : Option Tree) (ms : json.Members) → option_and_then document (wrapped depth_left w j t ms) ≡ None
+no_fields depth_left w j t json.no_members = go (single w j)
+  where
+    go : (o : Option Scalar) → option_and_then document (option_map leaf o) ≡ None
+    go None = refl
+    go (Some s) = refl
+no_fields zero w j t (json.member k i ms) = refl
+no_fields (suc depth_left) w j t (json.member k i ms) = go w (wrapper_of k) (wrap (suc depth_left - 1) i) ms
+  where
+    scope : (s : Option (List ℕ)) (u : Option Tree) → option_and_then document (with_scope s u) ≡ None
+    scope (Some s) (Some (doc fs)) = refl
+    scope _ _ = refl
 
-fits_64 : (z : ℤ) → fits_bits 63 z ≡ true → FitsSigned w64 z
-fits_64 (pos n) e = let low : n < 2 ^ 63 = grind arith in record { sfits = omega (arith, ints) }
-fits_64 (negsuc n) e = let low : n < 2 ^ 63 = grind arith in record { sfits = omega (arith, ints) }
+    go : (w : Wrapper) (v : Option Wrapper) (u : Option Tree) (ms : json.Members) → option_and_then document (two w j t v i u ms) ≡ None
+    go kinds.Code (Some kinds.Scope) u json.no_members = scope (as_str j) u
+    go kinds.Scope (Some kinds.Code) u json.no_members = scope (as_str i) t
+    go _ _ u ms = refl
 
-pub same_32 : (s : List ℕ) (z : ℤ) → Some z ≡ whole_32 s → to_z w32 (of_z w32 z) ≡ z
-same_32 s z is = to_z-of_z w32 z (fits_32 z (whole_fits 31 (whole s) z (sym is)))
+if_fields : {J : Type 0} (f : J → Option Tree) (r : Option (J × List Token)) → if_document (through f r) ≡ through (λ j. option_and_then document (f j)) r
+if_fields f None = refl
+if_fields f (Some p) = go (f p.0)
+  where
+    go : (o : Option Tree) → if_document (option_map (λ (t : Tree). (t, p.1)) o) ≡ option_map (λ (fs : Fields). (fs, p.1)) (option_and_then document o)
+    go (Some (doc fs)) = refl
+    go _ = refl
 
-pub same_64 : (s : List ℕ) (z : ℤ) → Some z ≡ whole_64 s → to_z w64 (of_z w64 z) ≡ z
-same_64 s z is = to_z-of_z w64 z (fits_64 z (whole_fits 63 (whole s) z (sym is)))
+no_document : (depth_left depth n : ℕ) (ts : List Token) (key : Option (List ℕ)) → is_some (option_and_then wrapper_of key) ≡ true
+    → if_document (through (wrap_object depth_left) (after_key depth n key ts)) ≡ None
+no_document depth_left depth n ts None e = absurd (true≢false (sym e))
+no_document depth_left depth n ts (Some k) e =
+    if_fields (wrap_object depth_left) (after_key depth n (Some k) ts)
+    ∙ steps.refused_member (λ ms. option_and_then document (wrap_object depth_left ms)) k depth n ts (λ j ms. go (wrapper_of k) refl e j ms)
+  where
+    go : (o : Option Wrapper) → wrapper_of k ≡ o → is_some o ≡ true → (j : Json) (ms : json.Members) → option_and_then document (wrap_object depth_left (json.member k j ms)) ≡ None
+    go None is e j ms = absurd (true≢false (sym e))
+    go (Some w) is e j ms = rw is (no_fields depth_left w j (wrap (depth_left - 1) j) ms)
+
+-- ---- the first value of a text
+
+module _ (ts s : List Token) (begins : ts ≡ Token.begin_object ∷ s) where
+  opened : through (wrap most_levels) (value most_brackets ts) ≡ through (wrap_object most_levels) (members (value (most_brackets - 1)) (length s) s)
+  opened = ap (λ k. through (wrap most_levels) (value most_brackets k)) begins ∙ steps.object_read most_levels most_brackets s (omega arith)
+
+  pub no_first_name : read_key s ≡ None → if_document (through (wrap most_levels) (value most_brackets ts)) ≡ None
+  no_first_name none = ap if_document (opened ∙ of_members.no_name (wrap_object most_levels) (most_brackets - 1) (length s) s none)
+
+  module _ (r : List Token) (key : Option (List ℕ)) (named : read_key s ≡ Some (key, r)) where
+    from_name : through (wrap most_levels) (value most_brackets ts) ≡ through (wrap_object most_levels) (after_key (most_brackets - 1) (length r) key r)
+    from_name = opened ∙ ap (through (wrap_object most_levels)) (steps.first_name (most_brackets - 1) s r key named)
+
+    pub first_wrapper : is_some (option_and_then wrapper_of key) ≡ true → if_document (through (wrap most_levels) (value most_brackets ts)) ≡ None
+    first_wrapper some = ap if_document from_name ∙ no_document most_levels (most_brackets - 1) (length r) r key some
+
+    pub first_fields : is_some (option_and_then wrapper_of key) ≡ false
+        → if_document (through (wrap most_levels) (value most_brackets ts)) ≡ through (wrap_fields (most_levels - 1)) (after_key (most_brackets - 1) (length r) key r)
+    first_fields none = ap if_document (from_name ∙ steps.object_is_plain most_levels (most_brackets - 1) (length r) r key (omega arith) (not_some _ none)) ∙ if_doc _

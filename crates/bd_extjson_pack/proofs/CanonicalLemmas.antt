@@ -1,10 +1,10 @@
 -- Canonical text, read from its start.
 use Rattle.std.proofs.Common.{◌-◌, ◌≡◌, ◌<◌, ◌≤◌, ℕ, suc, ℤ, List, [], ◌∷◌, ◌++◌, eqb, get_or, Bor, length, take, drop, Bool, true, false, cond, Option, Some, None, refl}
-use Rattle.std.proofs.Common.{sym, ap, ap₂, ◌∙◌, arith, append_assoc, append-nil, length-append, take-append-drop, Result, Ok, Err, is_ok, zero, ◌^◌, pos, neg_ℤ, decimal}
-use Rattle.std.proofs.Common.{inl, inr, ◌+◌, ◌*◌, not}
-use Rattle.std.specs.Prelude.{codes, ◌||◌, ◌==◌, ◌/◌, ◌%◌, nat_lt, slice_range, IfSome, IsUtf8, OnOk}
+use Rattle.std.proofs.Common.{sym, ap, ap₂, ◌∙◌, arith, append_assoc, append-nil, length-append, take-append-drop, Result, Ok, Err, zero, ◌^◌, pos, neg_ℤ, decimal}
+use Rattle.std.proofs.Common.{inl, inr, ◌+◌, ◌*◌}
+use Rattle.std.specs.Prelude.{codes, ◌||◌, ◌==◌, ◌/◌, ◌%◌, nat_lt, slice_range, IfSome, IfOk, IsUtf8, OnOk}
 use Rattle.std.specs.{List.list_any, List.join_with_byte, List.prefix_len, Char.digit_char, Char.is_ascii_digit, Str.bytes_eq}
-use Rattle.std.specs.{Fmt.signed_decimal, Bool.then_some, Result.result_ok, Result.is_err, Str.Parse.digits_value, Str.Parse.AllDigits}
+use Rattle.std.specs.{Fmt.signed_decimal, Result.result_ok, Result.is_err, Str.Parse.digits_value, Str.Parse.AllDigits}
 use Rattle.core.proofs.dec2flt.Rows.{AllDigits-digits_len, short_fits}
 use Rattle.base64.specs.{Engines.standard, GeneralPurpose.encode_of}
 use Rattle.bd_value.specs.{Limits.longest_document, Limits.most_levels, Tree.fields_depth, Tree.items_depth}
@@ -18,6 +18,7 @@ use Rattle.std.specs.Result.{result_ok}
 use Rattle.bd_extjson_wrapper.specs.Wrapper.{wrapper_of}
 use Rattle.bd_extjson.specs.{Laws.IsPlainFirst, Laws.ArePlainFields, Laws.ArePlainItems, Read.ReadsAs}
 use Rattle.bd_extjson_text.specs.Text.{needs_escape, escape_byte, escaped, quoted, hex_text, base64_text, scalar_text, member, text, items_text, fields_text}
+use Rattle.std.proofs.lemmas.Option.{MatchOption-at_some}
 use Rattle.std.proofs.{lemmas.Bool.or_parts, lemmas.Bool.or_from, lemmas.Bool.cases_lt}
 use Rattle.std.proofs.{lemmas.Bool.Decides.nat_tests, lemmas.Grind.flat_map-append}
 use Rattle.std.proofs.{lemmas.List.length-take-le, lemmas.List.get_or-take}
@@ -220,13 +221,16 @@ pub string_element : (whole rest name s old new : List ℕ) → whole ≡ quoted
 unfolding scalar_text
 string_element whole rest name s old new is utf8 put = scalar_element whole rest name old new (trees.text s) (trees.text s) refl is utf8 refl put
 
-pub packs_canonical : (line rest : List ℕ) (new old : List ℕ) (d : Doc) (e : Bool) (r : Option (Unit {0})) → line ≡ text (doc (fields_of d)) ++ rest
-    → AreCanonicalFields (most_levels - 1) d → length new ≤ longest_document → new ≡ old ++ plain d
-    → e ≡ (length rest == 0) → r ≡ then_some e tt → IfSome r (λ u. (d : Doc) × IsPackable line d × (new ≡ old ++ plain d))
-packs_canonical line rest new old d true r is known short put empty then =
-    let none : length rest ≡ 0 = grind arith in
-    rw then (d, (reads_canonical line rest d is none known, omega (arith, short, ap (λ x. length x) put, length-append old (plain d))), put)
-packs_canonical line rest new old d false r is known short put empty then = rw then tt
+pub packs_canonical : (line rest new old : List ℕ) (d : Doc) → line ≡ text (doc (fields_of d)) ++ rest → AreCanonicalFields (most_levels - 1) d
+    → length new ≤ longest_document → new ≡ old ++ plain d → length rest ≡ 0 → (d : Doc) × IsPackable line d × (new ≡ old ++ plain d)
+packs_canonical line rest new old d is known short put none =
+    (d, (reads_canonical line rest d is none known, omega (arith, short, ap (λ x. length x) put, length-append old (plain d))), put)
+
+-- ---- what is read, or refused
+
+pub when_read : {X E : Type 0} (o : Option X) (r : Result X E) {P Q : X → Type 0} → o ≡ result_ok r → IfSome o P → ((x : X) → P x → Q x) → IfOk r Q
+when_read o (Ok x) {P} e p f = f x (MatchOption-at_some _ P x e p)
+when_read o (Err d) e p f = tt
 
 -- ---- strings with escapes
 
@@ -263,10 +267,6 @@ run_ends text decoded old None into new a b c = tt
 run_ends text decoded old (Some rest) into new a b c = (decoded, rw (a, c) (simp append_assoc), b)
 
 -- ---- what is pushed to a text
-
-pub pushed : {A E : Type 0} (r : Result A E) (x : A) (new a b : List ℕ) → Some x ≡ result_ok r → new ≡ cond (is_ok r) a b → new ≡ a
-pushed (Ok y) x new a b is e = e
-pushed (Err f) x new a b is e = absurd cc
 
 pub pieces_put : (into old decoded plain one new encoded : List ℕ) (byte : ℕ) → old ≡ into ++ decoded → one ≡ old ++ encoded → encoded ≡ byte ∷ []
     → new ≡ one ++ plain → new ≡ into ++ (decoded ++ (byte ∷ plain))

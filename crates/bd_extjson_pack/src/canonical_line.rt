@@ -1,6 +1,6 @@
-//! The bytes of a document straight from its canonical text, as `dump` writes it. If a line is spelled in another way, or is
-//! not a document, or if memory runs out, the result is only None.
-ghost use Rattle.std.specs.Prelude.{◌≡◌, ◌<◌, ◌≤◌, ◌++◌, ◌∷◌, [], ℕ, List, length, false, None, IfSome, ◌^◌, string_bytes, decimal, get_or, IsTrue};
+//! The bytes of a document straight from its canonical text, as `dump` writes it. A line that is spelled in another way, or is
+//! not a document, is `Refusal::Unread`. What takes no memory, and reads a part of the text, is then only None.
+ghost use Rattle.std.specs.Prelude.{◌≡◌, ◌<◌, ◌≤◌, ◌++◌, ◌∷◌, [], ℕ, List, length, false, None, IfOk, OnOk, IfErr, IfSome, ◌^◌, string_bytes, decimal, get_or, IsTrue};
 ghost use Rattle.bd_value.specs.Limits.{longest_document};
 ghost use Rattle.bd_value.specs.Tree.{Tree, Doc, leaf, doc, array, fields_of, items_of};
 ghost use Rattle.bd_bson_view.specs.Spelling.{element};
@@ -9,7 +9,9 @@ ghost use Rattle.bd_extjson_wrapper.specs.Wrapper.{wrapper_of};
 ghost use Rattle.bd_extjson_text.specs.Text.{text as text_of, items_text, fields_text, escape_byte, escaped, quoted, hex_text};
 ghost use Rattle.bd_extjson_pack.specs.Packable.{plain, IsPackable};
 ghost use Rattle.bd_extjson_pack.specs.inside.Packable.{IsCanonical, AreCanonical, AreCanonicalFields};
-ghost use Rattle.std.specs.Fmt.{signed_decimal};
+ghost use Rattle.bd_extjson_pack.specs.inside.Writes.{NotRead};
+ghost use Rattle.std.specs.{Fmt.signed_decimal, Result.result_ok};
+ghost use Rattle.base64.specs.{Engines.standard, GeneralPurpose.encode_of, GeneralPurpose.decode_of};
 ghost use Rattle.bd_value.specs.Fits.{AreBytes, IsId, has_zero};
 ghost use Rattle.bd_value.specs.Tree as trees;
 
@@ -17,8 +19,10 @@ use crate::elements::{
     append_binary, append_bool, append_date, append_id, append_int32, append_int64, append_null,
     append_text,
 };
+use crate::refusal::Refusal;
+use base64::DecodeAllocError;
 use base64::engine::general_purpose::STANDARD;
-use bd_bson_write::{append_label, begin_body, end_body};
+use bd_bson_write::{WriteFault, append_label, begin_body, end_body};
 use bd_extjson_text::plain_length;
 use bd_extjson_wrapper::id_of_text;
 use bd_value::{Kind, MOST_LEVELS};
@@ -26,58 +30,65 @@ use core::dec2flt::read_digits;
 use std::alloc::Global;
 
 /// Appends the document that all of the text is.
-pub(crate) fn append_canonical(text: &str, out: &mut Vec<u8>) -> Option<()>
-    ensures { IfSome result (λ u. (d : Doc)
+pub(crate) fn append_canonical(text: &str, out: &mut Vec<u8>) -> Result<(), Refusal>
+    ensures { OnOk result ((d : Doc)
         × IsPackable text.now d × (out.new.items ≡ out.old.items ++ plain d)) }
 {
     let rest = append_fields(text, MOST_LEVELS - 1, out)?;
-    rest.is_empty().then_some(())
+    if rest.is_empty() {
+        Ok(())
+    } else {
+        Err(Refusal::Unread)
+    }
 }
 
 /// Appends the document that the text begins with.
 #[cycle(canonical)]
 #[inline(never)]
-fn append_fields<'a>(text: &'a str, depth_left: usize, out: &mut Vec<u8>) -> Option<&'a str>
-    ensures gives { IfSome result (λ rest. (d : Doc)
+fn append_fields<'a>(
+    text: &'a str,
+    depth_left: usize,
+    out: &mut Vec<u8>,
+) -> Result<&'a str, Refusal>
+    ensures gives { IfOk result (λ rest. (d : Doc)
         × (text.now ≡ text_of (doc (fields_of d)) ++ rest.now) × AreCanonicalFields depth_left d
         × (out.new.items ≡ out.old.items ++ bytes_of (doc (fields_of d)))) }
-    ensures within { IfSome result (λ rest. length out.new.items ≤ longest_document) }
+    ensures within { OnOk result (length out.new.items ≤ longest_document) }
 {
-    let start = begin_body(out).ok()?;
-    let mut rest = after_word(text, b"{")?;
+    let start = begin_body(out)?;
+    let mut rest = after_word(text, b"{").ok_or(Refusal::Unread)?;
     let mut next = unless_ended(rest, b'}');
     while let Some(at) = next {
-        let (name, value) = string(at)?;
-        if may_name_wrapper(name) {
-            return None;
-        }
-        rest = append_next(after_word(value, b":")?, name, depth_left, out)?;
+        let (name, value) = field_name(at).ok_or(Refusal::Unread)?;
+        rest = append_next(value, name, depth_left, out)?;
         next = after_word(rest, b",");
     }
-    end_body(start, out).ok()?;
-    after_word(rest, b"}")
+    end_body(start, out)?;
+    after_word(rest, b"}").ok_or(Refusal::Unread)
 }
 
 /// Appends the array that the text begins with.
 #[cycle(canonical)]
 #[inline(never)]
-fn append_items<'a>(text: &'a str, depth_left: usize, out: &mut Vec<u8>) -> Option<&'a str>
-    ensures { IfSome result (λ rest. (ts : List Tree)
+fn append_items<'a>(text: &'a str, depth_left: usize, out: &mut Vec<u8>) -> Result<&'a str, Refusal>
+    ensures { IfOk result (λ rest. (ts : List Tree)
         × (text.now ≡ text_of (array (items_of ts)) ++ rest.now) × AreCanonical depth_left ts
         × (out.new.items ≡ out.old.items ++ bytes_of (array (items_of ts)))) }
 {
-    let start = begin_body(out).ok()?;
-    let mut rest = after_word(text, b"[")?;
+    let start = begin_body(out)?;
+    let mut rest = after_word(text, b"[").ok_or(Refusal::Unread)?;
     let mut index: u32 = 0;
     let mut next = unless_ended(rest, b']');
     while let Some(at) = next {
         let mut digits = itoa::Buffer::new();
         rest = append_next(at, digits.format(index), depth_left, out)?;
-        index = index.checked_add(1)?;
+        index = index
+            .checked_add(1)
+            .ok_or(Refusal::Unwritten(WriteFault::TooLong))?;
         next = after_word(rest, b",");
     }
-    end_body(start, out).ok()?;
-    after_word(rest, b"]")
+    end_body(start, out)?;
+    after_word(rest, b"]").ok_or(Refusal::Unread)
 }
 
 /// Appends the element of that name for the value that the text begins with, and returns what follows. It has at most
@@ -88,21 +99,21 @@ fn append_next<'a>(
     name: &str,
     depth_left: usize,
     out: &mut Vec<u8>,
-) -> Option<&'a str>
-    ensures { IfSome result (λ rest. (t : Tree)
+) -> Result<&'a str, Refusal>
+    ensures { IfOk result (λ rest. (t : Tree)
         × (text.now ≡ text_of t ++ rest.now) × IsCanonical depth_left t
         × (out.new.items ≡ out.old.items ++ element t name.now (bytes_of t))) }
 {
     match text.as_bytes() {
         [b'"', ..] => append_string(text, name, out),
         [b'{', b'"', b'$', ..] => append_wrapper(text, name, out),
-        [b'{' | b'[', ..] if depth_left == 0 => None,
+        [b'{' | b'[', ..] if depth_left == 0 => Err(Refusal::Unread),
         [b'{', ..] => {
-            append_label(Kind::Doc, name, out).ok()?;
+            append_label(Kind::Doc, name, out)?;
             append_fields(text, depth_left - 1, out)
         }
         [b'[', ..] => {
-            append_label(Kind::Array, name, out).ok()?;
+            append_label(Kind::Array, name, out)?;
             append_items(text, depth_left - 1, out)
         }
         _ => append_word(text, name, out),
@@ -120,6 +131,19 @@ fn unless_ended<'a>(text: &'a str, bracket: u8) -> Option<&'a str>
     }
 }
 
+/// The name of a field, which is no wrapper's, and what follows the colon.
+#[inline(always)]
+fn field_name<'a>(text: &'a str) -> Option<(&'a str, &'a str)>
+    ensures { IfSome result (λ p. (text.now ≡ quoted p.0.now ++ (58 ∷ p.1.now))
+        × (has_zero p.0.now ≡ false) × (wrapper_of p.0.now ≡ None)) }
+{
+    let (name, rest) = string(text)?;
+    if may_name_wrapper(name) {
+        return None;
+    }
+    Some((name, after_word(rest, b":")?))
+}
+
 /// Whether a name begins as the names of all wrappers do.
 #[inline(always)]
 fn may_name_wrapper(name: &str) -> bool
@@ -133,69 +157,70 @@ fn may_name_wrapper(name: &str) -> bool
 
 /// Appends the element of that name for the wrapper that the text begins with.
 #[inline(always)]
-fn append_wrapper<'a>(text: &'a str, name: &str, out: &mut Vec<u8>) -> Option<&'a str>
-    ensures { IfSome result (λ rest. (t : Tree) × (text.now ≡ text_of t ++ rest.now)
+fn append_wrapper<'a>(text: &'a str, name: &str, out: &mut Vec<u8>) -> Result<&'a str, Refusal>
+    ensures { IfOk result (λ rest. (t : Tree) × (text.now ≡ text_of t ++ rest.now)
         × IsCanonical 0 t × (out.new.items ≡ out.old.items ++ element t name.now (bytes_of t))) }
 {
     // By a byte in which they differ.
-    match text.as_bytes().get(9)? {
-        b'I' => {
-            let (n, rest) = int32(text)?;
-            append_int32(name, n, out).ok()?;
-            Some(rest)
+    match text.as_bytes().get(9) {
+        Some(b'I') => {
+            let (n, rest) = int32(text).ok_or(Refusal::Unread)?;
+            append_int32(name, n, out)?;
+            Ok(rest)
         }
-        b'L' => {
-            let (n, rest) = whole_number(after_word(text, b"{\"$numberLong\":")?)?;
-            append_int64(name, n, out).ok()?;
-            after_word(rest, b"}")
+        Some(b'L') => {
+            let (n, rest) = int64(text).ok_or(Refusal::Unread)?;
+            append_int64(name, n, out)?;
+            Ok(rest)
         }
-        b'{' => {
-            let (n, rest) = whole_number(after_word(text, b"{\"$date\":{\"$numberLong\":")?)?;
-            append_date(name, n, out).ok()?;
-            after_word(rest, b"}}")
+        Some(b'{') => {
+            let (n, rest) = date(text).ok_or(Refusal::Unread)?;
+            append_date(name, n, out)?;
+            Ok(rest)
         }
-        b'"' => {
-            let (subtype, payload, rest) = binary(*out.allocator(), text)?;
-            append_binary(name, subtype, &payload, out).ok()?;
-            Some(rest)
+        Some(b'"') => {
+            let (subtype, digits, rest) = binary(text).ok_or(Refusal::Unread)?;
+            let payload = decoded(*out.allocator(), digits)?;
+            append_binary(name, subtype, &payload, out)?;
+            Ok(rest)
         }
         _ => {
-            let (id, rest) = id_digits(after_word(text, b"{\"$oid\":")?)?;
-            append_id(name, &id, out).ok()?;
-            after_word(rest, b"}")
+            let (id, rest) = object_id(text).ok_or(Refusal::Unread)?;
+            append_id(name, &id, out)?;
+            Ok(rest)
         }
     }
 }
 
 /// Appends the element of that name for the literal that the text begins with.
 #[inline(always)]
-fn append_word<'a>(text: &'a str, name: &str, out: &mut Vec<u8>) -> Option<&'a str>
-    ensures { IfSome result (λ rest. (t : Tree) × (text.now ≡ text_of t ++ rest.now)
+fn append_word<'a>(text: &'a str, name: &str, out: &mut Vec<u8>) -> Result<&'a str, Refusal>
+    ensures { IfOk result (λ rest. (t : Tree) × (text.now ≡ text_of t ++ rest.now)
         × IsCanonical 0 t × (out.new.items ≡ out.old.items ++ element t name.now (bytes_of t))) }
 {
     if let Some(rest) = after_word(text, b"true") {
-        append_bool(name, true, out).ok()?;
-        return Some(rest);
+        append_bool(name, true, out)?;
+        return Ok(rest);
     }
     if let Some(rest) = after_word(text, b"false") {
-        append_bool(name, false, out).ok()?;
-        return Some(rest);
+        append_bool(name, false, out)?;
+        return Ok(rest);
     }
-    let rest = after_word(text, b"null")?;
-    append_null(name, out).ok()?;
-    Some(rest)
+    let rest = after_word(text, b"null").ok_or(Refusal::Unread)?;
+    append_null(name, out)?;
+    Ok(rest)
 }
 
 /// Appends the element of that name for the string that the text begins with.
 #[inline(always)]
-fn append_string<'a>(text: &'a str, name: &str, out: &mut Vec<u8>) -> Option<&'a str>
-    ensures { IfSome result (λ rest. (t : Tree) × (text.now ≡ text_of t ++ rest.now)
+fn append_string<'a>(text: &'a str, name: &str, out: &mut Vec<u8>) -> Result<&'a str, Refusal>
+    ensures { IfOk result (λ rest. (t : Tree) × (text.now ≡ text_of t ++ rest.now)
         × IsCanonical 0 t × (out.new.items ≡ out.old.items ++ element t name.now (bytes_of t))) }
 {
     match string(text) {
         Some((inside, rest)) => {
-            append_text(name, inside, out).ok()?;
-            Some(rest)
+            append_text(name, inside, out)?;
+            Ok(rest)
         }
         None => append_escaped(text, name, out),
     }
@@ -203,31 +228,32 @@ fn append_string<'a>(text: &'a str, name: &str, out: &mut Vec<u8>) -> Option<&'a
 
 /// Appends the element of that name for the string with escapes that the text begins with.
 #[inline(never)]
-fn append_escaped<'a>(text: &'a str, name: &str, out: &mut Vec<u8>) -> Option<&'a str>
-    ensures { IfSome result (λ rest. (t : Tree) × (text.now ≡ text_of t ++ rest.now)
+fn append_escaped<'a>(text: &'a str, name: &str, out: &mut Vec<u8>) -> Result<&'a str, Refusal>
+    ensures { IfOk result (λ rest. (t : Tree) × (text.now ≡ text_of t ++ rest.now)
         × IsCanonical 0 t × (out.new.items ≡ out.old.items ++ element t name.now (bytes_of t))) }
 {
     let mut inside = String::new(*out.allocator());
     let rest = append_unescaped(text, &mut inside)?;
-    append_text(name, &inside, out).ok()?;
-    Some(rest)
+    append_text(name, &inside, out)?;
+    Ok(rest)
 }
 
 /// Appends the contents of a string with escapes, and returns what follows it.
 #[inline(never)]
-fn append_unescaped<'a>(text: &'a str, into: &mut String) -> Option<&'a str>
-    ensures { IfSome result (λ rest. (decoded : List ℕ) × (text.now ≡ quoted decoded ++ rest.now)
+fn append_unescaped<'a>(text: &'a str, into: &mut String) -> Result<&'a str, Refusal>
+    ensures { IfOk result (λ rest. (decoded : List ℕ) × (text.now ≡ quoted decoded ++ rest.now)
         × (string_bytes into.new ≡ string_bytes into.old ++ decoded)) }
 {
-    let (plain, mut rest) = plain_run(after_word(text, b"\"")?)?;
-    into.push_str(plain).ok()?;
+    let inside = after_word(text, b"\"").ok_or(Refusal::Unread)?;
+    let (plain, mut rest) = plain_run(inside).ok_or(Refusal::Unread)?;
+    into.push_str(plain)?;
     while let Some((byte, after)) = escape(rest) {
-        into.push(char::from(byte)).ok()?;
-        let (plain, after) = plain_run(after)?;
-        into.push_str(plain).ok()?;
+        into.push(char::from(byte))?;
+        let (plain, after) = plain_run(after).ok_or(Refusal::Unread)?;
+        into.push_str(plain)?;
         rest = after;
     }
-    after_word(rest, b"\"")
+    after_word(rest, b"\"").ok_or(Refusal::Unread)
 }
 
 /// The byte of an escape of two characters, and what follows it.
@@ -275,6 +301,24 @@ fn int32<'a>(text: &'a str) -> Option<(i32, &'a str)>
 {
     let (n, rest) = whole_number(after_word(text, b"{\"$numberInt\":")?)?;
     Some((i32::try_from(n).ok()?, after_word(rest, b"}")?))
+}
+
+/// An Int64, and what follows it.
+#[inline(always)]
+fn int64<'a>(text: &'a str) -> Option<(i64, &'a str)>
+    ensures { IfSome result (λ p. text.now ≡ text_of (leaf (trees.int64 p.0)) ++ p.1.now) }
+{
+    let (n, rest) = whole_number(after_word(text, b"{\"$numberLong\":")?)?;
+    Some((n, after_word(rest, b"}")?))
+}
+
+/// A date, and what follows it.
+#[inline(always)]
+fn date<'a>(text: &'a str) -> Option<(i64, &'a str)>
+    ensures { IfSome result (λ p. text.now ≡ text_of (leaf (trees.date p.0)) ++ p.1.now) }
+{
+    let (n, rest) = whole_number(after_word(text, b"{\"$date\":{\"$numberLong\":")?)?;
+    Some((n, after_word(rest, b"}}")?))
 }
 
 /// A whole number in a string, and what follows the string.
@@ -326,30 +370,44 @@ fn is_led_well(digits: &[u8], count: usize) -> bool
     }
 }
 
-/// The bytes of an id in a string, and what follows the string.
+/// An id, and what follows it.
 #[inline(always)]
-fn id_digits<'a>(text: &'a str) -> Option<([u8; 12], &'a str)>
-    ensures { IfSome result (λ p. (text.now ≡ quoted (hex_text p.0) ++ p.1.now) × IsId p.0) }
+fn object_id<'a>(text: &'a str) -> Option<([u8; 12], &'a str)>
+    ensures { IfSome result (λ p.
+        (text.now ≡ text_of (leaf (trees.object_id p.0)) ++ p.1.now) × IsId p.0) }
 {
-    let (digits, rest) = string(text)?;
+    let (digits, rest) = string(after_word(text, b"{\"$oid\":")?)?;
     let id = id_of_text(digits)?;
     if !is_hex_text(&id, digits) {
         return None;
     }
-    Some((id, rest))
+    Some((id, after_word(rest, b"}")?))
 }
 
-/// Binary data: its subtype, its bytes, and what follows it.
+/// Binary data: its subtype, its bytes in base64, and what follows it.
 #[inline(always)]
-fn binary<'a>(alloc: Global, text: &'a str) -> Option<(u8, Vec<u8>, &'a str)>
-    ensures { IfSome result (λ p.
-        (text.now ≡ text_of (leaf (trees.binary p.0 p.1.items)) ++ p.2.now) × AreBytes p.1.items) }
+fn binary<'a>(text: &'a str) -> Option<(u8, &'a str, &'a str)>
+    ensures { IfSome result (λ p. (payload : List ℕ) →
+        p.1.now ≡ encode_of standard payload →
+        text.now ≡ text_of (leaf (trees.binary p.0 payload)) ++ p.2.now) }
 {
     let (digits, rest) = string(after_word(text, b"{\"$binary\":{\"base64\":")?)?;
     let (subtype, rest) = byte_digits(after_word(rest, b",\"subType\":")?)?;
-    let rest = after_word(rest, b"}}")?;
-    let payload = STANDARD.decode(alloc, digits.as_bytes()).ok()?;
-    Some((subtype, payload, rest))
+    Some((subtype, digits, after_word(rest, b"}}")?))
+}
+
+/// The bytes of base64.
+#[inline(always)]
+fn decoded(alloc: Global, digits: &str) -> Result<Vec<u8>, Refusal>
+    ensures decoded { IfOk result (λ v.
+        (digits.now ≡ encode_of standard v.items) × AreBytes v.items) }
+    ensures refused { IfErr result (λ e. NotRead e (result_ok (decode_of standard digits.now))) }
+{
+    match STANDARD.decode(alloc, digits.as_bytes()) {
+        Ok(payload) => Ok(payload),
+        Err(DecodeAllocError::OutOfMemory) => Err(Refusal::Unwritten(WriteFault::NoMemory)),
+        Err(DecodeAllocError::DecodeError(_)) => Err(Refusal::Unread),
+    }
 }
 
 /// The byte of two digits in a string, and what follows the string.

@@ -14,6 +14,7 @@
 //! - `canonical_line`: the bytes straight from a line as `dump` writes it.
 //! - `tokens`: the bytes straight from the tokens of any other line.
 //! - `elements`: elements of scalars.
+//! - `refusal`: why a text gives no bytes.
 //! - `laws`: the packed bytes spell the line's document.
 #![tactic(auto)]
 
@@ -21,6 +22,7 @@ mod canonical_line;
 mod elements;
 mod laws;
 mod line;
+mod refusal;
 mod tokens;
 
 pub use laws::{packs_documents, reads_within_limits};

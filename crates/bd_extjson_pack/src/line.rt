@@ -3,7 +3,8 @@ ghost use Rattle.std.specs.Prelude.{◌≡◌, ◌++◌, IfOk, IfSome, OnErr, No
 ghost use Rattle.bd_value.specs.Tree.{Doc};
 ghost use Rattle.bd_extjson_pack.specs.Packable.{plain, IsPackable, IsBad};
 
-use crate::tokens::{Refusal, spell_line};
+use crate::refusal::Refusal;
+use crate::tokens::spell_line;
 use bd_bson_write::{WriteFault, write_document};
 use bd_extjson::{fault_of, read_doc_text};
 use bd_extjson_fault::{JsonFault, JsonFaultKind, text_of};
@@ -61,7 +62,7 @@ impl Packer {
             Ok(text) => text,
             Err(bad) => return Ok(Some(LineFault::Unread(bad))),
         };
-        // For nearly every line the bytes come straight from its tokens. Few others are read again, by a tree.
+        // The bytes come straight from the text, or from its tokens.
         match spell_line(self.alloc, text, &mut self.scratch, &mut self.spelled) {
             Ok(()) => {
                 out.extend_from_slice(&self.spelled)?;
@@ -69,11 +70,12 @@ impl Packer {
             }
             // No pass follows.
             Err(Refusal::Unwritten(WriteFault::NoMemory)) => Err(AllocError),
-            Err(Refusal::NoDocument) => match fault_of(self.alloc, text) {
+            Err(Refusal::Unread) => match fault_of(self.alloc, text) {
                 fault if fault.kind == JsonFaultKind::NoMemory => Err(AllocError),
                 fault => Ok(Some(LineFault::Unread(fault))),
             },
-            Err(_) => pack_tree(self.alloc, text, &mut self.scratch, out),
+            // A text that is too long is read whole, by a tree: it may be no document.
+            Err(Refusal::Unwritten(_)) => pack_tree(self.alloc, text, &mut self.scratch, out),
         }
     }
 }

@@ -1,69 +1,32 @@
 //! The bytes of a document straight from the tokens of its text, without a tree. A text is refused only if it means no document.
-ghost use Rattle.std.specs.Prelude.{◌≡◌, ◌<◌, ◌≤◌, ◌++◌, ℕ, List, length, Some, IfSome, IfErr, OnOk, option_map, option_and_then, false, ◌∷◌, codes};
-ghost use Rattle.bd_value.specs.Limits.{longest_document, most_levels};
+ghost use Rattle.std.specs.Prelude.{◌≡◌, ◌<◌, ◌≤◌, ◌++◌, ℕ, List, length, Some, IfErr, OnOk, option_map, false};
+ghost use Rattle.bd_value.specs.Limits.{longest_document, most_brackets, most_levels};
 ghost use Rattle.json.specs.Json.{value, items, members};
 ghost use Rattle.bd_value.specs.Tree as trees;
-ghost use Rattle.bd_value.specs.Tree.{Fields, Doc, leaf, doc, array};
+ghost use Rattle.bd_value.specs.Tree.{Doc, leaf, doc, array};
 ghost use Rattle.bd_value.specs.View.{tree_of};
 ghost use Rattle.bd_bson_view.specs.Spelling.{element};
 ghost use Rattle.bd_value.specs.Fits.{zero_in};
 ghost use Rattle.bd_bson_write.specs.TreeBytes.{bytes_of};
-ghost use Rattle.bd_bson_write.specs.declared.writing.WriteFault.TheVariants as write_faults;
-ghost use Rattle.bd_extjson.specs.Read.{json, reading, bare_number, wrap, wrap_items, wrap_object, wrap_fields};
+ghost use Rattle.bd_extjson.specs.Read.{reading, bare_number, wrap, wrap_items, wrap_object, wrap_fields};
 ghost use Rattle.bd_extjson_wrapper.specs.Wrapper.{through, after_key, wrapper_of};
 ghost use Rattle.bd_extjson_wrapper.specs.WholeNumber.{whole_64};
 ghost use Rattle.bd_extjson_pack.specs.Packable.{plain, IsPackable};
-ghost use Rattle.bd_extjson_pack.specs.inside.Writes.{Writes, NotRead};
-ghost use Rattle.bd_extjson_pack.specs.declared.tokens.Refusal.TheVariants as refusals;
-ghost use Rattle.json.specs.Token.{begin_object, end_object, key, string, Token as JsonToken};
+ghost use Rattle.bd_extjson_pack.specs.inside.Writes.{Writes, NotRead, if_document};
+ghost use Rattle.json.specs.Token.{Token as JsonToken};
 
 use crate::canonical_line::append_canonical;
-use crate::elements::{
-    append_bool, append_date, append_id, append_int32, append_int64, append_null, append_text,
-};
+use crate::elements::{append_bool, append_null, append_text};
+use crate::refusal::Refusal;
 use bd_bson_write::{WriteFault, append_label, append_value, begin_body, end_body};
 use bd_extjson::{bare_number, read_wrapper};
-use bd_extjson_wrapper::{Trouble, Wrapper, id_of_text, whole, whole_of_32};
+use bd_extjson_wrapper::{Trouble, Wrapper};
 use bd_value::{Kind, MOST_BRACKETS, MOST_LEVELS, Tree, Value, has_zero};
 use json::{Reader, Scratch, Token};
-use std::alloc::{AllocError, Global};
+use std::alloc::Global;
 
-/// Why no bytes were written for a text.
-#[derive(Clone, Copy, Drop)]
-pub(crate) enum Refusal {
-    /// It means no document.
-    NoDocument,
-    /// It is spelled in a way that only the reader of trees knows.
-    Undecided,
-    /// There are too many bytes, or memory ran out.
-    Unwritten(WriteFault),
-}
-
-impl From<WriteFault> for Refusal {
-    ghost from_gives = { λ fault refusal. refusal ≡ refusals.Unwritten fault };
-
-    fn from(fault: WriteFault) -> Refusal {
-        Refusal::Unwritten(fault)
-    }
-}
-
-impl From<AllocError> for Refusal {
-    ghost from_gives = { λ _ refusal. refusal ≡ refusals.Unwritten write_faults.NoMemory };
-
-    fn from(_e: AllocError) -> Refusal {
-        Refusal::Unwritten(WriteFault::NoMemory)
-    }
-}
-
-impl From<json::Invalid> for Refusal {
-    ghost from_gives = { λ _ refusal. refusal ≡ refusals.NoDocument };
-
-    fn from(_e: json::Invalid) -> Refusal {
-        Refusal::NoDocument
-    }
-}
-
-/// Replaces the contents of `out` by the bytes of the document that the text is.
+/// Replaces the contents of `out` by the bytes of the document that the text is. Its tokens are read only if it is not
+/// canonical text: out of memory, and too many bytes, are the answer at once.
 pub(crate) fn spell_line(
     alloc: Global,
     text: &str,
@@ -75,11 +38,13 @@ pub(crate) fn spell_line(
     ensures refused { IfErr result (λ e. NotRead e (reading text.now)) }
 {
     out.clear();
-    if append_canonical(text, out).is_some() {
-        return Ok(());
+    match append_canonical(text, out) {
+        Err(Refusal::Unread) => {
+            out.clear();
+            append_document(alloc, text, scratch, out)
+        }
+        answer => answer,
     }
-    out.clear();
-    append_document(alloc, text, scratch, out)
 }
 
 /// Appends the document that all of the text is.
@@ -89,28 +54,43 @@ fn append_document(
     scratch: &mut Scratch,
     out: &mut Vec<u8>,
 ) -> Result<(), Refusal>
-    ensures gives { OnOk result ((fs : Fields)
-        × (option_and_then (wrap most_levels) (json text.now) ≡ Some (doc fs))
-        × (out.new.items ≡ out.old.items ++ bytes_of (doc fs))) }
-    ensures within { OnOk result (length out.new.items ≤ longest_document) }
+    ensures spelled { OnOk result ((d : Doc)
+        × IsPackable text.now d × (out.new.items ≡ out.old.items ++ plain d)) }
     ensures refused { IfErr result (λ e. NotRead e (reading text.now)) }
 {
     let mut reader = Reader::new(text, scratch)?;
-    let Some(Token::BeginObject) = reader.next() else {
-        return Err(Refusal::Undecided);
-    };
-    let Ok(first) = reader.next_key() else {
-        return Err(Refusal::Undecided);
-    };
-    if first.and_then(Wrapper::from_name).is_some() {
-        return Err(Refusal::Undecided);
-    }
-    let (depth_left, depth) = (MOST_LEVELS - 1, MOST_BRACKETS - 1);
-    append_fields(alloc, &mut reader, first, depth_left, depth, out)?;
+    append_first(alloc, &mut reader, out)?;
     if reader.next().is_some() {
-        return Err(Refusal::Undecided);
+        return Err(Refusal::Unread);
     }
     Ok(())
+}
+
+/// Appends the document that the next value is.
+fn append_first(alloc: Global, reader: &mut Reader<'_>, out: &mut Vec<u8>) -> Result<(), Refusal>
+    ensures gives { Writes (λ fs. out.new.items ≡ out.old.items ++ bytes_of (doc fs)) reader.new
+        result (if_document (through (wrap most_levels) (value most_brackets reader.old))) }
+    ensures within { OnOk result (length out.new.items ≤ longest_document) }
+{
+    let Some(token) = reader.next() else {
+        return Err(Refusal::Unread);
+    };
+    let Token::BeginObject = token else {
+        return Err(Refusal::Unread);
+    };
+    let first = reader.next_key()?;
+    // What a wrapper means is no document.
+    if first.and_then(Wrapper::from_name).is_some() {
+        return Err(Refusal::Unread);
+    }
+    append_fields(
+        alloc,
+        reader,
+        first,
+        MOST_LEVELS - 1,
+        MOST_BRACKETS - 1,
+        out,
+    )
 }
 
 /// Appends the document whose brace and first name were read.
@@ -136,7 +116,7 @@ fn append_fields<'a>(
     while let Some(name) = next {
         append_next(alloc, reader, name, depth_left, depth, out)?;
         if has_zero(name) {
-            return Err(Refusal::NoDocument);
+            return Err(Refusal::Unread);
         }
         next = reader.next_key()?;
     }
@@ -159,26 +139,26 @@ fn append_next(
         reader.new result (through (wrap depth_left) (value depth reader.old)) }
     ensures shorter { OnOk result (length reader.new < length reader.old) }
 {
-    let token = reader.next().ok_or(Refusal::NoDocument)?;
+    let token = reader.next().ok_or(Refusal::Unread)?;
     match token {
         Token::String(text) => Ok(append_text(name, text, out)?),
         Token::Number(text) => append_number(name, text, out),
         Token::Bool(b) => Ok(append_bool(name, b, out)?),
         Token::Null => Ok(append_null(name, out)?),
-        Token::EndObject | Token::EndArray | Token::Key(_) | Token::Bad => Err(Refusal::NoDocument),
+        Token::EndObject | Token::EndArray | Token::Key(_) | Token::Bad => Err(Refusal::Unread),
         Token::BeginArray => {
             if depth == 0 {
-                return Err(Refusal::NoDocument);
+                return Err(Refusal::Unread);
             }
             if depth_left == 0 {
-                return Err(Refusal::NoDocument);
+                return Err(Refusal::Unread);
             }
             append_label(Kind::Array, name, out)?;
             append_items(alloc, reader, depth_left - 1, depth - 1, out)
         }
         Token::BeginObject => {
             if depth == 0 {
-                return Err(Refusal::NoDocument);
+                return Err(Refusal::Unread);
             }
             append_object(alloc, reader, name, depth_left, depth - 1, out)
         }
@@ -232,14 +212,10 @@ fn append_object(
 {
     let first = reader.next_key()?;
     if let Some(wrapper) = first.and_then(Wrapper::from_name) {
-        if is_short(wrapper) {
-            let written = append_short(reader, wrapper, name, depth, out);
-            return Ok(written.ok_or(Refusal::Undecided)??);
-        }
         return append_wrapped(alloc, reader, wrapper, name, depth_left, depth, out);
     }
     if depth_left == 0 {
-        return Err(Refusal::NoDocument);
+        return Err(Refusal::Unread);
     }
     append_label(Kind::Doc, name, out)?;
     append_fields(alloc, reader, first, depth_left - 1, depth, out)
@@ -266,7 +242,7 @@ fn append_wrapped(
     match read_wrapper(alloc, reader, wrapper, depth_left, depth) {
         Ok(value) => Ok(append_read(name, value, out)?),
         Err(Trouble::Memory) => Err(Refusal::Unwritten(WriteFault::NoMemory)),
-        Err(Trouble::Refused) => Err(Refusal::NoDocument),
+        Err(Trouble::Refused) => Err(Refusal::Unread),
     }
 }
 
@@ -277,7 +253,7 @@ fn append_number(name: &str, text: &str, out: &mut Vec<u8>) -> Result<(), Refusa
         Writes (λ t. out.new.items ≡ out.old.items ++ element t name.now (bytes_of t)) rest result
         (option_map (λ (t : trees.Tree). (t, rest)) (bare_number (whole_64 text.now))) }
 {
-    let number = bare_number(text).ok_or(Refusal::NoDocument)?;
+    let number = bare_number(text).ok_or(Refusal::Unread)?;
     Ok(append_read(name, number, out)?)
 }
 
@@ -289,73 +265,4 @@ fn append_read(name: &str, value: Value, out: &mut Vec<u8>) -> Result<(), WriteF
 {
     append_label(value.kind(), name, out)?;
     append_value(Tree::Value(&value), out)
-}
-
-/// Whether a wrapper is written with one string.
-#[inline(always)]
-fn is_short(wrapper: Wrapper) -> bool {
-    matches!(
-        wrapper,
-        Wrapper::NumberInt | Wrapper::NumberLong | Wrapper::Oid | Wrapper::Date
-    )
-}
-
-/// Appends the element of that name for such a wrapper, whose first name was read. It has at most `depth` levels of brackets.
-/// None if it is not the string that it needs, whose faults the reader of trees knows.
-#[inline(always)]
-fn append_short(
-    reader: &mut Reader<'_>,
-    wrapper: Wrapper,
-    name: &str,
-    depth: usize,
-    out: &mut Vec<u8>,
-) -> Option<Result<(), WriteFault>>
-    ensures gives { IfSome result (λ written. OnOk written ((t : trees.Tree)
-        × ((depth_left : ℕ) (first : List ℕ) →
-        wrapper_of first ≡ Some wrapper → through (wrap_object depth_left)
-        (after_key depth (length reader.old) (Some first) reader.old) ≡ Some (t, reader.new))
-        × (out.new.items ≡ out.old.items ++ element t name.now (bytes_of t)))) }
-    ensures shorter { IfSome result (λ written. length reader.new < length reader.old) }
-{
-    match wrapper {
-        Wrapper::NumberInt => Some(append_int32(name, whole_of_32(only_string(reader)?)?, out)),
-        Wrapper::NumberLong => Some(append_int64(name, whole(only_string(reader)?)?, out)),
-        Wrapper::Oid => Some(append_id(name, &id_of_text(only_string(reader)?)?, out)),
-        Wrapper::Date if depth > 0 => Some(append_date(name, whole(only_long(reader)?)?, out)),
-        _ => None,
-    }
-}
-
-/// The string after a wrapper's name, if the closing brace follows.
-#[inline(always)]
-fn only_string<'a>(reader: &mut Reader<'a>) -> Option<&'a str>
-    ensures { IfSome result (λ s. reader.old ≡ string s.now ∷ end_object ∷ reader.new) }
-{
-    match reader.next()? {
-        Token::String(text) => match reader.next_key().ok()? {
-            None => Some(text),
-            Some(_) => None,
-        },
-        _ => None,
-    }
-}
-
-/// The string in `{"$numberLong":".."}` after a wrapper's name, if the closing brace follows.
-#[inline(always)]
-fn only_long<'a>(reader: &mut Reader<'a>) -> Option<&'a str>
-    ensures { IfSome result (λ s. reader.old ≡ begin_object
-        ∷ key (codes "$numberLong") ∷ string s.now ∷ end_object ∷ end_object ∷ reader.new) }
-{
-    match reader.next()? {
-        Token::BeginObject => {}
-        _ => return None,
-    }
-    if reader.next_key().ok()?? != "$numberLong" {
-        return None;
-    }
-    let text = only_string(reader)?;
-    match reader.next_key().ok()? {
-        None => Some(text),
-        Some(_) => None,
-    }
 }

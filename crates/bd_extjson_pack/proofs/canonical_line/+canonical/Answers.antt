@@ -1,6 +1,7 @@
 use Rattle.std.proofs.Common.{◌≡◌, ◌+◌, ◌-◌, suc, ◌++◌, ◌∷◌, [], length, length-append, rules, arith, ap, ◌∙◌, append_assoc}
 use Rattle.std.specs.Prelude.{decimal}
-use Rattle.std.proofs.lemmas.Option.{IfSome_then}
+use Rattle.std.proofs.lemmas.Option.{MatchOption-at_some as of_some}
+use Rattle.std.proofs.lemmas.Result.{IfOk-weaker as if_ok_then}
 use Rattle.bd_value.specs.Tree.{doc, array, fields_of, items_of}
 use Rattle.bd_bson_write.specs.TreeBytes.{fields_bytes, items_bytes}
 use Rattle.bd_extjson_text.specs.Text.{text, member, items_text, fields_text}
@@ -15,17 +16,17 @@ append_fields-loop-next-preserved t c =
     let l = c.loop-next in
     let ps = l.invariant.0 in
     let k = c.in_ok-name.name.now in
+    let field = of_some _ _ _ c.in_ok-name.ensures.ok_part c.field_name.ensures in
     let g = c.in_ok-rest-2.ensures in
     let v = g.0 in
     let whole = c.args.text.now in
     let rest = c.in_ok-rest-2.rest.now in
-    let read = c.in_ok-name.ensures in
     let next = c.after_word-next.result in
     let at = c.in-Some.at.now in
     let turn = pieces.goes_on 123 whole (fields_text (fields_of ps)) (member k (text v)) at rest next (rw c.in-Some.is at l.invariant.2)
-    (pieces.member_read at c.in_ok-after_word.field-0.now k v rest (rw c.in_ok-after_word.ensures at read.0) g.1) c.after_word-next.ensures in (
+    (pieces.member_read at c.in_ok-name.value.now k v rest field.0 g.1) c.after_word-next.ensures in (
       ps ++ (k, v) ∷ [],
-      pieces.one_more_canonical_field c.args.depth_left ps k v l.invariant.1 (search rules, read.1, c.may_name_wrapper.ensures c.if-may_name_wrapper.false) g.2,
+      pieces.one_more_canonical_field c.args.depth_left ps k v l.invariant.1 (search rules, field.1, field.2) g.2,
       rw (pieces.members_end ps k v) turn,
       search rules,
       pieces.within_rest rest next c.after_word-next.ensures,
@@ -34,19 +35,16 @@ append_fields-loop-next-preserved t c =
 
 pub append_fields-end_body-requires : goal.append_fields-end_body-requires
 append_fields-end_body-requires t c =
-    let size = bodies.body_size c.begin_body.result c.in_ok-start.start _ c.args.out.now.items
-    (fields_bytes (fields_of c.loop-next.invariant.0)) c.loop-next.out.items c.in_ok-start.ensures.value
-    c.begin_body.ensures.offset c.loop-next.invariant.5 in
+    let size = bodies.body_size c.in_ok-start.start c.args.out.now.items
+    (fields_bytes (fields_of c.loop-next.invariant.0)) c.loop-next.out.items c.in_ok-start.ensures.offset c.loop-next.invariant.5 in
     search rules
 
 pub append_fields-returns-clause-gives : goal.append_fields-returns-clause-gives
 append_fields-returns-clause-gives t c =
     let l = c.loop-next in
     let ps = l.invariant.0 in
-    let put = bodies.if_ok _ _ _ _ c.in_ok-ok.ensures.value c.end_body.ensures.ok
-    ∙ bodies.ended c.begin_body.result c.in_ok-start.start _ c.args.out.now.items (fields_bytes (fields_of ps))
-    l.out.items c.in_ok-start.ensures.value c.begin_body.ensures.offset l.invariant.5 in
-    IfSome_then c.after_word-2.result c.after_word-2.ensures
+    let put = c.in_ok-end_body.ensures.ok ∙ bodies.ended c.in_ok-start.start c.args.out.now.items (fields_bytes (fields_of ps)) l.out.items c.in_ok-start.ensures.offset l.invariant.5 in
+    pieces.when_read c.after_word-2.result c.ok_or-2.result c.ok_or-2.ensures.ok_part c.after_word-2.ensures
     (λ rest e. (ps, pieces.ended_at 123 125 c.args.text.now (fields_text (fields_of ps)) l.rest.now rest.now (rw c.in_default.is at l.invariant.2) e, l.invariant.1, put))
 
 -- ---- append_items
@@ -80,33 +78,32 @@ append_items-loop-next-preserved t c =
 
 pub append_items-end_body-requires : goal.append_items-end_body-requires
 append_items-end_body-requires t c =
-    let size = bodies.body_size c.begin_body.result c.in_ok-start.start _ c.args.out.now.items
-    (items_bytes 0 (items_of c.loop-next.invariant.0)) c.loop-next.out.items c.in_ok-start.ensures.value
-    c.begin_body.ensures.offset c.loop-next.invariant.5 in
+    let size = bodies.body_size c.in_ok-start.start c.args.out.now.items
+    (items_bytes 0 (items_of c.loop-next.invariant.0)) c.loop-next.out.items c.in_ok-start.ensures.offset c.loop-next.invariant.5 in
     search rules
 
 pub append_items-returns : goal.append_items-returns
 append_items-returns t c =
     let l = c.loop-next in
     let ts = l.invariant.0 in
-    let put = bodies.if_ok _ _ _ _ c.in_ok-ok.ensures.value c.end_body.ensures.ok
-    ∙ bodies.ended c.begin_body.result c.in_ok-start.start _ c.args.out.now.items (items_bytes 0 (items_of ts))
-    l.out.items c.in_ok-start.ensures.value c.begin_body.ensures.offset l.invariant.5 in
-    IfSome_then c.after_word-2.result c.after_word-2.ensures
+    let put = c.in_ok-end_body.ensures.ok ∙ bodies.ended c.in_ok-start.start c.args.out.now.items (items_bytes 0 (items_of ts)) l.out.items c.in_ok-start.ensures.offset l.invariant.5 in
+    pieces.when_read c.after_word-2.result c.ok_or-2.result c.ok_or-2.ensures.ok_part c.after_word-2.ensures
     (λ rest e. (ts, pieces.ended_at 91 93 c.args.text.now (items_text (items_of ts)) l.rest.now rest.now (rw c.in_default.is at l.invariant.2) e, l.invariant.1, put))
 
 -- ---- append_next
 
-pub append_next-returns-in_ok-ok-in-123-3 : goal.append_next-returns-in_ok-ok-in-123-3
-append_next-returns-in_ok-ok-in-123-3 t c =
-    let label = (bodies.if_ok _ _ _ _ c.in_ok-ok-in-123-3.ensures.value c.append_label.ensures.ok).0 in
+pub append_next-returns-in_ok-append_label-in-123-3 : goal.append_next-returns-in_ok-append_label-in-123-3
+append_next-returns-in_ok-append_label-in-123-3 t c =
+    let label = c.in_ok-append_label-in-123-3.ensures.ok.0 in
     let depth_left = c.args.depth_left in
-    IfSome_then c.append_fields.result c.append_fields.ensures.gives
+    if_ok_then c.append_fields.result _ _
     (λ rest g. (doc (fields_of g.0), g.1, pieces.more_depth_left (suc (depth_left - 1)) depth_left _ (omega arith) (pieces.doc_known (depth_left - 1) g.0 g.2), rw (g.3, label) (simp append_assoc)))
+    c.append_fields.ensures.gives
 
-pub append_next-returns-in_ok-ok-in-91 : goal.append_next-returns-in_ok-ok-in-91
-append_next-returns-in_ok-ok-in-91 t c =
-    let label = (bodies.if_ok _ _ _ _ c.in_ok-ok-in-91.ensures.value c.append_label-in-91.ensures.ok).0 in
+pub append_next-returns-in_ok-append_label-in-91 : goal.append_next-returns-in_ok-append_label-in-91
+append_next-returns-in_ok-append_label-in-91 t c =
+    let label = c.in_ok-append_label-in-91.ensures.ok.0 in
     let depth_left = c.args.depth_left in
-    IfSome_then c.append_items.result c.append_items.ensures
+    if_ok_then c.append_items.result _ _
     (λ rest g. (array (items_of g.0), g.1, pieces.more_depth_left (suc (depth_left - 1)) depth_left _ (omega arith) (pieces.array_known (depth_left - 1) g.0 g.2), rw (g.3, label) (simp append_assoc)))
+    c.append_items.ensures

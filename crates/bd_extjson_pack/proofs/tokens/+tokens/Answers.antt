@@ -1,4 +1,4 @@
-use Rattle.std.proofs.Common.{◌≡◌, ◌<◌, ◌≤◌, ◌-◌, ◌+◌, ◌++◌, ℕ, List, Option, Some, None, Ok, option_and_then, [], ◌∷◌, length, option_map}
+use Rattle.std.proofs.Common.{◌≡◌, ◌<◌, ◌≤◌, ◌-◌, ◌+◌, ◌++◌, ℕ, List, Option, Some, None, option_and_then, [], ◌∷◌, length, option_map}
 use Rattle.std.proofs.Common.{refl, sym, ap, ◌∙◌, rules, arith, append_assoc, append-nil, length-append}
 use Rattle.std.specs.Prelude.{decimal}
 use Rattle.json.specs.{Json.value, Json.parse_map, Json.after_end_array, Reads.token_of}
@@ -52,8 +52,8 @@ append_fields-loop-next-preserved t c =
 
 pub append_fields-end_body-requires : goal.append_fields-end_body-requires
 append_fields-end_body-requires t c =
-    let size = bodies.body_size {E = Unit {0}} (Ok c.in_ok-at.at) c.in_ok-at.at (λ _. Unit {0}) c.args.out.now.items
-    (fields_bytes (fields_of c.loop-next.invariant.1)) c.loop-next.out.items refl c.in_ok-at.ensures.offset c.loop-next.invariant.5 in
+    let size = bodies.body_size c.in_ok-at.at c.args.out.now.items
+    (fields_bytes (fields_of c.loop-next.invariant.1)) c.loop-next.out.items c.in_ok-at.ensures.offset c.loop-next.invariant.5 in
     search rules
 
 pub append_fields-returns-clause-gives : goal.append_fields-returns-clause-gives
@@ -62,8 +62,8 @@ append_fields-returns-clause-gives t c =
     let ps = l.invariant.1 in
     let named = ap (λ k. through (wrap_fields c.args.depth_left) (after_key c.args.depth l.invariant.0 (option_map (λ s. s.now) k) l.reader)) c.in_default.is in
     let read = l.invariant.3 ∙ ap (parse_map (fields_before ps)) named ∙ ap (λ x. Some (x, l.reader)) (steps.fields_before-none ps) in
-    let ended = bodies.ended {E = Unit {0}} (Ok c.in_ok-at.at) c.in_ok-at.at (λ _. Unit {0}) c.args.out.now.items (fields_bytes (fields_of ps))
-    l.out.items refl c.in_ok-at.ensures.offset l.invariant.5 in
+    let ended = bodies.ended c.in_ok-at.at c.args.out.now.items (fields_bytes (fields_of ps))
+    l.out.items c.in_ok-at.ensures.offset l.invariant.5 in
     (fields_of ps, read, c.in_ok-end_body.ensures.ok ∙ ended)
 
 -- ---- append_items
@@ -97,8 +97,8 @@ append_items-loop-alloc-preserved t c =
 
 pub append_items-end_body-requires : goal.append_items-end_body-requires
 append_items-end_body-requires t c =
-    let size = bodies.body_size {E = Unit {0}} (Ok c.in_ok-at.at) c.in_ok-at.at (λ _. Unit {0}) c.args.out.now.items
-    (items_bytes 0 (items_of c.loop-alloc.invariant.1)) c.loop-alloc.out.items refl c.in_ok-at.ensures.offset c.loop-alloc.invariant.5 in
+    let size = bodies.body_size c.in_ok-at.at c.args.out.now.items
+    (items_bytes 0 (items_of c.loop-alloc.invariant.1)) c.loop-alloc.out.items c.in_ok-at.ensures.offset c.loop-alloc.invariant.5 in
     search rules
 
 pub append_items-returns-clause-gives : goal.append_items-returns-clause-gives
@@ -108,8 +108,8 @@ append_items-returns-clause-gives t c =
     let r = c.take_end_array.new.self in
     let read = l.invariant.3 ∙ ap (λ x. parse_map (items_before ts) (through (wrap_items c.args.depth_left) x))
     (items_end (value c.args.depth) l.invariant.0 l.reader r l.invariant.2 (grind arith)) ∙ ap (λ x. Some (x, r)) (steps.items_before-none ts) in
-    let ended = bodies.ended {E = Unit {0}} (Ok c.in_ok-at.at) c.in_ok-at.at (λ _. Unit {0}) c.args.out.now.items (items_bytes 0 (items_of ts))
-    l.out.items refl c.in_ok-at.ensures.offset l.invariant.5 in
+    let ended = bodies.ended c.in_ok-at.at c.args.out.now.items (items_bytes 0 (items_of ts))
+    l.out.items c.in_ok-at.ensures.offset l.invariant.5 in
     (items_of ts, read, c.in_ok-end_body.ensures.ok ∙ ended)
 
 -- ---- append_next
@@ -169,12 +169,3 @@ append_object-returns-clause-gives t c =
     let label = c.in_ok-append_label.ensures.ok.0 in
     rw start (bodies.if_read doc _ _ _ c.append_fields.result _ _ plain
     (λ fs e. e ∙ ap (λ out. out ++ bytes_of (doc fs)) label ∙ simp append_assoc) c.append_fields.ensures.gives)
-
-pub append_object-returns-then-is_short-clause-gives : goal.append_object-returns-then-is_short-clause-gives
-append_object-returns-then-is_short-clause-gives t c =
-    let short = c.append_short-written in
-    let g = bodies.taken short.result c.in_ok-ok_or.field-0 c.in_ok-branch.field-0 _ c.in_ok-ok_or.ensures.ok_part c.in_ok-branch.was short.ensures.gives in
-    let start = steps.first_name c.args.depth c.args.reader.now c.next_key.new.self _ c.in_ok-first.ensures.value in
-    let read = steps.object_is_wrapper (λ (x : Tree). x) (Ok g.0) short.new.reader c.in-Some.wrapper c.args.depth_left c.args.depth _ _ _
-    (sym (steps.wrapper_is _ _ c.and_then.ensures) ∙ c.in-Some.is) (λ name is. g.1 c.args.depth_left name is) in
-    (g.0, rw start read, g.2)
