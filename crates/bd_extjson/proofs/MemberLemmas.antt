@@ -15,6 +15,7 @@ use Rattle.bd_extjson.proofs.ReadLemmas.{nested_is, next_name, never, refused_me
 
 -- ---- members, for any function of them
 
+-- If the value after a name is not read, the members are not.
 pub unreadable : {A : Type 0} (f : json.Members → Option A) (k : List ℕ) (depth n : ℕ) (ts : List Token) → value depth ts ≡ None → through f (after_key depth n (Some k) ts) ≡ None
 unreadable f k depth n ts e = ap (λ v. through f (option_and_then (λ p. parse_map (json.member k p.0) (members (value depth) n p.1)) v)) e
 
@@ -83,6 +84,7 @@ unread f g k depth n ts e h = turn (value depth ts) e
 
 -- ---- wrappers of one name
 
+-- An object whose first name is a wrapper's is read as that wrapper of the value after the name.
 pub first_part : (w : Wrapper) (k : List ℕ) (depth_left depth n : ℕ) (ts s : List Token) (j : Json) → wrapper_of k ≡ Some w → value depth ts ≡ Some (j, s)
     → through (wrap_object depth_left) (after_key depth n (Some k) ts) ≡ through (wrapped depth_left w j (wrap (depth_left - 1) j)) (members (value depth) n s)
 first_part w k depth_left depth n ts s j e f =
@@ -99,6 +101,7 @@ no_two kinds.Code v j i t u ms e f = absurd cc
 no_two kinds.Scope v j i t u ms e f = absurd cc
 no_two _ v j i t u ms e f = refl
 
+-- A wrapper but that of code has one name: with a second one there is no value.
 pub one_name_alone : (w : Wrapper) (depth_left : ℕ) (j : Json) (t : Option Tree) (k : List ℕ) (i : Json) (ms : json.Members) → is_code_name (Some w) ≡ false
     → is_scope_name (Some w) ≡ false → wrapped depth_left w j t (json.member k i ms) ≡ None
 one_name_alone w depth_left j t k i ms e f = nested_none depth_left _ (no_two w (wrapper_of k) j i t (wrap (depth_left - 1) i) ms e f)

@@ -35,6 +35,7 @@ nested_is (suc depth_left) r h = refl
 
 -- ---- functions of what was read
 
+-- A function that never gives a result gives none of what was read.
 pub never : {J A : Type 0} (f : J → Option A) → ((j : J) → f j ≡ None) → (r : Option (J × List Token)) → through f r ≡ None
 never f h None = refl
 never f h (Some q) = ap (option_map (λ a. (a, q.1))) (h q.0)
@@ -43,6 +44,7 @@ pub through_same : {J A : Type 0} (f g : J → Option A) → ((j : J) → f j �
 through_same f g h None = refl
 through_same f g h (Some q) = ap (option_map (λ a. (a, q.1))) (h q.0)
 
+-- A function of what was made of the value is the function after the making.
 pub through_made : {J K A : Type 0} (f : K → Option A) (make : J → K) (r : Option (J × List Token)) → through f (parse_map make r) ≡ through (λ j. f (make j)) r
 through_made f make None = refl
 through_made f make (Some q) = refl
@@ -76,6 +78,7 @@ refused_member {A = A} f k depth n ts h =
 
 -- ---- arrays
 
+-- An array is read as its items, with one level and one bracket less.
 pub array_read : (depth_left depth : ℕ) (ts : List Token) → 0 < depth_left → 0 < depth
     → through (wrap depth_left) (value depth (Token.begin_array ∷ ts)) ≡ parse_map array (through (wrap_items (depth_left - 1)) (items (value (depth - 1)) (length ts) ts))
 array_read depth_left depth ts h k =
@@ -276,15 +279,19 @@ object_refused depth_left depth n ts key z e = ap (λ r. through (wrap_object r)
 
 -- ---- values of one token
 
+-- a string is read as a text
 pub read_string : (depth_left depth : ℕ) (s : List ℕ) (rest : List Token) → through (wrap depth_left) (value depth (Token.string s ∷ rest)) ≡ Some (leaf (trees.text s), rest)
 read_string depth_left depth s rest = ap (through (wrap depth_left)) (value_is depth (Token.string s ∷ rest))
 
+-- a number is read as a bare whole number, or not at all
 pub read_number : (depth_left depth : ℕ) (s : List ℕ) (rest : List Token) → through (wrap depth_left) (value depth (Token.number s ∷ rest)) ≡ option_map (λ (a : Tree). (a, rest)) (bare_number (whole_64 s))
 read_number depth_left depth s rest = ap (through (wrap depth_left)) (value_is depth (Token.number s ∷ rest))
 
+-- `true` and `false` are read as booleans
 pub read_boolean : (depth_left depth : ℕ) (b : Bool) (rest : List Token) → through (wrap depth_left) (value depth (Token.boolean b ∷ rest)) ≡ Some (leaf (trees.boolean b), rest)
 read_boolean depth_left depth b rest = ap (through (wrap depth_left)) (value_is depth (Token.boolean b ∷ rest))
 
+-- `null` is read as null
 pub read_null : (depth_left depth : ℕ) (rest : List Token) → through (wrap depth_left) (value depth (Token.null ∷ rest)) ≡ Some (leaf trees.null, rest)
 read_null depth_left depth rest = ap (through (wrap depth_left)) (value_is depth (Token.null ∷ rest))
 

@@ -228,6 +228,7 @@ packs_canonical line rest new old d is known short put none =
 
 -- ---- what is read, or refused
 
+-- What holds of a value that was read holds of the result with that value.
 pub when_read : {X E : Type 0} (o : Option X) (r : Result X E) {P Q : X → Type 0} → o ≡ result_ok r → IfSome o P → ((x : X) → P x → Q x) → IfOk r Q
 when_read o (Ok x) {P} e p f = f x (MatchOption-at_some _ P x e p)
 when_read o (Err d) e p f = tt
