@@ -16,7 +16,9 @@ ghost use Rattle.bd_extjson_pack.specs.inside.Writes.{Writes, NotRead, if_docume
 ghost use Rattle.json.specs.Token.{Token as JsonToken};
 
 use crate::canonical_line::append_canonical;
-use crate::elements::{append_bool, append_null, append_text};
+use crate::elements::{
+    append_bool, append_date, append_id, append_int32, append_int64, append_null, append_text,
+};
 use crate::refusal::Refusal;
 use bd_bson_write::{WriteFault, append_label, append_value, begin_body, end_body};
 use bd_extjson::{bare_number, read_wrapper};
@@ -257,12 +259,20 @@ fn append_number(name: &str, text: &str, out: &mut Vec<u8>) -> Result<(), Refusa
     Ok(append_read(name, number, out)?)
 }
 
-/// Appends an element of a value that was read, and drops the value.
+/// Appends an element of a value that was read, and drops the value. The scalars that most wrappers mean are written at once.
 fn append_read(name: &str, value: Value, out: &mut Vec<u8>) -> Result<(), WriteFault>
     requires { zero_in (tree_of value) ≡ false }
     ensures { OnOk result (out.new.items
         ≡ out.old.items ++ element (tree_of value) name.now (bytes_of (tree_of value))) }
 {
-    append_label(value.kind(), name, out)?;
-    append_value(Tree::Value(&value), out)
+    match value {
+        Value::Int32(n) => append_int32(name, n, out),
+        Value::Int64(n) => append_int64(name, n, out),
+        Value::Date(n) => append_date(name, n, out),
+        Value::ObjectId(id) => append_id(name, &id, out),
+        other => {
+            append_label(other.kind(), name, out)?;
+            append_value(Tree::Value(&other), out)
+        }
+    }
 }
