@@ -1,22 +1,27 @@
--- Bytes of elements, one after the other; a whole text, from its tokens.
+-- Bytes of elements, one after the other; a whole text, and wrappers of one string, from their tokens.
 use Rattle.std.proofs.Common.{◌≡◌, ◌≢◌, ◌≤◌, ◌+◌, ℕ, zero, suc, List, [], ◌∷◌, ◌++◌, length, take, drop, take_at, drop_at, refl, sym, ap, ap₂, ◌∙◌, arith, append_assoc, append-nil}
-use Rattle.std.proofs.Common.{length-append, false, true≢false, Option, Some, None, Result, Ok, Err, ◌-◌, ℤ, true, option_map, option_and_then}
-use Rattle.std.specs.{Option.is_some}
+use Rattle.std.proofs.Common.{length-append, false, true≢false, Option, Some, None, Result, Ok, Err, ◌-◌, ◌<◌, ◌^◌, ℤ, pos, negsuc, true, option_map, option_and_then}
+use Rattle.std.proofs.Common.{to_z, of_z}
+use Rattle.std.specs.{Option.is_some, Result.result_ok, Int.w32, Int.w64, Int.RustNames.FitsSigned}
 use Rattle.std.specs.Prelude.{decimal}
 use Rattle.json.specs.{Token.Token, Json.parse_map, Json.Json, Json.members, Json.value, Json.read_key, Find.as_str}
 use Rattle.bd_value.specs.Tree.{Tree, Items, Fields, Doc, fields_of, items_of, Scalar, leaf, doc, array}
 use Rattle.bd_bson_view.specs.{Unique.number_length, Spelling.number, Spelling.framed, Spelling.element}
 use Rattle.bd_bson_write.specs.TreeBytes.{bytes_of, fields_bytes, items_bytes}
-use Rattle.bd_extjson_wrapper.specs.{Wrapper.through, Wrapper.after_key, Wrapper.wrapper_of, Wrapper.single}
-use Rattle.bd_extjson_wrapper.specs.{WholeNumber.whole_64}
+use Rattle.bd_extjson_wrapper.specs.{Wrapper.through, Wrapper.after_key, Wrapper.wrapper_of, Wrapper.single, Wrapper.is_code_name, Wrapper.is_scope_name}
+use Rattle.bd_extjson_wrapper.specs.{WholeNumber.fits_bits, WholeNumber.if_fits, WholeNumber.whole as whole_number, WholeNumber.whole_32, WholeNumber.whole_64}
 use Rattle.bd_extjson_wrapper.specs.declared.wrapper.Wrapper.{Wrapper}
 use Rattle.bd_extjson.proofs.ReadLemmas as steps
 use Rattle.bd_extjson.proofs.ReadLemmas.{items_before, fields_before, json_is}
+use Rattle.std.proofs.{lemmas.Option.option_and_then_some, lemmas.Option.cond_some, lemmas.Int.ints, lemmas.Int.to_z-of_z}
+use Rattle.hex.specs.Hex.{decode_sized}
 use Rattle.json.specs.Json as json
 use Rattle.json.specs.Reads.{token_of}
 use Rattle.json.specs.declared.token.Token.{Token as Read}
 use Rattle.json.specs.declared.token.Token.TheVariants as read
+use Rattle.std.specs.Borrow.{Bor}
 use Rattle.json.proofs.Grammar.{value_is}
+use Rattle.bd_value.specs.Tree as trees
 use Rattle.bd_extjson.specs.Read.{wrap, wrap_object, wrap_fields, wrapped, with_scope, two, bare_number, reading, document}
 use Rattle.bd_extjson.proofs.MemberLemmas as of_members
 use Rattle.std.specs.Str.{IsUtf8}
@@ -24,7 +29,7 @@ use Rattle.std.proofs.lemmas.Str.{is_utf8-from_IsUtf8}
 use Rattle.json.specs.{Json.if_last, Lex.tokens}
 use Rattle.bd_value.specs.{Limits.most_brackets, Limits.most_levels, Limits.longest_document, Tree.pairs_of, Tree.fields_of-pairs_of}
 use Rattle.bd_extjson_pack.specs.Packable.{plain, IsPackable}
-use Rattle.bd_extjson_pack.specs.inside.Writes.{Writes, NotRead, if_document}
+use Rattle.bd_extjson_pack.specs.inside.Writes.{Writes, NotRead, if_document, alone}
 use Rattle.bd_extjson_pack.specs.declared.refusal.Refusal.{Refusal}
 use Rattle.bd_extjson_pack.specs.declared.refusal.Refusal.TheVariants as refusals
 use Rattle.bd_extjson_wrapper.specs.declared.wrapper.Wrapper.TheVariants as kinds
@@ -233,3 +238,120 @@ module _ (ts s : List Token) (begins : ts ≡ Token.begin_object ∷ s) where
     pub first_fields : is_some (option_and_then wrapper_of key) ≡ false
         → if_document (through (wrap most_levels) (value most_brackets ts)) ≡ through (wrap_fields (most_levels - 1)) (after_key (most_brackets - 1) (length r) key r)
     first_fields none = ap if_document (from_name ∙ steps.object_is_plain most_levels (most_brackets - 1) (length r) r key (omega arith) (not_some _ none)) ∙ if_doc _
+
+-- ---- wrappers of one string
+
+module _ {A : Type 0} (g : Json → Option A) (name : List ℕ) (depth n : ℕ) where
+  lone : (o : Option A) (ts : List Token) → option_map {U = A × List Token} (λ (a : A). (a, ts)) o ≡ None → (j : Json) → g j ≡ o → (ms : json.Members) → alone g (json.member name j ms) ≡ None
+  lone (Some a) ts e j is ms = absurd cc
+  lone None ts e j is json.no_members = is
+  lone None ts e j is (json.member k i ms) = refl
+
+  -- if the value is not read, the only member is not
+  pub not_alone : (ts : List Token) → through g (value depth ts) ≡ None → through (alone g) (after_key depth n (Some name) ts) ≡ None
+  not_alone ts e = turn (value depth ts) e
+    where
+      turn : (v : Option (Json × List Token)) → through g v ≡ None
+          → through (alone g) (option_and_then (λ p. parse_map (json.member name p.0) (members (value depth) n p.1)) v) ≡ None
+      turn None e = refl
+      turn (Some p) e = steps.through_made (alone g) (json.member name p.0) (members (value depth) n p.1)
+          ∙ steps.never (λ ms. alone g (json.member name p.0 ms)) (lone (g p.0) p.1 e p.0 refl) (members (value depth) n p.1)
+
+no_text : {J : Type 0} (make : J → Json) → ((x : J) → as_str (make x) ≡ None) → (r : Option (J × List Token)) → through as_str (parse_map make r) ≡ None
+no_text make h r = steps.through_made as_str make r ∙ steps.never (λ x. as_str (make x)) h r
+
+pub no_string : (depth : ℕ) (t : Read) (ts : List Token) → ((s : Bor (List ℕ)) → t ≡ read.String s → ⊥) → through as_str (value depth (token_of t ∷ ts)) ≡ None
+no_string depth (read.String s) ts not = absurd (not s refl)
+no_string depth read.BeginObject ts not = ap (through as_str) (value_is depth (Token.begin_object ∷ ts)) ∙ no_text json.object (λ x. refl) _
+no_string depth read.BeginArray ts not = ap (through as_str) (value_is depth (Token.begin_array ∷ ts)) ∙ no_text json.array (λ x. refl) _
+no_string depth read.EndObject ts not = ap (through as_str) (value_is depth (Token.end_object ∷ ts))
+no_string depth read.EndArray ts not = ap (through as_str) (value_is depth (Token.end_array ∷ ts))
+no_string depth (read.Key s) ts not = ap (through as_str) (value_is depth (Token.key s.now ∷ ts))
+no_string depth (read.Number s) ts not = ap (through as_str) (value_is depth (Token.number s.now ∷ ts))
+no_string depth (read.Bool b) ts not = ap (through as_str) (value_is depth (Token.boolean b ∷ ts))
+no_string depth read.Null ts not = ap (through as_str) (value_is depth (Token.null ∷ ts))
+no_string depth read.Bad ts not = ap (through as_str) (value_is depth (Token.bad ∷ ts))
+
+-- the string, and the brace that ends the object
+pub string_ends : (name s : List ℕ) (depth : ℕ) (ts after rest : List Token) → ts ≡ Token.string s ∷ after → read_key after ≡ Some (None, rest)
+    → through (alone as_str) (after_key depth (length ts) (Some name) ts) ≡ Some (s, rest)
+string_ends name s depth ts after rest is ended =
+    rw is (of_members.member_is (alone as_str) name depth _ (Token.string s ∷ after) after (json.string s) (value_is depth (Token.string s ∷ after))
+    ∙ of_members.ended (λ ms. alone as_str (json.member name (json.string s) ms)) depth _ after rest (omega arith) ended)
+
+pub string_goes_on : (name s : List ℕ) (depth : ℕ) (ts after : List Token) → ts ≡ Token.string s ∷ after → ((r : List Token) → read_key after ≢ Some (None, r))
+    → through (alone as_str) (after_key depth (length ts) (Some name) ts) ≡ None
+string_goes_on name s depth ts after is not =
+    rw is (of_members.member_is (alone as_str) name depth _ (Token.string s ∷ after) after (json.string s) (value_is depth (Token.string s ∷ after))
+    ∙ of_members.not_ended (λ ms. alone as_str (json.member name (json.string s) ms)) depth _ after (omega arith) not (λ k j ms. refl))
+
+through_both : {J A B : Type 0} (f : J → Option A) (g : A → Option B) (h : J → Option B) → ((j : J) → h j ≡ option_and_then g (f j)) → (r : Option (J × List Token))
+    → through h r ≡ through g (through f r)
+through_both f g h same None = refl
+through_both {A = A} {B = B} f g h same (Some q) = ap (option_map (λ b. (b, q.1))) (same q.0) ∙ go (f q.0)
+  where
+    go : (o : Option A) → option_map (λ (b : B). (b, q.1)) (option_and_then g o) ≡ through g (option_map (λ (a : A). (a, q.1)) o)
+    go None = refl
+    go (Some a) = refl
+
+mapped : {A B C : Type 0} (f : B → C) (g : A → Option B) (o : Option A) → option_map f (option_and_then g o) ≡ option_and_then (λ a. option_map f (g a)) o
+mapped f g None = refl
+mapped f g (Some a) = refl
+
+-- The wrapper means a scalar by its string alone.
+pub record IsShort (w : Wrapper) (means : List ℕ → Option Scalar) : Type 0 where
+  pub by_string : (j : Json) → single w j ≡ option_and_then means (as_str j)
+  pub no_code : is_code_name (Some w) ≡ false
+  pub no_scope : is_scope_name (Some w) ≡ false
+
+pub int32_short : IsShort kinds.NumberInt (λ s. option_map (λ z. trees.int32 z) (whole_32 s))
+int32_short = record { by_string = λ j. mapped (λ z. trees.int32 z) whole_32 (as_str j); no_code = refl; no_scope = refl }
+
+pub int64_short : IsShort kinds.NumberLong (λ s. option_map (λ z. trees.int64 z) (whole_64 s))
+int64_short = record { by_string = λ j. mapped (λ z. trees.int64 z) whole_64 (as_str j); no_code = refl; no_scope = refl }
+
+pub id_short : IsShort kinds.Oid (λ s. option_map (λ b. trees.object_id b) (result_ok (decode_sized s 12)))
+id_short = record { by_string = λ j. mapped (λ b. trees.object_id b) (λ s. result_ok (decode_sized s 12)) (as_str j); no_code = refl; no_scope = refl }
+
+-- such a wrapper is read by its string
+pub short_read : (w v : Wrapper) (means : List ℕ → Option Scalar) → IsShort v means → w ≡ v → (depth_left depth n : ℕ) (name : List ℕ) (ts : List Token) → wrapper_of name ≡ Some w
+    → through (wrap_object depth_left) (after_key depth n (Some name) ts) ≡ through (λ s. option_map leaf (means s)) (through (alone as_str) (after_key depth n (Some name) ts))
+short_read w v means short same depth_left depth n name ts named = turn (value depth ts) refl
+  where
+    both : (j : Json) (ms : json.Members) → wrapped depth_left v j (wrap (depth_left - 1) j) ms ≡ option_and_then (λ s. option_map leaf (means s)) (alone as_str (json.member name j ms))
+    both j json.no_members = ap (option_map leaf) (short.by_string j) ∙ mapped leaf means (as_str j)
+    both j (json.member k i ms) = of_members.one_name_alone v depth_left j (wrap (depth_left - 1) j) k i ms short.no_code short.no_scope
+
+    turn : (r : Option (Json × List Token)) → value depth ts ≡ r
+        → through (wrap_object depth_left) (after_key depth n (Some name) ts) ≡ through (λ s. option_map leaf (means s)) (through (alone as_str) (after_key depth n (Some name) ts))
+    turn None e = of_members.unreadable (wrap_object depth_left) name depth n ts e ∙ sym (ap (through (λ s. option_map leaf (means s))) (of_members.unreadable (alone as_str) name depth n ts e))
+    turn (Some (j, r)) e =
+        of_members.first_part v name depth_left depth n ts r j (named ∙ ap Some same) e
+        ∙ through_both (λ ms. alone as_str (json.member name j ms)) (λ s. option_map leaf (means s)) (wrapped depth_left v j (wrap (depth_left - 1) j)) (both j) (members (value depth) n r)
+        ∙ sym (ap (through (λ s. option_map leaf (means s))) (of_members.member_is (alone as_str) name depth n ts r j e))
+
+pub short_is : (w v : Wrapper) (means : List ℕ → Option Scalar) → IsShort v means → w ≡ v → (depth_left depth n : ℕ) (name : List ℕ) (ts rest : List Token) → wrapper_of name ≡ Some w
+    → (s : List ℕ) (x : Scalar) → through (alone as_str) (after_key depth n (Some name) ts) ≡ Some (s, rest) → means s ≡ Some x
+    → through (wrap_object depth_left) (after_key depth n (Some name) ts) ≡ Some (leaf x, rest)
+short_is w v means short same depth_left depth n name ts rest named s x read is =
+    short_read w v means short same depth_left depth n name ts named ∙ ap (through (λ s. option_map leaf (means s))) read
+    ∙ ap (λ o. option_map (λ (t : Tree). (t, rest)) (option_map leaf o)) is
+
+-- ---- a number of a signed type, by its bits
+
+whole_fits : (k : ℕ) (o : Option ℤ) (z : ℤ) → option_and_then (if_fits k) o ≡ Some z → fits_bits k z ≡ true
+whole_fits k o z is = option_and_then_some (if_fits k) o z is (λ x _ e. let p = cond_some (fits_bits k x) x z e in rw p.1 at p.0)
+
+fits_32 : (z : ℤ) → fits_bits 31 z ≡ true → FitsSigned w32 z
+fits_32 (pos n) e = let low : n < 2 ^ 31 = grind arith in record { sfits = omega (arith, ints) }
+fits_32 (negsuc n) e = let low : n < 2 ^ 31 = grind arith in record { sfits = omega (arith, ints) }
+
+fits_64 : (z : ℤ) → fits_bits 63 z ≡ true → FitsSigned w64 z
+fits_64 (pos n) e = let low : n < 2 ^ 63 = grind arith in record { sfits = omega (arith, ints) }
+fits_64 (negsuc n) e = let low : n < 2 ^ 63 = grind arith in record { sfits = omega (arith, ints) }
+
+pub same_32 : (s : List ℕ) (z : ℤ) → Some z ≡ whole_32 s → to_z w32 (of_z w32 z) ≡ z
+same_32 s z is = to_z-of_z w32 z (fits_32 z (whole_fits 31 (whole_number s) z (sym is)))
+
+pub same_64 : (s : List ℕ) (z : ℤ) → Some z ≡ whole_64 s → to_z w64 (of_z w64 z) ≡ z
+same_64 s z is = to_z-of_z w64 z (fits_64 z (whole_fits 63 (whole_number s) z (sym is)))

@@ -1,5 +1,5 @@
 //! The bytes of a document straight from the tokens of its text, without a tree. A text is refused only if it means no document.
-ghost use Rattle.std.specs.Prelude.{◌≡◌, ◌<◌, ◌≤◌, ◌++◌, ℕ, List, length, Some, IfErr, OnOk, option_map, false};
+ghost use Rattle.std.specs.Prelude.{◌≡◌, ◌<◌, ◌≤◌, ◌++◌, ℕ, List, length, Some, IfOk, IfErr, OnOk, option_map, false};
 ghost use Rattle.bd_value.specs.Limits.{longest_document, most_brackets, most_levels};
 ghost use Rattle.json.specs.Json.{value, items, members};
 ghost use Rattle.bd_value.specs.Tree as trees;
@@ -12,7 +12,8 @@ ghost use Rattle.bd_extjson.specs.Read.{reading, bare_number, wrap, wrap_items, 
 ghost use Rattle.bd_extjson_wrapper.specs.Wrapper.{through, after_key, wrapper_of};
 ghost use Rattle.bd_extjson_wrapper.specs.WholeNumber.{whole_64};
 ghost use Rattle.bd_extjson_pack.specs.Packable.{plain, IsPackable};
-ghost use Rattle.bd_extjson_pack.specs.inside.Writes.{Writes, NotRead, if_document};
+ghost use Rattle.bd_extjson_pack.specs.inside.Writes.{Writes, NotRead, if_document, alone};
+ghost use Rattle.json.specs.Find.{as_str};
 ghost use Rattle.json.specs.Token.{Token as JsonToken};
 
 use crate::canonical_line::append_canonical;
@@ -22,7 +23,7 @@ use crate::elements::{
 use crate::refusal::Refusal;
 use bd_bson_write::{WriteFault, append_label, append_value, begin_body, end_body};
 use bd_extjson::{bare_number, read_wrapper};
-use bd_extjson_wrapper::{Trouble, Wrapper};
+use bd_extjson_wrapper::{Trouble, Wrapper, id_of_text, whole, whole_of_32};
 use bd_value::{Kind, MOST_BRACKETS, MOST_LEVELS, Tree, Value, has_zero};
 use json::{Reader, Scratch, Token};
 use std::alloc::Global;
@@ -214,13 +215,49 @@ fn append_object(
 {
     let first = reader.next_key()?;
     if let Some(wrapper) = first.and_then(Wrapper::from_name) {
-        return append_wrapped(alloc, reader, wrapper, name, depth_left, depth, out);
+        return append_wrapper(alloc, reader, wrapper, name, depth_left, depth, out);
     }
     if depth_left == 0 {
         return Err(Refusal::Unread);
     }
     append_label(Kind::Doc, name, out)?;
     append_fields(alloc, reader, first, depth_left - 1, depth, out)
+}
+
+/// Appends the element of that name for a wrapper whose first name was read. One that is written with one string is read from
+/// its tokens.
+#[inline(always)]
+fn append_wrapper(
+    alloc: Global,
+    reader: &mut Reader<'_>,
+    wrapper: Wrapper,
+    name: &str,
+    depth_left: usize,
+    depth: usize,
+    out: &mut Vec<u8>,
+) -> Result<(), Refusal>
+    requires { (first : List ℕ) × (wrapper_of first ≡ Some wrapper) }
+    ensures gives { (first : List ℕ) → wrapper_of first ≡ Some wrapper →
+        Writes (λ t. out.new.items ≡ out.old.items ++ element t name.now (bytes_of t))
+        reader.new result (through (wrap_object depth_left)
+        (after_key depth (length reader.old) (Some first) reader.old)) }
+    ensures shorter { OnOk result (length reader.new < length reader.old) }
+{
+    match wrapper {
+        Wrapper::NumberInt => {
+            let n = whole_of_32(only_string(reader)?).ok_or(Refusal::Unread)?;
+            Ok(append_int32(name, n, out)?)
+        }
+        Wrapper::NumberLong => {
+            let n = whole(only_string(reader)?).ok_or(Refusal::Unread)?;
+            Ok(append_int64(name, n, out)?)
+        }
+        Wrapper::Oid => {
+            let id = id_of_text(only_string(reader)?).ok_or(Refusal::Unread)?;
+            Ok(append_id(name, &id, out)?)
+        }
+        _ => append_wrapped(alloc, reader, wrapper, name, depth_left, depth, out),
+    }
 }
 
 /// Appends the element of that name for a wrapper whose first name was read, by the value that it means.
@@ -259,7 +296,7 @@ fn append_number(name: &str, text: &str, out: &mut Vec<u8>) -> Result<(), Refusa
     Ok(append_read(name, number, out)?)
 }
 
-/// Appends an element of a value that was read, and drops the value. The scalars that most wrappers mean are written at once.
+/// Appends an element of a value that was read, and drops the value. The numbers that are read most are written at once.
 fn append_read(name: &str, value: Value, out: &mut Vec<u8>) -> Result<(), WriteFault>
     requires { zero_in (tree_of value) ≡ false }
     ensures { OnOk result (out.new.items
@@ -269,10 +306,30 @@ fn append_read(name: &str, value: Value, out: &mut Vec<u8>) -> Result<(), WriteF
         Value::Int32(n) => append_int32(name, n, out),
         Value::Int64(n) => append_int64(name, n, out),
         Value::Date(n) => append_date(name, n, out),
-        Value::ObjectId(id) => append_id(name, &id, out),
         other => {
             append_label(other.kind(), name, out)?;
             append_value(Tree::Value(&other), out)
         }
+    }
+}
+
+/// The string that is the value of an object's only member, whose name was read.
+#[inline(always)]
+fn only_string<'a>(reader: &mut Reader<'a>) -> Result<&'a str, Refusal>
+    ensures gives { IfOk result (λ s. (name : List ℕ) (depth : ℕ) → through (alone as_str)
+        (after_key depth (length reader.old) (Some name) reader.old) ≡ Some (s.now, reader.new)) }
+    ensures refused { IfErr result (λ e. (name : List ℕ) (depth : ℕ) → NotRead e (through
+        (alone as_str) (after_key depth (length reader.old) (Some name) reader.old))) }
+    ensures shorter { OnOk result (length reader.new < length reader.old) }
+{
+    let Some(token) = reader.next() else {
+        return Err(Refusal::Unread);
+    };
+    let Token::String(text) = token else {
+        return Err(Refusal::Unread);
+    };
+    match reader.next_key()? {
+        None => Ok(text),
+        Some(_) => Err(Refusal::Unread),
     }
 }

@@ -1,6 +1,7 @@
 -- What a reader of tokens writes, and what it refuses.
 use Rattle.std.specs.Prelude.{◌≡◌, List, Option, Some, None, Result, Ok, Err}
 use Rattle.json.specs.Token.{Token}
+use Rattle.json.specs.Json.{Json, Members, member, no_members}
 use Rattle.bd_value.specs.Tree.{Tree, doc, Fields}
 use Rattle.bd_extjson_pack.specs.declared.refusal.Refusal.{Refusal}
 use Rattle.bd_extjson_pack.specs.declared.refusal.Refusal.TheVariants as refusals
@@ -19,3 +20,8 @@ Writes Written rest (Err e) read = NotRead e read
 abbrev pub if_document : Option (Tree × List Token) → Option (Fields × List Token)
 if_document (Some (doc fs, rest)) = Some (fs, rest)
 if_document _ = None
+
+-- the value of an object's only member, whatever its name, read so
+abbrev pub alone : {A : Type 0} → (Json → Option A) → Members → Option A
+alone read (member name j no_members) = read j
+alone read _ = None

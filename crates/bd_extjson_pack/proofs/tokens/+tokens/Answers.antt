@@ -147,14 +147,14 @@ append_next-returns-in_ok-append_label-in-BeginArray-clause-gives t c =
 
 -- ---- append_object
 
-pub append_object-append_wrapped-requires : goal.append_object-append_wrapped-requires
-append_object-append_wrapped-requires t c = named_by (option_map (λ s. s.now) c.in_ok-first.first) c.in-Some.wrapper (sym (steps.wrapper_is _ _ c.and_then.ensures) ∙ c.in-Some.is)
+pub append_object-append_wrapper-requires : goal.append_object-append_wrapper-requires
+append_object-append_wrapper-requires t c = named_by (option_map (λ s. s.now) c.in_ok-first.first) c.in-Some.wrapper (sym (steps.wrapper_is _ _ c.and_then.ensures) ∙ c.in-Some.is)
 
 pub append_object-returns-in-Some-clause-gives : goal.append_object-returns-in-Some-clause-gives
 append_object-returns-in-Some-clause-gives t c =
     let start = steps.first_name c.args.depth c.args.reader.now c.next_key.new.self _ c.in_ok-first.ensures.value in
-    rw start (bodies.if_wrapper _ _ c.append_wrapped.result c.in-Some.wrapper c.args.depth_left c.args.depth _ _ _
-    (sym (steps.wrapper_is _ _ c.and_then.ensures) ∙ c.in-Some.is) c.append_wrapped.ensures.gives)
+    rw start (bodies.if_wrapper _ _ c.append_wrapper.result c.in-Some.wrapper c.args.depth_left c.args.depth _ _ _
+    (sym (steps.wrapper_is _ _ c.and_then.ensures) ∙ c.in-Some.is) c.append_wrapper.ensures.gives)
 
 pub append_object-returns-then-depth_left-eq0-clause-gives : goal.append_object-returns-then-depth_left-eq0-clause-gives
 append_object-returns-then-depth_left-eq0-clause-gives t c =
