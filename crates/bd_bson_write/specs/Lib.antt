@@ -1,2 +1,1 @@
 pub mod TreeBytes
-pub mod inside

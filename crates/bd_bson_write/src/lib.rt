@@ -22,6 +22,4 @@ mod writing;
 
 pub use laws::plainly_spells;
 pub use write::{append_value, begin_body, end_body, write_document};
-pub use writing::{
-    WriteFault, append_binary, append_label, append_long, append_number, append_string,
-};
+pub use writing::{WriteFault, append_label, write_scalar};

@@ -7,8 +7,7 @@ ghost use Rattle.bd_value.specs.View.{view_of};
 ghost use Rattle.bd_value.specs.Tree.{fields_of, items_of, values_of, HasNoParts};
 ghost use Rattle.bd_value.specs.Fits.{zero_in_leaf, has_zero, zero_in, zero_in_fields, zero_in_items};
 ghost use Rattle.bd_bson_view.specs.Spelling.{type_byte as byte_of, number, long, string, data_of, framed, element, IsName, IsValue, AreFields, AreItems};
-ghost use Rattle.bd_bson_write.specs.TreeBytes.{OverrunsLimit, bytes_of, fields_bytes, items_bytes};
-ghost use Rattle.bd_bson_write.specs.inside.TreeBytes.{leaf_bytes, LeafSpells};
+ghost use Rattle.bd_bson_write.specs.TreeBytes.{LeafSpells, OverrunsLimit, bytes_of, fields_bytes, items_bytes, leaf_bytes};
 
 use bd_bson_view::type_byte;
 use bd_value::{Kind, LONGEST_DOCUMENT, NoMemory, Reading, Scalar};
@@ -200,9 +199,14 @@ pub(crate) fn seal(at: usize, out: &mut Vec<u8>) -> Result<(), WriteFault>
     Ok(())
 }
 
-/// Appends a scalar, or the code of code with scope.
+/// Appends the bytes of a scalar, or of the code of code with scope: BSON 1.1, the values of `element`.
+///
+/// # Errors
+/// `WriteFault::TooLong` if a text or data has more than 16,793,600 bytes; `WriteFault::NoMemory`. In both cases `out` may end
+/// with some of the bytes.
+#[inline(always)]
 #[tactic(auto, using(bd_value::proofs::PrefixLemmas::prefixes))]
-fn write_scalar(scalar: Scalar<'_>, out: &mut Vec<u8>) -> Result<(), WriteFault>
+pub fn write_scalar(scalar: Scalar<'_>, out: &mut Vec<u8>) -> Result<(), WriteFault>
     requires { zero_in_leaf (view_of scalar) ≡ false }
     ensures ok { OnOk result (out.new.items ≡ out.old.items ++ leaf_bytes (view_of scalar.entry)) }
     ensures spells { OnOk result (LeafSpells (view_of scalar.entry)) }
@@ -241,7 +245,7 @@ fn write_scalar(scalar: Scalar<'_>, out: &mut Vec<u8>) -> Result<(), WriteFault>
 /// `WriteFault::TooLong` if there are more than 16,793,600 bytes; `WriteFault::NoMemory`. In both cases `out` may end with some
 /// of the bytes.
 #[tactic(auto, using(bd_value::proofs::PrefixLemmas::prefixes))]
-pub fn append_binary(subtype: u8, payload: &[u8], out: &mut Vec<u8>) -> Result<(), WriteFault>
+fn append_binary(subtype: u8, payload: &[u8], out: &mut Vec<u8>) -> Result<(), WriteFault>
     ensures ok { OnOk result
         ((out.new.items ≡ out.old.items
         ++ (number (length (data_of subtype payload.now)) ++ subtype ∷ data_of subtype payload.now))
@@ -291,7 +295,7 @@ fn data_length(subtype: u8, payload: &[u8]) -> u32
 /// some of the bytes.
 #[tactic(auto, using(bd_value::proofs::PrefixLemmas::prefixes))]
 #[inline(always)]
-pub fn append_string(text: &str, out: &mut Vec<u8>) -> Result<(), WriteFault>
+fn append_string(text: &str, out: &mut Vec<u8>) -> Result<(), WriteFault>
     ensures ok { OnOk result ((out.new.items ≡ out.old.items ++ string text.now)
         × (length text.now ≤ longest_document)) }
     ensures err { IfErr result (OverrunsLimit (length out.old.items + length (string text.now))) }
@@ -325,7 +329,7 @@ fn write_name(name: &str, out: &mut Vec<u8>) -> Result<(), NoMemory>
 /// `NoMemory`: memory ran out, and `out` is unchanged.
 #[inline(always)]
 #[tactic(auto, unfolding(bd_bson_view::specs::Spelling::long))]
-pub fn append_long(n: u64, out: &mut Vec<u8>) -> Result<(), NoMemory>
+fn append_long(n: u64, out: &mut Vec<u8>) -> Result<(), NoMemory>
     ensures ok { OnOk result (out.new.items ≡ out.old.items ++ long n) }
     ensures unchanged { OnErr result (out.new.items ≡ out.old.items) }
 {
@@ -338,7 +342,7 @@ pub fn append_long(n: u64, out: &mut Vec<u8>) -> Result<(), NoMemory>
 /// `NoMemory`: memory ran out, and `out` is unchanged.
 #[inline(always)]
 #[tactic(auto, unfolding(bd_bson_view::specs::Spelling::number))]
-pub fn append_number(n: u32, out: &mut Vec<u8>) -> Result<(), NoMemory>
+pub(crate) fn append_number(n: u32, out: &mut Vec<u8>) -> Result<(), NoMemory>
     ensures ok { OnOk result (out.new.items ≡ out.old.items ++ number n) }
     ensures unchanged { OnErr result (out.new.items ≡ out.old.items) }
 {

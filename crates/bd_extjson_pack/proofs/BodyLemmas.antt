@@ -1,12 +1,13 @@
 -- Bytes of elements, one after the other; a whole text, and wrappers of one string, from their tokens.
-use Rattle.std.proofs.Common.{◌≡◌, ◌≢◌, ◌≤◌, ◌+◌, ℕ, zero, suc, List, [], ◌∷◌, ◌++◌, length, take, drop, take_at, drop_at, refl, sym, ap, ap₂, ◌∙◌, arith, append_assoc, append-nil}
+use Rattle.std.proofs.Common.{◌≡◌, ◌≢◌, ◌≤◌, ◌+◌, ℕ, zero, suc, List, [], ◌∷◌, ◌++◌, length, take, drop, take_at, drop_at, length-drop, get_or, refl, sym, ap, ap₂, ◌∙◌, arith, append_assoc, append-nil}
 use Rattle.std.proofs.Common.{length-append, false, true≢false, Option, Some, None, Result, Ok, Err, ◌-◌, ◌<◌, ◌^◌, ℤ, pos, negsuc, true, option_map, option_and_then}
 use Rattle.std.proofs.Common.{to_z, of_z}
 use Rattle.std.specs.{Option.is_some, Result.result_ok, Int.w32, Int.w64, Int.RustNames.FitsSigned}
 use Rattle.std.specs.Prelude.{decimal}
+use Rattle.std.proofs.Math.Seq.{drop-cons}
 use Rattle.json.specs.{Token.Token, Json.parse_map, Json.Json, Json.members, Json.value, Json.read_key, Find.as_str}
 use Rattle.bd_value.specs.Tree.{Tree, Items, Fields, Doc, fields_of, items_of, Scalar, leaf, doc, array}
-use Rattle.bd_bson_view.specs.{Unique.number_length, Spelling.number, Spelling.framed, Spelling.element}
+use Rattle.bd_bson_view.specs.{Unique.number_length, Spelling.number, Spelling.element, Spelling.type_byte}
 use Rattle.bd_bson_write.specs.TreeBytes.{bytes_of, fields_bytes, items_bytes}
 use Rattle.bd_extjson_wrapper.specs.{Wrapper.through, Wrapper.after_key, Wrapper.wrapper_of, Wrapper.single, Wrapper.is_code_name, Wrapper.is_scope_name}
 use Rattle.bd_extjson_wrapper.specs.{WholeNumber.fits_bits, WholeNumber.if_fits, WholeNumber.whole as whole_number, WholeNumber.whole_32, WholeNumber.whole_64}
@@ -22,6 +23,8 @@ use Rattle.json.specs.declared.token.Token.TheVariants as read
 use Rattle.std.specs.Borrow.{Bor}
 use Rattle.json.proofs.Grammar.{value_is}
 use Rattle.bd_value.specs.Tree as trees
+use Rattle.bd_value.specs.View.{kind_of}
+use Rattle.bd_value.specs.declared.node.Kind.{Kind}
 use Rattle.bd_extjson.specs.Read.{wrap, wrap_object, wrap_fields, wrapped, with_scope, two, bare_number, reading, document}
 use Rattle.bd_extjson.proofs.MemberLemmas as of_members
 use Rattle.std.specs.Str.{IsUtf8}
@@ -62,27 +65,53 @@ pub body_size : (at : ℕ) (old body out : List ℕ) → at ≡ length old → o
 body_size at old body out here is =
     omega (arith, here, ap (λ xs. length xs) is, length-append (old ++ number 0) body, length-append old (number 0), number_length 0)
 
--- a body that is ended at the offset where it began is framed
-pub ended : (at : ℕ) (old body out : List ℕ) → at ≡ length old → out ≡ (old ++ number 0) ++ body → take at out ++ framed (drop (at + 4) out) ≡ old ++ framed body
-ended at old body out here is =
-    let whole : out ≡ old ++ (number 0 ++ body) = is ∙ append_assoc old (number 0) body in
+-- an element whose type was put before its name, once its value was appended
+pub element_put : (old begun valued ended : List ℕ) (at : ℕ) (kind : Kind) (first : ℕ) (name : List ℕ) (t : Tree) → at ≡ length old → begun ≡ old ++ (first ∷ (name ++ 0 ∷ []))
+    → kind ≡ kind_of t → valued ≡ begun ++ bytes_of t
+    → ((before : List ℕ) (byte : ℕ) (after : List ℕ) → valued ≡ before ++ (byte ∷ after) → at ≡ length before → ended ≡ before ++ (type_byte kind ∷ after))
+    → ended ≡ old ++ element t name (bytes_of t)
+element_put old begun valued ended at kind first name t here begins of value puts =
+    let all : valued ≡ old ++ (first ∷ (name ++ (0 ∷ bytes_of t))) = value ∙ rw begins (simp append_assoc) in
+    puts old first (name ++ (0 ∷ bytes_of t)) all here ∙ ap (λ k. old ++ (type_byte k ∷ (name ++ (0 ∷ bytes_of t)))) of
+
+-- the byte for the type of such an element is among the bytes
+pub element_inside : (old begun valued : List ℕ) (at first : ℕ) (name : List ℕ) (t : Tree) → at ≡ length old → begun ≡ old ++ (first ∷ (name ++ 0 ∷ []))
+    → valued ≡ begun ++ bytes_of t → at < length valued
+element_inside old begun valued at first name t here begins value =
+    omega (arith, here, ap (λ x. length x) begins, ap (λ x. length x) value, length-append old (first ∷ (name ++ 0 ∷ [])), length-append begun (bytes_of t))
+
+-- digits that end before a zero, with that and one byte before them
+pub digits_label : (digits after : List ℕ) (at start n : ℕ) → at + 1 ≡ start → start + length (decimal n) ≡ 20 → drop start digits ≡ decimal n ++ (0 ∷ after)
+    → (first : ℕ) × (take (21 - at) (drop at digits) ≡ first ∷ (decimal n ++ 0 ∷ []))
+digits_label digits after at start n before ends is =
+    let first = get_or digits at 0 in
+    let next : suc at ≡ start = omega (arith, before) in
+    let longer : at < length digits = omega (arith, next, ap (λ x. length x) is, length-append (decimal n) (0 ∷ after), length-drop start digits) in
+    let all : drop at digits ≡ (first ∷ (decimal n ++ 0 ∷ [])) ++ after = drop-cons digits at 0 longer ∙ ap (λ k. first ∷ drop k digits) next ∙ ap (λ x. first ∷ x) is ∙ simp append_assoc in
+    let size : length (first ∷ (decimal n ++ 0 ∷ [])) ≡ 21 - at = omega (arith, next, ends, length-append (decimal n) (0 ∷ [])) in
+    (first, ap (take (21 - at)) all ∙ take_at (first ∷ (decimal n ++ 0 ∷ [])) after (21 - at) size)
+
+-- what is ended at the offset where it began is there, with its length before it
+pub ended : (whole : List ℕ → List ℕ) (at : ℕ) (old body out : List ℕ) → at ≡ length old → out ≡ (old ++ number 0) ++ body → take at out ++ whole (drop (at + 4) out) ≡ old ++ whole body
+ended whole at old body out here is =
+    let all : out ≡ old ++ (number 0 ++ body) = is ∙ append_assoc old (number 0) body in
     let size : length (old ++ number 0) ≡ at + 4 = omega (arith, here, length-append old (number 0), number_length 0) in
-    let prefix : take at out ≡ old = ap (take at) whole ∙ take_at old (number 0 ++ body) at (sym here) in
+    let prefix : take at out ≡ old = ap (take at) all ∙ take_at old (number 0 ++ body) at (sym here) in
     let back : drop (at + 4) out ≡ body = ap (drop (at + 4)) is ∙ drop_at (old ++ number 0) body (at + 4) size in
-    ap₂ (λ (x y : List ℕ). x ++ framed y) prefix back
+    ap₂ (λ (x y : List ℕ). x ++ whole y) prefix back
 
 -- ---- what is read and written, or refused
 
 -- what is made of what is read, and written so
-pub if_read : {A B : Type 0} (make : A → B) (Written : A → Type 0) (Whole : B → Type 0) (rest : List Token) {X : Type 0} (r : Result X Refusal)
-    (read : Option (A × List Token)) (whole : Option (B × List Token)) → whole ≡ parse_map make read → ((x : A) → Written x → Whole (make x))
+pub if_read : {A B X : Type 0} (make : A → B) (Written : X → A → Type 0) (Whole : X → B → Type 0) (rest : List Token) (r : Result X Refusal)
+    (read : Option (A × List Token)) (whole : Option (B × List Token)) → whole ≡ parse_map make read → ((u : X) (x : A) → Written u x → Whole u (make x))
     → Writes Written rest r read → Writes Whole rest r whole
-if_read make Written Whole rest (Ok u) read whole e f w = (make w.0, e ∙ ap (parse_map make) w.1, f w.0 w.2)
+if_read make Written Whole rest (Ok u) read whole e f w = (make w.0, e ∙ ap (parse_map make) w.1, f u w.0 w.2)
 if_read make Written Whole rest (Err refusals.Unread) read whole e f w = e ∙ ap (parse_map make) w
 if_read make Written Whole rest (Err (refusals.Unwritten fault)) read whole e f w = tt
 
 -- an object whose first name is a wrapper's
-pub if_wrapper : {X : Type 0} (Written : Tree → Type 0) (rest : List Token) (r : Result X Refusal) (w : Wrapper) (depth_left depth n : ℕ)
+pub if_wrapper : {X : Type 0} (Written : X → Tree → Type 0) (rest : List Token) (r : Result X Refusal) (w : Wrapper) (depth_left depth n : ℕ)
     (ts : List Token) (key : Option (List ℕ)) → option_and_then wrapper_of key ≡ Some w
     → ((name : List ℕ) → wrapper_of name ≡ Some w → Writes Written rest r (through (wrap_object depth_left) (after_key depth n (Some name) ts)))
     → Writes Written rest r (through (wrap_object depth_left) (after_key depth n key ts))

@@ -2,7 +2,7 @@
 use Rattle.std.proofs.Common.{◌-◌, ◌≡◌, ◌<◌, ◌≤◌, ℕ, suc, ℤ, List, [], ◌∷◌, ◌++◌, eqb, get_or, Bor, length, take, drop, Bool, true, false, cond, Option, Some, None, refl}
 use Rattle.std.proofs.Common.{sym, ap, ap₂, ◌∙◌, arith, append_assoc, append-nil, length-append, take-append-drop, Result, Ok, Err, zero, ◌^◌, pos, neg_ℤ, decimal}
 use Rattle.std.proofs.Common.{inl, inr, ◌+◌, ◌*◌}
-use Rattle.std.specs.Prelude.{codes, ◌||◌, ◌==◌, ◌/◌, ◌%◌, nat_lt, slice_range, IfSome, IfOk, IsUtf8, OnOk}
+use Rattle.std.specs.Prelude.{codes, ◌||◌, ◌==◌, ◌/◌, ◌%◌, nat_lt, slice_index, slice_range, IfSome, IfOk, IsUtf8, OnOk}
 use Rattle.std.specs.{List.list_any, List.join_with_byte, List.prefix_len, Char.digit_char, Char.is_ascii_digit, Str.bytes_eq}
 use Rattle.std.specs.{Fmt.signed_decimal, Result.result_ok, Result.is_err, Str.Parse.digits_value, Str.Parse.AllDigits}
 use Rattle.core.proofs.dec2flt.Rows.{AllDigits-digits_len, short_fits}
@@ -11,8 +11,9 @@ use Rattle.bd_value.specs.{Limits.longest_document, Limits.most_levels, Tree.fie
 use Rattle.bd_value.specs.Fits.{has_zero, zero_in_scalar, zero_in, zero_in_fields, zero_in_items}
 use Rattle.bd_value.specs.Fits.{ScalarFits, FieldsFit, ItemsFit, IsId}
 use Rattle.bd_value.specs.Tree as trees
+use Rattle.bd_value.specs.View.{kind_of}
+use Rattle.bd_value.specs.declared.node.Kind.{Kind}
 use Rattle.bd_value.specs.Tree.{Scalar, Tree, leaf, doc, array, code_scope, Items, Fields, item, field, Doc, fields_of, items_of}
-use Rattle.bd_bson_view.specs.Spelling.{element, string}
 use Rattle.bd_bson_write.specs.TreeBytes.{bytes_of}
 use Rattle.std.specs.Result.{result_ok}
 use Rattle.bd_extjson_wrapper.specs.Wrapper.{wrapper_of}
@@ -20,6 +21,8 @@ use Rattle.bd_extjson.specs.{Laws.IsPlainFirst, Laws.ArePlainFields, Laws.ArePla
 use Rattle.bd_extjson_text.specs.Text.{needs_escape, escape_byte, escaped, quoted, hex_text, base64_text, scalar_text, member, text, items_text, fields_text}
 use Rattle.std.proofs.lemmas.Option.{MatchOption-at_some}
 use Rattle.std.proofs.{lemmas.Bool.or_parts, lemmas.Bool.or_from, lemmas.Bool.cases_lt}
+use Rattle.std.proofs.lemmas.List.{take_at}
+use Rattle.std.proofs.lemmas.Str.{IsUtf8-append, IsUtf8-from_ascii}
 use Rattle.std.proofs.{lemmas.Bool.Decides.nat_tests, lemmas.Grind.flat_map-append}
 use Rattle.std.proofs.{lemmas.List.length-take-le, lemmas.List.get_or-take}
 use Rattle.std.proofs.{lemmas.Fmt.decimal-digits_value, lemmas.Fmt.decimal_is_IsNumeral, lemmas.Slice.Eq.bytes_eq-Decides}
@@ -42,12 +45,21 @@ no_zero (b ∷ s) e =
 
 -- a string is read: the first quotation mark, bytes without escapes, the last quotation mark
 pub string_read : (whole after inside last rest : List ℕ) (n : ℕ) → whole ≡ 34 ∷ after → inside ≡ take n after → last ≡ drop n after → last ≡ 34 ∷ rest → list_any needs_escape (take n after) ≡ false
-    → (whole ≡ quoted inside ++ rest) × (has_zero inside ≡ false)
+    → (whole ≡ quoted inside ++ rest) × (has_zero inside ≡ false) × (escaped inside ≡ inside)
 unfolding quoted
 string_read whole after inside last rest n begins is remaining ends none =
     let plain : list_any needs_escape inside ≡ false = rw is none in
     let all : after ≡ inside ++ (34 ∷ rest) = sym (take-append-drop n after) ∙ rw (← is, ← remaining, ends) refl in
-    (rw (begins, all, escaped-plain inside plain, append_assoc inside (34 ∷ []) rest) refl, no_zero inside plain)
+    (rw (begins, all, escaped-plain inside plain, append_assoc inside (34 ∷ []) rest) refl, no_zero inside plain, escaped-plain inside plain)
+
+-- the name of a field with its quotation marks, and the text that begins with it
+pub name_read : (whole name rest value label : List ℕ) → whole ≡ quoted name ++ rest → escaped name ≡ name → rest ≡ 58 ∷ value → label ≡ take (length name + 2) whole
+    → (label ≡ 34 ∷ (name ++ 34 ∷ [])) × (whole ≡ quoted name ++ (58 ∷ value))
+unfolding quoted
+name_read whole name rest value label is plain colon prefix =
+    let size : length (34 ∷ (name ++ 34 ∷ [])) ≡ length name + 2 = omega (arith, length-append name (34 ∷ [])) in
+    let all : whole ≡ (34 ∷ (name ++ 34 ∷ [])) ++ rest = rw plain at is in
+    (prefix ∙ ap (take (length name + 2)) all ∙ take_at (34 ∷ (name ++ 34 ∷ [])) rest (length name + 2) size, is ∙ ap (λ x. quoted name ++ x) colon)
 
 -- ---- lists of texts
 
@@ -188,6 +200,7 @@ binary_text payload subtype =
     ap (λ x. codes "{\"$binary\":{\"base64\":" ++ x)
     (nested (quoted (encode_of standard payload)) (codes ",\"subType\":") (quoted (hex_text (subtype ∷ []))) (125 ∷ []) (125 ∷ []))
 
+-- a scalar that fits is read back from its canonical text
 pub leaf_canonical : (s : Scalar) → ScalarFits IsUtf8 s → zero_in_scalar s ≡ false → IsCanonical 0 (leaf s)
 leaf_canonical s fits none = record { fits = fits; determined = tt; no_zero = none; shallow = omega arith }
 
@@ -211,15 +224,14 @@ shorter t whole rest is = omega (arith, some_tree_text t, ap (λ x. length x) is
 -- ---- a value that was read
 
 -- the scalar that was read, and the one that was written
-pub scalar_element : (whole rest name old new : List ℕ) (s given : Scalar) → given ≡ s → whole ≡ text (leaf s) ++ rest → ScalarFits IsUtf8 s → zero_in_scalar s ≡ false
-    → new ≡ old ++ element (leaf given) name (bytes_of (leaf given)) → (t : Tree) × (whole ≡ text t ++ rest) × IsCanonical 0 t × (new ≡ old ++ element t name (bytes_of t))
-scalar_element whole rest name old new s given same is fits none put = (leaf s, is, leaf_canonical s fits none, rw (← same) put)
+pub scalar_value : (whole rest old new : List ℕ) (kind : Kind) (s given : Scalar) → given ≡ s → whole ≡ text (leaf s) ++ rest → ScalarFits IsUtf8 s → zero_in_scalar s ≡ false
+    → kind ≡ kind_of (leaf s) → new ≡ old ++ bytes_of (leaf given) → (t : Tree) × (whole ≡ text t ++ rest) × IsCanonical 0 t × (kind ≡ kind_of t) × (new ≡ old ++ bytes_of t)
+scalar_value whole rest old new kind s given same is fits none of put = (leaf s, is, leaf_canonical s fits none, of, rw (← same) put)
 
--- a JSON string that was read is packed as an element with that string
-pub string_element : (whole rest name s old new : List ℕ) → whole ≡ quoted s ++ rest → IsUtf8 s → new ≡ old ++ element (leaf (trees.text s)) name (string s)
-    → (t : Tree) × (whole ≡ text t ++ rest) × IsCanonical 0 t × (new ≡ old ++ element t name (bytes_of t))
+-- a JSON string is the text of a text
+pub text_read : (whole rest s : List ℕ) → whole ≡ quoted s ++ rest → whole ≡ text (leaf (trees.text s)) ++ rest
 unfolding scalar_text
-string_element whole rest name s old new is utf8 put = scalar_element whole rest name old new (trees.text s) (trees.text s) refl is utf8 refl put
+text_read whole rest s is = is
 
 pub packs_canonical : (line rest new old : List ℕ) (d : Doc) → line ≡ text (doc (fields_of d)) ++ rest → AreCanonicalFields (most_levels - 1) d
     → length new ≤ longest_document → new ≡ old ++ plain d → length rest ≡ 0 → (d : Doc) × IsPackable line d × (new ≡ old ++ plain d)
@@ -237,14 +249,20 @@ when_read o (Err d) e p f = tt
 
 pub run_read : (text : List ℕ) (n : ℕ) (o : Option (Bor (List ℕ) × Bor (List ℕ))) → IfSome o (λ x. x.0.now ≡ take n text)
     → IfSome o (λ x. x.1.now ≡ drop n text) → list_any needs_escape (take n text) ≡ false
-    → IfSome o (λ p. text ≡ escaped p.0.now ++ p.1.now)
+    → IfSome o (λ p. (text ≡ p.0.now ++ p.1.now) × (escaped p.0.now ≡ p.0.now))
 run_read text n None prefix back none = tt
 run_read text n (Some p) prefix back none =
-    sym (take-append-drop n text) ∙ ap₂ (λ (x y : List ℕ). x ++ y) (sym (escaped-plain (take n text) none) ∙ ap escaped (sym prefix)) (sym back)
+    (sym (take-append-drop n text) ∙ ap₂ (λ (x y : List ℕ). x ++ y) (sym prefix) (sym back), ap escaped prefix ∙ escaped-plain (take n text) none ∙ sym prefix)
+
+-- a run and the byte after it
+pub run_and_one : (text run rest piece : List ℕ) → text ≡ run ++ rest → piece ≡ take (length run + 1) text → length run + 1 ≤ length text → (last : ℕ) × (piece ≡ run ++ last ∷ [])
+run_and_one text run [] piece is prefix within = absurd (omega (arith, within, ap (λ x. length x) is, length-append run []))
+run_and_one text run (x ∷ rest) piece is prefix within =
+    (x, prefix ∙ ap (take (length run + 1)) (is ∙ sym (append_assoc run (x ∷ []) rest)) ∙ take_at (run ++ x ∷ []) rest (length run + 1) (length-append run (x ∷ [])))
 
 -- an escape and the run after it are the text of one more byte and the run
-pub run_goes_on : (text decoded old after run rest : List ℕ) (byte : ℕ) → text ≡ 34 ∷ (escaped decoded ++ old) → old ≡ escape_byte byte ++ after
-    → after ≡ escaped run ++ rest → text ≡ 34 ∷ (escaped (decoded ++ (byte ∷ run)) ++ rest)
+pub run_goes_on : (text decoded old after run rest : List ℕ) (byte : ℕ) → text ≡ escaped decoded ++ old → old ≡ escape_byte byte ++ after
+    → after ≡ escaped run ++ rest → text ≡ escaped (decoded ++ (byte ∷ run)) ++ rest
 run_goes_on text decoded old after run rest byte a b c = rw (a, b, c, flat_map-append escape_byte decoded (byte ∷ run)) (simp append_assoc)
 
 escape_some : (byte : ℕ) → 0 < length (escape_byte byte)
@@ -261,17 +279,20 @@ escape_some byte = go (byte == 34 || byte == 92) (byte == 8) (byte == 12) (byte 
 pub run_shorter : (old after run rest : List ℕ) (byte : ℕ) → old ≡ escape_byte byte ++ after → after ≡ escaped run ++ rest → length rest < length old
 run_shorter old after run rest byte a b = omega (arith, ap (λ x. length x) a, ap (λ x. length x) b, length-append (escape_byte byte) after, length-append (escaped run) rest, escape_some byte)
 
-pub run_ends : (text decoded old : List ℕ) (o : Option (Bor (List ℕ))) (into new : List ℕ) → text ≡ 34 ∷ (escaped decoded ++ old) → new ≡ into ++ decoded → IfSome o (λ rest. old ≡ 34 ∷ rest.now)
-    → IfSome o (λ rest. (decoded : List ℕ) × (text ≡ quoted decoded ++ rest.now) × (new ≡ into ++ decoded))
+-- a string between its quotation marks
+pub string_read_whole : (whole inside rest s : List ℕ) → whole ≡ 34 ∷ inside → inside ≡ escaped s ++ (34 ∷ rest) → whole ≡ quoted s ++ rest
 unfolding quoted
-run_ends text decoded old None into new a b c = tt
-run_ends text decoded old (Some rest) into new a b c = (decoded, rw (a, c) (simp append_assoc), b)
+string_read_whole whole inside rest s a b = rw (a, b) (simp append_assoc)
 
--- ---- what is pushed to a text
+pub utf8_goes_on : (decoded run : List ℕ) (byte : ℕ) → IsUtf8 decoded → byte < 128 → IsUtf8 run → IsUtf8 (decoded ++ (byte ∷ run))
+utf8_goes_on decoded run byte before low after =
+    IsUtf8-append decoded (byte ∷ run) before (IsUtf8-append (byte ∷ []) run (IsUtf8-from_ascii (byte ∷ []) ascii) after)
+  where
+    ascii : (i : ℕ) → slice_index (byte ∷ []) i < 128
+    ascii zero = low
+    ascii (suc i) = omega arith
 
-pub pieces_put : (into old decoded plain one new encoded : List ℕ) (byte : ℕ) → old ≡ into ++ decoded → one ≡ old ++ encoded → encoded ≡ byte ∷ []
-    → new ≡ one ++ plain → new ≡ into ++ (decoded ++ (byte ∷ plain))
-pieces_put into old decoded plain one new encoded byte a b c d = rw (d, b, a, c) (simp append_assoc)
+-- ---- digits of bytes
 
 pub hex_is : {A E : Type 0} (r : Result A E) (digits written bytes : List ℕ) → is_err r ≡ false → OnOk r (written ≡ encode_lower bytes) → bytes_eq digits written ≡ true → digits ≡ hex_text bytes
 unfolding hex_text

@@ -1,9 +1,10 @@
 //! The bytes of a document straight from its canonical text, as `dump` writes it. A line that is spelled in another way, or is
 //! not a document, is `Refusal::Unread`. What takes no memory, and reads a part of the text, is then only None.
-ghost use Rattle.std.specs.Prelude.{◌≡◌, ◌<◌, ◌≤◌, ◌++◌, ◌∷◌, [], ℕ, List, length, false, None, IfOk, OnOk, IfErr, IfSome, ◌^◌, string_bytes, decimal, get_or, IsTrue};
+ghost use Rattle.std.specs.Prelude.{◌≡◌, ◌<◌, ◌≤◌, ◌++◌, ◌∷◌, [], ℕ, List, length, false, None, IfOk, OnOk, IfErr, IfSome, ◌^◌, decimal, get_or, IsTrue, IsUtf8};
 ghost use Rattle.bd_value.specs.Limits.{longest_document};
 ghost use Rattle.bd_value.specs.Tree.{Tree, Doc, leaf, doc, array, fields_of, items_of};
-ghost use Rattle.bd_bson_view.specs.Spelling.{element};
+ghost use Rattle.bd_value.specs.View.{kind_of};
+ghost use Rattle.bd_bson_view.specs.Spelling.{string as bson_string};
 ghost use Rattle.bd_bson_write.specs.TreeBytes.{bytes_of};
 ghost use Rattle.bd_extjson_wrapper.specs.Wrapper.{wrapper_of};
 ghost use Rattle.bd_extjson_text.specs.Text.{text as text_of, items_text, fields_text, escape_byte, escaped, quoted, hex_text};
@@ -15,17 +16,14 @@ ghost use Rattle.base64.specs.{Engines.standard, GeneralPurpose.encode_of, Gener
 ghost use Rattle.bd_value.specs.Fits.{AreBytes, IsId, has_zero};
 ghost use Rattle.bd_value.specs.Tree as trees;
 
-use crate::elements::{
-    append_binary, append_bool, append_date, append_id, append_int32, append_int64, append_null,
-    append_text,
-};
+use crate::elements::{append_leaf, begin_element, begin_item, end_element, end_string, set_last};
 use crate::refusal::Refusal;
 use base64::DecodeAllocError;
 use base64::engine::general_purpose::STANDARD;
-use bd_bson_write::{WriteFault, append_label, begin_body, end_body};
+use bd_bson_write::{WriteFault, begin_body, end_body};
 use bd_extjson_text::plain_length;
 use bd_extjson_wrapper::id_of_text;
-use bd_value::{Kind, MOST_LEVELS};
+use bd_value::{Kind, MOST_LEVELS, Scalar};
 use core::dec2flt::read_digits;
 use std::alloc::Global;
 
@@ -60,7 +58,10 @@ fn append_fields<'a>(
     let mut next = unless_ended(rest, b'}');
     while let Some(at) = next {
         let (name, value) = field_name(at).ok_or(Refusal::Unread)?;
-        rest = append_next(value, name, depth_left, out)?;
+        let element = begin_element(name.as_bytes(), out)?;
+        let (kind, after) = append_next(value, depth_left, out)?;
+        end_element(element, kind, out);
+        rest = after;
         next = after_word(rest, b",");
     }
     end_body(start, out)?;
@@ -80,8 +81,10 @@ fn append_items<'a>(text: &'a str, depth_left: usize, out: &mut Vec<u8>) -> Resu
     let mut index: u32 = 0;
     let mut next = unless_ended(rest, b']');
     while let Some(at) = next {
-        let mut digits = itoa::Buffer::new();
-        rest = append_next(at, digits.format(index), depth_left, out)?;
+        let element = begin_item(index, out)?;
+        let (kind, after) = append_next(at, depth_left, out)?;
+        end_element(element, kind, out);
+        rest = after;
         index = index
             .checked_add(1)
             .ok_or(Refusal::Unwritten(WriteFault::TooLong))?;
@@ -91,32 +94,25 @@ fn append_items<'a>(text: &'a str, depth_left: usize, out: &mut Vec<u8>) -> Resu
     after_word(rest, b"]").ok_or(Refusal::Unread)
 }
 
-/// Appends the element of that name for the value that the text begins with, and returns what follows. It has at most
-/// `depth_left` levels of documents and arrays.
+/// Appends the value that the text begins with, and returns its kind and what follows. It has at most `depth_left` levels of
+/// documents and arrays.
 #[cycle(canonical)]
 fn append_next<'a>(
     text: &'a str,
-    name: &str,
     depth_left: usize,
     out: &mut Vec<u8>,
-) -> Result<&'a str, Refusal>
-    ensures { IfOk result (λ rest. (t : Tree)
-        × (text.now ≡ text_of t ++ rest.now) × IsCanonical depth_left t
-        × (out.new.items ≡ out.old.items ++ element t name.now (bytes_of t))) }
+) -> Result<(Kind, &'a str), Refusal>
+    ensures { IfOk result (λ p. (t : Tree)
+        × (text.now ≡ text_of t ++ p.1.now) × IsCanonical depth_left t × (p.0 ≡ kind_of t)
+        × (out.new.items ≡ out.old.items ++ bytes_of t)) }
 {
     match text.as_bytes() {
-        [b'"', ..] => append_string(text, name, out),
-        [b'{', b'"', b'$', ..] => append_wrapper(text, name, out),
+        [b'"', ..] => Ok((Kind::Text, append_string(text, out)?)),
+        [b'{', b'"', b'$', ..] => append_wrapper(text, out),
         [b'{' | b'[', ..] if depth_left == 0 => Err(Refusal::Unread),
-        [b'{', ..] => {
-            append_label(Kind::Doc, name, out)?;
-            append_fields(text, depth_left - 1, out)
-        }
-        [b'[', ..] => {
-            append_label(Kind::Array, name, out)?;
-            append_items(text, depth_left - 1, out)
-        }
-        _ => append_word(text, name, out),
+        [b'{', ..] => Ok((Kind::Doc, append_fields(text, depth_left - 1, out)?)),
+        [b'[', ..] => Ok((Kind::Array, append_items(text, depth_left - 1, out)?)),
+        _ => append_word(text, out),
     }
 }
 
@@ -131,17 +127,19 @@ fn unless_ended<'a>(text: &'a str, bracket: u8) -> Option<&'a str>
     }
 }
 
-/// The name of a field, which is no wrapper's, and what follows the colon.
+/// The name of a field in its quotation marks, which is no wrapper's, and what follows the colon.
 #[inline(always)]
 fn field_name<'a>(text: &'a str) -> Option<(&'a str, &'a str)>
-    ensures { IfSome result (λ p. (text.now ≡ quoted p.0.now ++ (58 ∷ p.1.now))
-        × (has_zero p.0.now ≡ false) × (wrapper_of p.0.now ≡ None)) }
+    ensures { IfSome result (λ p. (name : List ℕ) × IsUtf8 name
+        × (p.0.now ≡ 34 ∷ (name ++ 34 ∷ [])) × (text.now ≡ quoted name ++ (58 ∷ p.1.now))
+        × (has_zero name ≡ false) × (wrapper_of name ≡ None)) }
 {
     let (name, rest) = string(text)?;
     if may_name_wrapper(name) {
         return None;
     }
-    Some((name, after_word(rest, b":")?))
+    let (quoted, _) = text.split_at_checked(name.len() + 2)?;
+    Some((quoted, after_word(rest, b":")?))
 }
 
 /// Whether a name begins as the names of all wrappers do.
@@ -155,105 +153,105 @@ fn may_name_wrapper(name: &str) -> bool
     }
 }
 
-/// Appends the element of that name for the wrapper that the text begins with.
+/// Appends the value of the wrapper that the text begins with, and returns its kind and what follows.
 #[inline(always)]
-fn append_wrapper<'a>(text: &'a str, name: &str, out: &mut Vec<u8>) -> Result<&'a str, Refusal>
-    ensures { IfOk result (λ rest. (t : Tree) × (text.now ≡ text_of t ++ rest.now)
-        × IsCanonical 0 t × (out.new.items ≡ out.old.items ++ element t name.now (bytes_of t))) }
+fn append_wrapper<'a>(text: &'a str, out: &mut Vec<u8>) -> Result<(Kind, &'a str), Refusal>
+    ensures { IfOk result (λ p. (t : Tree) × (text.now ≡ text_of t ++ p.1.now)
+        × IsCanonical 0 t × (p.0 ≡ kind_of t) × (out.new.items ≡ out.old.items ++ bytes_of t)) }
 {
     // By a byte in which they differ.
     match text.as_bytes().get(9) {
         Some(b'I') => {
             let (n, rest) = int32(text).ok_or(Refusal::Unread)?;
-            append_int32(name, n, out)?;
-            Ok(rest)
+            Ok((append_leaf(Kind::Int32, Scalar::Int32(n), out)?, rest))
         }
         Some(b'L') => {
             let (n, rest) = int64(text).ok_or(Refusal::Unread)?;
-            append_int64(name, n, out)?;
-            Ok(rest)
+            Ok((append_leaf(Kind::Int64, Scalar::Int64(n), out)?, rest))
         }
         Some(b'{') => {
             let (n, rest) = date(text).ok_or(Refusal::Unread)?;
-            append_date(name, n, out)?;
-            Ok(rest)
+            Ok((append_leaf(Kind::Date, Scalar::Date(n), out)?, rest))
         }
         Some(b'"') => {
             let (subtype, digits, rest) = binary(text).ok_or(Refusal::Unread)?;
             let payload = decoded(*out.allocator(), digits)?;
-            append_binary(name, subtype, &payload, out)?;
-            Ok(rest)
+            let scalar = Scalar::Binary {
+                subtype,
+                payload: &payload,
+            };
+            Ok((append_leaf(Kind::Binary, scalar, out)?, rest))
         }
         _ => {
             let (id, rest) = object_id(text).ok_or(Refusal::Unread)?;
-            append_id(name, &id, out)?;
-            Ok(rest)
+            Ok((
+                append_leaf(Kind::ObjectId, Scalar::ObjectId(id), out)?,
+                rest,
+            ))
         }
     }
 }
 
-/// Appends the element of that name for the literal that the text begins with.
+/// Appends the value of the literal that the text begins with, and returns its kind and what follows.
 #[inline(always)]
-fn append_word<'a>(text: &'a str, name: &str, out: &mut Vec<u8>) -> Result<&'a str, Refusal>
-    ensures { IfOk result (λ rest. (t : Tree) × (text.now ≡ text_of t ++ rest.now)
-        × IsCanonical 0 t × (out.new.items ≡ out.old.items ++ element t name.now (bytes_of t))) }
+fn append_word<'a>(text: &'a str, out: &mut Vec<u8>) -> Result<(Kind, &'a str), Refusal>
+    ensures { IfOk result (λ p. (t : Tree) × (text.now ≡ text_of t ++ p.1.now)
+        × IsCanonical 0 t × (p.0 ≡ kind_of t) × (out.new.items ≡ out.old.items ++ bytes_of t)) }
 {
     if let Some(rest) = after_word(text, b"true") {
-        append_bool(name, true, out)?;
-        return Ok(rest);
+        return Ok((append_leaf(Kind::Bool, Scalar::Bool(true), out)?, rest));
     }
     if let Some(rest) = after_word(text, b"false") {
-        append_bool(name, false, out)?;
-        return Ok(rest);
+        return Ok((append_leaf(Kind::Bool, Scalar::Bool(false), out)?, rest));
     }
     let rest = after_word(text, b"null").ok_or(Refusal::Unread)?;
-    append_null(name, out)?;
-    Ok(rest)
+    Ok((Kind::Null, rest))
 }
 
-/// Appends the element of that name for the string that the text begins with.
+/// Appends the string that the text begins with, and returns what follows.
 #[inline(always)]
-fn append_string<'a>(text: &'a str, name: &str, out: &mut Vec<u8>) -> Result<&'a str, Refusal>
-    ensures { IfOk result (λ rest. (t : Tree) × (text.now ≡ text_of t ++ rest.now)
-        × IsCanonical 0 t × (out.new.items ≡ out.old.items ++ element t name.now (bytes_of t))) }
+fn append_string<'a>(text: &'a str, out: &mut Vec<u8>) -> Result<&'a str, Refusal>
+    ensures { IfOk result (λ rest. (s : List ℕ) × IsUtf8 s × (text.now ≡ quoted s ++ rest.now)
+        × (out.new.items ≡ out.old.items ++ bson_string s)) }
 {
-    match string(text) {
-        Some((inside, rest)) => {
-            append_text(name, inside, out)?;
-            Ok(rest)
-        }
-        None => append_escaped(text, name, out),
-    }
-}
-
-/// Appends the element of that name for the string with escapes that the text begins with.
-#[inline(never)]
-fn append_escaped<'a>(text: &'a str, name: &str, out: &mut Vec<u8>) -> Result<&'a str, Refusal>
-    ensures { IfOk result (λ rest. (t : Tree) × (text.now ≡ text_of t ++ rest.now)
-        × IsCanonical 0 t × (out.new.items ≡ out.old.items ++ element t name.now (bytes_of t))) }
-{
-    let mut inside = String::new(*out.allocator());
-    let rest = append_unescaped(text, &mut inside)?;
-    append_text(name, &inside, out)?;
+    let start = begin_body(out)?;
+    let inside = after_word(text, b"\"").ok_or(Refusal::Unread)?;
+    let rest = append_contents(inside, out)?;
+    end_string(start, out)?;
     Ok(rest)
 }
 
-/// Appends the contents of a string with escapes, and returns what follows it.
-#[inline(never)]
-fn append_unescaped<'a>(text: &'a str, into: &mut String) -> Result<&'a str, Refusal>
-    ensures { IfOk result (λ rest. (decoded : List ℕ) × (text.now ≡ quoted decoded ++ rest.now)
-        × (string_bytes into.new ≡ string_bytes into.old ++ decoded)) }
+/// Appends the contents of a string and a zero, and returns what follows the quotation mark.
+#[inline(always)]
+fn append_contents<'a>(text: &'a str, out: &mut Vec<u8>) -> Result<&'a str, Refusal>
+    ensures { IfOk result (λ rest. (s : List ℕ) × IsUtf8 s
+        × (text.now ≡ escaped s ++ (34 ∷ rest.now))
+        × (out.new.items ≡ out.old.items ++ (s ++ 0 ∷ []))) }
 {
-    let inside = after_word(text, b"\"").ok_or(Refusal::Unread)?;
-    let (plain, mut rest) = plain_run(inside).ok_or(Refusal::Unread)?;
-    into.push_str(plain)?;
+    let mut rest = append_run(text, out)?;
     while let Some((byte, after)) = escape(rest) {
-        into.push(char::from(byte))?;
-        let (plain, after) = plain_run(after).ok_or(Refusal::Unread)?;
-        into.push_str(plain)?;
-        rest = after;
+        set_last(byte, out);
+        rest = append_run(after, out)?;
     }
+    set_last(0, out);
     after_word(rest, b"\"").ok_or(Refusal::Unread)
+}
+
+/// Appends the bytes without escapes, up to the first that needs one, and that byte, with which the rest begins: `set_last`
+/// replaces it, so that a run and the byte after it cost one copy.
+#[inline(always)]
+fn append_run<'a>(text: &'a str, out: &mut Vec<u8>) -> Result<&'a str, Refusal>
+    ensures { IfOk result (λ rest. (run : List ℕ) × (last : ℕ) × IsUtf8 run
+        × (text.now ≡ escaped run ++ rest.now)
+        × (out.new.items ≡ out.old.items ++ (run ++ last ∷ []))) }
+{
+    let (run, rest) = plain_run(text).ok_or(Refusal::Unread)?;
+    let bytes = text.as_bytes();
+    let (piece, _) = bytes
+        .split_at_checked(run.len() + 1)
+        .ok_or(Refusal::Unread)?;
+    out.extend_from_slice(piece)?;
+    Ok(rest)
 }
 
 /// The byte of an escape of two characters, and what follows it.
@@ -278,7 +276,7 @@ fn escape<'a>(text: &'a str) -> Option<(u8, &'a str)>
 #[inline(always)]
 fn string<'a>(text: &'a str) -> Option<(&'a str, &'a str)>
     ensures { IfSome result (λ p. (text.now ≡ quoted p.0.now ++ p.1.now)
-        × (has_zero p.0.now ≡ false)) }
+        × (has_zero p.0.now ≡ false) × (escaped p.0.now ≡ p.0.now)) }
 {
     let inside = after_word(text, b"\"")?;
     let (inside, rest) = inside.split_at_checked(plain_length(inside.as_bytes()))?;
@@ -289,7 +287,8 @@ fn string<'a>(text: &'a str) -> Option<(&'a str, &'a str)>
 /// The bytes without escapes, up to the first that needs one, and what follows.
 #[inline(always)]
 fn plain_run<'a>(text: &'a str) -> Option<(&'a str, &'a str)>
-    ensures { IfSome result (λ p. text.now ≡ escaped p.0.now ++ p.1.now) }
+    ensures { IfSome result (λ p. (text.now ≡ p.0.now ++ p.1.now)
+        × (escaped p.0.now ≡ p.0.now)) }
 {
     text.split_at_checked(plain_length(text.as_bytes()))
 }

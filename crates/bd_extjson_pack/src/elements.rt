@@ -1,94 +1,96 @@
-//! Elements of scalars, appended to bytes.
-ghost use Rattle.std.specs.Prelude.{◌≡◌, ◌++◌, OnOk, []};
-ghost use Rattle.bd_value.specs.Tree as trees;
-ghost use Rattle.bd_value.specs.Tree.{leaf};
-ghost use Rattle.bd_bson_view.specs.Spelling.{element, string};
-ghost use Rattle.bd_bson_write.specs.TreeBytes.{bytes_of};
+//! Elements, appended to bytes. The byte for the type of an element is put there last, once its value was appended.
+ghost use Rattle.std.specs.Prelude.{◌≡◌, ◌≤◌, ◌<◌, ◌+◌, ◌++◌, ◌∷◌, [], ℕ, List, IfOk, OnOk, decimal, false, length, take, drop, vec_len};
+ghost use Rattle.bd_value.specs.Fits.{zero_in_leaf};
+ghost use Rattle.bd_value.specs.View.{view_of};
+ghost use Rattle.bd_bson_write.specs.TreeBytes.{leaf_bytes};
+ghost use Rattle.bd_bson_view.specs.Spelling.{number, type_byte as byte_of};
 
-use bd_bson_write::{WriteFault, append_label, append_long, append_number, append_string};
-use bd_value::Kind;
+use bd_bson_view::type_byte;
+use bd_bson_write::{WriteFault, write_scalar};
+use bd_value::{Kind, LONGEST_DOCUMENT, Scalar};
 
-/// Appends an element of a text.
+/// Begins an element by its name between two bytes: `end_element` replaces the first by its type, and a zero replaces the last.
+/// So a name in quotation marks is copied at once. Returns the offset of the first.
 #[inline(always)]
-pub(crate) fn append_text(name: &str, text: &str, out: &mut Vec<u8>) -> Result<(), WriteFault>
-    ensures { OnOk result (out.new.items
-        ≡ out.old.items ++ element (leaf (trees.text text.now)) name.now (string text.now)) }
+pub(crate) fn begin_element(label: &[u8], out: &mut Vec<u8>) -> Result<usize, WriteFault>
+    requires { 0 < length label.now }
+    ensures { IfOk result (λ at. (at ≡ length out.old.items)
+        × ((name : List ℕ) (first : ℕ) (last : ℕ) → label.now ≡ first ∷ (name ++ last ∷ []) →
+        out.new.items ≡ out.old.items ++ (first ∷ (name ++ 0 ∷ [])))) }
 {
-    append_label(Kind::Text, name, out)?;
-    append_string(text, out)
+    let at = out.len();
+    if at > LONGEST_DOCUMENT {
+        return Err(WriteFault::TooLong);
+    }
+    out.extend_from_slice(label)?;
+    set_last(0, out);
+    Ok(at)
 }
 
-/// Appends an element of null.
+/// The most digits of a 64-bit number.
+const DIGITS: usize = 20;
+
+/// The same for an element of an array, whose name is its index.
 #[inline(always)]
-pub(crate) fn append_null(name: &str, out: &mut Vec<u8>) -> Result<(), WriteFault>
-    ensures { OnOk result (
-        out.new.items ≡ out.old.items ++ element (leaf trees.null) name.now []) }
+pub(crate) fn begin_item(index: u32, out: &mut Vec<u8>) -> Result<usize, WriteFault>
+    ensures { IfOk result (λ at. (at ≡ length out.old.items) × ((first : ℕ)
+        × (out.new.items ≡ out.old.items ++ (first ∷ (decimal index ++ 0 ∷ []))))) }
 {
-    append_label(Kind::Null, name, out)
+    let mut digits = [0; 2 * DIGITS];
+    let start = itoa::write_digits(u64::from(index), &mut digits, DIGITS);
+    begin_element(&digits[start - 1..DIGITS + 1], out)
 }
 
-/// Appends an element of a boolean.
+/// Puts the type of an element at its offset.
 #[inline(always)]
-pub(crate) fn append_bool(name: &str, truth: bool, out: &mut Vec<u8>) -> Result<(), WriteFault>
-    ensures { OnOk result (out.new.items ≡ out.old.items
-        ++ element (leaf (trees.boolean truth)) name.now (bytes_of (leaf (trees.boolean truth)))) }
+pub(crate) fn end_element(at: usize, kind: Kind, out: &mut Vec<u8>)
+    requires { at < vec_len out.old }
+    ensures { (before : List ℕ) (first : ℕ) (after : List ℕ) →
+        out.old.items ≡ before ++ (first ∷ after) → at ≡ length before →
+        out.new.items ≡ before ++ (byte_of kind ∷ after) }
 {
-    append_label(Kind::Bool, name, out)?;
-    Ok(out.extend_from_slice(&[u8::from(truth)])?)
+    out[at] = type_byte(kind);
 }
 
-/// Appends an element of an Int32.
+/// Puts a byte in the place of the last one.
 #[inline(always)]
-pub(crate) fn append_int32(name: &str, n: i32, out: &mut Vec<u8>) -> Result<(), WriteFault>
-    ensures { OnOk result (out.new.items ≡ out.old.items
-        ++ element (leaf (trees.int32 n)) name.now (bytes_of (leaf (trees.int32 n)))) }
+pub(crate) fn set_last(byte: u8, out: &mut Vec<u8>)
+    requires { 0 < vec_len out.old }
+    ensures { (before : List ℕ) (last : ℕ) →
+        out.old.items ≡ before ++ (last ∷ []) → out.new.items ≡ before ++ (byte ∷ []) }
 {
-    append_label(Kind::Int32, name, out)?;
-    Ok(append_number(n.cast_unsigned(), out)?)
+    let last = out.len() - 1;
+    out[last] = byte;
 }
 
-/// Appends an element of an Int64.
+/// Appends the value of a scalar of that kind, and returns the kind.
 #[inline(always)]
-pub(crate) fn append_int64(name: &str, n: i64, out: &mut Vec<u8>) -> Result<(), WriteFault>
-    ensures { OnOk result (out.new.items ≡ out.old.items
-        ++ element (leaf (trees.int64 n)) name.now (bytes_of (leaf (trees.int64 n)))) }
-{
-    append_label(Kind::Int64, name, out)?;
-    Ok(append_long(n.cast_unsigned(), out)?)
-}
-
-/// Appends an element of a date.
-#[inline(always)]
-pub(crate) fn append_date(name: &str, n: i64, out: &mut Vec<u8>) -> Result<(), WriteFault>
-    ensures { OnOk result (out.new.items ≡ out.old.items
-        ++ element (leaf (trees.date n)) name.now (bytes_of (leaf (trees.date n)))) }
-{
-    append_label(Kind::Date, name, out)?;
-    Ok(append_long(n.cast_unsigned(), out)?)
-}
-
-/// Appends an element of an id.
-#[inline(always)]
-pub(crate) fn append_id(name: &str, id: &[u8; 12], out: &mut Vec<u8>) -> Result<(), WriteFault>
-    ensures { OnOk result (out.new.items ≡ out.old.items ++ element
-        (leaf (trees.object_id id.now)) name.now (bytes_of (leaf (trees.object_id id.now)))) }
-{
-    append_label(Kind::ObjectId, name, out)?;
-    Ok(out.extend_from_slice(id)?)
-}
-
-/// Appends an element of binary data.
-#[inline(always)]
-pub(crate) fn append_binary(
-    name: &str,
-    subtype: u8,
-    payload: &[u8],
+pub(crate) fn append_leaf(
+    kind: Kind,
+    scalar: Scalar<'_>,
     out: &mut Vec<u8>,
-) -> Result<(), WriteFault>
-    ensures { OnOk result (out.new.items ≡ out.old.items
-        ++ element (leaf (trees.binary subtype payload.now)) name.now
-        (bytes_of (leaf (trees.binary subtype payload.now)))) }
+) -> Result<Kind, WriteFault>
+    requires { zero_in_leaf (view_of scalar) ≡ false }
+    ensures { IfOk result (λ k. (k ≡ kind)
+        × (out.new.items ≡ out.old.items ++ leaf_bytes (view_of scalar.entry))) }
 {
-    append_label(Kind::Binary, name, out)?;
-    bd_bson_write::append_binary(subtype, payload, out)
+    write_scalar(scalar, out)?;
+    Ok(kind)
+}
+
+/// Puts the length of a string at its offset: of its contents with their zero, which come after it.
+#[inline(always)]
+#[tactic(auto, unfolding(bd_bson_view::specs::Spelling::number))]
+pub(crate) fn end_string(at: usize, out: &mut Vec<u8>) -> Result<(), WriteFault>
+    requires { at + 4 ≤ vec_len out.old }
+    ensures { OnOk result (out.new.items ≡ take at out.old.items
+        ++ (number (length (drop (at + 4) out.old.items)) ++ drop (at + 4) out.old.items)) }
+{
+    let length = out.len() - at - 4;
+    if length > LONGEST_DOCUMENT {
+        return Err(WriteFault::TooLong);
+    }
+    let bytes: &mut [u8] = out;
+    bytes[at..at + 4].copy_from_slice(&(length as u32).to_le_bytes());
+    Ok(())
 }

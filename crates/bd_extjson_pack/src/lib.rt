@@ -13,7 +13,7 @@
 //! - `line`: `Packer`, which packs a line at a time.
 //! - `canonical_line`: the bytes straight from a line as `dump` writes it.
 //! - `tokens`: the bytes straight from the tokens of any other line.
-//! - `elements`: elements of scalars.
+//! - `elements`: elements and strings, begun and ended.
 //! - `refusal`: why a text gives no bytes.
 //! - `laws`: the packed bytes spell the line's document.
 #![tactic(auto)]

@@ -11,6 +11,7 @@ use bd_extjson_fault::{JsonFault, JsonFaultKind, text_of};
 use bd_value::NoMemory;
 use json::Scratch;
 use std::alloc::{AllocError, Global};
+use std::mem;
 use thiserror::Error;
 
 /// Why a line is not packed.
@@ -65,7 +66,11 @@ impl Packer {
         // The bytes come straight from the text, or from its tokens.
         match spell_line(self.alloc, text, &mut self.scratch, &mut self.spelled) {
             Ok(()) => {
-                out.extend_from_slice(&self.spelled)?;
+                if out.is_empty() {
+                    mem::swap(out, &mut self.spelled);
+                } else {
+                    out.extend_from_slice(&self.spelled)?;
+                }
                 Ok(None)
             }
             // No pass follows.

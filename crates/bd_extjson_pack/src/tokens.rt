@@ -4,8 +4,7 @@ ghost use Rattle.bd_value.specs.Limits.{longest_document, most_brackets, most_le
 ghost use Rattle.json.specs.Json.{value, items, members};
 ghost use Rattle.bd_value.specs.Tree as trees;
 ghost use Rattle.bd_value.specs.Tree.{Doc, leaf, doc, array};
-ghost use Rattle.bd_value.specs.View.{tree_of};
-ghost use Rattle.bd_bson_view.specs.Spelling.{element};
+ghost use Rattle.bd_value.specs.View.{kind_of, tree_of};
 ghost use Rattle.bd_value.specs.Fits.{zero_in};
 ghost use Rattle.bd_bson_write.specs.TreeBytes.{bytes_of};
 ghost use Rattle.bd_extjson.specs.Read.{reading, bare_number, wrap, wrap_items, wrap_object, wrap_fields};
@@ -17,14 +16,12 @@ ghost use Rattle.json.specs.Find.{as_str};
 ghost use Rattle.json.specs.Token.{Token as JsonToken};
 
 use crate::canonical_line::append_canonical;
-use crate::elements::{
-    append_bool, append_date, append_id, append_int32, append_int64, append_null, append_text,
-};
+use crate::elements::{append_leaf, begin_item, end_element};
 use crate::refusal::Refusal;
 use bd_bson_write::{WriteFault, append_label, append_value, begin_body, end_body};
 use bd_extjson::{bare_number, read_wrapper};
 use bd_extjson_wrapper::{Trouble, Wrapper, id_of_text, whole, whole_of_32};
-use bd_value::{Kind, MOST_BRACKETS, MOST_LEVELS, Tree, Value, has_zero};
+use bd_value::{Kind, MOST_BRACKETS, MOST_LEVELS, Scalar, Tree, Value, has_zero};
 use json::{Reader, Scratch, Token};
 use std::alloc::Global;
 
@@ -69,9 +66,10 @@ fn append_document(
     Ok(())
 }
 
-/// Appends the document that the next value is.
-fn append_first(alloc: Global, reader: &mut Reader<'_>, out: &mut Vec<u8>) -> Result<(), Refusal>
-    ensures gives { Writes (λ fs. out.new.items ≡ out.old.items ++ bytes_of (doc fs)) reader.new
+/// Appends the document that the next value is, and returns its kind.
+fn append_first(alloc: Global, reader: &mut Reader<'_>, out: &mut Vec<u8>) -> Result<Kind, Refusal>
+    ensures gives { Writes (λ kind fs. (kind ≡ Kind.Doc)
+        × (out.new.items ≡ out.old.items ++ bytes_of (doc fs))) reader.new
         result (if_document (through (wrap most_levels) (value most_brackets reader.old))) }
     ensures within { OnOk result (length out.new.items ≤ longest_document) }
 {
@@ -96,7 +94,7 @@ fn append_first(alloc: Global, reader: &mut Reader<'_>, out: &mut Vec<u8>) -> Re
     )
 }
 
-/// Appends the document whose brace and first name were read.
+/// Appends the document whose brace and first name were read, and returns its kind.
 #[cycle(tokens)]
 #[tactic(auto, using(bd_extjson::proofs::ReadLemmas::fields_steps))]
 #[inline(never)]
@@ -107,8 +105,9 @@ fn append_fields<'a>(
     depth_left: usize,
     depth: usize,
     out: &mut Vec<u8>,
-) -> Result<(), Refusal>
-    ensures gives { Writes (λ fs. out.new.items ≡ out.old.items ++ bytes_of (doc fs)) reader.new
+) -> Result<Kind, Refusal>
+    ensures gives { Writes (λ kind fs. (kind ≡ Kind.Doc)
+        × (out.new.items ≡ out.old.items ++ bytes_of (doc fs))) reader.new
         result (through (wrap_fields depth_left) (after_key depth (length reader.old)
         (option_map (λ s. s.now) first.entry) reader.old)) }
     ensures shorter { OnOk result (length reader.new ≤ length reader.old) }
@@ -117,37 +116,41 @@ fn append_fields<'a>(
     let at = begin_body(out)?;
     let mut next = first;
     while let Some(name) = next {
-        append_next(alloc, reader, name, depth_left, depth, out)?;
+        let element = out.len();
+        append_label(Kind::Null, name, out)?;
+        let kind = append_next(alloc, reader, depth_left, depth, out)?;
+        end_element(element, kind, out);
         if has_zero(name) {
             return Err(Refusal::Unread);
         }
         next = reader.next_key()?;
     }
-    Ok(end_body(at, out)?)
+    end_body(at, out)?;
+    Ok(Kind::Doc)
 }
 
-/// Appends the element of that name for the next value, with at most `depth_left` levels of documents and arrays, and `depth`
-/// levels of brackets.
+/// Appends the next value, with at most `depth_left` levels of documents and arrays, and `depth` levels of brackets, and
+/// returns its kind.
 #[cycle(tokens)]
 #[tactic(auto, using(bd_extjson::proofs::ReadLemmas::value_steps))]
 fn append_next(
     alloc: Global,
     reader: &mut Reader<'_>,
-    name: &str,
     depth_left: usize,
     depth: usize,
     out: &mut Vec<u8>,
-) -> Result<(), Refusal>
-    ensures gives { Writes (λ t. out.new.items ≡ out.old.items ++ element t name.now (bytes_of t))
-        reader.new result (through (wrap depth_left) (value depth reader.old)) }
+) -> Result<Kind, Refusal>
+    ensures gives { Writes (λ kind t. (kind ≡ kind_of t)
+        × (out.new.items ≡ out.old.items ++ bytes_of t)) reader.new
+        result (through (wrap depth_left) (value depth reader.old)) }
     ensures shorter { OnOk result (length reader.new < length reader.old) }
 {
     let token = reader.next().ok_or(Refusal::Unread)?;
     match token {
-        Token::String(text) => Ok(append_text(name, text, out)?),
-        Token::Number(text) => append_number(name, text, out),
-        Token::Bool(b) => Ok(append_bool(name, b, out)?),
-        Token::Null => Ok(append_null(name, out)?),
+        Token::String(text) => Ok(append_leaf(Kind::Text, Scalar::Text(text), out)?),
+        Token::Number(text) => append_number(text, out),
+        Token::Bool(b) => Ok(append_leaf(Kind::Bool, Scalar::Bool(b), out)?),
+        Token::Null => Ok(Kind::Null),
         Token::EndObject | Token::EndArray | Token::Key(_) | Token::Bad => Err(Refusal::Unread),
         Token::BeginArray => {
             if depth == 0 {
@@ -156,19 +159,18 @@ fn append_next(
             if depth_left == 0 {
                 return Err(Refusal::Unread);
             }
-            append_label(Kind::Array, name, out)?;
             append_items(alloc, reader, depth_left - 1, depth - 1, out)
         }
         Token::BeginObject => {
             if depth == 0 {
                 return Err(Refusal::Unread);
             }
-            append_object(alloc, reader, name, depth_left, depth - 1, out)
+            append_object(alloc, reader, depth_left, depth - 1, out)
         }
     }
 }
 
-/// Appends the array whose bracket was read. The names of its elements are their indexes.
+/// Appends the array whose bracket was read, and returns its kind. The names of its elements are their indexes.
 #[cycle(tokens)]
 #[tactic(auto, using(bd_extjson::proofs::ReadLemmas::items_steps))]
 #[inline(never)]
@@ -178,8 +180,9 @@ fn append_items(
     depth_left: usize,
     depth: usize,
     out: &mut Vec<u8>,
-) -> Result<(), Refusal>
-    ensures gives { Writes (λ ts. out.new.items ≡ out.old.items ++ bytes_of (array ts)) reader.new
+) -> Result<Kind, Refusal>
+    ensures gives { Writes (λ kind ts. (kind ≡ Kind.Array)
+        × (out.new.items ≡ out.old.items ++ bytes_of (array ts))) reader.new
         result (through (wrap_items depth_left)
         (items (value depth) (length reader.old) reader.old)) }
     ensures shorter { OnOk result (length reader.new < length reader.old) }
@@ -187,128 +190,129 @@ fn append_items(
     let at = begin_body(out)?;
     let mut index: u32 = 0;
     while !reader.take_end_array() {
-        let mut digits = itoa::Buffer::new();
-        append_next(alloc, reader, digits.format(index), depth_left, depth, out)?;
+        let element = begin_item(index, out)?;
+        let kind = append_next(alloc, reader, depth_left, depth, out)?;
+        end_element(element, kind, out);
         index = index
             .checked_add(1)
             .ok_or(Refusal::Unwritten(WriteFault::TooLong))?;
     }
-    Ok(end_body(at, out)?)
+    end_body(at, out)?;
+    Ok(Kind::Array)
 }
 
-/// Appends the element of that name for the object whose brace was read.
+/// Appends the value of the object whose brace was read, and returns its kind.
 #[cycle(tokens)]
 #[tactic(auto, using(bd_extjson::proofs::ReadLemmas::object_steps))]
 #[inline(never)]
 fn append_object(
     alloc: Global,
     reader: &mut Reader<'_>,
-    name: &str,
     depth_left: usize,
     depth: usize,
     out: &mut Vec<u8>,
-) -> Result<(), Refusal>
-    ensures gives { Writes (λ t. out.new.items ≡ out.old.items ++ element t name.now (bytes_of t))
-        reader.new result (through (wrap_object depth_left)
+) -> Result<Kind, Refusal>
+    ensures gives { Writes (λ kind t. (kind ≡ kind_of t)
+        × (out.new.items ≡ out.old.items ++ bytes_of t)) reader.new
+        result (through (wrap_object depth_left)
         (members (value depth) (length reader.old) reader.old)) }
     ensures shorter { OnOk result (length reader.new < length reader.old) }
 {
     let first = reader.next_key()?;
     if let Some(wrapper) = first.and_then(Wrapper::from_name) {
-        return append_wrapper(alloc, reader, wrapper, name, depth_left, depth, out);
+        return append_wrapper(alloc, reader, wrapper, depth_left, depth, out);
     }
     if depth_left == 0 {
         return Err(Refusal::Unread);
     }
-    append_label(Kind::Doc, name, out)?;
     append_fields(alloc, reader, first, depth_left - 1, depth, out)
 }
 
-/// Appends the element of that name for a wrapper whose first name was read. One that is written with one string is read from
-/// its tokens.
+/// Appends the value of a wrapper whose first name was read, and returns its kind. One that is written with one string is read
+/// from its tokens.
 #[inline(always)]
 fn append_wrapper(
     alloc: Global,
     reader: &mut Reader<'_>,
     wrapper: Wrapper,
-    name: &str,
     depth_left: usize,
     depth: usize,
     out: &mut Vec<u8>,
-) -> Result<(), Refusal>
+) -> Result<Kind, Refusal>
     requires { (first : List ℕ) × (wrapper_of first ≡ Some wrapper) }
     ensures gives { (first : List ℕ) → wrapper_of first ≡ Some wrapper →
-        Writes (λ t. out.new.items ≡ out.old.items ++ element t name.now (bytes_of t))
-        reader.new result (through (wrap_object depth_left)
+        Writes (λ kind t. (kind ≡ kind_of t)
+        × (out.new.items ≡ out.old.items ++ bytes_of t)) reader.new
+        result (through (wrap_object depth_left)
         (after_key depth (length reader.old) (Some first) reader.old)) }
     ensures shorter { OnOk result (length reader.new < length reader.old) }
 {
     match wrapper {
         Wrapper::NumberInt => {
             let n = whole_of_32(only_string(reader)?).ok_or(Refusal::Unread)?;
-            Ok(append_int32(name, n, out)?)
+            Ok(append_leaf(Kind::Int32, Scalar::Int32(n), out)?)
         }
         Wrapper::NumberLong => {
             let n = whole(only_string(reader)?).ok_or(Refusal::Unread)?;
-            Ok(append_int64(name, n, out)?)
+            Ok(append_leaf(Kind::Int64, Scalar::Int64(n), out)?)
         }
         Wrapper::Oid => {
             let id = id_of_text(only_string(reader)?).ok_or(Refusal::Unread)?;
-            Ok(append_id(name, &id, out)?)
+            Ok(append_leaf(Kind::ObjectId, Scalar::ObjectId(id), out)?)
         }
-        _ => append_wrapped(alloc, reader, wrapper, name, depth_left, depth, out),
+        _ => append_wrapped(alloc, reader, wrapper, depth_left, depth, out),
     }
 }
 
-/// Appends the element of that name for a wrapper whose first name was read, by the value that it means.
+/// Appends the value that a wrapper means whose first name was read, and returns its kind.
 #[inline(never)]
 fn append_wrapped(
     alloc: Global,
     reader: &mut Reader<'_>,
     wrapper: Wrapper,
-    name: &str,
     depth_left: usize,
     depth: usize,
     out: &mut Vec<u8>,
-) -> Result<(), Refusal>
+) -> Result<Kind, Refusal>
     requires { (first : List ℕ) × (wrapper_of first ≡ Some wrapper) }
     ensures gives { (first : List ℕ) → wrapper_of first ≡ Some wrapper →
-        Writes (λ t. out.new.items ≡ out.old.items ++ element t name.now (bytes_of t))
-        reader.new result (through (wrap_object depth_left)
+        Writes (λ kind t. (kind ≡ kind_of t)
+        × (out.new.items ≡ out.old.items ++ bytes_of t)) reader.new
+        result (through (wrap_object depth_left)
         (after_key depth (length reader.old) (Some first) reader.old)) }
     ensures shorter { OnOk result (length reader.new < length reader.old) }
 {
     match read_wrapper(alloc, reader, wrapper, depth_left, depth) {
-        Ok(value) => Ok(append_read(name, value, out)?),
+        Ok(value) => Ok(append_read(value, out)?),
         Err(Trouble::Memory) => Err(Refusal::Unwritten(WriteFault::NoMemory)),
         Err(Trouble::Refused) => Err(Refusal::Unread),
     }
 }
 
-/// Appends an element of a bare number.
+/// Appends a bare number, and returns its kind.
 #[inline(never)]
-fn append_number(name: &str, text: &str, out: &mut Vec<u8>) -> Result<(), Refusal>
-    ensures { (rest : List JsonToken) →
-        Writes (λ t. out.new.items ≡ out.old.items ++ element t name.now (bytes_of t)) rest result
+fn append_number(text: &str, out: &mut Vec<u8>) -> Result<Kind, Refusal>
+    ensures { (rest : List JsonToken) → Writes (λ kind t. (kind ≡ kind_of t)
+        × (out.new.items ≡ out.old.items ++ bytes_of t)) rest result
         (option_map (λ (t : trees.Tree). (t, rest)) (bare_number (whole_64 text.now))) }
 {
     let number = bare_number(text).ok_or(Refusal::Unread)?;
-    Ok(append_read(name, number, out)?)
+    Ok(append_read(number, out)?)
 }
 
-/// Appends an element of a value that was read, and drops the value. The numbers that are read most are written at once.
-fn append_read(name: &str, value: Value, out: &mut Vec<u8>) -> Result<(), WriteFault>
+/// Appends a value that was read, and drops it. The numbers that are read most are written at once. Returns its kind.
+fn append_read(value: Value, out: &mut Vec<u8>) -> Result<Kind, WriteFault>
     requires { zero_in (tree_of value) ≡ false }
-    ensures { OnOk result (out.new.items
-        ≡ out.old.items ++ element (tree_of value) name.now (bytes_of (tree_of value))) }
+    ensures { IfOk result (λ kind. (kind ≡ kind_of (tree_of value))
+        × (out.new.items ≡ out.old.items ++ bytes_of (tree_of value))) }
 {
     match value {
-        Value::Int32(n) => append_int32(name, n, out),
-        Value::Int64(n) => append_int64(name, n, out),
-        Value::Date(n) => append_date(name, n, out),
+        Value::Int32(n) => append_leaf(Kind::Int32, Scalar::Int32(n), out),
+        Value::Int64(n) => append_leaf(Kind::Int64, Scalar::Int64(n), out),
+        Value::Date(n) => append_leaf(Kind::Date, Scalar::Date(n), out),
         other => {
-            append_label(other.kind(), name, out)?;
-            append_value(Tree::Value(&other), out)
+            append_value(Tree::Value(&other), out)?;
+            Ok(other.kind())
         }
     }
 }

@@ -11,9 +11,9 @@ abbrev pub NotRead : {A : Type 0} → Refusal → Option A → Type 0
 NotRead refusals.Unread read = read ≡ None
 NotRead (refusals.Unwritten fault) read = Unit {0}
 
--- What is read is written, and these tokens remain; or the tokens are refused.
-abbrev pub Writes : {X A : Type 0} → (A → Type 0) → List Token → Result X Refusal → Option (A × List Token) → Type 0
-Writes {A = A} Written rest (Ok u) read = (x : A) × (read ≡ Some (x, rest)) × Written x
+-- What is read is written, with this result, and these tokens remain; or the tokens are refused.
+abbrev pub Writes : {X A : Type 0} → (X → A → Type 0) → List Token → Result X Refusal → Option (A × List Token) → Type 0
+Writes {A = A} Written rest (Ok u) read = (x : A) × (read ≡ Some (x, rest)) × Written u x
 Writes Written rest (Err e) read = NotRead e read
 
 -- the fields of what was read, if it is a document

@@ -8,7 +8,7 @@ pub returns-clause-spelled : goal.returns-clause-spelled
 returns-clause-spelled c =
     let g = c.in_ok-append_first.ensures.gives in
     let empty : c.append_first.new.reader ≡ [] = grind arith in
-    bodies.packs c.args.text.now c.in_ok-reader.reader c.append_first.new.reader g.0 _ _ c.utf8.text c.in_ok-reader.ensures.ok g.1 empty g.2 c.in_ok-append_first.ensures.within
+    bodies.packs c.args.text.now c.in_ok-reader.reader c.append_first.new.reader g.0 _ _ c.utf8.text c.in_ok-reader.ensures.ok g.1 empty g.2.1 c.in_ok-append_first.ensures.within
 
 pub returns-in_err-append_first-clause-refused : goal.returns-in_err-append_first-clause-refused
 returns-in_err-append_first-clause-refused c =

@@ -5,34 +5,32 @@ use Rattle.bd_extjson_wrapper.specs.declared.wrapper.Wrapper.TheVariants as kind
 use Rattle.bd_extjson_pack.proofs.BodyLemmas.{short_is, int32_short, int64_short, id_short, same_32, same_64}
 use Rattle.bd_extjson_pack.proofs.tokens.append_wrapper.Goals as goal
 
-pub returns-in_ok-append_int32-in-NumberInt-clause-gives : goal.returns-in_ok-append_int32-in-NumberInt-clause-gives
-returns-in_ok-append_int32-in-NumberInt-clause-gives c = λ first named.
+pub returns-in_ok-append_leaf-in-NumberInt-clause-gives : goal.returns-in_ok-append_leaf-in-NumberInt-clause-gives
+returns-in_ok-append_leaf-in-NumberInt-clause-gives c = λ first named.
     let n = c.in_ok-n-in-NumberInt.n in
-    let is = sym c.whole_of_32.ensures ∙ c.in_ok-n-in-NumberInt.ensures.ok_part in
-    let put = c.in_ok-append_int32-in-NumberInt.ensures in (
+    let is = sym c.whole_of_32.ensures ∙ c.in_ok-n-in-NumberInt.ensures.ok_part in (
       leaf (trees.int32 n),
       short_is c.args.wrapper kinds.NumberInt _ int32_short c.in-NumberInt.is c.args.depth_left c.args.depth _ first c.args.reader.now _ named _ (trees.int32 n)
           (c.in_ok-only_string-in-NumberInt.ensures.gives first c.args.depth) (ap (option_map (λ z. trees.int32 z)) is),
-      (rw (same_32 _ n (sym is)) at put),
+      (rw (same_32 _ n (sym is)) at c.in_ok-append_leaf-in-NumberInt.ensures),
     )
 
-pub returns-in_ok-append_int64-in-NumberLong-clause-gives : goal.returns-in_ok-append_int64-in-NumberLong-clause-gives
-returns-in_ok-append_int64-in-NumberLong-clause-gives c = λ first named.
+pub returns-in_ok-append_leaf-in-NumberLong-clause-gives : goal.returns-in_ok-append_leaf-in-NumberLong-clause-gives
+returns-in_ok-append_leaf-in-NumberLong-clause-gives c = λ first named.
     let n = c.in_ok-n-in-NumberLong.n in
-    let is = sym c.whole.ensures ∙ c.in_ok-n-in-NumberLong.ensures.ok_part in
-    let put = c.in_ok-append_int64-in-NumberLong.ensures in (
+    let is = sym c.whole.ensures ∙ c.in_ok-n-in-NumberLong.ensures.ok_part in (
       leaf (trees.int64 n),
       short_is c.args.wrapper kinds.NumberLong _ int64_short c.in-NumberLong.is c.args.depth_left c.args.depth _ first c.args.reader.now _ named _ (trees.int64 n)
           (c.in_ok-only_string-in-NumberLong.ensures.gives first c.args.depth) (ap (option_map (λ z. trees.int64 z)) is),
-      (rw (same_64 _ n (sym is)) at put),
+      (rw (same_64 _ n (sym is)) at c.in_ok-append_leaf-in-NumberLong.ensures),
     )
 
-pub returns-in_ok-append_id-in-Oid-clause-gives : goal.returns-in_ok-append_id-in-Oid-clause-gives
-returns-in_ok-append_id-in-Oid-clause-gives c = λ first named.
+pub returns-in_ok-append_leaf-in-Oid-clause-gives : goal.returns-in_ok-append_leaf-in-Oid-clause-gives
+returns-in_ok-append_leaf-in-Oid-clause-gives c = λ first named.
     let id = c.in_ok-id-in-Oid.id in
     let is = sym c.id_of_text.ensures ∙ c.in_ok-id-in-Oid.ensures.ok_part in (
       leaf (trees.object_id id),
       short_is c.args.wrapper kinds.Oid _ id_short c.in-Oid.is c.args.depth_left c.args.depth _ first c.args.reader.now _ named _ (trees.object_id id)
           (c.in_ok-only_string-in-Oid.ensures.gives first c.args.depth) (ap (option_map (λ b. trees.object_id b)) is),
-      c.in_ok-append_id-in-Oid.ensures,
+      c.in_ok-append_leaf-in-Oid.ensures,
     )

@@ -1,0 +1,10 @@
+use Rattle.std.proofs.Common.{rules}
+use Rattle.bd_extjson_pack.proofs.CanonicalLemmas.{name_read}
+use Rattle.bd_extjson_pack.proofs.canonical_line.field_name.Goals as goal
+
+pub returns : goal.returns
+returns c =
+    let name = c.in_ok-name.name.now in
+    let read = c.in_ok-name.ensures in
+    let both = name_read c.args.text.now name c.in_ok-name.rest.now c.in_ok-after_word.field-0.now c.in_ok-quoted.quoted.now read.0 read.2 c.in_ok-after_word.ensures (search rules) in
+    (name, search rules, both.0, both.1, read.1, c.may_name_wrapper.ensures c.if-may_name_wrapper.false)
