@@ -1,7 +1,8 @@
 #!/usr/bin/env python3
 """Tries the edits of crates/CRATE/must-fail and of tests/edits/CRATE.edits in batches: the proofs must refuse each.
 
-usage: tests/edits.sh [CRATE..] [--jobs N]   tries all edits, or those of the named crates, N checks at once
+usage: tests/edits.sh [CRATE..] [--jobs N]   tries all edits, or those of the named crates, N checks at once: several crates side
+                                             by side, or batches of one; without N as many as there are processors and memory
        tests/edits.sh --list [CRATE..]       prints the function and the round of each edit, and tries nothing
        tests/edits.sh --count [CRATE..]      prints how many edits there are, and tries nothing
        tests/edits.sh --round K              tries one round, another for each K, within some minutes, for a run after the gate
@@ -27,6 +28,7 @@ import shutil
 import signal
 import sys
 import tempfile
+import threading
 import time
 from collections.abc import Callable
 from concurrent.futures import ThreadPoolExecutor
@@ -73,6 +75,10 @@ rt = ModuleType("rt")
 rt.__file__ = os.path.realpath(shutil.which("rt") or sys.exit("edits: rt is not on PATH"))
 SourceFileLoader("rt", rt.__file__).exec_module(rt)
 rtlib, Crate = rt.rtlib, rt.Crate
+# Trials of several crates build the libraries below them in turn.
+BUILDING = threading.Lock()
+# What a check takes at most, in bytes.
+MEMORY = 4_000_000_000
 
 
 class Function(NamedTuple):
@@ -242,15 +248,16 @@ def texts_of(edits: list[Edit]) -> dict[str, str]:
 
 def kept_work(crate: Crate, room: str) -> str | None:
     """Return a copy of what the crate's checks keep, or None where a library below it is not proved."""
-    held = rtlib.lock([*crate.below(), crate])
-    try:
-        built = is_left_by_gate(crate) or not any(it.build_rlib(["--jobs", "1"], anew=False) for it in crate.below())
-        kept = f"{room}/{crate.name}"
-        if os.path.isdir(f"{crate.folder}/out/incremental"):
-            shutil.copytree(f"{crate.folder}/out/incremental", kept)
-    finally:
-        for it in held:
-            os.close(it)
+    with BUILDING:
+        held = rtlib.lock([*crate.below(), crate])
+        try:
+            built = is_left_by_gate(crate) or not any(it.build_rlib(["--jobs", "1"], anew=False) for it in crate.below())
+            kept = f"{room}/{crate.name}"
+            if os.path.isdir(f"{crate.folder}/out/incremental"):
+                shutil.copytree(f"{crate.folder}/out/incremental", kept)
+        finally:
+            for it in held:
+                os.close(it)
     return kept if built else None
 
 
@@ -351,6 +358,13 @@ class Trial:
         else:
             outcome, why = BAD_EDIT, f"the prover did not judge it: {check.lines[-1]}"
         self.tell(edit, outcome, check.seconds, why)
+
+
+def try_all(crates: list[Crate], jobs: int) -> dict[str, str]:
+    """Try all edits: those of one crate in batches side by side, those of several crates crate by crate, several at a time."""
+    trials = [(Trial(it, ["--jobs", "1"]), edits) for it in crates if (edits := edits_of(it))]
+    side_by_side(lambda it: it[0].run(it[1], jobs if len(trials) == 1 else 1), trials, jobs)
+    return {label: outcome for trial, _ in trials for label, outcome in trial.outcomes.items()}
 
 
 def side_by_side(call: Callable, given: list, jobs: int) -> list:
@@ -528,7 +542,7 @@ def self_test(crates: list[Crate]) -> int:
 def main() -> int:
     read = argparse.ArgumentParser(usage=__doc__)
     read.add_argument("crates", nargs="*")
-    read.add_argument("--jobs", type=int, default=1)
+    read.add_argument("--jobs", type=int)
     read.add_argument("--list", action="store_true")
     read.add_argument("--count", action="store_true")
     read.add_argument("--round", type=int)
@@ -536,7 +550,7 @@ def main() -> int:
     words = read.parse_args()
     # Its first call sets a signal's handler, which only the main thread may.
     rtlib.guarded()
-    since, outcomes = time.monotonic(), {}
+    since = time.monotonic()
     crates = rtlib.crates_below(str(ROOT))
     unknown = {*words.crates} - {it.name for it in crates}
     if unknown:
@@ -549,12 +563,8 @@ def main() -> int:
         return 0
     if words.round is not None:
         return summed_up(try_one_round(crates, words.round), time.monotonic() - since)
-    for crate in crates:
-        if edits := edits_of(crate):
-            trial = Trial(crate, ["--jobs", "1"])
-            trial.run(edits, words.jobs)
-            outcomes |= trial.outcomes
-    return summed_up(outcomes, time.monotonic() - since)
+    jobs = words.jobs or max(1, min(rt.processors(), rt.free() // MEMORY))
+    return summed_up(try_all(crates, jobs), time.monotonic() - since)
 
 
 if __name__ == "__main__":
