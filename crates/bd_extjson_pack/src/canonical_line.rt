@@ -173,15 +173,7 @@ fn append_wrapper<'a>(text: &'a str, out: &mut Vec<u8>) -> Result<(Kind, &'a str
             let (n, rest) = date(text).ok_or(Refusal::Unread)?;
             Ok((append_leaf(Kind::Date, Scalar::Date(n), out)?, rest))
         }
-        Some(b'"') => {
-            let (subtype, digits, rest) = binary(text).ok_or(Refusal::Unread)?;
-            let payload = decoded(*out.allocator(), digits)?;
-            let scalar = Scalar::Binary {
-                subtype,
-                payload: &payload,
-            };
-            Ok((append_leaf(Kind::Binary, scalar, out)?, rest))
-        }
+        Some(b'"') => append_binary(text, out),
         _ => {
             let (id, rest) = object_id(text).ok_or(Refusal::Unread)?;
             Ok((
@@ -190,6 +182,21 @@ fn append_wrapper<'a>(text: &'a str, out: &mut Vec<u8>) -> Result<(Kind, &'a str
             ))
         }
     }
+}
+
+/// Appends the binary data that the text begins with, and returns its kind and what follows.
+#[inline(never)]
+fn append_binary<'a>(text: &'a str, out: &mut Vec<u8>) -> Result<(Kind, &'a str), Refusal>
+    ensures { IfOk result (λ p. (t : Tree) × (text.now ≡ text_of t ++ p.1.now)
+        × IsCanonical 0 t × (p.0 ≡ kind_of t) × (out.new.items ≡ out.old.items ++ bytes_of t)) }
+{
+    let (subtype, digits, rest) = binary(text).ok_or(Refusal::Unread)?;
+    let payload = decoded(*out.allocator(), digits)?;
+    let scalar = Scalar::Binary {
+        subtype,
+        payload: &payload,
+    };
+    Ok((append_leaf(Kind::Binary, scalar, out)?, rest))
 }
 
 /// Appends the value of the literal that the text begins with, and returns its kind and what follows.

@@ -22,15 +22,6 @@ returns-in_ok-append_leaf-in-Some-eq123 c =
     scalar_value c.args.text.now c.in_ok-n-in-Some-eq123.rest.now c.args.out.now.items c.append_leaf-in-Some-eq123.new.out.items _ (trees.date n) (trees.date (to_z w64 (of_z w64 n)))
     (ap (λ z. trees.date z) (search rules)) (of_some _ _ _ c.in_ok-n-in-Some-eq123.ensures.ok_part c.date.ensures) (search rules) refl c.in_ok-append_leaf-in-Some-eq123.ensures.0 c.in_ok-append_leaf-in-Some-eq123.ensures.1
 
-pub returns-in_ok-append_leaf-in-Some-eq34 : goal.returns-in_ok-append_leaf-in-Some-eq34
-returns-in_ok-append_leaf-in-Some-eq34 c =
-    let read = of_some _ _ _ c.in_ok-subtype-in-Some-eq34.ensures.ok_part c.binary.ensures in
-    let k = c.in_ok-subtype-in-Some-eq34.subtype in
-    let payload = c.in_ok-payload-in-Some-eq34.payload.items in
-    let bytes = c.in_ok-payload-in-Some-eq34.ensures.decoded in
-    scalar_value c.args.text.now c.in_ok-subtype-in-Some-eq34.rest.now c.args.out.now.items c.append_leaf-in-Some-eq34.new.out.items _ (trees.binary k payload)
-    (trees.binary k c.deref.result.now) (ap (λ bytes. trees.binary k bytes) c.deref.ensures.value) (read payload bytes.0) (search rules, bytes.1) refl c.in_ok-append_leaf-in-Some-eq34.ensures.0 c.in_ok-append_leaf-in-Some-eq34.ensures.1
-
 pub returns-in_ok-append_leaf-in_default : goal.returns-in_ok-append_leaf-in_default
 returns-in_ok-append_leaf-in_default c =
     let id = c.in_ok-id-in_default.id in
