@@ -88,28 +88,32 @@ fn report_error(rt: &HostRuntime, message: &str, file: &str) -> Status {
     Status::Failed
 }
 
-/// Runs the command in the process's arguments.
-fn execute(rt: &HostRuntime, output_buffer: &Waiting) -> Status {
-    let order = match order(rt) {
-        Ok(order) => order,
-        Err(fault) => return refuse(rt, &fault, output_buffer),
-    };
+/// Runs a command over its file, which is opened here.
+fn run_order(rt: &HostRuntime, order: &Order, output_buffer: &Waiting) -> Status {
     let (Order::Dump { file }
     | Order::Check { file }
     | Order::Pack { file }
     | Order::Find { file, .. }
-    | Order::Serve { file }) = &order;
+    | Order::Serve { file }) = order;
     if file.as_str() == "-" {
-        return run(rt, &order, rt.reader(), output_buffer);
+        return run(rt, order, rt.reader(), output_buffer);
     }
     let Ok(opened) = fs::open(rt, file) else {
         return report_error(rt, "cannot open ", file);
     };
     // This is the file number of standard input, which was closed: commands would be read from the end of the file.
-    if opened.as_raw_fd() == 0 && matches!(&order, Order::Serve { .. }) {
+    if opened.as_raw_fd() == 0 && matches!(order, Order::Serve { .. }) {
         return report_error(rt, ReadFault::Device.words(), "");
     }
-    run(rt, &order, opened, output_buffer)
+    run(rt, order, opened, output_buffer)
+}
+
+/// Runs the command in the process's arguments.
+fn execute(rt: &HostRuntime, output_buffer: &Waiting) -> Status {
+    match order(rt) {
+        Ok(order) => run_order(rt, &order, output_buffer),
+        Err(fault) => refuse(rt, &fault, output_buffer),
+    }
 }
 
 /// Runs the command in the process's arguments, up to the last byte of standard output. A loss that the run did not notice is

@@ -94,19 +94,23 @@ fn report_error(rt: &HostRuntime, message: &str, file: &str) -> Status {
     Status::Failed
 }
 
+/// Filters a file, which is opened here.
+fn run_filter(rt: &HostRuntime, filter: &Filter, file: &str, output_buffer: &Waiting) -> Status {
+    if file == "-" {
+        return run(rt, filter, rt.reader(), output_buffer);
+    }
+    let Ok(opened) = fs::open(rt, file) else {
+        return report_error(rt, "cannot open ", file);
+    };
+    run(rt, filter, opened, output_buffer)
+}
+
 /// Runs the command in the process's arguments.
 fn execute(rt: &HostRuntime, output_buffer: &Waiting) -> Status {
-    let (filter, file) = match filter(rt) {
-        Ok(both) => both,
-        Err(fault) => return refuse(rt, fault, output_buffer),
-    };
-    if file.as_str() == "-" {
-        return run(rt, &filter, rt.reader(), output_buffer);
+    match filter(rt) {
+        Ok((filter, file)) => run_filter(rt, &filter, &file, output_buffer),
+        Err(fault) => refuse(rt, fault, output_buffer),
     }
-    let Ok(opened) = fs::open(rt, &file) else {
-        return report_error(rt, "cannot open ", &file);
-    };
-    run(rt, &filter, opened, output_buffer)
 }
 
 /// Runs the command in the process's arguments, up to the last byte of standard output. A loss that the run did not notice is
