@@ -238,8 +238,9 @@ def test_writes(tests: Tests, failing: Failing) -> None:
             name = f"{case.name}, each write to standard {stream} fails"
             for error in WRITE_ERRORS if text else []:
                 results = failing.each(partial(wrong_write, failing, way, case.answer, descriptor, BLOCKS, error))
-                # What is short is gathered, and so one write.
-                judge(tests, f"{name} by {error}", results, 1 + (descriptor == 1 and case in LARGE), 1 if descriptor == 1 and case not in LARGE else None)
+                # What is short is gathered, and so one write; pack writes all its documents at once.
+                is_several = descriptor == 1 and case in LARGE and case.words[0] != "pack"
+                judge(tests, f"{name} by {error}", results, 1 + is_several, 1 if descriptor == 1 and not is_several else None)
             for error in WRITE_ERRORS[:2] if text and case not in LARGE else []:
                 results = failing.each(partial(wrong_write, failing, way, case.answer, descriptor, SINGLE, error))
                 judge(tests, f"{name} by {error}, byte by byte", results, len(text), len(text))

@@ -1,26 +1,25 @@
 -- What `pack` prints is determined.
-use Rattle.std.proofs.Common.{◌≡◌, ◌≤◌, ◌<◌, ℕ, suc, ◌+◌, List, [], ◌∷◌, ◌++◌, length, take, drop, get_or, Bool, true, false, Option, Some, None, refl, sym, ap, ◌∙◌, subst, append_assoc, append-nil}
-use Rattle.std.proofs.Common.{arith, inl, inr, decimal, Ok, length-append, length-take-le, rules, add-one, Result, Err, ap₂, true≢false}
-use Rattle.std.proofs.{lemmas.Bool.cases_lt, lemmas.Bool.Decides.nat_tests, lemmas.List.Splits.slice_split_at, lemmas.List.Splits.slice_split_none, lemmas.Grind.flat_map-append, Math.Seq.drop-cons}
-use Rattle.std.proofs.lemmas.List.{get_or-take, get_or_default, take-append-drop}
-use Rattle.std.specs.Prelude.{◌⊎◌, ◌==◌, option_map}
-use Rattle.std.specs.{List.All, List.flat_map}
-use Rattle.bd_value.specs.{Limits.longest_document, Limits.most_reads, Tree.Doc}
-use Rattle.memchr.specs.Find.{IsFirstByte, is_byte}
+use Rattle.std.proofs.Common.{◌≡◌, ◌≤◌, ◌<◌, ℕ, suc, ◌+◌, List, [], ◌∷◌, ◌++◌, length, Bool, true, false, Option, Some, None, refl, sym, ap, ◌∙◌, subst, append_assoc, append-nil}
+use Rattle.std.proofs.Common.{arith, inl, inr, decimal, Ok, length-append, Result, Err, ap₂, true≢false}
+use Rattle.std.proofs.{lemmas.Bool.cases_lt, lemmas.List.Splits.slice_split_none, lemmas.List.Elements.All-nil, lemmas.Grind.flat_map-append}
+use Rattle.std.specs.Prelude.{◌⊎◌, if◌then◌else◌, is_ok, OnOk, IfSome, IsTrue, IsFalse, option_map}
+use Rattle.std.specs.{List.flat_map}
+use Rattle.std.specs.Io.KnownBytes.{Consumes, IsAtEnd}
+use Rattle.bd_value.specs.{Limits.longest_document, Limits.longest_input, Tree.Doc}
+use Rattle.bd_io_device.specs.Devices.{AreReads, Reader, TakesText, Writer, WriteFailsWithin, between}
 use Rattle.bd_extjson.specs.Read.{ReadsAs, reading}
 use Rattle.bd_extjson_fault.specs.TextFault.{text_fault}
 use Rattle.bd_extjson_pack.specs.Packable.{plain, IsPackable, IsBad}
 use Rattle.bd_extjson_pack.specs.declared.line.LineFault.{LineFault}
-use Rattle.bd_cli_files.specs.{declared.output.OutputFault.OutputFault, declared.output.OutputFault.TheVariants.NoMemory, declared.output.OutputFault.TheVariants.Unwritten, declared.pack.BadLine.BadLine}
-use Rattle.bd_cli_files.specs.{declared.pack.Packing.Packing, declared.output.Status.Status, declared.output.Status.TheVariants.Failed}
-use Rattle.bd_cli_files.specs.Output.{stop_words, Transcript, error_line, no_memory, wrong_line, wrong_status}
+use Rattle.bd_cli_files.specs.{declared.pack.BadLine.BadLine, declared.pack.Packing.Packing}
+use Rattle.bd_cli_files.specs.{declared.output.OutputFault.TheVariants.Unwritten, declared.output.Status.Status, declared.output.Status.TheVariants.Failed}
+use Rattle.bd_cli_files.specs.Output.{Transcript, cannot_write, error_line, no_memory, wrong_line, wrong_status}
+use Rattle.bd_cli_files.specs.Pack.{IsOutputOfPack, PacksLines, bad_line_text, objects_packed, pack_output}
 use Rattle.bd_cli_files.specs.Run.{Prints, ReportsMessage, part_of}
-use Rattle.bd_cli_files.specs.Pack.{IsOutputOfPack, PacksLines, bad_line_text, pack_output, objects_packed}
-use Rattle.bd_cli_files.specs.inside.Pack.{IsPacking, StopsPacking, remaining_size, lines_remaining}
-use Rattle.bd_io_device.proofs.DevicesLemmas.{takes_both}
-use Rattle.bd_cli_files.proofs.OutputLemmas.{all_output, stop_output, write_fails_piece, prefix_taken}
-use Rattle.bd_io_lines.specs.Lines.{is_empty_line, text_lines}
-use Rattle.bd_io_device.specs.Devices.{WriteFailsWithin, TakesText, Writer, between}
+use Rattle.bd_cli_files.proofs.OutputLemmas.{all_output, stop_output}
+use Rattle.bd_cli_files.specs.inside.Pack.{ArePacked, IsTaken, PacksFirst}
+use Rattle.bd_io_lines.specs.Lines.{IsLine, is_empty_line, is_newline, text_lines}
+use Rattle.bd_io_lines.proofs.LinesLemmas.{line_grows, lines_apart}
 use Rattle.bd_io_device.specs.declared.reading.ReadFault.{ReadFault}
 use Rattle.bd_extjson_pack.specs.declared.line.LineFault.TheVariants as faults
 
@@ -96,124 +95,165 @@ packs_some number (line ∷ lines) = by_blank (is_empty_line line) refl (packs_s
     by_blank true blank rest = (rest.0, rest.1, inl (blank, rest.2))
     by_blank false full rest = by_reading (reading line) refl full rest
 
--- ---- the ends of a run
+-- ---- the end of a run
 
-module _ (text : List ℕ) (out_old out_new : Writer) (err_old err_new : Writer) (status : Status) where
+-- these lines are all: the documents before the first bad line are all that are packed
+all_lines : (lines : List (List ℕ)) (ds : List Doc) (bad : Option BadLine) → PacksFirst lines ds bad → PacksLines 1 lines ds bad
+all_lines lines ds None first = let p = first [] [] None (refl, refl) in rw (append-nil lines, append-nil ds) at p
+all_lines lines ds (Some bad) first = let p = first [] in rw (append-nil lines) at p
+
+module _ (text : List ℕ) (packing : Packing) (packed : ArePacked (text_lines text) packing) (out_old out_new err_old err_new : Writer) (status : Status) where
   -- the run printed an output of `pack` for the text
-  abbrev pub PrintsPacked : Type 0
+  abbrev PrintsPacked : Type 0
   PrintsPacked = (output : Transcript) × IsOutputOfPack (Ok text) output × Prints (part_of output) (between out_old out_new) (between err_old err_new) status
 
-  abbrev Reports : List ℕ → Status → Type 0
-  Reports reported wanted = ReportsMessage (between err_old err_new) reported wanted status ⊎ ReportsMessage (between err_old err_new) (error_line no_memory) Failed status
+  abbrev output : Transcript
+  output = pack_output packed.0 packing.bad
 
-  -- the bad line, if any, and this count
-  abbrev pub ReportsPacking : ℕ → Option BadLine → Type 0
-  ReportsPacking count bad = Reports (wrong_line (option_map bad_line_text bad) ++ (decimal count ++ objects_packed)) (wrong_status (option_map bad_line_text bad))
+  prints : Prints (part_of output) (between out_old out_new) (between err_old err_new) status → PrintsPacked
+  prints printed = (output, (packed.0, packing.bad, all_lines (text_lines text) packed.0 packing.bad packed.1, refl), printed)
 
-  pub prints_packing : (packing : Packing) → IsPacking text (between out_old out_new) packing → ReportsPacking packing.count packing.bad → PrintsPacked
-  prints_packing packing (ds, packs, counted, wrote) reported =
-      let output = pack_output ds packing.bad in
-      (output, (ds, packing.bad, packs, refl), all_output out_old out_new err_old err_new status output wrote (subst (λ n. ReportsPacking n packing.bad) counted reported))
+  -- the bad line, if any, and the count were reported, or that memory ran out
+  abbrev ReportsPacking : ℕ → Type 0
+  ReportsPacking count =
+      ReportsMessage (between err_old err_new) (wrong_line (option_map bad_line_text packing.bad) ++ (decimal count ++ objects_packed)) (wrong_status (option_map bad_line_text packing.bad)) status
+      ⊎ ReportsMessage (between err_old err_new) (error_line no_memory) Failed status
 
-  pub prints_stop : (stopped : OutputFault) → StopsPacking text (between out_old out_new) stopped → ReportsMessage (between err_old err_new) (error_line (stop_words stopped)) Failed status → PrintsPacked
-  prints_stop stopped (ds, bad, packs, stops) reported =
-      (pack_output ds bad, (ds, bad, packs, refl), stop_output out_old out_new err_old err_new status (pack_output ds bad) stopped stops reported)
+  pub prints_packing : TakesText (between out_old out_new) packing.bytes.items → ReportsPacking packing.count → PrintsPacked
+  prints_packing wrote reported =
+      prints (all_output out_old out_new err_old err_new status output (subst (TakesText (between out_old out_new)) packed.2 wrote) (subst ReportsPacking packed.3 reported))
 
--- ---- a text split at newlines
+  pub prints_unwritten : WriteFailsWithin (between out_old out_new) packing.bytes.items → ReportsMessage (between err_old err_new) (error_line cannot_write) Failed status → PrintsPacked
+  prints_unwritten failed_write reported =
+      prints (stop_output out_old out_new err_old err_new status output Unwritten (subst (WriteFailsWithin (between out_old out_new)) packed.2 failed_write) reported)
 
--- a byte is a newline or not
-newline : (b : ℕ) → (b == 10) ≡ true → b ≡ 10
-newline b e = search (rules, nat_tests)
+-- ---- one more line
 
-other_byte : (b : ℕ) → ¬ ((b == 10) ≡ true) → (b == 10) ≡ false
-other_byte b other = search (rules, nat_tests)
+module _ (line : List ℕ) (lines : List (List ℕ)) where
+  abbrev more : List (List ℕ)
+  more = lines ++ line ∷ []
 
-none_before : (text : List ℕ) (k : ℕ) → k ≤ length text → ((i : ℕ) → i < k → ¬ ((get_or text i 0 == 10) ≡ true)) → All (λ b. (b == 10) ≡ false) (take k text)
-none_before text k le none i d lt =
-    let inside : i < k = omega (arith, length-take-le k text le) in
-    let same : get_or (take k text) i d ≡ get_or text i 0 = get_or-take k text i d inside ∙ get_or_default text i d 0 (omega arith) in
-    rw same (other_byte (get_or text i 0) (none i inside))
+  pub one_more : length more ≡ suc (length lines)
+  one_more = omega (arith, length-append lines (line ∷ []))
 
-pub split_at_byte : (text : List ℕ) (k : ℕ) → IsFirstByte (is_byte 10) text (Some k) → text_lines text ≡ take k text ∷ text_lines (drop (k + 1) text)
-split_at_byte text k first =
-    let high = first.0.high in
-    let here : get_or text k 0 ≡ 10 = newline (get_or text k 0) first.1 in
-    let after : drop k text ≡ 10 ∷ drop (k + 1) text = rw add-one (drop-cons text k 0 high ∙ ap (λ b. b ∷ drop (suc k) text) here) in
-    let parts : text ≡ take k text ++ 10 ∷ drop (k + 1) text = sym (take-append-drop k text) ∙ ap (λ x. take k text ++ x) after in
-    let none = none_before text k (omega arith) (λ i lt. first.0.before i (omega arith) lt) in
-    ap text_lines parts ∙ slice_split_at (λ b. b == 10) (take k text) 10 (drop (k + 1) text) none refl
+  before_rest : (rest : List (List ℕ)) → more ++ rest ≡ lines ++ line ∷ rest
+  before_rest rest = append_assoc lines (line ∷ []) rest
 
-pub split_none : (text : List ℕ) → IsFirstByte (is_byte 10) text None → text_lines text ≡ text ∷ []
-split_none text none =
-    slice_split_none (λ b. b == 10) text (λ i d lt. let same : get_or text i d ≡ get_or text i 0 = get_or_default text i d 0 lt in rw same (other_byte (get_or text i 0) (none i (omega arith) lt)))
+  -- after a bad line it is not read
+  pub after_bad : (ds : List Doc) (bad : BadLine) → PacksFirst lines ds (Some bad) → PacksFirst more ds (Some bad)
+  after_bad ds bad first rest = rw (before_rest rest) (first (line ∷ rest))
 
--- ---- the loop over the lines
+  pub packs_blank : (ds : List Doc) → IsTrue (is_empty_line line) → PacksFirst lines ds None → PacksFirst more ds None
+  packs_blank ds blank first rest es bad p =
+      let q = rw one_more at p in rw (before_rest rest) (first (line ∷ rest) es bad (inl (blank, q)))
 
--- the invariant of the loop: the documents that were packed, whose bytes were written
-pub record SoFar (text : List ℕ) (old new : Writer) (remaining : Option (List ℕ)) (number count : ℕ) : Type 0 where
-  pub done : List Doc
-  pub goes : (es : List Doc) (bad : Option BadLine) → PacksLines (suc number) (lines_remaining remaining) es bad → PacksLines 1 (text_lines text) (done ++ es) bad
-  pub counted : count ≡ length done
-  pub few : count ≤ number
-  pub fits : number + remaining_size remaining ≤ most_reads
-  pub wrote : TakesText (between old new) (flat_map plain done)
+  pub packs_one : (ds : List Doc) (d : Doc) → IsFalse (is_empty_line line) → IsPackable line d → PacksFirst lines ds None → PacksFirst more (ds ++ d ∷ []) None
+  packs_one ds d full is first rest es bad p =
+      let q = rw one_more at p in
+      rw (before_rest rest, append_assoc ds (d ∷ []) es) (first (line ∷ rest) (d ∷ es) bad (inr (inl (full, (d, es, is, refl, q)))))
 
-module _ {text : List ℕ} {old new : Writer} {rest : List ℕ} {number count : ℕ} (s : SoFar text old new (Some rest) number count)
-    (line : List ℕ) (after : Option (List ℕ)) (splits : text_lines rest ≡ line ∷ lines_remaining after) where
-  go_on : (es : List Doc) (bad : Option BadLine) → PacksLines (suc number) (line ∷ lines_remaining after) es bad → PacksLines 1 (text_lines text) (s.done ++ es) bad
-  go_on es bad p = s.goes es bad (subst (λ (ls : List (List ℕ)). PacksLines (suc number) ls es bad) (sym splits) p)
+  pub ends_bad : (ds : List Doc) (fault : LineFault) (number : ℕ) → number ≡ length lines → IsFalse (is_empty_line line) → IsBad line fault → PacksFirst lines ds None
+      → PacksFirst more ds (Some (record { number = number + 1; fault = fault }))
+  ends_bad ds fault number counted full is first rest =
+      let next : number + 1 ≡ suc (length lines) = omega (arith, counted) in
+      let p = first (line ∷ rest) [] (Some (record { number = suc (length lines); fault = fault })) (inr (inr (full, (fault, is, refl, refl)))) in
+      rw (before_rest rest, next) (rw (append-nil ds) at p)
 
-  next : number + 1 ≡ suc number
-  next = omega arith
+-- the BSON of one more document
+pub one_more_document : (ds : List Doc) (d : Doc) (old new : List ℕ) → old ≡ flat_map plain ds → new ≡ old ++ plain d → new ≡ flat_map plain (ds ++ d ∷ [])
+one_more_document ds d old new was grown =
+    grown ∙ ap₂ (λ (x y : List ℕ). x ++ y) was (sym (append-nil (plain d))) ∙ sym (flat_map-append plain ds (d ∷ []))
 
-  with_one : (d : Doc) (es : List Doc) → flat_map plain (s.done ++ d ∷ es) ≡ flat_map plain s.done ++ (plain d ++ flat_map plain es)
-  with_one d es = flat_map-append plain s.done (d ∷ es)
+-- ---- a text, block by block
 
-  -- a line with a document, whose bytes were written
-  pub packed : (end : Writer) (d : Doc) → remaining_size after ≤ length rest → is_empty_line line ≡ false → IsPackable line d → TakesText (between new end) (plain d)
-      → SoFar text old end after (number + 1) (count + 1)
-  packed end d smaller full is wrote = record {
-    done = s.done ++ d ∷ [];
-    goes = λ es bad p.
-        let tail = subst (λ (n : ℕ). PacksLines (suc n) (lines_remaining after) es bad) next p in
-        subst (λ (ds : List Doc). PacksLines 1 (text_lines text) ds bad) (sym (append_assoc s.done (d ∷ []) es))
-        (go_on (d ∷ es) bad (inr (inl (full, (d, es, is, refl, tail)))));
-    counted = let c = s.counted in omega (arith, length-append s.done (d ∷ []));
-    few = let f = s.few in omega arith;
-    fits = let f = s.fits in omega arith;
-    wrote = subst (λ (x : List ℕ). TakesText (between old end) x) (sym (with_one d [] ∙ ap (λ x. flat_map plain s.done ++ x) (append-nil (plain d))))
-        (takes_both old new end (flat_map plain s.done) (plain d) s.wrote wrote);
-  }
+-- before the first block
+pub starts : (packing : Packing) → ArePacked [] packing → IsTaken [] packing []
+starts packing none = ([], none, All-nil (λ b. is_newline b ≡ false), λ rest. refl)
 
-  -- a write failed within its bytes
-  pub write_fails : (end : Writer) (d : Doc) → is_empty_line line ≡ false → IsPackable line d → WriteFailsWithin (between new end) (plain d) → StopsPacking text (between old end) Unwritten
-  write_fails end d full is failed_write =
-      let w = packs_some (suc (suc number)) (lines_remaining after) in
-      let all = flat_map plain (s.done ++ d ∷ w.0) in
-      let prefix = write_fails_piece old new end (flat_map plain s.done) (plain d) (flat_map plain w.0) all s.wrote failed_write (with_one d w.0) in
-      (s.done ++ d ∷ w.0, w.1, go_on (d ∷ w.0) w.1 (inr (inl (full, (d, w.0, is, refl, w.2)))), prefix)
+-- a line that ends: what was taken of it, the rest of it, and its newline
+pub takes_line : (text partial line : List ℕ) (packing next : Packing) → IsLine line → IsTaken text packing partial
+    → ((lines : List (List ℕ)) → ArePacked lines packing → ArePacked (lines ++ (partial ++ line) ∷ []) next) → IsTaken (text ++ (line ++ 10 ∷ [])) next []
+takes_line text partial line packing next is (lines, packed, begun, splits) packs = (
+  lines ++ (partial ++ line) ∷ [],
+  packs lines packed,
+  All-nil (λ b. is_newline b ≡ false),
+  λ rest.
+      let whole : text_lines (partial ++ line) ≡ (partial ++ line) ∷ [] = slice_split_none is_newline (partial ++ line) (line_grows partial line begun is) in
+      let apart : text_lines (partial ++ (line ++ 10 ∷ rest)) ≡ (partial ++ line) ∷ text_lines rest
+      = ap text_lines (sym (append_assoc partial line (10 ∷ rest))) ∙ lines_apart (partial ++ line) rest ∙ ap (λ l. l ++ text_lines rest) whole in
+      let joined : (text ++ (line ++ 10 ∷ [])) ++ rest ≡ text ++ (line ++ 10 ∷ rest)
+      = append_assoc text (line ++ 10 ∷ []) rest ∙ ap (λ x. text ++ x) (append_assoc line (10 ∷ []) rest) in
+      ap text_lines joined ∙ splits (line ++ 10 ∷ rest) ∙ ap (λ l. lines ++ l) apart ∙ sym (append_assoc lines ((partial ++ line) ∷ []) (text_lines rest)),
+)
 
-  -- a bad line: the documents before it are all there are
-  pub ends_bad : (fault : LineFault) → is_empty_line line ≡ false → IsBad line fault
-      → IsPacking text (between old new) (record { count = count; bad = Some (record { number = number + 1; fault = fault }) })
-  ends_bad fault full is =
-      let packs : PacksLines 1 (text_lines text) (s.done ++ []) (Some (record { number = number + 1; fault = fault }))
-      = rw next (go_on [] (Some (record { number = suc number; fault = fault })) (inr (inr (full, (fault, is, refl, refl))))) in
-      (s.done, rw append-nil at packs, s.counted, s.wrote)
+-- more of a line
+pub takes_part : (text partial part : List ℕ) (packing : Packing) → IsLine part → IsTaken text packing partial → IsTaken (text ++ part) packing (partial ++ part)
+takes_part text partial part packing is (lines, packed, begun, splits) = (
+  lines,
+  packed,
+  line_grows partial part begun is,
+  λ rest. ap text_lines (append_assoc text part rest) ∙ splits (part ++ rest) ∙ ap (λ x. lines ++ text_lines x) (sym (append_assoc partial part rest)),
+)
 
-module _ {text : List ℕ} {old new : Writer} {remaining : Option (List ℕ)} {number count : ℕ} (s : SoFar text old new remaining number count) where
-  -- memory ran out
-  pub runs_out : StopsPacking text (between old new) NoMemory
-  runs_out =
-      let w = packs_some (suc number) (lines_remaining remaining) in
-      let all = flat_map plain (s.done ++ w.0) in
-      (s.done ++ w.0, w.1, s.goes w.0 w.1 w.2, prefix_taken old new (flat_map plain s.done) (flat_map plain w.0) all s.wrote (flat_map-append plain s.done w.0))
+-- the end of the text ends its last line
+pub ends_text : (text partial : List ℕ) (packing next : Packing) → IsTaken text packing partial
+    → ((lines : List (List ℕ)) → ArePacked lines packing → ArePacked (lines ++ partial ∷ []) next) → ArePacked (text_lines text) next
+ends_text text partial packing next (lines, packed, begun, splits) packs =
+    let last : text_lines partial ≡ partial ∷ [] = slice_split_none is_newline partial begun in
+    let all : text_lines text ≡ lines ++ partial ∷ []
+    = ap text_lines (sym (append-nil text)) ∙ splits [] ∙ ap (λ x. lines ++ text_lines x) (append-nil partial) ∙ ap (λ l. lines ++ l) last in
+    subst (λ (ls : List (List ℕ)). ArePacked ls next) (sym all) (packs lines packed)
 
-  -- the text is at its end
-  pub ends : remaining ≡ None → IsPacking text (between old new) (record { count = count; bad = None })
-  ends none =
-      let last = subst (λ (o : Option (List ℕ)). PacksLines (suc number) (lines_remaining o) [] None) (sym none) (refl, refl) in
-      (s.done, subst (λ (ds : List Doc). PacksLines 1 (text_lines text) ds None) (append-nil s.done) (s.goes [] None last), s.counted, s.wrote)
+-- the first lines of a block were taken, and this is the rest of it
+abbrev pub TakesFirst : List ℕ → Packing → List ℕ → List ℕ → Packing → List ℕ → Type 0
+TakesFirst block old was rest now partial =
+    (taken : List ℕ) × (block ≡ taken ++ rest) × ((text : List ℕ) → IsTaken text old was → IsTaken (text ++ taken) now partial)
+
+pub takes_none : (block was : List ℕ) (old : Packing) → TakesFirst block old was block old was
+takes_none block was old = ([], refl, λ text before. rw (append-nil text) before)
+
+pub takes_next : (block was rest partial line after : List ℕ) (old now next : Packing) → TakesFirst block old was rest now partial → rest ≡ line ++ 10 ∷ after → IsLine line
+    → ((lines : List (List ℕ)) → ArePacked lines now → ArePacked (lines ++ (partial ++ line) ∷ []) next) → TakesFirst block old was after next []
+takes_next block was rest partial line after old now next (taken, split, takes) splits is packs = (
+  taken ++ (line ++ 10 ∷ []),
+  split ∙ ap (λ x. taken ++ x) (splits ∙ sym (append_assoc line (10 ∷ []) after)) ∙ sym (append_assoc taken (line ++ 10 ∷ []) after),
+  λ text before. subst (λ x. IsTaken x next []) (append_assoc text taken (line ++ 10 ∷ [])) (takes_line (text ++ taken) partial line now next is (takes text before) packs),
+)
+
+pub takes_all : (block was rest partial : List ℕ) (old now : Packing) → TakesFirst block old was rest now partial → IsLine rest
+    → (text : List ℕ) → IsTaken text old was → IsTaken (text ++ block) now (partial ++ rest)
+takes_all block was rest partial old now (taken, split, takes) is text before =
+    subst (λ x. IsTaken x now (partial ++ rest)) (append_assoc text taken rest ∙ ap (λ x. text ++ x) (sym split)) (takes_part (text ++ taken) partial rest now is (takes text before))
+
+-- a vector grew, or a call failed
+pub on_ok_grown : {A E : Type 0} (r : Result A E) (P : List ℕ → Type 0) (old part new : List ℕ) → new ≡ (if is_ok r then old ++ part else old) → P (old ++ part) → OnOk r (P new)
+on_ok_grown (Ok x) P old part new is h = subst P (sym is) h
+on_ok_grown (Err e) P old part new is h = _
+
+-- the loop over the blocks
+pub record SoFar {R : Type 0} (state : R → Reader) (gives : R → Option (List ℕ) → R → Type 0) (old new : R) (remaining : ℕ) (packing : Packing) (partial : List ℕ) : Type 0 where
+  pub text : List ℕ
+  pub turns : ℕ
+  pub taken : IsTaken text packing partial
+  pub consumed : Consumes (state old).remaining (state new).remaining text
+  pub reads : AreReads gives turns old text new
+  pub within : length text + remaining ≡ longest_input
+  pub numbered : packing.lines ≤ length text
+  pub counted : packing.count ≤ packing.lines
+  pub no_failure : (state new).failures ≡ (state old).failures
+
+-- what was read is more than a limit
+pub more_than : (limit : ℕ) (before after : Option (List ℕ)) (given : List ℕ) → Consumes before after given → limit < length given → IfSome before (λ xs. limit < length xs)
+more_than limit None after given all more = _
+more_than limit (Some xs) None given all more = absurd all
+more_than limit (Some xs) (Some rest) given all more =
+    let size : length xs ≡ length given + length rest = ap (λ (l : List ℕ). length l) all ∙ length-append given rest in omega (arith, size, more)
+
+-- what was read up to the end is all
+pub all_given : (before after : Option (List ℕ)) (given : List ℕ) → Consumes before after given → IsAtEnd after → IfSome before (λ xs. given ≡ xs)
+all_given None after given all end = _
+all_given (Some xs) None given all end = absurd all
+all_given (Some xs) (Some rest) given all end = sym (all ∙ ap (λ x. given ++ x) end ∙ append-nil given)
 
 pub packed_some : (text : List ℕ) → (output : Transcript) × IsOutputOfPack (Ok text) output
 packed_some text =

@@ -12,7 +12,7 @@
 //! assert!(rt; err.bytes() == b"1 documents, 0 faulty\n".as_slice());
 //! ```
 //!
-//! - `dump` and `check`, which scan a file document by document; `pack`, which reads its whole file into memory.
+//! - `dump` and `check`, which scan a file document by document; `pack`, which holds the documents of its whole file.
 //! - `scan`: the scan of `dump` and `check`.
 //! - `input`: a file that is read completely, how much of a file is read, and why it is not read to its end.
 //! - `load`: a dump that is read into memory, for `find` and `serve`.

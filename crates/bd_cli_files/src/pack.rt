@@ -1,27 +1,24 @@
 //! `pack`: the documents in lines of text, as BSON.
 
-ghost use Rattle.std.specs.Prelude.{◌≡◌, ◌++◌, ◌∷◌, ◌≤◌, ◌⊎◌, IfErr, IfOk, OnOk, Ok, length, decimal, option_map, string_bytes};
+ghost use Rattle.std.specs.Prelude.{◌≡◌, ◌++◌, ◌∷◌, ◌+◌, ◌≤◌, ◌⊎◌, ℕ, List, [], Err, IfErr, IfOk, OnOk, Ok, length, decimal, option_map, string_bytes};
 ghost use Rattle.bd_value.specs.Limits.{longest_input};
 ghost use Rattle.bd_io_device.specs.Devices.{over};
 ghost use Rattle.bd_io_lines.specs.Lines.{text_lines};
-ghost use Rattle.bd_cli_files.specs.Input.{ReadsNoFurther};
+ghost use Rattle.bd_cli_files.specs.Input.{ReadsInput, ReadsNoFurther};
 ghost use Rattle.bd_cli_files.specs.Output.{Transcript, error_line, no_memory, wrong_line, wrong_status};
 ghost use Rattle.bd_cli_files.specs.Run.{Prints, ReportsMessage, part_of};
-ghost use Rattle.bd_cli_files.specs.inside.Output.{reported_bytes};
 ghost use Rattle.bd_cli_files.specs.Pack.{IsOutputOfPack, bad_line_text, line_fault_text, objects_packed, pack_run};
-ghost use Rattle.bd_cli_files.specs.inside.Pack.{IsPacking, StopsPacking, remaining_size, lines_remaining};
+ghost use Rattle.bd_cli_files.specs.inside.Pack.{ArePacked, IsTaken};
 ghost use Rattle.bd_cli_files.specs.declared.output.Status.TheVariants.{Failed};
 
-use crate::input::read_input;
 use crate::output::{
-    OutputFault, Status, push_number, report_end, report_no_memory, report_read_fault, report_stop,
+    Status, push_number, report_end, report_no_memory, report_read_fault, report_unwritten,
 };
 use bd_extjson_fault::JsonFaultKind;
 use bd_extjson_pack::{LineFault, Packer};
-use bd_io_device::{Input, Output, write_all};
-use bd_io_lines::is_empty_line;
-use bd_value::NoMemory;
-use memchr::memchr;
+use bd_io_device::{Input, Output, ReadFault, write_all};
+use bd_io_lines::{find_newline, is_empty_line};
+use bd_value::{LONGEST_INPUT, NoMemory};
 use std::alloc::Global;
 
 /// After the number of documents.
@@ -38,31 +35,67 @@ pub fn pack<R: Input, O: Output, E: Output>(
         (over O.state out.old out.new) (over E.state err.old err.new) result }
     ensures stops_reading { ReadsNoFurther R.read_gives input.old input.new }
 {
-    match read_input(alloc, input) {
-        Ok(text) => pack_text(alloc, &text, out, err),
+    let mut packing = Packing::new(alloc);
+    match pack_input(alloc, input, &mut packing) {
+        Ok(()) => write_packing(alloc, &packing, out, err),
         Err(fault) => report_read_fault(fault, err),
     }
 }
 
-/// Packs a text and writes the result.
-fn pack_text<O: Output, E: Output>(alloc: Global, text: &[u8], out: &mut O, err: &mut E) -> Status
-    requires { length text.now ≤ longest_input }
-    ensures { (output : Transcript) × IsOutputOfPack (Ok text.now) output × Prints (part_of output)
-        (over O.state out.old out.new) (over E.state err.old err.new) result }
+/// Reads the whole input, and packs each of its lines as soon as its end was read.
+fn pack_input<R: Input>(
+    alloc: Global,
+    input: &mut R,
+    packing: &mut Packing,
+) -> Result<(), ReadFault>
+    requires none { ArePacked [] packing.old }
+    requires counts { (packing.old.count ≡ 0) × (packing.old.lines ≡ 0) }
+    ensures packs { OnOk result ((text : List ℕ)
+        × ReadsInput (over R.state input.old input.new) (Ok text)
+        × ArePacked (text_lines text) packing.new) }
+    ensures fault { IfErr result (λ fault.
+        ReadsInput (over R.state input.old input.new) (Err fault)) }
+    ensures stops_reading { ReadsNoFurther R.read_gives input.old input.new }
 {
-    match write_lines(text, &mut Packer::new(alloc), &mut Vec::new(alloc), out) {
-        Ok(packing) => report_packing(alloc, &packing, err),
-        Err(fault) => report_stop(fault, err),
+    let mut partial = Vec::new(alloc);
+    let mut block = [0u8; 65536];
+    let mut remaining = LONGEST_INPUT;
+    loop {
+        let Ok(n) = input.read(&mut block) else {
+            return Err(ReadFault::Device);
+        };
+        if n == 0 {
+            break;
+        }
+        if remaining < n as u64 {
+            return Err(ReadFault::TooLong);
+        }
+        remaining -= n as u64;
+        let Ok(()) = packing.pack_block(&mut partial, &block[..n]) else {
+            return Err(ReadFault::NoMemory);
+        };
+    }
+    match packing.pack_line(&partial) {
+        Ok(()) => Ok(()),
+        Err(_) => Err(ReadFault::NoMemory),
     }
 }
 
-/// The lines of a text that were packed.
-#[derive(Debug, Drop)]
-pub struct Packing {
-    /// How many documents there are.
-    pub count: u64,
-    /// The line after them.
-    pub bad: Option<BadLine>,
+/// Writes the documents of the lines that were packed, and reports them.
+fn write_packing<O: Output, E: Output>(
+    alloc: Global,
+    packing: &Packing,
+    out: &mut O,
+    err: &mut E,
+) -> Status
+    ensures { (text : List ℕ) → ArePacked (text_lines text) packing.now →
+        (output : Transcript) × IsOutputOfPack (Ok text) output × Prints (part_of output)
+        (over O.state out.old out.new) (over E.state err.old err.new) result }
+{
+    match write_all(out, &packing.bytes) {
+        Ok(()) => report_packing(alloc, packing, err),
+        Err(_) => report_unwritten(err),
+    }
 }
 
 /// A line that is not packed.
@@ -74,47 +107,90 @@ pub struct BadLine {
     pub fault: LineFault,
 }
 
-/// Writes the documents of the lines before the first bad one, each as soon as it is packed into the buffer. If memory runs
-/// out, what was written is a prefix of their bytes.
-fn write_lines<O: Output>(
-    text: &[u8],
-    packer: &mut Packer,
-    bytes: &mut Vec<u8>,
-    out: &mut O,
-) -> Result<Packing, OutputFault>
-    requires { length text.now ≤ longest_input }
-    ensures packs { IfOk result (IsPacking text.now (over O.state out.old out.new)) }
-    ensures stops { IfErr result (StopsPacking text.now (over O.state out.old out.new)) }
-{
-    let mut number = 0;
-    let mut count = 0;
-    let mut remaining = Some(text);
-    while let Some(rest) = remaining {
-        let (line, after) = split_line(rest);
-        remaining = after;
-        number += 1;
-        if is_empty_line(line) {
-            continue;
-        }
-        bytes.clear();
-        if let Some(fault) = packer.pack_line(line, bytes)? {
-            let bad = Some(BadLine { number, fault });
-            return Ok(Packing { count, bad });
-        }
-        write_all(out, bytes)?;
-        count += 1;
-    }
-    Ok(Packing { count, bad: None })
+/// The lines of a text that have ended.
+#[derive(Drop)]
+struct Packing {
+    packer: Packer,
+    /// The BSON of the documents before the first bad line.
+    bytes: Vec<u8>,
+    /// How many documents these are.
+    count: u64,
+    /// How many lines have ended.
+    lines: u64,
+    bad: Option<BadLine>,
 }
 
-/// The first line of a text, and what is after its newline, if there is one.
-fn split_line(text: &[u8]) -> (&[u8], Option<&[u8]>)
-    ensures line { text_lines text.now ≡ result.0.now ∷ lines_remaining (reported_bytes result.1) }
-    ensures shorter { remaining_size (reported_bytes result.1) ≤ length text.now }
-{
-    match memchr(b'\n', text) {
-        Some(end) => (&text[..end], Some(&text[end + 1..])),
-        None => (text, None),
+impl Packing {
+    /// No lines. It takes no memory yet.
+    fn new(alloc: Global) -> Packing
+        ensures none { ArePacked [] result }
+        ensures counts { (result.count ≡ 0) × (result.lines ≡ 0) }
+    {
+        Packing {
+            packer: Packer::new(alloc),
+            bytes: Vec::new(alloc),
+            count: 0,
+            lines: 0,
+            bad: None,
+        }
+    }
+
+    /// Packs the lines that end in a block, the first of which begins with `partial`, and leaves there the part of a line after
+    /// them.
+    fn pack_block(&mut self, partial: &mut Vec<u8>, block: &[u8]) -> Result<(), NoMemory>
+        requires { (self.old.count ≤ self.old.lines)
+            × (self.old.lines + length block.now ≤ longest_input) }
+        ensures packs { (text : List ℕ) → IsTaken text self.old partial.old.items →
+            OnOk result (IsTaken (text ++ block.now) self.new partial.new.items) }
+        ensures counts { OnOk result ((self.new.count ≤ self.new.lines)
+            × (self.new.lines ≤ self.old.lines + length block.now)) }
+    {
+        let mut rest = block;
+        while let Some(end) = find_newline(rest) {
+            self.end_line(partial, &rest[..end])?;
+            rest = &rest[end + 1..];
+        }
+        partial.extend_from_slice(rest)
+    }
+
+    /// Packs the line that begins with `partial`, which is then empty, and ends with these bytes.
+    fn end_line(&mut self, partial: &mut Vec<u8>, end: &[u8]) -> Result<(), NoMemory>
+        requires { (self.old.count ≤ self.old.lines) × (self.old.lines ≤ longest_input) }
+        ensures packs { (lines : List (List ℕ)) → ArePacked lines self.old →
+            OnOk result (ArePacked (lines ++ (partial.old.items ++ end.now) ∷ []) self.new) }
+        ensures partial { OnOk result (partial.new.items ≡ []) }
+        ensures counts { OnOk result ((self.new.count ≤ self.new.lines)
+            × (self.new.lines ≡ self.old.lines + 1)) }
+    {
+        if partial.is_empty() {
+            return self.pack_line(end);
+        }
+        partial.extend_from_slice(end)?;
+        self.pack_line(partial)?;
+        partial.clear();
+        Ok(())
+    }
+
+    /// Packs a line, unless one before it is bad.
+    fn pack_line(&mut self, line: &[u8]) -> Result<(), NoMemory>
+        requires { (self.old.count ≤ self.old.lines) × (self.old.lines ≤ longest_input) }
+        ensures packs { (lines : List (List ℕ)) → ArePacked lines self.old →
+            OnOk result (ArePacked (lines ++ line.now ∷ []) self.new) }
+        ensures counts { OnOk result ((self.new.count ≤ self.new.lines)
+            × (self.new.lines ≡ self.old.lines + 1)) }
+    {
+        self.lines += 1;
+        if self.bad.is_some() || is_empty_line(line) {
+            return Ok(());
+        }
+        match self.packer.pack_line(line, &mut self.bytes)? {
+            None => self.count += 1,
+            Some(fault) => {
+                let number = self.lines;
+                self.bad = Some(BadLine { number, fault });
+            }
+        }
+        Ok(())
     }
 }
 

@@ -16,12 +16,12 @@
 //! assert!(rt; !lines.read_next(&mut input)?);
 //! ```
 //!
-//! - `line_buffer`: `LineBuffer`, the next line of a device.
+//! - `line_buffer`: `LineBuffer`, the next line of a device; `find_newline`, where a line of some bytes ends.
 //! - `serving`: `reply_to_lines`, which writes what a `Replier` replies to each command; `is_empty_line`, whether a line is no command.
 #![tactic(auto)]
 
 mod line_buffer;
 mod serving;
 
-pub use line_buffer::LineBuffer;
+pub use line_buffer::{LineBuffer, find_newline};
 pub use serving::{Replier, ServeFault, is_empty_line, reply_to_lines};

@@ -225,8 +225,8 @@ impl LineBuffer {
     }
 }
 
-/// The offset of the first newline.
-fn find_newline(bytes: &[u8]) -> Option<usize>
+/// The offset of the first newline (byte 0x0A).
+pub fn find_newline(bytes: &[u8]) -> Option<usize>
     ensures found { IfSome result (λ k. (k < length bytes.now) × IsLine (take k bytes.now)
         × (bytes.now ≡ take k bytes.now ++ 10 ∷ drop (k + 1) bytes.now)) }
     ensures none { result ≡ None → IsLine bytes.now }

@@ -1,38 +1,28 @@
--- What `pack` does line by line.
-use Rattle.std.specs.Prelude.{◌≡◌, ℕ, suc, List, [], length}
+-- What `pack` holds of a text while it reads it.
+use Rattle.std.specs.Prelude.{◌≡◌, ℕ, suc, List, ◌++◌, length}
 use Rattle.std.specs.Prelude.{Option, Some, None}
 use Rattle.std.specs.List.{flat_map}
 use Rattle.bd_value.specs.Tree.{Doc}
-use Rattle.bd_io_device.specs.Devices.{Over, TakesText, Writer}
 use Rattle.bd_extjson_pack.specs.{Packable.plain}
-use Rattle.bd_io_lines.specs.Lines.{text_lines}
-use Rattle.bd_cli_files.specs.{declared.pack.BadLine.BadLine}
-use Rattle.bd_cli_files.specs.{declared.pack.Packing.Packing}
-use Rattle.bd_cli_files.specs.declared.{output.OutputFault.OutputFault}
-use Rattle.bd_cli_files.specs.Run.{StopsWithin}
+use Rattle.bd_io_lines.specs.Lines.{IsLine, text_lines}
+use Rattle.bd_cli_files.specs.{declared.pack.BadLine.BadLine, declared.pack.Packing.Packing}
 use Rattle.bd_cli_files.specs.Pack.{PacksLines}
 
--- ---- line by line
+-- Whatever lines follow these, these are the documents before the first bad line, or the first of them if no line is bad yet.
+abbrev pub PacksFirst : List (List ℕ) → List Doc → Option BadLine → Type 0
+PacksFirst lines ds None =
+    (rest : List (List ℕ)) (es : List Doc) (bad : Option BadLine) → PacksLines (suc (length lines)) rest es bad
+    → PacksLines 1 (lines ++ rest) (ds ++ es) bad
+PacksFirst lines ds (Some bad) = (rest : List (List ℕ)) → PacksLines 1 (lines ++ rest) ds (Some bad)
 
--- the lines that remain to be packed; None is the end of the text
-abbrev pub lines_remaining : Option (List ℕ) → List (List ℕ)
-lines_remaining None = []
-lines_remaining (Some text) = text_lines text
+-- These lines were packed: the BSON of the documents before the first bad line is there, and their count.
+abbrev pub ArePacked : List (List ℕ) → Packing → Type 0
+ArePacked lines packing =
+    (ds : List Doc) × PacksFirst lines ds packing.bad × (packing.bytes.items ≡ flat_map plain ds)
+    × (packing.count ≡ length ds) × (packing.lines ≡ length lines)
 
--- how much remains to be packed: less after each line, and 0 at the end of the text
-abbrev pub remaining_size : Option (List ℕ) → ℕ
-remaining_size None = 0
-remaining_size (Some text) = suc (length text)
-
--- The writer took the BSON of the documents before the first bad line,
--- and that line and their count are these.
-abbrev pub IsPacking : List ℕ → Over Writer → Packing → Type 0
-IsPacking text out packing =
-    (ds : List Doc) × PacksLines 1 (text_lines text) ds packing.bad × (packing.count ≡ length ds)
-    × TakesText out (flat_map plain ds)
-
--- Writing the BSON of the documents before the first bad line was stopped.
-abbrev pub StopsPacking : List ℕ → Over Writer → OutputFault → Type 0
-StopsPacking text out stopped =
-    (ds : List Doc) × (bad : Option BadLine) × PacksLines 1 (text_lines text) ds bad
-    × StopsWithin out (flat_map plain ds) stopped
+-- The lines of the text that have ended were packed, and after them is this part of a line.
+abbrev pub IsTaken : List ℕ → Packing → List ℕ → Type 0
+IsTaken text packing partial =
+    (lines : List (List ℕ)) × ArePacked lines packing × IsLine partial
+    × ((rest : List ℕ) → text_lines (text ++ rest) ≡ lines ++ text_lines (partial ++ rest))

@@ -7,13 +7,14 @@ use Rattle.bd_cli_files.proofs.pack.pack.Goals as goal
 
 pub returns-in-Ok-clause-packs : goal.returns-in-Ok-clause-packs
 returns-in-Ok-clause-packs g c =
-    let s = c.pack_text.ensures in
-    after_input c.in-Ok.text.items s.0 c.in-Ok.ensures.input (rw c.deref.ensures.value at s.1) s.2
+    let p = c.in-Ok.ensures.packs in
+    let s = c.write_packing.ensures p.0 p.2 in
+    after_input p.0 s.0 p.1 s.1 s.2
 
-pub returns-in-Err-clause-packs : goal.returns-in-Err-clause-packs
-returns-in-Err-clause-packs g c = inl (
+pub returns-clause-packs : goal.returns-clause-packs
+returns-clause-packs g c = inl (
   refusal_output (read_words c.in-Err.fault),
-  (Err c.in-Err.fault, c.in-Err.ensures.input, refl),
+  (Err c.in-Err.fault, c.in-Err.ensures.fault, refl),
   takes_none (g.O.Output.state c.args.out.now),
   c.report_read_fault.ensures,
 )
