@@ -32,14 +32,14 @@ ReadsNoCommands (orders.Serve path) = ⊥
 ReadsNoCommands _ = Unit {0}
 
 -- A write failed: a count of failures rose.
-abbrev pub WriteFails : Over Writer → Over Writer → Type 0
-WriteFails out err = (out.before.failures < out.after.failures) ⊎ (err.before.failures < err.after.failures)
+abbrev pub WriterFails : Over Writer → Over Writer → Type 0
+WriterFails out err = (out.before.failures < out.after.failures) ⊎ (err.before.failures < err.after.failures)
 
 -- A read or a write failed: a count of failures rose.
 abbrev pub DeviceFails : Over Reader → Over Reader → Over Writer → Over Writer → Type 0
 DeviceFails file commands out err =
     (file.before.failures < file.after.failures) ⊎ (commands.before.failures < commands.after.failures)
-    ⊎ WriteFails out err
+    ⊎ WriterFails out err
 
 -- the output for arguments that are not a command: the usage, for `--help` on standard output
 abbrev pub report_output : WordsFault → Transcript

@@ -3,7 +3,7 @@
 ghost use Rattle.std.specs.Prelude.{◌≡◌};
 ghost use Rattle.bd_io_device.specs.{Devices.over};
 ghost use Rattle.bd_cli_files.specs.{Input.ReadsNoFurther, Run.Prints, Run.run_of};
-ghost use Rattle.bd_cli.specs.Runs.{DeviceFails, ReadsNoCommands, ReadsNoFile, WriteFails, order_run, report_output};
+ghost use Rattle.bd_cli.specs.Runs.{DeviceFails, ReadsNoCommands, ReadsNoFile, WriterFails, order_run, report_output};
 
 use crate::serve::serve;
 use bd_cli_args::{Order, USAGE, WordsFault};
@@ -58,7 +58,7 @@ pub fn run<F: Input, C: Input, O: Output, E: Output>(
 pub fn report<O: Output, E: Output>(fault: &WordsFault, out: &mut O, err: &mut E) -> Status
     ensures output { Prints (run_of (report_output fault.now)) (over O.state out.old out.new)
         (over E.state err.old err.new) result }
-    ensures failed { WriteFails (over O.state out.old out.new) (over E.state err.old err.new) →
+    ensures failed { WriterFails (over O.state out.old out.new) (over E.state err.old err.new) →
         result ≡ Status.Failed }
 {
     match fault {

@@ -12,7 +12,7 @@ use Rattle.bd_extjson_text.specs.Text.{escape_byte, escaped, quoted, text}
 use Rattle.bd_cli_files.specs.{declared.output.OutputFault.OutputFault, declared.output.Status.Status, declared.output.Status.TheVariants.Failed}
 use Rattle.bd_cli_files.specs.declared.output.OutputFault.TheVariants.{NoMemory, Unwritten}
 use Rattle.bd_cli_files.specs.Output.{lines, Transcript, error_line, no_memory, stop_words}
-use Rattle.bd_cli_files.specs.Run.{Prints, ReportsMessage, StopsWithin, part_of, run_after}
+use Rattle.bd_cli_files.specs.Run.{Prints, ReportsMessage, StopsWithin, partial_run, run_after}
 use Rattle.json.specs.Print as printed
 
 -- the lines of two lists of documents are those of both joined
@@ -62,19 +62,19 @@ write_fails_piece old mid new prefix piece rest all took failed_write splits =
 -- the run printed its output
 pub all_output : (out_old out_new err_old err_new : Writer) (status : Status) (output : Transcript) → TakesText (between out_old out_new) output.out
     → ReportsMessage (between err_old err_new) output.err output.status status ⊎ ReportsMessage (between err_old err_new) (error_line no_memory) Failed status
-    → Prints (part_of output) (between out_old out_new) (between err_old err_new) status
+    → Prints (partial_run output) (between out_old out_new) (between err_old err_new) status
 all_output out_old out_new err_old err_new status output wrote (inl reported) = inl (output, refl, wrote, reported)
 all_output out_old out_new err_old err_new status output wrote (inr reported) = inr (inr (output.out, ([], sym (append-nil output.out)), wrote, reported))
 
 -- standard output was stopped
 pub stop_output : (out_old out_new err_old err_new : Writer) (status : Status) (output : Transcript) (stopped : OutputFault) → StopsWithin (between out_old out_new) output.out stopped
-    → ReportsMessage (between err_old err_new) (error_line (stop_words stopped)) Failed status → Prints (part_of output) (between out_old out_new) (between err_old err_new) status
+    → ReportsMessage (between err_old err_new) (error_line (stop_words stopped)) Failed status → Prints (partial_run output) (between out_old out_new) (between err_old err_new) status
 stop_output out_old out_new err_old err_new status output NoMemory (prefix, rest, splits, took) reported = inr (inr (prefix, (rest, splits), took, reported))
 stop_output out_old out_new err_old err_new status output Unwritten failed_write reported = inr (inl ([], output.out, (refl, refl), failed_write, reported))
 
 -- an output for an input that was read completely
 pub after_input : {Reads : Result (List ℕ) ReadFault → Type 0} {Is : Result (List ℕ) ReadFault → Transcript → Type 0} {out err : Over Writer} {status : Status}
-    (bytes : List ℕ) (output : Transcript) → Reads (Ok bytes) → Is (Ok bytes) output → Prints (part_of output) out err status → Prints (run_after Reads Is) out err status
+    (bytes : List ℕ) (output : Transcript) → Reads (Ok bytes) → Is (Ok bytes) output → Prints (partial_run output) out err status → Prints (run_after Reads Is) out err status
 after_input {Reads} {Is} bytes output read is (inl (o, same, wrote, reported)) = inl (o, (Ok bytes, read, subst (λ (t : Transcript). Is (Ok bytes) t) (sym same) is), wrote, reported)
 after_input {Reads} {Is} bytes output read is (inr (inl (text, piece, next, failed_write, reported))) = inr (inl (text, piece, (bytes, output, read, is, next), failed_write, reported))
 after_input {Reads} {Is} bytes output read is (inr (inr (text, begun, wrote, reported))) = inr (inr (text, (bytes, output, read, is, begun), wrote, reported))

@@ -15,7 +15,7 @@ use Rattle.bd_cli_files.specs.{declared.pack.BadLine.BadLine, declared.pack.Pack
 use Rattle.bd_cli_files.specs.{declared.output.OutputFault.TheVariants.Unwritten, declared.output.Status.Status, declared.output.Status.TheVariants.Failed}
 use Rattle.bd_cli_files.specs.Output.{Transcript, cannot_write, error_line, no_memory, wrong_line, wrong_status}
 use Rattle.bd_cli_files.specs.Pack.{IsOutputOfPack, PacksLines, bad_line_text, objects_packed, pack_output}
-use Rattle.bd_cli_files.specs.Run.{Prints, ReportsMessage, part_of}
+use Rattle.bd_cli_files.specs.Run.{Prints, ReportsMessage, partial_run}
 use Rattle.bd_cli_files.proofs.OutputLemmas.{all_output, stop_output}
 use Rattle.bd_cli_files.specs.inside.Pack.{ArePacked, IsTaken, PacksFirst}
 use Rattle.bd_io_lines.specs.Lines.{IsLine, is_empty_line, is_newline, text_lines}
@@ -105,12 +105,12 @@ all_lines lines ds (Some bad) first = let p = first [] in rw (append-nil lines) 
 module _ (text : List ℕ) (packing : Packing) (packed : ArePacked (text_lines text) packing) (out_old out_new err_old err_new : Writer) (status : Status) where
   -- the run printed an output of `pack` for the text
   abbrev PrintsPacked : Type 0
-  PrintsPacked = (output : Transcript) × IsOutputOfPack (Ok text) output × Prints (part_of output) (between out_old out_new) (between err_old err_new) status
+  PrintsPacked = (output : Transcript) × IsOutputOfPack (Ok text) output × Prints (partial_run output) (between out_old out_new) (between err_old err_new) status
 
   abbrev output : Transcript
   output = pack_output packed.0 packing.bad
 
-  prints : Prints (part_of output) (between out_old out_new) (between err_old err_new) status → PrintsPacked
+  prints : Prints (partial_run output) (between out_old out_new) (between err_old err_new) status → PrintsPacked
   prints printed = (output, (packed.0, packing.bad, all_lines (text_lines text) packed.0 packing.bad packed.1, refl), printed)
 
   -- the bad line, if any, and the count were reported, or that memory ran out

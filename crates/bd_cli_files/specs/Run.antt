@@ -42,8 +42,8 @@ run_of output = record {
 }
 
 -- a run that prints this output, or stops anywhere in it
-abbrev pub part_of : Transcript → Run
-part_of output = record {
+abbrev pub partial_run : Transcript → Run
+partial_run output = record {
   IsOutput = λ o. o ≡ output;
   IsNext = λ text piece. (text ≡ []) × (piece ≡ output.out);
   IsBegun = λ text. (rest : List ℕ) × (output.out ≡ text ++ rest);
@@ -54,9 +54,9 @@ abbrev pub run_after : (Result (List ℕ) ReadFault → Type 0) → (Result (Lis
 run_after Reads IsOutputFor = record {
   IsOutput = λ output. (input : Result (List ℕ) ReadFault) × Reads input × IsOutputFor input output;
   IsNext = λ text piece. (bytes : List ℕ) × (output : Transcript) × Reads (Ok bytes) × IsOutputFor (Ok bytes) output
-      × (part_of output).IsNext text piece;
+      × (partial_run output).IsNext text piece;
   IsBegun = λ text. (bytes : List ℕ) × (output : Transcript) × Reads (Ok bytes) × IsOutputFor (Ok bytes) output
-      × (part_of output).IsBegun text;
+      × (partial_run output).IsBegun text;
 }
 
 -- The writer took a prefix of the text: memory ran out, or a write of the rest failed.

@@ -6,7 +6,7 @@ ghost use Rattle.bd_io_device.specs.Devices.{over};
 ghost use Rattle.bd_io_lines.specs.Lines.{text_lines};
 ghost use Rattle.bd_cli_files.specs.Input.{ReadsInput, ReadsNoFurther};
 ghost use Rattle.bd_cli_files.specs.Output.{Transcript, error_line, no_memory, wrong_line, wrong_status};
-ghost use Rattle.bd_cli_files.specs.Run.{Prints, ReportsMessage, part_of};
+ghost use Rattle.bd_cli_files.specs.Run.{Prints, ReportsMessage, partial_run};
 ghost use Rattle.bd_cli_files.specs.Pack.{IsOutputOfPack, bad_line_text, line_fault_text, objects_packed, pack_run};
 ghost use Rattle.bd_cli_files.specs.inside.Pack.{ArePacked, IsTaken};
 ghost use Rattle.bd_cli_files.specs.declared.output.Status.TheVariants.{Failed};
@@ -89,7 +89,7 @@ fn write_packing<O: Output, E: Output>(
     err: &mut E,
 ) -> Status
     ensures { (text : List ℕ) → ArePacked (text_lines text) packing.now →
-        (output : Transcript) × IsOutputOfPack (Ok text) output × Prints (part_of output)
+        (output : Transcript) × IsOutputOfPack (Ok text) output × Prints (partial_run output)
         (over O.state out.old out.new) (over E.state err.old err.new) result }
 {
     match write_all(out, &packing.bytes) {

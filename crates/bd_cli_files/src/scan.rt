@@ -7,7 +7,7 @@ ghost use Rattle.bd_bson_view.specs.Raw.{document_pairs};
 ghost use Rattle.bd_bson_check.specs.Fault.{fault_view, Fault as DumpFault};
 ghost use Rattle.bd_cli_files.specs.inside.Scan.{ScansDocuments, StopsScan, Texts};
 ghost use Rattle.bd_cli_files.specs.Input.{ReadsNoFurther};
-ghost use Rattle.bd_cli_files.specs.inside.Output.{Writes};
+ghost use Rattle.bd_cli_files.specs.inside.Output.{WritesText};
 
 use crate::input::{InputFault, LIMITS};
 use crate::output::{OutputFault, is_want_of_memory};
@@ -24,7 +24,7 @@ pub(crate) trait Visitor<O: Output> {
 
     /// Receives a document without a fault.
     fn visit(&mut self, document: RawDoc<'_>, out: &mut O) -> Result<(), OutputFault>
-        ensures { Writes (texts.good (document_pairs document.entry))
+        ensures { WritesText (texts.good (document_pairs document.entry))
             (over O.state out.old out.new) result };
 
     /// Whether the scan ends at the first document with a fault.
@@ -33,7 +33,7 @@ pub(crate) trait Visitor<O: Output> {
 
     /// Receives the fault of a document.
     fn meet(&mut self, fault: &Fault, out: &mut O) -> Result<(), OutputFault>
-        ensures { Writes (unwrap_or (texts.bad fault.now.document (fault_view fault.now)) [])
+        ensures { WritesText (unwrap_or (texts.bad fault.now.document (fault_view fault.now)) [])
             (over O.state out.old out.new) result };
 }
 

@@ -9,7 +9,7 @@ use Rattle.bd_bson_dump.specs.{Collection.documents_at}
 use Rattle.bd_bson_check.specs.Fault.{fault_view}
 use Rattle.bd_cli_files.specs.{declared.output.Status.Status, declared.output.Status.TheVariants.Failed}
 use Rattle.bd_cli_files.specs.Output.{Transcript, error_line, fault_text, lines, no_memory, refusal_output}
-use Rattle.bd_cli_files.specs.Run.{Prints, ReportsMessage, part_of, run_after}
+use Rattle.bd_cli_files.specs.Run.{Prints, ReportsMessage, partial_run, run_after}
 use Rattle.bd_cli_args.specs.FindOptions.{FindOptions}
 use Rattle.bd_cursor_request.specs.{Request.Request, declared.token.Token.Token, declared.results.Refused.Refused, Refused.IsRefusedPart, Refused.reason_of, Refused.refused_words}
 use Rattle.bd_cli_find.specs.Options.{refused_text}
@@ -50,19 +50,19 @@ module _ (ds : List Doc) (ps : List ℕ) where
 module _ (out_old out_new : Writer) (err_old err_new : Writer) (status : Status) where
   -- memory ran out before anything was written
   pub nothing_output : (output : Transcript) → ReportsMessage (between err_old err_new) (error_line no_memory) Failed status
-      → Prints (part_of output) (between out_old out_old) (between err_old err_new) status
+      → Prints (partial_run output) (between out_old out_old) (between err_old err_new) status
   nothing_output output reported = inr (inr ([], (output.out, refl), takes_none out_old, reported))
 
   -- the line of a fault alone, or of out of memory
   pub refusal_is_output : (words : List ℕ) → ReportsMessage (between err_old err_new) (error_line words) Failed status ⊎ ReportsMessage (between err_old err_new) (error_line no_memory) Failed status
-      → Prints (part_of (refusal_output words)) (between out_old out_old) (between err_old err_new) status
+      → Prints (partial_run (refusal_output words)) (between out_old out_old) (between err_old err_new) status
   refusal_is_output words (inl reported) = inl (refusal_output words, refl, takes_none out_old, reported)
   refusal_is_output words (inr reported) = nothing_output (refusal_output words) reported
 
   -- the output if no cursor was opened
   pub refused_output : (size : Option ℕ) (w : Request × Option Token) (bytes : List ℕ) (ds : List Doc) (refused : Refused) → IsRefusedPart (places_from (query_to bytes ds w.0) w.1) refused
       → ReportsMessage (between err_old err_new) (error_line (refused_text (reason_of refused))) Failed status ⊎ ReportsMessage (between err_old err_new) (error_line no_memory) Failed status
-      → Prints (part_of (output_of_dump size w bytes ds)) (between out_old out_old) (between err_old err_new) status
+      → Prints (partial_run (output_of_dump size w bytes ds)) (between out_old out_old) (between err_old err_new) status
   unfolding refused_words
   refused_output size w bytes ds refused (inl want) reported = nothing_output (output_of_dump size w bytes ds) (either (rw want at reported))
     where
@@ -74,7 +74,7 @@ module _ (out_old out_new : Writer) (err_old err_new : Writer) (status : Status)
 
 -- an output for an input that was read completely, or that is not needed
 pub output_found : (options : FindOptions) (file : Over Reader) {out err : Over Writer} {status : Status} (bytes : List ℕ) (output : Transcript)
-    → ReadsIfRequested (requested_by options) file (Ok bytes) → IsOutputOfFind options (Ok bytes) output → Prints (part_of output) out err status
+    → ReadsIfRequested (requested_by options) file (Ok bytes) → IsOutputOfFind options (Ok bytes) output → Prints (partial_run output) out err status
     → Prints (find_run options file) out err status
 output_found options file {out} {err} {status} bytes output read is prints = by_case (after_input {Reads = ReadsIfRequested (requested_by options) file} {Is = IsOutputOfFind options} bytes output read is prints)
   where

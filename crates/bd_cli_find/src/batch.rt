@@ -12,7 +12,7 @@ ghost use Rattle.bd_cursor.specs.{Access.way_of, SessionView.dump_of, SessionVie
 ghost use Rattle.bd_cursor_request.specs.Request.{request_view};
 ghost use Rattle.bd_cursor_request.specs.declared.results.Refused.TheVariants.{NoMemory as memory};
 ghost use Rattle.bd_cli_files.specs.Output.{error_line, lines, no_memory};
-ghost use Rattle.bd_cli_files.specs.Run.{Prints, ReportsMessage, StopsWithin, part_of};
+ghost use Rattle.bd_cli_files.specs.Run.{Prints, ReportsMessage, StopsWithin, partial_run};
 ghost use Rattle.bd_cli_files.specs.declared.output.Status.TheVariants.{Done, Failed};
 ghost use Rattle.bd_cli_find.specs.Options.{fits_batch};
 ghost use Rattle.bd_cli_find.specs.Find.{end_words, find_count_line, batch_output};
@@ -51,7 +51,7 @@ pub(crate) fn print_found<O: Output, E: Output>(
 ) -> Status
     requires within_limit { length (documents dump) ≤ greatest_count }
     requires fits { fits_batch size ≡ true }
-    ensures { Prints (part_of (output_of_dump size
+    ensures { Prints (partial_run (output_of_dump size
         (request_view search.request, search.token) (bytes_of dump) (documents dump)))
         (over O.state out.old out.new) (over E.state err.old err.new) result }
 {
@@ -105,7 +105,7 @@ fn print_batch<O: Output, E: Output>(
     requires ready { IsReady (state_of session.now) id (length (documents (dump_of session.now))) }
     requires fits { fits_batch size ≡ true }
     ensures { (cursor : OpenCursor) → cursor_of id (state_of session.old).cursors ≡ Some cursor →
-        Prints (part_of (batch_output size (documents (dump_of session.old)) cursor))
+        Prints (partial_run (batch_output size (documents (dump_of session.old)) cursor))
         (over O.state out.old out.new) (over E.state err.old err.new) result }
 {
     let Ok(batch) = session.next(id, most_of(size)) else {

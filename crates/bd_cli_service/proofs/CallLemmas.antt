@@ -4,7 +4,7 @@ use Rattle.bd_value.specs.Tree.{Doc}
 use Rattle.bd_cli_command.specs.{Command.Command, CommandOf.command_of}
 use Rattle.bd_cursor_request.specs.Refused.{error_as, then_part}
 use Rattle.bd_cli_service.specs.Reply.{ReportedRefusal, command_refusal}
-use Rattle.bd_cli_service.specs.{Talk.call_in, Talk.call_of, Talk.document_call, Talk.document_in, declared.call.CallFault.CallFault}
+use Rattle.bd_cli_service.specs.{Talk.call_in, Talk.call_of, Talk.document_call, Talk.line_document, declared.call.CallFault.CallFault}
 use Rattle.bd_cli_service.specs.inside.ServiceView.{RefusesPart}
 use Rattle.bd_cli_service.specs.declared.call.CallFault.TheVariants as faults
 
@@ -15,14 +15,14 @@ part_refused part next faults.NoMemory is = tt
 part_refused part next (faults.Refused why) is = rw is refl
 
 module _ (bytes : List ℕ) (ds : List Doc) (line : List ℕ) where
-  pub document_refused : (fault : CallFault) → RefusesPart (document_in line) fault → RefusesPart (call_in bytes ds line) fault
-  document_refused = part_refused (document_in line) (document_call bytes ds)
+  pub document_refused : (fault : CallFault) → RefusesPart (line_document line) fault → RefusesPart (call_in bytes ds line) fault
+  document_refused = part_refused (line_document line) (document_call bytes ds)
 
-  pub command_refused : (d : Doc) (fault : CallFault) → document_in line ≡ Ok d → RefusesPart (error_as command_refusal (command_of d)) fault
+  pub command_refused : (d : Doc) (fault : CallFault) → line_document line ≡ Ok d → RefusesPart (error_as command_refusal (command_of d)) fault
       → RefusesPart (call_in bytes ds line) fault
   command_refused d fault reads refused = rw reads (part_refused (error_as command_refusal (command_of d)) (call_of bytes ds) fault refused)
 
-  pub call_refused : (d : Doc) (command : Command) (fault : CallFault) → document_in line ≡ Ok d → command_of d ≡ Ok command
+  pub call_refused : (d : Doc) (command : Command) (fault : CallFault) → line_document line ≡ Ok d → command_of d ≡ Ok command
       → RefusesPart (call_of bytes ds command) fault → RefusesPart (call_in bytes ds line) fault
   call_refused d command fault reads is refused = rw (reads, is) refused
 

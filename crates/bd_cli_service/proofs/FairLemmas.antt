@@ -17,7 +17,7 @@ use Rattle.bd_cursor_request.specs.Request.{Request, named_index, request_with, 
 use Rattle.bd_cli_service.specs.Reply.{command_refusal, path_refusal, session_refusal, ReportedRefusal}
 use Rattle.bd_cursor_sort.specs.Selection.{query_to}
 use Rattle.bd_cursor.specs.{Explanation.explanation_for, SessionView.make_of, SessionView.positioned_token}
-use Rattle.bd_cli_service.specs.Talk.{call_in, call_of, document_call, document_in, hint_path, line_call, search_of, way_by}
+use Rattle.bd_cli_service.specs.Talk.{call_in, call_of, document_call, line_document, hint_path, line_call, request_for, way_by}
 use Rattle.bd_cursor_request.specs.declared.results.Refused.TheVariants as reasons
 
 -- a call that searches has a fair request
@@ -36,7 +36,7 @@ after_any (Err why) next fair = tt
 
 -- a call that is fair for each request with such a limit is fair for the request of a search
 after_search : (f : FindCommand) (call : Request → Call) → ((r : Request) → r.limit ≤ most_given → RequestsFairly (call r))
-    → IsFairPart (then_part (search_of f) (λ r. Ok (call r)))
+    → IsFairPart (then_part (request_for f) (λ r. Ok (call r)))
 after_search f call fair =
     go (filter_of f.filter) (sort_of f.sort) (nat_le f.skip greatest_count) (nat_le f.limit greatest_count) refl (named_index (hint_path f.hint))
   where
@@ -59,7 +59,7 @@ module _ (bytes : List ℕ) (ds : List Doc) where
   call_fair (finds f) = after_search f (λ r. find_call (query_to bytes ds r) (hint_path f.hint)) query_fair
   call_fair (resumes token f) =
       after_any (error_as session_refusal (token_part token))
-      (λ t. then_part (search_of f) (λ r. Ok (resume_call (query_to bytes ds r) (hint_path f.hint) (positioned_token t))))
+      (λ t. then_part (request_for f) (λ r. Ok (resume_call (query_to bytes ds r) (hint_path f.hint) (positioned_token t))))
       (λ t. after_search f (λ r. resume_call (query_to bytes ds r) (hint_path f.hint) (positioned_token t)) query_fair)
   call_fair (gets_more id batch) = tt
   call_fair (kills_cursor id) = tt
@@ -69,7 +69,7 @@ module _ (bytes : List ℕ) (ds : List Doc) where
   document_fair d = after_any (error_as command_refusal (command_of d)) (call_of bytes ds) call_fair
 
   pub line_fair : (line : List ℕ) (call : Call) → line_call bytes ds line ≡ Some call → RequestsFairly call
-  line_fair line call = go (call_in bytes ds line) (after_any (document_in line) (document_call bytes ds) document_fair)
+  line_fair line call = go (call_in bytes ds line) (after_any (line_document line) (document_call bytes ds) document_fair)
     where
       go : (part : Result Call ReportedRefusal) → IsFairPart part → result_ok part ≡ Some call → RequestsFairly call
       go (Ok c) fair is = subst RequestsFairly (let same : c ≡ call = cc in same) fair

@@ -36,8 +36,8 @@ abbrev pub hint_path : Hint → Option (List ℕ)
 hint_path hint = path_named (way_by hint)
 
 -- the request of a search, or its first refusal: of the request, then of the path of its index
-abbrev pub search_of : FindCommand → Result Request ReportedRefusal
-search_of f =
+abbrev pub request_for : FindCommand → Result Request ReportedRefusal
+request_for f =
     then_part (error_as session_refusal (request_of f.filter f.sort f.skip f.limit)) (λ request.
     then_part (error_as path_refusal (named_index (hint_path f.hint))) (λ _. Ok request))
 
@@ -47,14 +47,14 @@ abbrev pub call_of : List ℕ → List Doc → Command → Result Call ReportedR
 call_of bytes ds (creates_index path sparse) =
     then_part (error_as path_refusal (path_of path)) (λ _. Ok (make_of ds (record { path = path; is_sparse = sparse })))
 call_of bytes ds (drops_index path) = then_part (error_as path_refusal (path_of path)) (λ _. Ok (drop_call path))
-call_of bytes ds (finds f) = then_part (search_of f) (λ r. Ok (find_call (query_to bytes ds r) (hint_path f.hint)))
+call_of bytes ds (finds f) = then_part (request_for f) (λ r. Ok (find_call (query_to bytes ds r) (hint_path f.hint)))
 call_of bytes ds (resumes token f) =
     then_part (error_as session_refusal (token_part token)) (λ t.
-    then_part (search_of f) (λ r. Ok (resume_call (query_to bytes ds r) (hint_path f.hint) (positioned_token t))))
+    then_part (request_for f) (λ r. Ok (resume_call (query_to bytes ds r) (hint_path f.hint) (positioned_token t))))
 call_of bytes ds (gets_more id batch) = Ok (next_call id batch)
 call_of bytes ds (kills_cursor id) = Ok (kill_call id)
 call_of bytes ds (commands.explains f) =
-    then_part (search_of f) (λ r. Ok (explain_call (hint_path f.hint) (explanation_for ds r (way_by f.hint))))
+    then_part (request_for f) (λ r. Ok (explain_call (hint_path f.hint) (explanation_for ds r (way_by f.hint))))
 
 -- the call that a document means, or its first refusal
 abbrev pub document_call : List ℕ → List Doc → Doc → Result Call ReportedRefusal
@@ -78,12 +78,12 @@ reply_output ds machine.token_place = refuses (session_refusal (plain reasons.To
 reply_output ds machine.out_of_range = refuses (session_refusal (plain reasons.Range))
 
 -- the document that a line is, or the fault of its text
-abbrev pub document_in : List ℕ → Result Doc ReportedRefusal
-document_in line = ok_or (reading line) (json_refusal (text_fault line))
+abbrev pub line_document : List ℕ → Result Doc ReportedRefusal
+line_document line = ok_or (reading line) (json_refusal (text_fault line))
 
 -- the call in a line, or why there is none
 abbrev pub call_in : List ℕ → List Doc → List ℕ → Result Call ReportedRefusal
-call_in bytes ds line = then_part (document_in line) (document_call bytes ds)
+call_in bytes ds line = then_part (line_document line) (document_call bytes ds)
 
 -- the reply to a line: that of the session to its call, or the refusal of a line that is no call
 abbrev pub reply_to : List Doc → State → Result Call ReportedRefusal → LineReply

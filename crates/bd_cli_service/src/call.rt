@@ -11,7 +11,7 @@ ghost use Rattle.bd_cursor_request.specs.Refused.{error_as};
 ghost use Rattle.bd_cursor_request.specs.Request.{named_index, request_view, token_part};
 ghost use Rattle.bd_cli_service.specs.inside.ServiceView.{MayRunOut, RefusesPart, session_call};
 ghost use Rattle.bd_cli_service.specs.declared.call.CallFault.TheVariants.{NoMemory as no_memory};
-ghost use Rattle.bd_cli_service.specs.Talk.{call_of, hint_path, search_of, way_by};
+ghost use Rattle.bd_cli_service.specs.Talk.{call_of, hint_path, request_for, way_by};
 
 use crate::reply::LineRefusal;
 use bd_cli_command::{Command, FindCommand, Hint};
@@ -85,9 +85,10 @@ pub(crate) fn call_of(alloc: Global, command: Command) -> Result<Call, CallFault
 
 /// The request of a search, and how documents are found.
 fn read_search(alloc: Global, find: FindCommand) -> Result<(Request, Choice), CallFault>
-    ensures search { IfOk result (λ found. search_of (find_tree find) ≡ Ok (request_view found.0)) }
+    ensures search { IfOk result
+        (λ found. request_for (find_tree find) ≡ Ok (request_view found.0)) }
     ensures way { IfOk result (λ found. way_of found.1 ≡ way_by (hint_tree find.hint)) }
-    ensures fault { IfErr result (RefusesPart (search_of (find_tree find))) }
+    ensures fault { IfErr result (RefusesPart (request_for (find_tree find))) }
 {
     let request = match Request::new(alloc, find.filter, find.sort, find.skip, find.limit) {
         Ok(request) => request,

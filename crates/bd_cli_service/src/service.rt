@@ -14,7 +14,7 @@ ghost use Rattle.bd_cli_service.specs.ServiceView.{KeepsState, RepliesTo};
 ghost use Rattle.bd_cli_service.specs.inside.ServiceView.{IsAnswered, IsPerformed, RefusesPart};
 ghost use Rattle.bd_cli_service.specs.ServiceView.{service_dump, service_state};
 ghost use Rattle.bd_cli_service.specs.inside.ServiceView.{session_call};
-ghost use Rattle.bd_cli_service.specs.Talk.{Answers, call_in, document_in};
+ghost use Rattle.bd_cli_service.specs.Talk.{Answers, call_in, line_document};
 
 use crate::call::{Call, CallFault, call_of};
 use crate::reply::{LineRefusal, Reply, write_reply};
@@ -97,8 +97,8 @@ fn read_call(alloc: Global, line: &[u8]) -> Result<Call, CallFault>
 
 /// The document in a line.
 fn read_line(alloc: Global, line: &[u8]) -> Result<Document, CallFault>
-    ensures document { IfOk result (λ d. document_in line.now ≡ Ok (pairs d)) }
-    ensures fault { IfErr result (RefusesPart (document_in line.now)) }
+    ensures document { IfOk result (λ d. line_document line.now ≡ Ok (pairs d)) }
+    ensures fault { IfErr result (RefusesPart (line_document line.now)) }
 {
     match read_doc(alloc, line) {
         Ok(document) => Ok(document),

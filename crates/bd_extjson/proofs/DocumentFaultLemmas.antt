@@ -16,8 +16,8 @@ use Rattle.json.proofs.Printed.Trees.{value-json_tokens}
 use Rattle.bd_value.specs.{Limits.most_brackets, Limits.most_levels}
 use Rattle.bd_value.specs.Tree.{pairs_of, Doc}
 use Rattle.bd_extjson_fault.specs.JsonSyntax.{Beyond, begins, is_white, beyond_white, beyond_value, beyond_text}
-use Rattle.bd_extjson_fault.specs.TreeFault.{is_document, value_fault}
-use Rattle.bd_extjson_fault.specs.TextFault.{first_fault, fault_after, tree_or_none}
+use Rattle.bd_extjson_fault.specs.TreeFault.{opens_document, value_fault}
+use Rattle.bd_extjson_fault.specs.TextFault.{first_fault_in, fault_after, tree_or_none}
 use Rattle.bd_extjson.specs.Read.{wrap, json, document, reading, ReadsAs}
 use Rattle.bd_extjson.proofs.ByteLemmas.{tokens_from, is_end, white_passed, white_tokens, white_stops}
 use Rattle.bd_extjson.proofs.ScalarLemmas.{Passed, Meets}
@@ -98,28 +98,28 @@ no_reading : (text : List ℕ) → json text ≡ None → is_some (reading text)
 no_reading text is = some_map pairs_of (option_and_then document (option_and_then (wrap most_levels) (json text)))
     ∙ ap (λ o. is_some (option_and_then document (option_and_then (wrap most_levels) o))) is
 
-of_utf8 : (text : List ℕ) → is_utf8 text ≡ true → first_fault text ≡ fault_after text (beyond_text text)
-unfolding first_fault
+of_utf8 : (text : List ℕ) → is_utf8 text ≡ true → first_fault_in text ≡ fault_after text (beyond_text text)
+unfolding first_fault_in
 of_utf8 text e = rw e refl
 
-no_utf8 : (text : List ℕ) → is_utf8 text ≡ false → (is_none (first_fault text) ≡ false) × (json text ≡ None)
-unfolding first_fault
+no_utf8 : (text : List ℕ) → is_utf8 text ≡ false → (is_none (first_fault_in text) ≡ false) × (json text ≡ None)
+unfolding first_fault_in
 no_utf8 text e = (rw e refl, rw e refl)
 
-none_of_tree : (text : List ℕ) → is_none (tree_or_none text (value_fault most_brackets most_levels text)) ≡ (is_none (value_fault most_brackets most_levels text) && is_document text)
-none_of_tree text = (elim (value_fault most_brackets most_levels text) as (λ o. is_none (tree_or_none text o) ≡ (is_none o && is_document text)) [
-  | None ↦ none_if (is_document text) _
+none_of_tree : (text : List ℕ) → is_none (tree_or_none text (value_fault most_brackets most_levels text)) ≡ (is_none (value_fault most_brackets most_levels text) && opens_document text)
+none_of_tree text = (elim (value_fault most_brackets most_levels text) as (λ o. is_none (tree_or_none text o) ≡ (is_none o && opens_document text)) [
+  | None ↦ none_if (opens_document text) _
   | Some x ↦ refl
 ])
 
-fault_agrees : (text : List ℕ) → is_none (first_fault text) ≡ is_some (reading text)
+fault_agrees : (text : List ℕ) → is_none (first_fault_in text) ≡ is_some (reading text)
 fault_agrees text = by_utf8 (is_utf8 text) refl
   where
     after : (r : Beyond) → Reads text r → is_none (fault_after text r) ≡ is_some (reading text)
     after (Err stop) none = sym (no_reading text none)
     after (Ok rest) (j, is, meaning) = none_of_tree text ∙ ap₂ (λ x y. x && y) (meaning.fault most_levels) meaning.plain ∙ sym (wrap_plain most_levels j) ∙ sym (some_reading text j is)
 
-    by_utf8 : (b : Bool) → is_utf8 text ≡ b → is_none (first_fault text) ≡ is_some (reading text)
+    by_utf8 : (b : Bool) → is_utf8 text ≡ b → is_none (first_fault_in text) ≡ is_some (reading text)
     by_utf8 true e = ap is_none (of_utf8 text e) ∙ after (beyond_text text) (text_reads text e)
     by_utf8 false e = let n = no_utf8 text e in n.0 ∙ sym (no_reading text n.1)
 
@@ -131,5 +131,5 @@ iff_from_tests (Some a) None e = (λ n. not_found a (sym n), λ s. not_found s.0
 iff_from_tests (Some a) (Some b) e = absurd (false≢true e)
 
 -- a text has no fault exactly if it is a document
-pub no_fault_where_read : (text : List ℕ) → (first_fault text ≡ None) ↔ ((d : Doc) × ReadsAs text d)
-no_fault_where_read text = iff_from_tests (first_fault text) (reading text) (fault_agrees text)
+pub no_fault_where_read : (text : List ℕ) → (first_fault_in text ≡ None) ↔ ((d : Doc) × ReadsAs text d)
+no_fault_where_read text = iff_from_tests (first_fault_in text) (reading text) (fault_agrees text)

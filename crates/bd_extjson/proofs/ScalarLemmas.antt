@@ -22,7 +22,7 @@ use Rattle.json.proofs.Found.{not_found, Some_inj}
 use Rattle.json.proofs.Printed.Numbers.{in_word-ended, number_alone, lex-number}
 use Rattle.bd_extjson_fault.specs.JsonSyntax.{Beyond, syntax_at, begins, beyond_word, is_white, beyond_number, beyond_natural, beyond_digits, beyond_scalar}
 use Rattle.bd_extjson_fault.specs.JsonSyntax.{beyond_string, beyond_name, beyond_object, opens_object, opens_array}
-use Rattle.bd_extjson_fault.specs.TreeFault.{name_in, quoted_name, parts_in, members_in}
+use Rattle.bd_extjson_fault.specs.TreeFault.{unquoted, quoted_name, parts_in, members_in}
 use Rattle.bd_extjson_fault.proofs.NumberLemmas.{number_agrees}
 use Rattle.bd_extjson.proofs.ByteLemmas.{tokens_from, is_end, colon_next, unless, Other, cases_byte, Split, split_word, split_ascii}
 use Rattle.bd_extjson.proofs.StringLemmas.{MeetsString, StringAt, string_meets}
@@ -207,7 +207,7 @@ members_of (m ∷ ms) = kit.member m.0 m.1 (members_of ms)
 
 -- a member has that name, and what is after its colon that value
 abbrev pub Member : (List ℕ → Json → Type 0) → List ℕ → List ℕ × Json → Type 0
-Member P text m = (name_in (quoted_name text) ≡ m.0) × ((after : List ℕ) × (beyond_name text ≡ Ok after) × P after m.1)
+Member P text m = (unquoted (quoted_name text) ≡ m.0) × ((after : List ℕ) × (beyond_name text ≡ Ok after) × P after m.1)
 
 -- an array with its items
 pub record ArrayAt (P : List ℕ → Json → Type 0) (part : List ℕ → Beyond) (here : List ℕ) (js : kit.Items) : Type 0 where

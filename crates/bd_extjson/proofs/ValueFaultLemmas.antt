@@ -22,9 +22,9 @@ use Rattle.bd_extjson_wrapper.specs.declared.wrapper.Wrapper.{Wrapper}
 use Rattle.bd_extjson_wrapper.specs.declared.wrapper.Wrapper.TheVariants as wrappers
 use Rattle.bd_extjson_fault.specs.JsonSyntax.{Beyond, begins, beyond_white, beyond_word, beyond_name, beyond_object, beyond_value, beyond_number, beyond_natural}
 use Rattle.bd_extjson_fault.specs.JsonSyntax.{beyond_digits, opens_object, opens_array}
-use Rattle.bd_extjson_fault.specs.TreeFault.{Part, bytes_before, number_between, number_fault, scalar_fault, first_wrapper, if_named, name_in, quoted_name}
+use Rattle.bd_extjson_fault.specs.TreeFault.{Part, bytes_before, number_between, number_fault, scalar_fault, first_wrapper, if_named, unquoted, quoted_name}
 use Rattle.bd_extjson_fault.specs.TreeFault.{name_fault, member_fault, members_in, parts_in, parts_from, first_in, rest_of, array_fault, document_fault, is_string}
-use Rattle.bd_extjson_fault.specs.TreeFault.{is_document, scope_fault, part_of, code_fault, object_fault, object_fault_by, object_fault_of, members_fault}
+use Rattle.bd_extjson_fault.specs.TreeFault.{opens_document, scope_fault, part_of, code_fault, object_fault, object_fault_by, object_fault_of, members_fault}
 use Rattle.bd_extjson_fault.specs.TreeFault.{wrapper_fault, is_outside_profile, json_in, value_fault, fault_at}
 use Rattle.bd_extjson_fault.proofs.FindingLemmas.{fault_scalar, fault_object, fault_array}
 use Rattle.bd_extjson_fault.proofs.TreeFaultLemmas.{value_or_fault}
@@ -43,7 +43,7 @@ is_plain_object _ = false
 pub record ValueIs (level : ℕ) (text : List ℕ) (j : Json) : Type 0 where
   pub fault : (depth_left : ℕ) → is_none (value_fault level depth_left text) ≡ is_some (wrap depth_left j)
   pub string : is_string text ≡ is_some (as_str j)
-  pub plain : is_document text ≡ is_plain_object j
+  pub plain : opens_document text ≡ is_plain_object j
 
 -- ---- tests of options
 
@@ -170,12 +170,12 @@ module _ (level d : ℕ) where
       (fields_agree texts list are)
       ∙ sym (some_field m.0 (wrap d m.1) (wrap_fields d (members_of list)))
     where
-      by_zero : (b : Bool) → has_zero (name_in (quoted_name t)) ≡ b → is_none (name_fault t) ≡ not b
+      by_zero : (b : Bool) → has_zero (unquoted (quoted_name t)) ≡ b → is_none (name_fault t) ≡ not b
       by_zero true e = rw e refl
       by_zero false e = rw e refl
 
       zeros : is_none (name_fault t) ≡ not (has_zero m.0)
-      zeros = by_zero (has_zero (name_in (quoted_name t))) refl ∙ ap (λ n. not (has_zero n)) named
+      zeros = by_zero (has_zero (unquoted (quoted_name t))) refl ∙ ap (λ n. not (has_zero n)) named
 
 array_is : (level : ℕ) (text : List ℕ) (js : kit.Items) → ArrayAt (ValueIs level) (beyond_value level) (beyond_white text) js → ValueIs (suc level) text (kit.array js)
 unfolding array_fault
@@ -342,8 +342,8 @@ module _ (level : ℕ) (here : List ℕ) where
       by_string : (s : Bool) → is_string code ≡ s
           → is_none (scope_fault (value_fault level) (suc (suc d)) here code scope) ≡ (is_some (as_str i) && is_some (option_and_then document (wrap (suc (suc d) - 1) j)))
       by_string true e = rw (e, enough) (
-          none_or (value_fault level (suc (suc d) - 1) scope) (if is_document scope then None else fault_at here _)
-          ∙ ap₂ (λ x y. x && y) (b.fault (suc (suc d) - 1)) (none_if (is_document scope) _ ∙ b.plain) ∙ sym (wrap_plain (suc (suc d) - 1) j)
+          none_or (value_fault level (suc (suc d) - 1) scope) (if opens_document scope then None else fault_at here _)
+          ∙ ap₂ (λ x y. x && y) (b.fault (suc (suc d) - 1)) (none_if (opens_document scope) _ ∙ b.plain) ∙ sym (wrap_plain (suc (suc d) - 1) j)
           ∙ ap (λ s. s && is_some (option_and_then document (wrap (suc (suc d) - 1) j))) (sym e ∙ a.string))
       by_string false e = rw e (ap (λ s. s && is_some (option_and_then document (wrap (suc (suc d) - 1) j))) (sym e ∙ a.string))
 
@@ -431,7 +431,7 @@ not_named (Err stop) name is = refl
 first_by : (level : ℕ) (inside : List ℕ) (b : Bool) → begins (λ b. b == 125) (beyond_white inside) ≡ b → (list : List (List ℕ × Json))
     → Pairs (Member (ValueIs level)) (members_in (beyond_value level) inside) list → first_wrapper inside ≡ first_of list
 unfolding first_wrapper parts_in parts_from
-first_by level inside true e [] are = not_named (beyond_name inside) (name_in (quoted_name inside)) (no_name inside (beyond_white inside) refl e)
+first_by level inside true e [] are = not_named (beyond_name inside) (unquoted (quoted_name inside)) (no_name inside (beyond_white inside) refl e)
 first_by level inside true e (m ∷ list) are = absurd (rw e at are)
 first_by level inside false e [] are = absurd (rw e at are)
 first_by level inside false e (m ∷ list) are = let (named, (after, went, is)) = (rw e at are).0 in rw (went, named) refl

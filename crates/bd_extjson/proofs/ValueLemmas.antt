@@ -23,7 +23,7 @@ use Rattle.json.proofs.Printed.Trees.{value-json_tokens}
 use Rattle.bd_value.specs.Limits.{most_brackets}
 use Rattle.bd_extjson_fault.specs.JsonSyntax.{Beyond, ◌>>=◌, syntax_at, begins, beyond_white, beyond_word, is_white, beyond_string, beyond_name, beyond_array}
 use Rattle.bd_extjson_fault.specs.JsonSyntax.{beyond_object, beyond_member, beyond_value, beyond_nested, beyond_unnested, beyond_scalar}
-use Rattle.bd_extjson_fault.specs.TreeFault.{name_in, quoted_name, json_in, bytes_before}
+use Rattle.bd_extjson_fault.specs.TreeFault.{unquoted, quoted_name, json_in, bytes_before}
 use Rattle.bd_extjson.proofs.ByteLemmas.{tokens_from, colon_next, cases_byte, Split, split_then, split_one, split_ascii, white_passed, white_tokens, white_stops}
 use Rattle.bd_extjson.proofs.ByteLemmas.{}
 use Rattle.bd_extjson.proofs.StringLemmas.{MeetsString, StringAt, string_meets}
@@ -141,7 +141,7 @@ record NameAt (text rest : List ℕ) : Type 0 where
   split : Split text prefix rest
   some : 0 < length prefix
   read : (p : Place) → may_begin p ≡ true → (any : List ℕ) → tokens_from p (prefix ++ any) ≡ tokens.key name ∷ tokens_from fresh any
-  quoted : IsUtf8 text → name_in (quoted_name text) ≡ name
+  quoted : IsUtf8 text → unquoted (quoted_name text) ≡ name
 
 -- a name that is passed is one; else no key comes next
 abbrev MeetsName : List ℕ → Beyond → Type 0
@@ -189,7 +189,7 @@ module _ (xs rest : List ℕ) (s : StringAt xs rest) where
   quotes_split : Split (34 ∷ xs) (34 ∷ (s.prefix ++ 34 ∷ [])) rest
   quotes_split = split_ascii (34 ∷ xs) (34 ∷ s.prefix) rest 34 (omega arith) (ap (λ l. 34 ∷ l) s.whole)
 
-  alone : IsUtf8 (34 ∷ (s.prefix ++ 34 ∷ [])) → name_in (34 ∷ (s.prefix ++ 34 ∷ [])) ≡ s.value
+  alone : IsUtf8 (34 ∷ (s.prefix ++ 34 ∷ [])) → unquoted (34 ∷ (s.prefix ++ 34 ∷ [])) ≡ s.value
   alone u = ap (λ j. unwrap_or (option_and_then as_str j) []) (json_alone (34 ∷ (s.prefix ++ 34 ∷ [])) (kit.string s.value) [] (tokens.string s.value ∷ []) u
       (ap (λ l. tokens_from fresh (34 ∷ l)) (sym (append-nil (s.prefix ++ 34 ∷ []))) ∙ ap (punctuate fresh) (lexed []) ∙ string_alone s.value)
       (value-json_tokens (kit.string s.value) most_brackets [] (omega arith)))
@@ -231,7 +231,7 @@ module _ (text xs : List ℕ) (e : beyond_white text ≡ 34 ∷ xs) where
           read = λ p may any. ap (punctuate p) (ap (lex between) (append_assoc w.prefix (q ++ c) any) ∙ w.skips ((q ++ c) ++ any) ∙ ap (lex between) (append_assoc q c any)
               ∙ lexed xs mid s (c ++ any) ∙ ap (λ ls. token (tokens.string s.value) ∷ ls) (ap (lex between) (append_assoc v.prefix (58 ∷ []) any) ∙ v.skips (58 ∷ any)))
               ∙ key_here p may s.value (lex between any);
-          quoted = λ u. rw (e, is) (ap name_in (bytes_here xs mid s) ∙ alone xs mid s ((quotes_split xs mid s).1 (first.1 u).1).0);
+          quoted = λ u. rw (e, is) (ap unquoted (bytes_here xs mid s) ∙ alone xs mid s ((quotes_split xs mid s).1 (first.1 u).1).0);
         }
 
     of_colon : beyond_string xs ≡ Ok mid → (w : List ℕ) → beyond_white mid ≡ w → MeetsName text (beyond_word (codes ":") w)

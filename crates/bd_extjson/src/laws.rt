@@ -6,7 +6,7 @@ ghost use Rattle.bd_value.specs.Fits.{Fits, FitsTypes, zero_in};
 ghost use Rattle.bd_value.specs.View.{pairs};
 ghost use Rattle.bd_extjson.specs.Laws.{IsPlain};
 ghost use Rattle.bd_extjson.specs.Read.{ReadsAs};
-ghost use Rattle.bd_extjson_fault.specs.TextFault.{first_fault};
+ghost use Rattle.bd_extjson_fault.specs.TextFault.{first_fault_in};
 ghost use Rattle.bd_extjson_text.specs.Text.{text};
 
 use bd_value::{Document, document_fits};
@@ -62,5 +62,5 @@ pub fn texts_are_lines()
 /// A text has no fault exactly if it is a document. So `text_fault` of any other text is its first fault.
 #[tactic(auto, using(crate::proofs::DocumentFaultLemmas::no_fault_where_read))]
 pub fn document_or_fault()
-    ensures { (text : List ℕ) → (first_fault text ≡ None) ↔ ((d : Doc) × ReadsAs text d) }
+    ensures { (text : List ℕ) → (first_fault_in text ≡ None) ↔ ((d : Doc) × ReadsAs text d) }
 {}

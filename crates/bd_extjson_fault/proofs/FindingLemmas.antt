@@ -6,7 +6,7 @@ use Rattle.bd_extjson_wrapper.specs.Wrapper.{is_code_name, is_scope_name}
 use Rattle.bd_extjson_wrapper.specs.declared.wrapper.Wrapper.{Wrapper}
 use Rattle.bd_extjson_wrapper.specs.declared.wrapper.Wrapper.TheVariants as wrappers
 use Rattle.bd_extjson_fault.specs.JsonSyntax.{Beyond, begins, beyond_white, beyond_next, beyond_name, beyond_member, beyond_object, beyond_parts, beyond_value, opens_object, opens_array}
-use Rattle.bd_extjson_fault.specs.inside.SecondPass.{Halts, Passes, found, found_in_scope, deeper, depth_fault}
+use Rattle.bd_extjson_fault.specs.inside.SecondPass.{Halts, Passes, found, found_in_scope, levels_inside, depth_fault}
 use Rattle.bd_extjson_fault.specs.TreeFault.{Finds, first_in, parts_from, parts_in, array_fault, document_fault, members_in, member_fault, name_fault, zero_fault, quoted_name, scalar_fault, value_fault, object_fault, code_fault, scope_fault, part_of, fault_at}
 use Rattle.bd_extjson_fault.proofs.PassingLemmas.{PartsGoOn, begun, part_on, part_halted, next_stopped, ended, more_passes}
 use Rattle.bd_extjson_fault.specs.declared.second_pass.Halt.{Halt}
@@ -78,7 +78,7 @@ finds_ended closes part f depth_left true now whole text is on = absurd cc
 
 -- documents and arrays, by their depth
 pub array_found : (value : List ℕ → Beyond) (fault : ℕ → Finds) (depth_left : Option ℕ) (before : Option TreeFault) (here inside : List ℕ)
-    → found (option_or before (depth_fault depth_left here)) (deeper depth_left) (λ r. first_in (fault r) (parts_in (λ b. b == 93) value inside))
+    → found (option_or before (depth_fault depth_left here)) (levels_inside depth_left) (λ r. first_in (fault r) (parts_in (λ b. b == 93) value inside))
     ≡ found before depth_left (λ r. array_fault value fault r here inside)
 unfolding array_fault
 array_found value fault None before here inside = or_none before
@@ -87,7 +87,7 @@ array_found value fault (Some (suc r)) before here inside =
     ap (λ b. option_or b (first_in (fault r) (parts_in (λ b. b == 93) value inside))) (or_none before)
 
 pub document_found : (value : List ℕ → Beyond) (fault : ℕ → Finds) (depth_left : Option ℕ) (before : Option TreeFault) (here inside : List ℕ)
-    → found (option_or before (depth_fault depth_left here)) (deeper depth_left) (λ r. first_in (member_fault (fault r)) (members_in value inside))
+    → found (option_or before (depth_fault depth_left here)) (levels_inside depth_left) (λ r. first_in (member_fault (fault r)) (members_in value inside))
     ≡ found before depth_left (λ r. document_fault value fault r here inside)
 unfolding document_fault
 document_found value fault None before here inside = or_none before
@@ -221,23 +221,23 @@ other_and_any fault depth_left here t u w v one other = rw (one, other) refl
 
 -- the beginning of a document or an array
 pub array_begun : (value : List ℕ → Beyond) (fault : ℕ → Finds) (depth_left : Option ℕ) (before : Option TreeFault) (here inside : List ℕ) (b : Option TreeFault) (less : Option ℕ)
-    (text rest : List ℕ) (now : Bool) → b ≡ option_or before (depth_fault depth_left here) → less ≡ deeper depth_left → text ≡ inside
+    (text rest : List ℕ) (now : Bool) → b ≡ option_or before (depth_fault depth_left here) → less ≡ levels_inside depth_left → text ≡ inside
     → now ≡ begins (λ b. b == 93) (beyond_white text) → rest ≡ (if now then drop 1 (beyond_white text) else text)
     → FindsOn (λ b. b == 93) value fault less (not now) b rest (found before depth_left (λ r. array_fault value fault r here inside))
 array_begun value fault depth_left before here inside b less text rest now eb el et en er = rw (← et, eb, el)
-    (subst (FindsOn (λ b. b == 93) value fault (deeper depth_left) (not now) (option_or before (depth_fault depth_left here)) rest)
+    (subst (FindsOn (λ b. b == 93) value fault (levels_inside depth_left) (not now) (option_or before (depth_fault depth_left here)) rest)
     (array_found value fault depth_left before here text)
-    (finds_begun (λ b. b == 93) value fault (deeper depth_left) (option_or before (depth_fault depth_left here)) text rest now en er))
+    (finds_begun (λ b. b == 93) value fault (levels_inside depth_left) (option_or before (depth_fault depth_left here)) text rest now en er))
 
 pub document_begun : (value : List ℕ → Beyond) (fault : ℕ → Finds) (depth_left : Option ℕ) (before : Option TreeFault) (here inside : List ℕ) (b : Option TreeFault) (less : Option ℕ)
-    (text rest : List ℕ) (now : Bool) → b ≡ option_or before (depth_fault depth_left here) → less ≡ deeper depth_left → text ≡ inside
+    (text rest : List ℕ) (now : Bool) → b ≡ option_or before (depth_fault depth_left here) → less ≡ levels_inside depth_left → text ≡ inside
     → now ≡ begins (λ b. b == 125) (beyond_white text) → rest ≡ (if now then drop 1 (beyond_white text) else text)
     → FindsOn (λ b. b == 125) (beyond_member value) (λ r. member_fault (fault r)) less (not now) b rest
     (found before depth_left (λ r. document_fault value fault r here inside))
 document_begun value fault depth_left before here inside b less text rest now eb el et en er = rw (← et, eb, el)
-    (subst (FindsOn (λ b. b == 125) (beyond_member value) (λ r. member_fault (fault r)) (deeper depth_left) (not now) (option_or before (depth_fault depth_left here)) rest)
+    (subst (FindsOn (λ b. b == 125) (beyond_member value) (λ r. member_fault (fault r)) (levels_inside depth_left) (not now) (option_or before (depth_fault depth_left here)) rest)
     (document_found value fault depth_left before here text)
-    (finds_begun (λ b. b == 125) (beyond_member value) (λ r. member_fault (fault r)) (deeper depth_left) (option_or before (depth_fault depth_left here)) text rest now en er))
+    (finds_begun (λ b. b == 125) (beyond_member value) (λ r. member_fault (fault r)) (levels_inside depth_left) (option_or before (depth_fault depth_left here)) text rest now en er))
 
 pub more_finds : {X E : Type 0} (answer : Result X E) (new : Option TreeFault) (closes : ℕ → Bool) (part : List ℕ → Beyond) (f : ℕ → Finds) (depth_left : Option ℕ)
     (more : Bool) (now whole : Option TreeFault) (text : List ℕ) → more ≡ true
@@ -249,7 +249,7 @@ more_finds (Ok x) new closes part f depth_left true now whole text is finds (n, 
 
 -- an empty document
 pub document_closed : (value : List ℕ → Beyond) (fault : ℕ → Finds) (depth_left : Option ℕ) (before : Option TreeFault) (here inside : List ℕ) (b : Option TreeFault) (less : Option ℕ)
-    (text rest : List ℕ) (now : Bool) → b ≡ option_or before (depth_fault depth_left here) → less ≡ deeper depth_left → text ≡ inside
+    (text rest : List ℕ) (now : Bool) → b ≡ option_or before (depth_fault depth_left here) → less ≡ levels_inside depth_left → text ≡ inside
     → now ≡ begins (λ b. b == 125) (beyond_white text) → rest ≡ (if now then drop 1 (beyond_white text) else text) → now ≡ true
     → b ≡ found before depth_left (λ r. document_fault value fault r here inside)
 document_closed value fault depth_left before here inside b less text rest now eb el et en er is =

@@ -6,8 +6,8 @@ use Rattle.std.proofs.lemmas.Str.{IsUtf8-from_is_utf8, is_utf8-from_IsUtf8, utf8
 use Rattle.bd_value.specs.Limits.{most_brackets, most_levels}
 use Rattle.bd_extjson_fault.specs.JsonFault.{IsLocated, ReportsBadUtf8}
 use Rattle.bd_extjson_fault.specs.JsonSyntax.{Beyond, beyond_text}
-use Rattle.bd_extjson_fault.specs.TreeFault.{is_document, value_fault}
-use Rattle.bd_extjson_fault.specs.TextFault.{first_fault, text_fault, fault_after, tree_or_none, stop_in, kind_of_stop, kind_in_tree}
+use Rattle.bd_extjson_fault.specs.TreeFault.{opens_document, value_fault}
+use Rattle.bd_extjson_fault.specs.TextFault.{first_fault_in, text_fault, fault_after, tree_or_none, stop_in, kind_of_stop, kind_in_tree}
 use Rattle.bd_extjson_fault.specs.declared.json_fault.JsonFault.{JsonFault}
 use Rattle.bd_extjson_fault.specs.declared.json_fault.JsonFaultKind.TheVariants as kinds
 use Rattle.bd_extjson_fault.specs.declared.skip.Stop.{Stop}
@@ -31,16 +31,16 @@ not_utf8 text bad = go (is_utf8 text) refl
     go false e = e
 
 pub of_bad_utf8 : (text : List ℕ) → ¬ (IsUtf8 text) → text_fault text ≡ record { kind = kinds.Syntax; at = utf8_valid_len text }
-unfolding first_fault
+unfolding first_fault_in
 of_bad_utf8 text bad = rw (not_utf8 text bad) refl
 
 pub of_no_json : (text : List ℕ) (stop : Stop) → IsUtf8 text → beyond_text text ≡ Err stop → text_fault text ≡ stop_in (length text) stop
-unfolding first_fault
+unfolding first_fault_in
 of_no_json text stop utf8 e = rw (is_utf8-from_IsUtf8 text utf8, e) refl
 
 pub of_tree : (text rest : List ℕ) (found : Option JsonFault) → IsUtf8 text → beyond_text text ≡ Ok rest
     → found ≡ tree_or_none text (value_fault most_brackets most_levels text) → text_fault text ≡ unwrap_or found (at_end text)
-unfolding first_fault
+unfolding first_fault_in
 of_tree text rest found utf8 e f = rw (is_utf8-from_IsUtf8 text utf8, e, f) refl
 
 -- ---- it is never out of memory
@@ -66,14 +66,14 @@ last_known text false = λ e. cc
 
 tree_known : (text : List ℕ) (found : Option TreeFault) → IsKnown text (tree_or_none text found)
 tree_known text (Some fault) = tree_kind fault.kind
-tree_known text None = last_known text (is_document text)
+tree_known text None = last_known text (opens_document text)
 
 after_known : (text : List ℕ) (reported : Beyond) → IsKnown text (fault_after text reported)
 after_known text (Err stop) = stop_kind stop.kind
 after_known text (Ok rest) = tree_known text (value_fault most_brackets most_levels text)
 
 pub reported_kind : (text : List ℕ) → (text_fault text).kind ≢ kinds.NoMemory
-unfolding first_fault
+unfolding first_fault_in
 reported_kind text = go (is_utf8 text)
   where
     go : (b : Bool) → IsKnown text (if b then fault_after text (beyond_text text) else Some (record { kind = kinds.Syntax; at = utf8_valid_len text }))
@@ -107,7 +107,7 @@ tree_located text (Some fault) = record {
   whole = λ e. absurd (tree_whole fault.kind e);
   memory = λ e. absurd (tree_kind fault.kind e);
 }
-tree_located text None = last_located text (is_document text)
+tree_located text None = last_located text (opens_document text)
 
 after_located : (text : List ℕ) (reported : Beyond) → HasOffset text (fault_after text reported)
 after_located text (Err stop) = record {
@@ -118,7 +118,7 @@ after_located text (Err stop) = record {
 after_located text (Ok rest) = tree_located text (value_fault most_brackets most_levels text)
 
 pub reported_located : (text : List ℕ) → IsLocated (length text) (text_fault text)
-unfolding first_fault
+unfolding first_fault_in
 reported_located text = go (is_utf8 text)
   where
     go : (b : Bool) → HasOffset text (if b then fault_after text (beyond_text text) else Some (syntax_reported (utf8_valid_len text)))

@@ -3,7 +3,7 @@ use Rattle.std.specs.Prelude.{ℕ, ◌-◌, List, length, if◌then◌else◌, O
 use Rattle.std.specs.{Str.is_utf8, Str.Lossy.utf8_valid_len}
 use Rattle.bd_value.specs.Limits.{most_brackets, most_levels}
 use Rattle.bd_extjson_fault.specs.JsonSyntax.{Beyond, beyond_text}
-use Rattle.bd_extjson_fault.specs.TreeFault.{is_document, value_fault}
+use Rattle.bd_extjson_fault.specs.TreeFault.{opens_document, value_fault}
 use Rattle.bd_extjson_fault.specs.declared.json_fault.JsonFault.{JsonFault}
 use Rattle.bd_extjson_fault.specs.declared.json_fault.JsonFaultKind.{JsonFaultKind}
 use Rattle.bd_extjson_fault.specs.declared.json_fault.JsonFaultKind.TheVariants as kinds
@@ -39,7 +39,7 @@ fault_in size fault = record { kind = kind_in_tree fault.kind; at = size - fault
 -- for a text that is JSON: the first fault of its tree, and last that it is not a document, which has no offset
 abbrev pub tree_or_none : List ℕ → Option TreeFault → Option JsonFault
 tree_or_none text (Some fault) = Some (fault_in (length text) fault)
-tree_or_none text None = if is_document text then None else Some (record { kind = kinds.NotADocument; at = 0 })
+tree_or_none text None = if opens_document text then None else Some (record { kind = kinds.NotADocument; at = 0 })
 
 -- the fault of a text by the result of its syntax: that of the syntax, else the first of its tree
 abbrev pub fault_after : List ℕ → Beyond → Option JsonFault
@@ -47,10 +47,10 @@ fault_after text (Err stop) = Some (stop_in (length text) stop)
 fault_after text (Ok rest) = tree_or_none text (value_fault most_brackets most_levels text)
 
 -- The first fault of a text: a byte at which it is not UTF-8; then one at which it is not JSON; then the faults of its tree.
-unfoldable pub first_fault : List ℕ → Option JsonFault
-first_fault text = if is_utf8 text then fault_after text (beyond_text text)
+unfoldable pub first_fault_in : List ℕ → Option JsonFault
+first_fault_in text = if is_utf8 text then fault_after text (beyond_text text)
     else Some (record { kind = kinds.Syntax; at = utf8_valid_len text })
 
 -- the same; for a text without a fault, that it ends
 abbrev pub text_fault : List ℕ → JsonFault
-text_fault text = unwrap_or (first_fault text) (record { kind = kinds.Syntax; at = length text })
+text_fault text = unwrap_or (first_fault_in text) (record { kind = kinds.Syntax; at = length text })

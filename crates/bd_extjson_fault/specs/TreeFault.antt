@@ -49,8 +49,8 @@ scalar_fault text = number_between text (beyond_number text)
 -- ---- names
 
 -- the name in quotation marks, without its escapes; empty if these bytes are not a string
-abbrev pub name_in : List ℕ → List ℕ
-name_in quoted = unwrap_or (option_and_then as_str (json_in quoted)) []
+abbrev pub unquoted : List ℕ → List ℕ
+unquoted quoted = unwrap_or (option_and_then as_str (json_in quoted)) []
 
 -- the bytes that were skipped, or none if there was a fault
 abbrev pub quoted_between : List ℕ → Beyond → List ℕ
@@ -68,7 +68,7 @@ if_named (Err stop) name = None
 
 -- the wrapper of the first name of an object, if it is one; the text begins after the brace
 unfoldable pub first_wrapper : List ℕ → Option Wrapper
-first_wrapper inside = if_named (beyond_name inside) (name_in (quoted_name inside))
+first_wrapper inside = if_named (beyond_name inside) (unquoted (quoted_name inside))
 
 -- ---- objects of one wrapper
 
@@ -162,7 +162,7 @@ rest_of (Err stop) = []
 
 -- a zero in a name is a fault at the quotation mark of the name
 abbrev pub zero_fault : List ℕ → List ℕ → Option TreeFault
-zero_fault quoted from = if has_zero (name_in quoted) then fault_at from kinds.NulInName else None
+zero_fault quoted from = if has_zero (unquoted quoted) then fault_at from kinds.NulInName else None
 
 -- the fault of the name of a member
 unfoldable pub name_fault : List ℕ → Option TreeFault
@@ -186,15 +186,15 @@ abbrev pub is_string : List ℕ → Bool
 is_string text = begins (λ b. b == 34) (beyond_white text)
 
 -- an object that is not a wrapper
-abbrev pub is_document : List ℕ → Bool
-is_document text = opens_object (beyond_white text) && is_none (first_wrapper (drop 1 (beyond_white text)))
+abbrev pub opens_document : List ℕ → Bool
+opens_document text = opens_object (beyond_white text) && is_none (first_wrapper (drop 1 (beyond_white text)))
 
 -- Code with scope, of the two values: first the depth of the scope, which takes two levels, then its fault, and last
 -- whether it is a document.
 abbrev pub scope_fault : (ℕ → Finds) → ℕ → List ℕ → List ℕ → List ℕ → Option TreeFault
 scope_fault fault depth_left here code scope = if not (is_string code) then fault_at here kinds.BadWrapper
     else (if nat_lt depth_left 2 then fault_at here kinds.TooDeep
-    else option_or (fault (depth_left - 1) scope) (if is_document scope then None else fault_at here kinds.BadWrapper))
+    else option_or (fault (depth_left - 1) scope) (if opens_document scope then None else fault_at here kinds.BadWrapper))
 
 -- a member of an object: the wrapper of its name, and the text after the colon
 abbrev pub Part : Type 0
@@ -202,7 +202,7 @@ Part = Option Wrapper × List ℕ
 
 -- the member that a text begins with
 abbrev pub part_of : List ℕ → Part
-part_of text = (wrapper_of (name_in (quoted_name text)), rest_of (beyond_name text))
+part_of text = (wrapper_of (unquoted (quoted_name text)), rest_of (beyond_name text))
 
 -- the members of an object whose first name is `$code` or `$scope`: the first alone, or both in either order
 abbrev pub code_fault : (ℕ → Finds) → ℕ → List ℕ → List Part → Option TreeFault

@@ -9,12 +9,12 @@ ghost use Rattle.bd_value.specs.Limits.{most_brackets, most_levels};
 ghost use Rattle.bd_extjson_wrapper.specs.Wrapper.{is_code_name, is_scope_name};
 ghost use Rattle.bd_extjson_fault.specs.JsonFault.{IsLocated, ReportsBadUtf8};
 ghost use Rattle.bd_extjson_fault.specs.JsonSyntax.{begins, beyond_white, beyond_word, beyond_number, beyond_scalar, beyond_next};
-ghost use Rattle.bd_extjson_fault.specs.inside.JsonSyntax.{Gives};
+ghost use Rattle.bd_extjson_fault.specs.inside.JsonSyntax.{IsAnswer};
 ghost use Rattle.bd_extjson_fault.specs.JsonSyntax.{beyond_array, beyond_object, beyond_member, beyond_value, beyond_text, beyond_parts};
-ghost use Rattle.bd_extjson_fault.specs.TreeFault.{is_document, is_string, first_wrapper, fault_at, zero_fault, part_of};
+ghost use Rattle.bd_extjson_fault.specs.TreeFault.{opens_document, is_string, first_wrapper, fault_at, zero_fault, part_of};
 ghost use Rattle.bd_extjson_fault.specs.TreeFault.{Finds, scalar_fault, array_fault, object_fault, document_fault, member_fault};
 ghost use Rattle.bd_extjson_fault.specs.TreeFault.{value_fault, first_in, parts_from, code_fault, members_in, scope_fault};
-ghost use Rattle.bd_extjson_fault.specs.inside.SecondPass.{Passes, IsWithin, found, found_in_scope, deeper, depth_fault};
+ghost use Rattle.bd_extjson_fault.specs.inside.SecondPass.{Passes, IsWithin, found, found_in_scope, levels_inside, depth_fault};
 ghost use Rattle.bd_extjson_fault.specs.TextFault.{text_fault, stop_in, fault_in, tree_or_none};
 ghost use Rattle.bd_extjson_fault.specs.declared.json_fault.JsonFaultKind.TheVariants as kinds;
 ghost use Rattle.bd_extjson_fault.specs.declared.second_pass.Halt.TheVariants as halts;
@@ -217,7 +217,7 @@ impl<'a> Pass<'a> {
         if let Some(fault) = self.fault {
             return Ok(Some(fault_in(fault, text.len())));
         }
-        if self.is_document(text)? {
+        if self.opens_document(text)? {
             return Ok(None);
         }
         Ok(Some(JsonFault {
@@ -243,10 +243,10 @@ impl<'a> Pass<'a> {
     }
 
     /// Whether an object that is not a wrapper is next.
-    fn is_document(&mut self, text: &'a [u8]) -> Result<bool, AllocError>
+    fn opens_document(&mut self, text: &'a [u8]) -> Result<bool, AllocError>
         ensures same { self.new.rest.now ≡ self.old.rest.now }
         ensures same_fault { self.new.fault ≡ self.old.fault }
-        ensures reports { IfOk result (λ is. is ≡ is_document text.now) }
+        ensures reports { IfOk result (λ is. is ≡ opens_document text.now) }
     {
         let here = skip_white(text);
         if !begins(here, b'{') {
@@ -285,7 +285,7 @@ impl<'a> Pass<'a> {
     /// Skips the value without brackets that the text begins with.
     #[tactic(auto, unfolding(crate::specs::JsonSyntax::beyond_scalar))]
     fn scalar(&mut self, text: &'a [u8], depth_left: Option<usize>) -> Result<(), Stop>
-        ensures beyond { Gives (λ u. self.new.rest.now) result (beyond_scalar text.now) }
+        ensures beyond { IsAnswer (λ u. self.new.rest.now) result (beyond_scalar text.now) }
         ensures shorter { MatchResult result
             (λ u. length self.new.rest.now < length text.now)
             (λ stop. stop.remaining ≤ length text.now) }
@@ -307,7 +307,7 @@ impl<'a> Pass<'a> {
 
     /// Skips the number that the text begins with.
     fn number(&mut self, text: &'a [u8], depth_left: Option<usize>) -> Result<(), Stop>
-        ensures beyond { Gives (λ u. self.new.rest.now) result (beyond_number text.now) }
+        ensures beyond { IsAnswer (λ u. self.new.rest.now) result (beyond_number text.now) }
         ensures shorter { MatchResult result
             (λ u. length self.new.rest.now < length text.now)
             (λ stop. stop.remaining ≤ length text.now) }
@@ -568,7 +568,7 @@ impl<'a> Pass<'a> {
         if levels < 2 {
             return Ok(Some(TreeFault::at(text, TreeFaultKind::TooDeep)));
         }
-        let end = if self.is_document(scope)? {
+        let end = if self.opens_document(scope)? {
             None
         } else {
             bad_wrapper(text)
@@ -581,7 +581,7 @@ impl<'a> Pass<'a> {
         ensures same { self.new.rest.now ≡ self.old.rest.now }
         ensures fault { self.new.fault
             ≡ option_or self.old.fault (depth_fault depth_left text.now) }
-        ensures less { result ≡ deeper depth_left }
+        ensures less { result ≡ levels_inside depth_left }
     {
         if depth_left == Some(0) {
             self.note(text, Some(TreeFaultKind::TooDeep));
@@ -631,7 +631,7 @@ impl<'a> Pass<'a> {
     /// Skips the comma after a part, or the closing bracket, and returns whether another part comes.
     #[tactic(auto, unfolding(crate::specs::JsonSyntax::beyond_next))]
     fn goes_on(&mut self, bracket: u8) -> Result<bool, Stop>
-        ensures beyond { Gives (λ more. (more, self.new.rest.now)) result
+        ensures beyond { IsAnswer (λ more. (more, self.new.rest.now)) result
             (beyond_next (λ b. b == bracket) self.old.rest.now) }
         ensures shorter { MatchResult result
             (λ more. length self.new.rest.now ≤ length self.old.rest.now)

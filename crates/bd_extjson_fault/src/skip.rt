@@ -1,7 +1,7 @@
 //! The tokens of JSON (RFC 8259), skipped one by one, with the first byte that cannot continue.
 ghost use Rattle.std.specs.Prelude.{◌≡◌, ◌<◌, ◌≤◌, ◌-◌, ◌==◌, length, drop, IfOk, MatchResult};
 ghost use Rattle.bd_extjson_fault.specs.JsonSyntax.{begins, is_decimal, beyond_all, beyond_white, beyond_word, beyond_digits};
-ghost use Rattle.bd_extjson_fault.specs.inside.JsonSyntax.{Gives};
+ghost use Rattle.bd_extjson_fault.specs.inside.JsonSyntax.{IsAnswer};
 ghost use Rattle.bd_extjson_fault.specs.JsonSyntax.{beyond_natural, beyond_fraction, beyond_number, beyond_exponent, beyond_hex};
 ghost use Rattle.bd_extjson_fault.specs.JsonSyntax.{beyond_unit, beyond_low, beyond_units, beyond_character, beyond_string, beyond_name};
 ghost use Rattle.bd_extjson_fault.specs.TreeFault.{quoted_name};
@@ -75,7 +75,7 @@ pub(crate) fn skip_white(text: &[u8]) -> &[u8]
 /// The text after a literal.
 #[tactic(auto, unfolding(crate::specs::JsonSyntax::beyond_word))]
 pub(crate) fn skip_word<'a>(text: &'a [u8], word: &[u8]) -> Result<&'a [u8], Stop>
-    ensures beyond { Gives (λ x. x.now) result (beyond_word word.now text.now) }
+    ensures beyond { IsAnswer (λ x. x.now) result (beyond_word word.now text.now) }
     ensures shorter { MatchResult result (λ rest. length rest.now ≤ length text.now)
         (λ stop. stop.remaining ≤ length text.now) }
 {
@@ -106,7 +106,7 @@ fn skip_all_digits(text: &[u8]) -> &[u8]
 /// The text after at least one digit.
 #[tactic(auto, unfolding(crate::specs::JsonSyntax::beyond_digits, crate::specs::JsonSyntax::beyond_all))]
 fn skip_digits(text: &[u8]) -> Result<&[u8], Stop>
-    ensures beyond { Gives (λ x. x.now) result (beyond_digits text.now) }
+    ensures beyond { IsAnswer (λ x. x.now) result (beyond_digits text.now) }
     ensures shorter { MatchResult result (λ rest. length rest.now < length text.now)
         (λ stop. stop.remaining ≤ length text.now) }
 {
@@ -119,7 +119,7 @@ fn skip_digits(text: &[u8]) -> Result<&[u8], Stop>
 /// The text after a number without sign, fraction and exponent: no digit follows a leading zero.
 #[tactic(auto, unfolding(crate::specs::JsonSyntax::beyond_natural))]
 fn skip_natural(text: &[u8]) -> Result<&[u8], Stop>
-    ensures beyond { Gives (λ x. x.now) result (beyond_natural text.now) }
+    ensures beyond { IsAnswer (λ x. x.now) result (beyond_natural text.now) }
     ensures shorter { MatchResult result (λ rest. length rest.now < length text.now)
         (λ stop. stop.remaining ≤ length text.now) }
 {
@@ -131,7 +131,7 @@ fn skip_natural(text: &[u8]) -> Result<&[u8], Stop>
 
 #[tactic(auto, unfolding(crate::specs::JsonSyntax::beyond_fraction))]
 fn skip_fraction(text: &[u8]) -> Result<&[u8], Stop>
-    ensures beyond { Gives (λ x. x.now) result (beyond_fraction text.now) }
+    ensures beyond { IsAnswer (λ x. x.now) result (beyond_fraction text.now) }
     ensures shorter { MatchResult result (λ rest. length rest.now ≤ length text.now)
         (λ stop. stop.remaining ≤ length text.now) }
 {
@@ -143,7 +143,7 @@ fn skip_fraction(text: &[u8]) -> Result<&[u8], Stop>
 
 #[tactic(auto, unfolding(crate::specs::JsonSyntax::beyond_exponent))]
 fn skip_exponent(text: &[u8]) -> Result<&[u8], Stop>
-    ensures beyond { Gives (λ x. x.now) result (beyond_exponent text.now) }
+    ensures beyond { IsAnswer (λ x. x.now) result (beyond_exponent text.now) }
     ensures shorter { MatchResult result (λ rest. length rest.now ≤ length text.now)
         (λ stop. stop.remaining ≤ length text.now) }
 {
@@ -157,7 +157,7 @@ fn skip_exponent(text: &[u8]) -> Result<&[u8], Stop>
 /// The text after a number (section 6).
 #[tactic(auto, unfolding(crate::specs::JsonSyntax::beyond_number))]
 pub(crate) fn skip_number(text: &[u8]) -> Result<&[u8], Stop>
-    ensures beyond { Gives (λ x. x.now) result (beyond_number text.now) }
+    ensures beyond { IsAnswer (λ x. x.now) result (beyond_number text.now) }
     ensures shorter { MatchResult result (λ rest. length rest.now < length text.now)
         (λ stop. stop.remaining ≤ length text.now) }
 {
@@ -172,7 +172,7 @@ pub(crate) fn skip_number(text: &[u8]) -> Result<&[u8], Stop>
 /// The value of a hexadecimal digit, and the text after it.
 #[tactic(auto, unfolding(crate::specs::JsonSyntax::beyond_hex))]
 fn skip_hex(text: &[u8]) -> Result<(u32, &[u8]), Stop>
-    ensures beyond { Gives (λ x. (x.0, x.1.now)) result (beyond_hex text.now) }
+    ensures beyond { IsAnswer (λ x. (x.0, x.1.now)) result (beyond_hex text.now) }
     ensures digit { IfOk result (λ x. x.0 < 16) }
     ensures shorter { MatchResult result (λ x. length x.1.now < length text.now)
         (λ stop. stop.remaining ≤ length text.now) }
@@ -189,7 +189,7 @@ fn skip_hex(text: &[u8]) -> Result<(u32, &[u8]), Stop>
 /// The number of an escape of four digits, and the text after it.
 #[tactic(auto, unfolding(crate::specs::JsonSyntax::beyond_unit))]
 fn skip_unit(text: &[u8]) -> Result<(u32, &[u8]), Stop>
-    ensures beyond { Gives (λ x. (x.0, x.1.now)) result (beyond_unit text.now) }
+    ensures beyond { IsAnswer (λ x. (x.0, x.1.now)) result (beyond_unit text.now) }
     ensures shorter { MatchResult result (λ x. length x.1.now < length text.now)
         (λ stop. stop.remaining ≤ length text.now) }
 {
@@ -204,7 +204,7 @@ fn skip_unit(text: &[u8]) -> Result<(u32, &[u8]), Stop>
 /// The text after a low surrogate, which must follow a high one. Without it the high one is a fault, unless the text ends first.
 #[tactic(auto, unfolding(crate::specs::JsonSyntax::beyond_low))]
 fn skip_low<'a>(high: &[u8], text: &'a [u8]) -> Result<&'a [u8], Stop>
-    ensures beyond { Gives (λ x. x.now) result (beyond_low high.now (beyond_unit text.now)) }
+    ensures beyond { IsAnswer (λ x. x.now) result (beyond_low high.now (beyond_unit text.now)) }
     ensures shorter { MatchResult result (λ rest. length rest.now < length text.now)
         (λ stop. stop.remaining ≤ length high.now) }
 {
@@ -218,7 +218,7 @@ fn skip_low<'a>(high: &[u8], text: &'a [u8]) -> Result<&'a [u8], Stop>
 /// The text after an escape of four digits, or after two that are a pair of surrogates.
 #[tactic(auto, unfolding(crate::specs::JsonSyntax::beyond_units))]
 fn skip_units(text: &[u8]) -> Result<&[u8], Stop>
-    ensures beyond { Gives (λ x. x.now) result (beyond_units text.now) }
+    ensures beyond { IsAnswer (λ x. x.now) result (beyond_units text.now) }
     ensures shorter { MatchResult result (λ rest. length rest.now < length text.now)
         (λ stop. stop.remaining ≤ length text.now) }
 {
@@ -233,7 +233,7 @@ fn skip_units(text: &[u8]) -> Result<&[u8], Stop>
 /// The text after a character of a string.
 #[tactic(auto, unfolding(crate::specs::JsonSyntax::beyond_character, crate::specs::JsonSyntax::beyond_escape))]
 fn skip_character(text: &[u8]) -> Result<&[u8], Stop>
-    ensures beyond { Gives (λ x. x.now) result (beyond_character text.now) }
+    ensures beyond { IsAnswer (λ x. x.now) result (beyond_character text.now) }
     ensures shorter { MatchResult result (λ rest. length rest.now < length text.now)
         (λ stop. stop.remaining ≤ length text.now) }
 {
@@ -253,7 +253,7 @@ fn skip_character(text: &[u8]) -> Result<&[u8], Stop>
 /// The text after a string (section 7), in a text that begins after its first quotation mark.
 #[tactic(auto, unfolding(crate::specs::JsonSyntax::beyond_string))]
 pub(crate) fn skip_string(text: &[u8]) -> Result<&[u8], Stop>
-    ensures beyond { Gives (λ x. x.now) result (beyond_string text.now) }
+    ensures beyond { IsAnswer (λ x. x.now) result (beyond_string text.now) }
     ensures shorter { MatchResult result (λ rest. length rest.now ≤ length text.now)
         (λ stop. stop.remaining ≤ length text.now) }
 {
@@ -278,7 +278,7 @@ pub(crate) struct Key<'a> {
 /// The next name, with its colon.
 #[tactic(auto, unfolding(crate::specs::JsonSyntax::beyond_name, crate::specs::JsonSyntax::beyond_word, crate::specs::TreeFault::quoted_name))]
 pub(crate) fn skip_key(text: &[u8]) -> Result<Key<'_>, Stop>
-    ensures beyond { Gives (λ key. key.rest.now) result (beyond_name text.now) }
+    ensures beyond { IsAnswer (λ key. key.rest.now) result (beyond_name text.now) }
     ensures quoted { IfOk result (λ key. key.quoted.now ≡ quoted_name text.now) }
     ensures from { IfOk result (λ key. key.from.now ≡ beyond_white text.now) }
     ensures shorter { MatchResult result (λ key. length key.rest.now < length text.now)

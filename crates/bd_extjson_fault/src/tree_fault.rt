@@ -3,7 +3,7 @@ ghost use Rattle.std.specs.Prelude.{◌≡◌, length, IfOk, option_map};
 ghost use Rattle.std.specs.Option.{option_map_or};
 ghost use Rattle.json.specs.Find.{as_object};
 ghost use Rattle.json.specs.Value.{value_view, members_view};
-ghost use Rattle.bd_extjson_fault.specs.TreeFault.{json_in, name_in, number_fault};
+ghost use Rattle.bd_extjson_fault.specs.TreeFault.{json_in, unquoted, number_fault};
 ghost use Rattle.bd_extjson_fault.specs.TreeFault.{is_outside_profile, is_formed, refusal, single_fault, members_fault, wrapper_fault, is_whole};
 ghost use Rattle.bd_value.specs.Fits.{has_zero as zero_in};
 ghost use Rattle.bd_extjson_wrapper.specs.Wrapper.{wrapper_of};
@@ -90,8 +90,8 @@ pub(crate) fn read_name(
     quoted: &[u8],
     scratch: &mut Scratch,
 ) -> Result<Name, AllocError>
-    ensures wrapper { IfOk result (λ name. name.wrapper ≡ wrapper_of (name_in quoted.now)) }
-    ensures zero { IfOk result (λ name. name.has_zero ≡ zero_in (name_in quoted.now)) }
+    ensures wrapper { IfOk result (λ name. name.wrapper ≡ wrapper_of (unquoted quoted.now)) }
+    ensures zero { IfOk result (λ name. name.has_zero ≡ zero_in (unquoted quoted.now)) }
 {
     let name = match read_json(alloc, quoted, scratch)? {
         Some(Value::String(name)) => name,

@@ -23,6 +23,6 @@ StopsWriting text out NoMemory = out.after ≡ out.before
 StopsWriting text out Unwritten = WriteFailsWithin out text
 
 -- The writer took the text, or writing it was stopped.
-abbrev pub Writes : {A : Type 0} → List ℕ → Over Writer → Result A OutputFault → Type 0
-Writes text out (Ok x) = TakesText out text
-Writes text out (Err stopped) = StopsWriting text out stopped
+abbrev pub WritesText : {A : Type 0} → List ℕ → Over Writer → Result A OutputFault → Type 0
+WritesText text out (Ok x) = TakesText out text
+WritesText text out (Err stopped) = StopsWriting text out stopped

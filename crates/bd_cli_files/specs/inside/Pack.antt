@@ -8,7 +8,8 @@ use Rattle.bd_io_lines.specs.Lines.{IsLine, text_lines}
 use Rattle.bd_cli_files.specs.{declared.pack.BadLine.BadLine, declared.pack.Packing.Packing}
 use Rattle.bd_cli_files.specs.Pack.{PacksLines}
 
--- Whatever lines follow these, these are the documents before the first bad line, or the first of them if no line is bad yet.
+-- Whatever lines follow these, these are the documents before the first bad line;
+-- if no line is bad yet, they are the first of them.
 abbrev pub PacksFirst : List (List ℕ) → List Doc → Option BadLine → Type 0
 PacksFirst lines ds None =
     (rest : List (List ℕ)) (es : List Doc) (bad : Option BadLine) → PacksLines (suc (length lines)) rest es bad

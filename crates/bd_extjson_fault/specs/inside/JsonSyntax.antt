@@ -4,5 +4,5 @@ use Rattle.std.specs.Prelude.{Result, Ok, Err, MatchResult, ◌≡◌}
 use Rattle.bd_extjson_fault.specs.declared.skip.Stop.{Stop}
 
 -- the view of the code's answer is that of the definition
-abbrev pub Gives : {X Y : Type 0} → (X → Y) → Result X Stop → Result Y Stop → Type 0
-Gives view answer reported = MatchResult answer (λ x. reported ≡ Ok (view x)) (λ stop. reported ≡ Err stop)
+abbrev pub IsAnswer : {X Y : Type 0} → (X → Y) → Result X Stop → Result Y Stop → Type 0
+IsAnswer view answer reported = MatchResult answer (λ x. reported ≡ Ok (view x)) (λ stop. reported ≡ Err stop)

@@ -34,10 +34,10 @@ abbrev pub found_in_scope : Finds → Option Wrapper → List ℕ → Option Tre
 found_in_scope fault w text = if is_scope_name w then fault text else None
 
 -- how many levels remain inside a document or an array, if n remain for it; None if there are none
-abbrev pub deeper : Option ℕ → Option ℕ
-deeper None = None
-deeper (Some zero) = None
-deeper (Some (suc depth_left)) = Some depth_left
+abbrev pub levels_inside : Option ℕ → Option ℕ
+levels_inside None = None
+levels_inside (Some zero) = None
+levels_inside (Some (suc depth_left)) = Some depth_left
 
 -- a document or array for which no level remains is a fault at its bracket
 abbrev pub depth_fault : Option ℕ → List ℕ → Option TreeFault
