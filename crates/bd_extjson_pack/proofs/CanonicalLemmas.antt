@@ -1,8 +1,8 @@
 -- Canonical text, read from its start.
 use Rattle.std.proofs.Common.{◌-◌, ◌≡◌, ◌<◌, ◌≤◌, ℕ, suc, ℤ, List, [], ◌∷◌, ◌++◌, eqb, get_or, Bor, length, take, drop, Bool, true, false, cond, Option, Some, None, refl}
 use Rattle.std.proofs.Common.{sym, ap, ap₂, ◌∙◌, arith, append_assoc, append-nil, length-append, take-append-drop, Result, Ok, Err, zero, ◌^◌, pos, neg_ℤ, decimal}
-use Rattle.std.proofs.Common.{inl, inr, ◌+◌, ◌*◌}
-use Rattle.std.specs.Prelude.{codes, ◌||◌, ◌==◌, ◌/◌, ◌%◌, nat_lt, slice_index, slice_range, IfSome, IfOk, IsUtf8, OnOk}
+use Rattle.std.proofs.Common.{inl, inr, ◌+◌, ◌*◌, add-one}
+use Rattle.std.specs.Prelude.{codes, ◌||◌, ◌&&◌, ◌==◌, ◌/◌, ◌%◌, nat_lt, slice_index, slice_range, IfSome, IfOk, IsUtf8, OnOk}
 use Rattle.std.specs.{List.list_any, List.join_with_byte, List.prefix_len, Char.digit_char, Char.is_ascii_digit, Str.bytes_eq}
 use Rattle.std.specs.{Fmt.signed_decimal, Result.result_ok, Result.is_err, Str.Parse.digits_value, Str.Parse.AllDigits}
 use Rattle.core.proofs.dec2flt.Rows.{AllDigits-digits_len, short_fits}
@@ -21,7 +21,9 @@ use Rattle.bd_extjson.specs.{Laws.IsPlainFirst, Laws.ArePlainFields, Laws.ArePla
 use Rattle.bd_extjson_text.specs.Text.{needs_escape, escape_byte, escaped, quoted, hex_text, base64_text, scalar_text, member, text, items_text, fields_text}
 use Rattle.std.proofs.lemmas.Option.{MatchOption-at_some}
 use Rattle.std.proofs.{lemmas.Bool.or_parts, lemmas.Bool.or_from, lemmas.Bool.cases_lt}
-use Rattle.std.proofs.lemmas.List.{take_at}
+use Rattle.std.proofs.lemmas.List.{take_at, take-take, take_all, length-drop}
+use Rattle.std.proofs.Math.Seq.{take-add, take-append-add, take-suc}
+use Rattle.std.proofs.lemmas.List.Folds.{list_any-append}
 use Rattle.std.proofs.lemmas.Str.{IsUtf8-append, IsUtf8-from_ascii}
 use Rattle.std.proofs.{lemmas.Bool.Decides.nat_tests, lemmas.Grind.flat_map-append}
 use Rattle.std.proofs.{lemmas.List.length-take-le, lemmas.List.get_or-take}
@@ -29,6 +31,7 @@ use Rattle.std.proofs.{lemmas.Fmt.decimal-digits_value, lemmas.Fmt.decimal_is_Is
 use Rattle.bd_extjson_text.proofs.JsonStringLemmas.{escaped-plain, escaped-digits, IsQuiet}
 use Rattle.bd_extjson.proofs.ReadBackLemmas.{document_back}
 use Rattle.bd_extjson_pack.specs.Packable.{plain, IsPackable}
+use Rattle.bd_extjson_pack.specs.declared.canonical_line.TheConstants.{MEANT}
 use Rattle.bd_extjson_pack.specs.inside.Packable.{IsCanonical, AreCanonical, AreCanonicalFields}
 use Rattle.hex.specs.{Hex.encode_lower, Hex.decode_sized, declared.FromHexError.FromHexError}
 use Rattle.hex.proofs.HexLemmas.{decode_of-ok, decode_sized-ok, decode_sized-twice}
@@ -245,20 +248,103 @@ pub when_read : {X E : Type 0} (o : Option X) (r : Result X E) {P Q : X → Type
 when_read o (Ok x) {P} e p f = f x (MatchOption-at_some _ P x e p)
 when_read o (Err d) e p f = tt
 
+-- ---- bytes before the first that needs an escape
+
+none_any : (p : ℕ → Bool) (xs : List ℕ) → ((k : ℕ) → k < length xs → p (get_or xs k 0) ≡ false) → list_any p xs ≡ false
+none_any p [] quiet = refl
+none_any p (x ∷ xs) quiet = rw (quiet 0 (omega arith)) (none_any p xs (λ k lt. quiet (suc k) (omega arith)))
+
+-- among bytes that each need no escape, none needs one
+pub quiet_prefix : (text bytes : List ℕ) (n : ℕ) → bytes ≡ text → n ≤ length bytes → IsQuiet bytes n → list_any needs_escape (take n text) ≡ false
+quiet_prefix text bytes n same le quiet =
+    let long = length-take-le n bytes le in
+    rw (← same) (none_any needs_escape (take n bytes) (λ k lt. ap needs_escape (get_or-take n bytes k 0 (omega (arith, long))) ∙ quiet k (omega (arith, long))))
+
 -- ---- strings with escapes
 
-pub run_read : (text : List ℕ) (n : ℕ) (o : Option (Bor (List ℕ) × Bor (List ℕ))) → IfSome o (λ x. x.0.now ≡ take n text)
-    → IfSome o (λ x. x.1.now ≡ drop n text) → list_any needs_escape (take n text) ≡ false
-    → IfSome o (λ p. (text ≡ p.0.now ++ p.1.now) × (escaped p.0.now ≡ p.0.now))
-run_read text n None prefix back none = tt
-run_read text n (Some p) prefix back none =
-    (sym (take-append-drop n text) ∙ ap₂ (λ (x y : List ℕ). x ++ y) (sym prefix) (sym back), ap escaped prefix ∙ escaped-plain (take n text) none ∙ sym prefix)
+-- a run that needs no escape, and the byte after it, with which the rest begins
+pub run_read : (text rest run : List ℕ) (n : ℕ) → n < length text → list_any needs_escape (take n text) ≡ false → run ≡ take n text → rest ≡ drop n text
+    → (last : ℕ) × (text ≡ escaped run ++ rest) × (take (n + 1) text ≡ run ++ last ∷ [])
+run_read text rest run n inside plain prefix remaining = (
+  get_or text n 0,
+  rw (prefix, remaining, escaped-plain (take n text) plain) (sym (take-append-drop n text)),
+  ap (λ k. take k text) (add-one n) ∙ take-suc text n 0 inside ∙ ap (λ x. x ++ get_or text n 0 ∷ []) (sym prefix),
+)
 
--- a run and the byte after it
-pub run_and_one : (text run rest piece : List ℕ) → text ≡ run ++ rest → piece ≡ take (length run + 1) text → length run + 1 ≤ length text → (last : ℕ) × (piece ≡ run ++ last ∷ [])
-run_and_one text run [] piece is prefix within = absurd (omega (arith, within, ap (λ x. length x) is, length-append run []))
-run_and_one text run (x ∷ rest) piece is prefix within =
-    (x, prefix ∙ ap (take (length run + 1)) (is ∙ sym (append_assoc run (x ∷ []) rest)) ∙ take_at (run ++ x ∷ []) rest (length run + 1) (length-append run (x ∷ [])))
+-- the next bytes of the rest
+module _ (bytes old out : List ℕ) (p : ℕ) (within : p ≤ length bytes) (copied : out ≡ old ++ take p bytes) where
+  rest_is : take (length bytes - p) (drop p bytes) ≡ drop p bytes
+  rest_is = take_all (length bytes - p) (drop p bytes) (omega (arith, length-drop p bytes))
+
+  module _ (part : List ℕ) (size n : ℕ) (is : part ≡ take size (take (length bytes - p) (drop p bytes))) (enough : size ≤ length (take (length bytes - p) (drop p bytes))) (few : n ≤ size) where
+    pub part_long : length part ≡ size
+    part_long = ap (λ (l : List ℕ). length l) is ∙ length-take-le size (take (length bytes - p) (drop p bytes)) enough
+
+    prefix_of_part : take n part ≡ take n (drop p bytes)
+    prefix_of_part = ap (take n) is ∙ take-take n size (take (length bytes - p) (drop p bytes)) few ∙ ap (take n) rest_is
+
+    pub part_within : p + size ≤ length bytes
+    part_within = omega (arith, within, enough, ap (λ (l : List ℕ). length l) rest_is, length-drop p bytes)
+
+    -- more bytes that need no escape
+    pub more_plain : list_any needs_escape (take p bytes) ≡ false → ((k : ℕ) → k < n → needs_escape (get_or part k 0) ≡ false) → list_any needs_escape (take (p + n) bytes) ≡ false
+    more_plain before quiet =
+        rw (take-add p n bytes, list_any-append needs_escape (take p bytes) (take n (drop p bytes)), before, ← prefix_of_part) (quiet_prefix part part n refl (omega (arith, few, part_long)) quiet)
+
+    -- and copied bytes
+    pub more_copied : (new : List ℕ) → new ≡ out ++ take n part → new ≡ old ++ take (p + n) bytes
+    more_copied new put = rw (put, copied, prefix_of_part, take-add p n bytes) (append_assoc old (take p bytes) (take n (drop p bytes)))
+
+    -- a part is copied whole, and its end dropped again
+    pub cut_back : (new : List ℕ) → new ≡ take (length old + (p + n)) (out ++ part) → new ≡ old ++ take (p + n) bytes
+    cut_back new put =
+        let long : length out ≡ length old + p = omega (arith, ap (λ (l : List ℕ). length l) copied, length-append old (take p bytes), length-take-le p bytes within) in
+        let at : length old + (p + n) ≡ length out + n = omega arith in
+        more_copied new (put ∙ ap (λ k. take k (out ++ part)) at ∙ take-append-add out part n)
+
+-- Each byte of a table is 0, or has the escape of its letter. The first is of this letter.
+has_escapes : ℕ → List ℕ → Bool
+has_escapes letter [] = true
+has_escapes letter (byte ∷ bytes) = (byte == 0 || (bytes_eq (escape_byte byte) (92 ∷ letter ∷ []) && nat_lt byte 128)) && has_escapes (suc letter) bytes
+
+entry : (letter byte : ℕ) (more : Bool) → ((byte == 0 || (bytes_eq (escape_byte byte) (92 ∷ letter ∷ []) && nat_lt byte 128)) && more) ≡ true → (byte ≡ 0 → ⊥)
+    → (escape_byte byte ≡ 92 ∷ letter ∷ []) × (byte < 128) × (more ≡ true)
+entry letter byte more all some = go (byte == 0) (bytes_eq (escape_byte byte) (92 ∷ letter ∷ [])) (nat_lt byte 128) more refl refl refl all
+  where
+    go : (z e l m : Bool) → (byte == 0) ≡ z → bytes_eq (escape_byte byte) (92 ∷ letter ∷ []) ≡ e → nat_lt byte 128 ≡ l → ((z || (e && l)) && m) ≡ true
+        → (escape_byte byte ≡ 92 ∷ letter ∷ []) × (byte < 128) × (m ≡ true)
+    go true e l m is same low all = absurd (some (grind (arith, nat_tests, is)))
+    go false true true m is same low all = ((bytes_eq-Decides (escape_byte byte) (92 ∷ letter ∷ [])).0 same, grind (arith, nat_tests, low), all)
+    go false false l m is same low all = absurd cc
+    go false true false m is same low all = absurd cc
+
+entry_all : (here more : Bool) → (here && more) ≡ true → more ≡ true
+entry_all true more all = all
+entry_all false more all = absurd cc
+
+table_holds : has_escapes 0 MEANT ≡ true
+unfolding has_escapes escape_byte
+table_holds = refl
+
+entry_of : (table : List ℕ) (from letter : ℕ) → has_escapes from table ≡ true → letter < length table → (get_or table letter 0 ≡ 0 → ⊥)
+    → (escape_byte (get_or table letter 0) ≡ 92 ∷ (from + letter) ∷ []) × (get_or table letter 0 < 128)
+unfolding has_escapes
+entry_of [] from letter all inside some = absurd (omega arith)
+entry_of (b ∷ bs) from zero all inside some =
+    let known = entry from b (has_escapes (suc from) bs) all some in
+    (known.0 ∙ ap (λ k. 92 ∷ k ∷ []) (omega arith), known.1)
+entry_of (b ∷ bs) from (suc letter) all inside some =
+    let here = entry_all (b == 0 || (bytes_eq (escape_byte b) (92 ∷ from ∷ []) && nat_lt b 128)) (has_escapes (suc from) bs) all in
+    let known = entry_of bs (suc from) letter here (omega arith) some in
+    (known.0 ∙ ap (λ k. 92 ∷ k ∷ []) (omega arith), known.1)
+
+-- the byte of an escape, and what follows it
+pub meant : (text inside rest : List ℕ) (letter : ℕ) → letter < length MEANT → (get_or MEANT letter 0 ≡ 0 → ⊥) → text ≡ 92 ∷ inside → letter ≡ get_or inside 0 0 → 0 < length inside → rest ≡ drop 1 inside
+    → (text ≡ escape_byte (get_or MEANT letter 0) ++ rest) × (get_or MEANT letter 0 < 128)
+meant text [] rest letter known some begins first more remaining = absurd (omega arith)
+meant text (x ∷ inside) rest letter known some begins first more remaining =
+    let entry = entry_of MEANT 0 letter table_holds known some in
+    (begins ∙ rw (entry.0, remaining, ← first) (ap (λ k. 92 ∷ k ∷ inside) (omega arith)), entry.1)
 
 -- an escape and the run after it are the text of one more byte and the run
 pub run_goes_on : (text decoded old after run rest : List ℕ) (byte : ℕ) → text ≡ escaped decoded ++ old → old ≡ escape_byte byte ++ after
@@ -345,15 +431,3 @@ pub negative_read : (text inside digits rest after : List ℕ) (n : ℕ) (z : �
 unfolding quoted escape_byte
 negative_read text inside digits rest after zero z a m b small c some same = absurd (omega arith)
 negative_read text inside digits rest after (suc n) z a m b small c some same = rw (a, m, b, c, ← same, escaped-decimal (suc n) small, append_assoc (decimal (suc n)) (34 ∷ []) after) refl
-
--- ---- bytes before the first that needs an escape
-
-none_any : (p : ℕ → Bool) (xs : List ℕ) → ((k : ℕ) → k < length xs → p (get_or xs k 0) ≡ false) → list_any p xs ≡ false
-none_any p [] quiet = refl
-none_any p (x ∷ xs) quiet = rw (quiet 0 (omega arith)) (none_any p xs (λ k lt. quiet (suc k) (omega arith)))
-
--- among bytes that each need no escape, none needs one
-pub quiet_prefix : (text bytes : List ℕ) (n : ℕ) → bytes ≡ text → n ≤ length bytes → IsQuiet bytes n → list_any needs_escape (take n text) ≡ false
-quiet_prefix text bytes n same le quiet =
-    let long = length-take-le n bytes le in
-    rw (← same) (none_any needs_escape (take n bytes) (λ k lt. ap needs_escape (get_or-take n bytes k 0 (omega (arith, long))) ∙ quiet k (omega (arith, long))))

@@ -1,17 +1,17 @@
 //! The bytes of a document straight from its canonical text, as `dump` writes it. A line that is spelled in another way, or is
 //! not a document, is `Refusal::Unread`. What takes no memory, and reads a part of the text, is then only None.
-ghost use Rattle.std.specs.Prelude.{◌≡◌, ◌<◌, ◌≤◌, ◌++◌, ◌∷◌, [], ℕ, List, length, false, None, IfOk, OnOk, IfErr, IfSome, ◌^◌, decimal, get_or, IsTrue, IsUtf8};
+ghost use Rattle.std.specs.Prelude.{◌≡◌, ◌<◌, ◌≤◌, ◌++◌, ◌∷◌, ◌+◌, [], ℕ, List, length, take, false, None, IfOk, OnOk, IfErr, IfSome, ◌^◌, decimal, get_or, IsTrue, IsUtf8};
 ghost use Rattle.bd_value.specs.Limits.{longest_document};
 ghost use Rattle.bd_value.specs.Tree.{Tree, Doc, leaf, doc, array, fields_of, items_of};
 ghost use Rattle.bd_value.specs.View.{kind_of};
 ghost use Rattle.bd_bson_view.specs.Spelling.{string as bson_string};
 ghost use Rattle.bd_bson_write.specs.TreeBytes.{bytes_of};
 ghost use Rattle.bd_extjson_wrapper.specs.Wrapper.{wrapper_of};
-ghost use Rattle.bd_extjson_text.specs.Text.{text as text_of, items_text, fields_text, escape_byte, escaped, quoted, hex_text};
+ghost use Rattle.bd_extjson_text.specs.Text.{text as text_of, items_text, fields_text, needs_escape, escape_byte, escaped, quoted, hex_text};
 ghost use Rattle.bd_extjson_pack.specs.Packable.{plain, IsPackable};
 ghost use Rattle.bd_extjson_pack.specs.inside.Packable.{IsCanonical, AreCanonical, AreCanonicalFields};
 ghost use Rattle.bd_extjson_pack.specs.inside.Writes.{NotRead};
-ghost use Rattle.std.specs.{Fmt.signed_decimal, Result.result_ok};
+ghost use Rattle.std.specs.{Fmt.signed_decimal, Result.result_ok, List.list_any};
 ghost use Rattle.base64.specs.{Engines.standard, GeneralPurpose.encode_of, GeneralPurpose.decode_of};
 ghost use Rattle.bd_value.specs.Fits.{AreBytes, IsId, has_zero};
 ghost use Rattle.bd_value.specs.Tree as trees;
@@ -26,6 +26,9 @@ use bd_extjson_wrapper::id_of_text;
 use bd_value::{Kind, MOST_LEVELS, Scalar};
 use core::dec2flt::read_digits;
 use std::alloc::Global;
+
+/// How many bytes of a string are examined and copied together.
+const BLOCK: usize = 32;
 
 /// Appends the document that all of the text is.
 pub(crate) fn append_canonical(text: &str, out: &mut Vec<u8>) -> Result<(), Refusal>
@@ -252,32 +255,58 @@ fn append_run<'a>(text: &'a str, out: &mut Vec<u8>) -> Result<&'a str, Refusal>
         × (text.now ≡ escaped run ++ rest.now)
         × (out.new.items ≡ out.old.items ++ (run ++ last ∷ []))) }
 {
-    let (run, rest) = plain_run(text).ok_or(Refusal::Unread)?;
-    let bytes = text.as_bytes();
-    let (piece, _) = bytes
-        .split_at_checked(run.len() + 1)
-        .ok_or(Refusal::Unread)?;
-    out.extend_from_slice(piece)?;
+    let plain = copy_run(text.as_bytes(), out)?;
+    let (_, rest) = text.split_at_checked(plain).ok_or(Refusal::Unread)?;
     Ok(rest)
+}
+
+/// Appends the bytes up to the first that needs an escape, and that byte, and returns how many are before it. A block is copied
+/// while it is examined, so that each copy is of a known length.
+#[inline(always)]
+fn copy_run(bytes: &[u8], out: &mut Vec<u8>) -> Result<usize, Refusal>
+    ensures { IfOk result (λ plain. (plain < length bytes.now)
+        × (list_any needs_escape (take plain bytes.now) ≡ false)
+        × (out.new.items ≡ out.old.items ++ take (plain + 1) bytes.now)) }
+{
+    let start = out.len();
+    let mut passed = 0;
+    while let Some(block) = bytes[passed..].first_chunk::<BLOCK>() {
+        out.extend_from_slice(block)?;
+        let plain = plain_length(block);
+        passed += plain;
+        if plain < BLOCK {
+            out.truncate(start + passed + 1);
+            return Ok(passed);
+        }
+    }
+    let rest = &bytes[passed..];
+    let plain = plain_length(rest);
+    let (run, _) = rest.split_at_checked(plain + 1).ok_or(Refusal::Unread)?;
+    out.extend_from_slice(run)?;
+    Ok(passed + plain)
 }
 
 /// The byte of an escape of two characters, and what follows it.
 #[inline(always)]
-#[tactic(auto, unfolding(bd_extjson_text::specs::Text::escape_byte))]
 fn escape<'a>(text: &'a str) -> Option<(u8, &'a str)>
     ensures { IfSome result (λ p. (text.now ≡ escape_byte p.0 ++ p.1.now) × (p.0 < 128)) }
 {
-    match text.as_bytes().get(1)? {
-        b'"' => Some((b'"', after_word(text, b"\\\"")?)),
-        b'\\' => Some((b'\\', after_word(text, b"\\\\")?)),
-        b'b' => Some((8, after_word(text, b"\\b")?)),
-        b'f' => Some((12, after_word(text, b"\\f")?)),
-        b'n' => Some((b'\n', after_word(text, b"\\n")?)),
-        b'r' => Some((b'\r', after_word(text, b"\\r")?)),
-        b't' => Some((b'\t', after_word(text, b"\\t")?)),
-        _ => None,
+    let inside = after_word(text, b"\\")?;
+    let letter = usize::from(*inside.as_bytes().first()?);
+    if letter >= MEANT.len() || MEANT[letter] == 0 {
+        return None;
     }
+    let (_, rest) = inside.split_at_checked(1)?;
+    Some((MEANT[letter], rest))
 }
+
+/// The byte that an escape of two characters means (RFC 8259, section 7), by the second of them; 0 if it means none.
+const MEANT: [u8; 117] = [
+    0, 0, 0, 0, 0, 0, 0, 0, 0, 0, 0, 0, 0, 0, 0, 0, 0, 0, 0, 0, 0, 0, 0, 0, 0, 0, 0, 0, 0, 0, 0, 0,
+    0, 0, 34, 0, 0, 0, 0, 0, 0, 0, 0, 0, 0, 0, 0, 0, 0, 0, 0, 0, 0, 0, 0, 0, 0, 0, 0, 0, 0, 0, 0,
+    0, 0, 0, 0, 0, 0, 0, 0, 0, 0, 0, 0, 0, 0, 0, 0, 0, 0, 0, 0, 0, 0, 0, 0, 0, 0, 0, 0, 0, 92, 0,
+    0, 0, 0, 0, 8, 0, 0, 0, 12, 0, 0, 0, 0, 0, 0, 0, 10, 0, 0, 0, 13, 0, 9,
+];
 
 /// A string, and what follows it.
 #[inline(always)]
@@ -289,15 +318,6 @@ fn string<'a>(text: &'a str) -> Option<(&'a str, &'a str)>
     let (inside, rest) = inside.split_at_checked(plain_length(inside.as_bytes()))?;
     let rest = after_word(rest, b"\"")?;
     Some((inside, rest))
-}
-
-/// The bytes without escapes, up to the first that needs one, and what follows.
-#[inline(always)]
-fn plain_run<'a>(text: &'a str) -> Option<(&'a str, &'a str)>
-    ensures { IfSome result (λ p. (text.now ≡ p.0.now ++ p.1.now)
-        × (escaped p.0.now ≡ p.0.now)) }
-{
-    text.split_at_checked(plain_length(text.as_bytes()))
 }
 
 /// An Int32, and what follows it.
