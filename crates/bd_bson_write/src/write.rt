@@ -145,10 +145,7 @@ fn zero_in_some<N: Reading>(parts: N::Rest, named: bool) -> bool
 {
     let mut rest = parts;
     while let Some(next) = N::next(&rest) {
-        if named && has_zero(next.0) {
-            return true;
-        }
-        if contains_zero(next.1) {
+        if named && has_zero(next.0) || contains_zero(next.1) {
             return true;
         }
         rest = next.2;

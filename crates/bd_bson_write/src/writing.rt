@@ -170,9 +170,7 @@ pub fn append_label(kind: Kind, name: &str, out: &mut Vec<u8>) -> Result<(), Wri
     if before > LONGEST_DOCUMENT {
         return Err(WriteFault::TooLong);
     }
-    if out.push(type_byte(kind)).is_err() {
-        return Err(WriteFault::NoMemory);
-    }
+    out.extend_from_slice(&[type_byte(kind)])?;
     if write_name(name, out).is_err() {
         out.truncate(before);
         return Err(WriteFault::NoMemory);
@@ -260,8 +258,7 @@ fn append_binary(subtype: u8, payload: &[u8], out: &mut Vec<u8>) -> Result<(), W
     }
     append_number(data_length(subtype, payload), out)?;
     out.extend_from_slice(&[subtype])?;
-    write_data(subtype, payload, out)?;
-    Ok(())
+    Ok(write_data(subtype, payload, out)?)
 }
 
 /// The data of `binary`.
@@ -274,8 +271,7 @@ fn write_data(subtype: u8, payload: &[u8], out: &mut Vec<u8>) -> Result<(), NoMe
     if subtype == 2 {
         append_number(payload.len() as u32, out)?;
     }
-    out.extend_from_slice(payload)?;
-    Ok(())
+    out.extend_from_slice(payload)
 }
 
 /// How many bytes the data of `binary` has: of subtype 02 four more, the count of those after them.
@@ -305,8 +301,7 @@ fn append_string(text: &str, out: &mut Vec<u8>) -> Result<(), WriteFault>
         return Err(WriteFault::TooLong);
     }
     append_number(text.len() as u32 + 1, out)?;
-    write_name(text, out)?;
-    Ok(())
+    Ok(write_name(text, out)?)
 }
 
 /// `cstring`.
@@ -317,10 +312,7 @@ fn write_name(name: &str, out: &mut Vec<u8>) -> Result<(), NoMemory>
     ensures prefix { OnErr result (StartsWith out.new.items out.old.items) }
 {
     out.extend_from_slice(name.as_bytes())?;
-    if out.push(0).is_err() {
-        return Err(AllocError);
-    }
-    Ok(())
+    out.extend_from_slice(b"\0")
 }
 
 /// Appends eight bytes, least first: BSON 1.1, `int64`.

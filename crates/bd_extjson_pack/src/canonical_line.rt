@@ -35,11 +35,9 @@ pub(crate) fn append_canonical(text: &str, out: &mut Vec<u8>) -> Result<(), Refu
     ensures { OnOk result ((d : Doc)
         × IsPackable text.now d × (out.new.items ≡ out.old.items ++ plain d)) }
 {
-    let rest = append_fields(text, MOST_LEVELS - 1, out)?;
-    if rest.is_empty() {
-        Ok(())
-    } else {
-        Err(Refusal::Unread)
+    match append_fields(text, MOST_LEVELS - 1, out)? {
+        "" => Ok(()),
+        _ => Err(Refusal::Unread),
     }
 }
 
@@ -138,22 +136,12 @@ fn field_name<'a>(text: &'a str) -> Option<(&'a str, &'a str)>
         × (has_zero name ≡ false) × (wrapper_of name ≡ None)) }
 {
     let (name, rest) = string(text)?;
-    if may_name_wrapper(name) {
+    // The names of all wrappers begin so.
+    if name.starts_with('$') {
         return None;
     }
     let (quoted, _) = text.split_at_checked(name.len() + 2)?;
     Some((quoted, after_word(rest, b":")?))
-}
-
-/// Whether a name begins as the names of all wrappers do.
-#[inline(always)]
-fn may_name_wrapper(name: &str) -> bool
-    ensures { result ≡ false → wrapper_of name.now ≡ None }
-{
-    match name.as_bytes() {
-        [first, ..] => *first == b'$',
-        [] => false,
-    }
 }
 
 /// Appends the value of the wrapper that the text begins with, and returns its kind and what follows.
@@ -179,10 +167,8 @@ fn append_wrapper<'a>(text: &'a str, out: &mut Vec<u8>) -> Result<(Kind, &'a str
         Some(b'"') => append_binary(text, out),
         _ => {
             let (id, rest) = object_id(text).ok_or(Refusal::Unread)?;
-            Ok((
-                append_leaf(Kind::ObjectId, Scalar::ObjectId(id), out)?,
-                rest,
-            ))
+            let kind = append_leaf(Kind::ObjectId, Scalar::ObjectId(id), out)?;
+            Ok((kind, rest))
         }
     }
 }
@@ -316,8 +302,7 @@ fn string<'a>(text: &'a str) -> Option<(&'a str, &'a str)>
 {
     let inside = after_word(text, b"\"")?;
     let (inside, rest) = inside.split_at_checked(plain_length(inside.as_bytes()))?;
-    let rest = after_word(rest, b"\"")?;
-    Some((inside, rest))
+    Some((inside, after_word(rest, b"\"")?))
 }
 
 /// An Int32, and what follows it.
@@ -389,11 +374,7 @@ fn is_led_well(digits: &[u8], count: usize) -> bool
     requires { count ≤ length digits.now }
     ensures { IsTrue result → (0 < count) × (1 < count → get_or digits.now 0 0 ≡ 48 → ⊥) }
 {
-    match count {
-        0 => false,
-        1 => true,
-        _ => digits[0] != b'0',
-    }
+    count == 1 || count > 1 && digits[0] != b'0'
 }
 
 /// An id, and what follows it.

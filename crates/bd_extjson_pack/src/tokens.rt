@@ -84,14 +84,8 @@ fn append_first(alloc: Global, reader: &mut Reader<'_>, out: &mut Vec<u8>) -> Re
     if first.and_then(Wrapper::from_name).is_some() {
         return Err(Refusal::Unread);
     }
-    append_fields(
-        alloc,
-        reader,
-        first,
-        MOST_LEVELS - 1,
-        MOST_BRACKETS - 1,
-        out,
-    )
+    let (depth_left, depth) = (MOST_LEVELS - 1, MOST_BRACKETS - 1);
+    append_fields(alloc, reader, first, depth_left, depth, out)
 }
 
 /// Appends the document whose brace and first name were read, and returns its kind.
@@ -148,15 +142,12 @@ fn append_next(
     let token = reader.next().ok_or(Refusal::Unread)?;
     match token {
         Token::String(text) => Ok(append_leaf(Kind::Text, Scalar::Text(text), out)?),
-        Token::Number(text) => append_number(text, out),
+        Token::Number(text) => Ok(append_read(bare_number(text).ok_or(Refusal::Unread)?, out)?),
         Token::Bool(b) => Ok(append_leaf(Kind::Bool, Scalar::Bool(b), out)?),
         Token::Null => Ok(Kind::Null),
         Token::EndObject | Token::EndArray | Token::Key(_) | Token::Bad => Err(Refusal::Unread),
         Token::BeginArray => {
-            if depth == 0 {
-                return Err(Refusal::Unread);
-            }
-            if depth_left == 0 {
+            if depth == 0 || depth_left == 0 {
                 return Err(Refusal::Unread);
             }
             append_items(alloc, reader, depth_left - 1, depth - 1, out)
@@ -287,17 +278,6 @@ fn append_wrapped(
         Err(Trouble::Memory) => Err(Refusal::Unwritten(WriteFault::NoMemory)),
         Err(Trouble::Refused) => Err(Refusal::Unread),
     }
-}
-
-/// Appends a bare number, and returns its kind.
-#[inline(never)]
-fn append_number(text: &str, out: &mut Vec<u8>) -> Result<Kind, Refusal>
-    ensures { (rest : List JsonToken) → Writes (λ kind t. (kind ≡ kind_of t)
-        × (out.new.items ≡ out.old.items ++ bytes_of t)) rest result
-        (option_map (λ (t : trees.Tree). (t, rest)) (bare_number (whole_64 text.now))) }
-{
-    let number = bare_number(text).ok_or(Refusal::Unread)?;
-    Ok(append_read(number, out)?)
 }
 
 /// Appends a value that was read, and drops it. The numbers that are read most are written at once. Returns its kind.

@@ -22,10 +22,10 @@ returns-in_ok-append_leaf-in-Some-eq123 c =
     scalar_value c.args.text.now c.in_ok-n-in-Some-eq123.rest.now c.args.out.now.items c.append_leaf-in-Some-eq123.new.out.items _ (trees.date n) (trees.date (to_z w64 (of_z w64 n)))
     (ap (λ z. trees.date z) (search rules)) (of_some _ _ _ c.in_ok-n-in-Some-eq123.ensures.ok_part c.date.ensures) (search rules) refl c.in_ok-append_leaf-in-Some-eq123.ensures.0 c.in_ok-append_leaf-in-Some-eq123.ensures.1
 
-pub returns-in_ok-append_leaf-in_default : goal.returns-in_ok-append_leaf-in_default
-returns-in_ok-append_leaf-in_default c =
+pub returns-in_ok-kind-in_default : goal.returns-in_ok-kind-in_default
+returns-in_ok-kind-in_default c =
     let id = c.in_ok-id-in_default.id in
     let read = of_some _ _ _ c.in_ok-id-in_default.ensures.ok_part c.object_id.ensures in
     scalar_value c.args.text.now c.in_ok-id-in_default.rest.now c.args.out.now.items c.append_leaf-in_default.new.out.items
     _
-    (trees.object_id id) (trees.object_id id) refl read.0 read.1 refl c.in_ok-append_leaf-in_default.ensures.0 c.in_ok-append_leaf-in_default.ensures.1
+    (trees.object_id id) (trees.object_id id) refl read.0 read.1 refl c.in_ok-kind-in_default.ensures.0 c.in_ok-kind-in_default.ensures.1

@@ -6,11 +6,13 @@ use Rattle.json.proofs.Grammar.{items_end, read_key-shorter}
 use Rattle.bd_value.specs.Tree as trees
 use Rattle.bd_value.specs.declared.node.Kind.TheVariants as kinds
 use Rattle.bd_bson_view.specs.Spelling.{type_byte}
+use Rattle.bd_value.specs.View.{tree_of}
+use Rattle.bd_extjson_wrapper.specs.WholeNumber.{whole_64}
 use Rattle.bd_value.specs.Tree.{Tree, leaf, doc, array, item, field, fields_of, items_of}
 use Rattle.bd_bson_view.specs.Spelling.{framed}
 use Rattle.bd_bson_write.specs.TreeBytes.{fields_bytes, items_bytes}
 use Rattle.bd_extjson_wrapper.specs.{Wrapper.wrapper_of, declared.wrapper.Wrapper.Wrapper, Wrapper.through, Wrapper.after_key}
-use Rattle.bd_extjson.specs.Read.{wrap_items, wrap_fields, wrap_object}
+use Rattle.bd_extjson.specs.Read.{bare_number, wrap_items, wrap_fields, wrap_object}
 use Rattle.bd_extjson.proofs.ReadLemmas as steps
 use Rattle.bd_extjson.proofs.ReadLemmas.{items_before, fields_before}
 use Rattle.bd_extjson_pack.proofs.BodyLemmas as bodies
@@ -137,10 +139,13 @@ append_items-returns-clause-gives t c =
 
 -- ---- append_next
 
-pub append_next-returns-in-Number-clause-gives : goal.append_next-returns-in-Number-clause-gives
-append_next-returns-in-Number-clause-gives t c =
+pub append_next-returns-in_ok-append_read-in-Number-clause-gives : goal.append_next-returns-in_ok-append_read-in-Number-clause-gives
+append_next-returns-in_ok-append_read-in-Number-clause-gives t c =
     let first : c.args.reader.now ≡ token_of c.in_ok-token.token ∷ c.next.new.self = grind arith in
-    rw (first, c.in-Number.is, steps.read_number c.args.depth_left c.args.depth c.in-Number.text.now c.next.new.self) (c.append_number.ensures c.next.new.self)
+    let v = c.in_ok-ok_or-in-Number.field-0 in
+    let is : bare_number (whole_64 c.in-Number.text.now) ≡ Some (tree_of v) = sym c.bare_number.ensures ∙ ap (option_map tree_of) c.in_ok-ok_or-in-Number.ensures.ok_part in
+    rw (first, c.in-Number.is, steps.read_number c.args.depth_left c.args.depth c.in-Number.text.now c.next.new.self)
+    (tree_of v, ap (option_map (λ (x : Tree). (x, c.next.new.self))) is, c.in_ok-append_read-in-Number.ensures)
 
 pub append_next-returns-in_ok-append_leaf-in-String-clause-gives : goal.append_next-returns-in_ok-append_leaf-in-String-clause-gives
 append_next-returns-in_ok-append_leaf-in-String-clause-gives t c =
