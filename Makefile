@@ -1,7 +1,7 @@
 # make            builds the programs, ./bsonfind and ./bsonwide; with ANEW=1 from nothing, whatever was proved before
 # make look       prints the documents of FILE, examples/shop.bson without it, by the program as it stands, with no proof
 # make test       passes all tests
-# make edits      tries wrong bodies, of CRATE alone where it is given, on all processors: the proofs must refuse each
+# make edits      tries wrong bodies, of CRATE alone where it is given, on all processors but one: the proofs must refuse each
 # make reference  writes docs/REFERENCE.md from the sources
 # make bench      times the commands over a dump of MB megabytes, 20 without it, of documents of a KIND, mixed without it, and draws docs/performance.svg; of several MB how cost grows
 # make install    puts the programs, their man pages, completions, licence, documents and package of Python below PREFIX

@@ -2,7 +2,8 @@
 """Tries the edits of crates/CRATE/must-fail and of tests/edits/CRATE.edits in batches: the proofs must refuse each.
 
 usage: tests/edits.sh [CRATE..] [--jobs N]   tries all edits, or those of the named crates, N checks at once: several crates side
-                                             by side, or batches of one; without N as many as there are processors and memory
+                                             by side, or batches of one; without N one fewer than there are processors, as
+                                             memory allows: beside others each check takes longer
        tests/edits.sh --list [CRATE..]       prints the function and the round of each edit, and tries nothing
        tests/edits.sh --count [CRATE..]      prints how many edits there are, and tries nothing
        tests/edits.sh --round K              tries one round, another for each K, within some minutes, for a run after the gate
@@ -79,6 +80,8 @@ rtlib, Crate = rt.rtlib, rt.Crate
 BUILDING = threading.Lock()
 # What a check takes at most, in bytes.
 MEMORY = 4_000_000_000
+# In a round of so many edits at most their functions alone are proved, with what these call: a larger one takes longer so.
+FEW = 2
 
 
 class Function(NamedTuple):
@@ -254,7 +257,7 @@ def kept_work(crate: Crate, room: str) -> str | None:
             built = is_left_by_gate(crate) or not any(it.build_rlib(["--jobs", "1"], anew=False) for it in crate.below())
             kept = f"{room}/{crate.name}"
             if os.path.isdir(f"{crate.folder}/out/incremental"):
-                shutil.copytree(f"{crate.folder}/out/incremental", kept)
+                rt.linked(f"{crate.folder}/out/incremental", kept)
         finally:
             for it in held:
                 os.close(it)
@@ -308,10 +311,11 @@ class Trial:
     def check(self, edits: list[Edit]) -> Check:
         """Check the crate once, over a copy of the kept work, so that no check rests on another."""
         since, texts = time.monotonic(), texts_of(edits)
+        flags = self.flags if "--only" in self.flags or len(edits) > FEW else [*self.flags, *only_flags(edits)]
         with tempfile.TemporaryDirectory(prefix="edits-kept-") as room:
             if os.path.isdir(self.kept):
-                shutil.copytree(self.kept, f"{room}/kept")
-            ran = rt.checked(self.crate, texts, self.flags, f"{room}/kept")
+                rt.linked(self.kept, f"{room}/kept")
+            ran = rt.checked(self.crate, texts, flags, f"{room}/kept")
         lines = ran.stdout.rstrip("\n").split("\n")
         unread = [it for it in lines if rt.unread(it, texts)]
         if not unread and rtlib.STALE.search(ran.stdout):
@@ -354,7 +358,7 @@ class Trial:
             said = [it for it in check.lines if re.match(r"fn \S+: (?!proved$|assumed$)", it)]
             outcome, why = read_outcome(outcome_of(messages_of(check.lines)), edit.false, said), "tried alone"
         elif check.status == 0:
-            outcome, why = NOT_REFUSED, "the crate is proved with it"
+            outcome, why = NOT_REFUSED, "it is proved"
         else:
             outcome, why = BAD_EDIT, f"the prover did not judge it: {check.lines[-1]}"
         self.tell(edit, outcome, check.seconds, why)
@@ -434,8 +438,7 @@ def try_one_round(crates: list[Crate], number: int) -> dict[str, str]:
     at = number % len(rounds)
     edits, crate = rounds[at], rounds[at][0].crate
     print(f"round {at} of {len(rounds)}: {crate.name}, {len(edits)} edits", flush=True)
-    only = [word for edit in edits for it in edit.proofs.values() for word in ("--only", it.name)]
-    trial = Trial(crate, ["--jobs", str(rt.processors()), *only])
+    trial = Trial(crate, ["--jobs", str(rt.processors()), *only_flags(edits)])
     signal.signal(signal.SIGALRM, stop_in_time)
     signal.alarm(SECONDS)
     try:
@@ -446,6 +449,12 @@ def try_one_round(crates: list[Crate], number: int) -> dict[str, str]:
     finally:
         signal.alarm(0)
     return trial.outcomes
+
+
+def only_flags(edits: list[Edit]) -> list[str]:
+    """Return the flags with which a check proves the functions of edits alone; none if an edit changes what is in no function."""
+    names = [it.name for edit in edits for it in edit.proofs.values()]
+    return [word for name in names for word in ("--only", name)] if all(it.proofs for it in edits) else []
 
 
 def stop_in_time(*_: object) -> None:
@@ -563,7 +572,7 @@ def main() -> int:
         return 0
     if words.round is not None:
         return summed_up(try_one_round(crates, words.round), time.monotonic() - since)
-    jobs = words.jobs or max(1, min(rt.processors(), rt.free() // MEMORY))
+    jobs = words.jobs or max(1, min(rt.processors() - 1, rt.free() // MEMORY))
     return summed_up(try_all(crates, jobs), time.monotonic() - since)
 
 

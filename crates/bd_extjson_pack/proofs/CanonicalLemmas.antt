@@ -296,8 +296,8 @@ module _ (bytes old out : List ℕ) (p : ℕ) (within : p ≤ length bytes) (cop
     more_copied new put = rw (put, copied, prefix_of_part, take-add p n bytes) (append_assoc old (take p bytes) (take n (drop p bytes)))
 
     -- a part is copied whole, and its end dropped again
-    pub cut_back : (new : List ℕ) → new ≡ take (length old + (p + n)) (out ++ part) → new ≡ old ++ take (p + n) bytes
-    cut_back new put =
+    pub copied_back : (new : List ℕ) → new ≡ take (length old + (p + n)) (out ++ part) → new ≡ old ++ take (p + n) bytes
+    copied_back new put =
         let long : length out ≡ length old + p = omega (arith, ap (λ (l : List ℕ). length l) copied, length-append old (take p bytes), length-take-le p bytes within) in
         let at : length old + (p + n) ≡ length out + n = omega arith in
         more_copied new (put ∙ ap (λ k. take k (out ++ part)) at ∙ take-append-add out part n)
@@ -322,9 +322,9 @@ entry_all : (here more : Bool) → (here && more) ≡ true → more ≡ true
 entry_all true more all = all
 entry_all false more all = absurd cc
 
-table_holds : has_escapes 0 MEANT ≡ true
+table_fits : has_escapes 0 MEANT ≡ true
 unfolding has_escapes escape_byte
-table_holds = refl
+table_fits = refl
 
 entry_of : (table : List ℕ) (from letter : ℕ) → has_escapes from table ≡ true → letter < length table → (get_or table letter 0 ≡ 0 → ⊥)
     → (escape_byte (get_or table letter 0) ≡ 92 ∷ (from + letter) ∷ []) × (get_or table letter 0 < 128)
@@ -343,7 +343,7 @@ pub meant : (text inside rest : List ℕ) (letter : ℕ) → letter < length MEA
     → (text ≡ escape_byte (get_or MEANT letter 0) ++ rest) × (get_or MEANT letter 0 < 128)
 meant text [] rest letter known some begins first more remaining = absurd (omega arith)
 meant text (x ∷ inside) rest letter known some begins first more remaining =
-    let entry = entry_of MEANT 0 letter table_holds known some in
+    let entry = entry_of MEANT 0 letter table_fits known some in
     (begins ∙ rw (entry.0, remaining, ← first) (ap (λ k. 92 ∷ k ∷ inside) (omega arith)), entry.1)
 
 -- an escape and the run after it are the text of one more byte and the run

@@ -272,6 +272,14 @@ fn copy_run(bytes: &[u8], out: &mut Vec<u8>) -> Result<usize, Refusal>
     Ok(passed + plain)
 }
 
+/// The byte that an escape of two characters means (RFC 8259, section 7), by the second of them; 0 if it means none.
+const MEANT: [u8; 117] = [
+    0, 0, 0, 0, 0, 0, 0, 0, 0, 0, 0, 0, 0, 0, 0, 0, 0, 0, 0, 0, 0, 0, 0, 0, 0, 0, 0, 0, 0, 0, 0, 0,
+    0, 0, 34, 0, 0, 0, 0, 0, 0, 0, 0, 0, 0, 0, 0, 0, 0, 0, 0, 0, 0, 0, 0, 0, 0, 0, 0, 0, 0, 0, 0,
+    0, 0, 0, 0, 0, 0, 0, 0, 0, 0, 0, 0, 0, 0, 0, 0, 0, 0, 0, 0, 0, 0, 0, 0, 0, 0, 0, 0, 0, 92, 0,
+    0, 0, 0, 0, 8, 0, 0, 0, 12, 0, 0, 0, 0, 0, 0, 0, 10, 0, 0, 0, 13, 0, 9,
+];
+
 /// The byte of an escape of two characters, and what follows it.
 #[inline(always)]
 fn escape<'a>(text: &'a str) -> Option<(u8, &'a str)>
@@ -285,14 +293,6 @@ fn escape<'a>(text: &'a str) -> Option<(u8, &'a str)>
     let (_, rest) = inside.split_at_checked(1)?;
     Some((MEANT[letter], rest))
 }
-
-/// The byte that an escape of two characters means (RFC 8259, section 7), by the second of them; 0 if it means none.
-const MEANT: [u8; 117] = [
-    0, 0, 0, 0, 0, 0, 0, 0, 0, 0, 0, 0, 0, 0, 0, 0, 0, 0, 0, 0, 0, 0, 0, 0, 0, 0, 0, 0, 0, 0, 0, 0,
-    0, 0, 34, 0, 0, 0, 0, 0, 0, 0, 0, 0, 0, 0, 0, 0, 0, 0, 0, 0, 0, 0, 0, 0, 0, 0, 0, 0, 0, 0, 0,
-    0, 0, 0, 0, 0, 0, 0, 0, 0, 0, 0, 0, 0, 0, 0, 0, 0, 0, 0, 0, 0, 0, 0, 0, 0, 0, 0, 0, 0, 92, 0,
-    0, 0, 0, 0, 8, 0, 0, 0, 12, 0, 0, 0, 0, 0, 0, 0, 10, 0, 0, 0, 13, 0, 9,
-];
 
 /// A string, and what follows it.
 #[inline(always)]

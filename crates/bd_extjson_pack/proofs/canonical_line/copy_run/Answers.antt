@@ -1,6 +1,6 @@
 use Rattle.std.proofs.Common.{rules, ◌≡◌, ◌≤◌, ◌+◌, ◌-◌, ◌++◌, ℕ, List, length, take, drop, arith, ap, sym, ◌∙◌, add_assoc}
 use Rattle.std.proofs.lemmas.List.{take_all}
-use Rattle.bd_extjson_pack.proofs.CanonicalLemmas.{part_long, part_within, more_plain, more_copied, cut_back}
+use Rattle.bd_extjson_pack.proofs.CanonicalLemmas.{part_long, part_within, more_plain, more_copied, copied_back}
 use Rattle.bd_extjson_pack.proofs.canonical_line.copy_run.Goals as goal
 
 pub returns-then-plain-lt-BLOCK : goal.returns-then-plain-lt-BLOCK
@@ -13,12 +13,12 @@ returns-then-plain-lt-BLOCK c =
     let first = c.in-Some.ensures.cases in
     let within = part_within bytes old l.out.items l.passed l.invariant.within l.invariant.copied block 32 n.result first.same first.enough (omega arith) in
     let size : c.len-start.result + (l.passed + n.result) + 1 ≡ length old + (l.passed + (n.result + 1)) = omega arith in
-    let cut = cut_back bytes old l.out.items l.passed l.invariant.within l.invariant.copied block 32 (n.result + 1) first.same first.enough (omega arith) c.truncate.new.self.items
+    let copied = copied_back bytes old l.out.items l.passed l.invariant.within l.invariant.copied block 32 (n.result + 1) first.same first.enough (omega arith) c.truncate.new.self.items
     (c.truncate.ensures.items ∙ ap (λ k. take k c.extend_from_slice.new.self.items) size
     ∙ ap (λ (x : List ℕ). take (length old + (l.passed + (n.result + 1))) x) c.in_ok-extend_from_slice.ensures.items) in (
       omega arith,
       more_plain bytes old l.out.items l.passed l.invariant.within l.invariant.copied block 32 n.result first.same first.enough (omega arith) l.invariant.plain n.ensures.plain,
-      cut ∙ ap (λ k. old ++ take k bytes) (sym (add_assoc l.passed n.result 1)),
+      copied ∙ ap (λ k. old ++ take k bytes) (sym (add_assoc l.passed n.result 1)),
     )
 
 pub loop-block-preserved : goal.loop-block-preserved
