@@ -19,7 +19,7 @@ is tried in a later round without that callee's; and each edit that no round ref
 An edit is not judged where all that failed is a proof that lacks a name or a case, with the goals beside it for which no
 proof is written, or a `search` that gave up at a limit: a proof may be there that nobody wrote. Such an edit counts neither
 as passed nor as failed. To have it judged, change a value and keep the names, or write the proof that its body would need; or read
-the goals that `search` left: where all are false, and no others are left, a line 'open:' in the edit makes it refused.
+the goals that `search` left, which are printed: where all are false, that line, 'open: GOAL..', in the edit makes it refused.
 """
 
 import argparse
@@ -324,7 +324,7 @@ class Trial:
 
     def tell(self, edit: Edit, outcome: str, seconds: float, why: str = "") -> None:
         self.outcomes[edit.label] = outcome
-        print(f"{edit.label}: {outcome} ({seconds:.0f} s){': ' + why[:300] if why else ''}", flush=True)
+        print(f"{edit.label}: {outcome} ({seconds:.0f} s){': ' + why[:1000] if why else ''}", flush=True)
 
     def try_round(self, edits: list[Edit]) -> tuple[list[Edit], list[Edit]]:
         """Try edits in one check. Return those that a callee's edit kept from being judged, and those to try alone."""
@@ -339,7 +339,8 @@ class Trial:
                 self.tell(edit, BAD_EDIT, check.seconds, why)
             elif is_refused(edit, said, check.lines):
                 outcome = outcome_of([*filter(edit.owns_place, messages_of(check.lines))])
-                self.tell(edit, read_outcome(outcome, edit.false, said), check.seconds)
+                outcome = read_outcome(outcome, edit.false, said)
+                self.tell(edit, outcome, check.seconds, goals_to_read(outcome, said))
             else:
                 (blocked if said else alone).append(edit)
         return (blocked, alone) if len(blocked) < len(edits) else ([], edits)
@@ -356,7 +357,8 @@ class Trial:
             outcome, why = BAD_EDIT, check.unread[0]
         elif check.is_refusal():
             said = [it for it in check.lines if re.match(r"fn \S+: (?!proved$|assumed$)", it)]
-            outcome, why = read_outcome(outcome_of(messages_of(check.lines)), edit.false, said), "tried alone"
+            outcome = read_outcome(outcome_of(messages_of(check.lines)), edit.false, said)
+            why = goals_to_read(outcome, said) or "tried alone"
         elif check.status == 0:
             outcome, why = NOT_REFUSED, "it is proved"
         else:
@@ -414,8 +416,18 @@ def outcome_of(messages: list[str]) -> str:
 
 def read_outcome(outcome: str, false: set[str], said: list[str]) -> str:
     """Return the outcome of an edit where someone has read which goals are false: it is refused where `search` left these alone."""
-    left = {goal for line in said for it in LEFT.findall(line) for goal in re.findall(r"`([^`]*)`", it)}
+    left = left_goals(said)
     return REFUSED if outcome == SEARCH_GAVE_UP and left and left == false else outcome
+
+
+def left_goals(said: list[str]) -> set[str]:
+    """Return the goals that the lines of a function say `search` left."""
+    return {goal for line in said for it in LEFT.findall(line) for goal in re.findall(r"`([^`]*)`", it)}
+
+
+def goals_to_read(outcome: str, said: list[str]) -> str:
+    """Return the line for an edit that is not judged, if someone finds that all its goals are false; else an empty text."""
+    return f"open: {' '.join(sorted(left_goals(said)))}" if outcome == SEARCH_GAVE_UP else ""
 
 
 def messages_of(lines: list[str]) -> list[str]:
