@@ -25,6 +25,7 @@ the goals that `search` left, which are printed: where all are false, that line,
 import argparse
 import os
 import re
+import resource
 import shutil
 import signal
 import sys
@@ -490,14 +491,15 @@ def counted(crates: list[Crate]) -> list[str]:
     return ["{}: {} edits, {} of them in must-fail; {} rounds for --round".format(*it) for it in rows]
 
 
-def summed_up(outcomes: dict[str, str], seconds: float) -> int:
-    """Print the sums and return the status."""
+def summed_up(outcomes: dict[str, str]) -> int:
+    """Print the sums, and the processor time that the checks took, and return the status."""
     passed, unjudged = ([it for it, outcome in outcomes.items() if outcome in kinds] for kinds in ((REFUSED,), NOT_JUDGED))
     failed = [it for it in outcomes if it not in passed and it not in unjudged]
     for name, labels in (("FAILED", failed), ("not judged", unjudged)):
         if labels:
             print(f"{name}: {' '.join(labels)}")
-    print(f"{len(unjudged)} not judged; {seconds / max(len(outcomes), 1):.1f} seconds an edit")
+    taken = resource.getrusage(resource.RUSAGE_CHILDREN)
+    print(f"{len(unjudged)} not judged; {(taken.ru_utime + taken.ru_stime) / 60:.1f} processor minutes")
     print(f"{len(passed)} passed, {len(failed)} failed")
     return 1 if failed else 0
 
@@ -574,7 +576,6 @@ def main() -> int:
     words = read.parse_args()
     # Its first call sets a signal's handler, which only the main thread may.
     rtlib.guarded()
-    since = time.monotonic()
     crates = rtlib.crates_below(str(ROOT))
     unknown = {*words.crates} - {it.name for it in crates}
     if unknown:
@@ -586,9 +587,9 @@ def main() -> int:
         print(*(listed if words.list else counted)(crates), sep="\n")
         return 0
     if words.round is not None:
-        return summed_up(try_one_round(crates, words.round), time.monotonic() - since)
+        return summed_up(try_one_round(crates, words.round))
     jobs = words.jobs or max(1, min(rt.processors() - 1, rt.free() // MEMORY))
-    return summed_up(try_all(crates, jobs), time.monotonic() - since)
+    return summed_up(try_all(crates, jobs))
 
 
 if __name__ == "__main__":
