@@ -510,7 +510,7 @@ SELF_TEST = {
     "other_callee": ("src/node.rt", "TreeParts::Items(items),", "TreeParts::Items(&items[..0]),", REFUSED),
     "caller_with_answers": ("src/document.rt", "            if here == name {", "            if (here) == name {", NOT_REFUSED),
     "caller_without_answers": ("src/document.rt", "    depth_of(Tree::Doc(document))", "    (depth_of(Tree::Doc(document)))", NOT_REFUSED),
-    "name_gone": ("src/document.rt", "                scalar_fits(own);", "                let _own = own;", NO_PROOF_WRITTEN),
+    "name_gone": ("src/document.rt", "                scalar_fits(scalar_leaf);", "                let _leaf = scalar_leaf;", NO_PROOF_WRITTEN),
     "elsewhere": ("src/document.rt", "    text.as_bytes().contains(&0)", "    text.as_bytes().contains(&0) // nothing", NOT_REFUSED),
 }
 
