@@ -57,7 +57,7 @@ pub fn write_document(alloc: Global, document: &Document) -> Result<Vec<u8>, Wri
 pub fn begin_body(out: &mut Vec<u8>) -> Result<usize, NoMemory>
     ensures offset { IfOk result (λ at. at ≡ length out.old.items) }
     ensures begun { OnOk result (out.new.items ≡ out.old.items ++ number 0) }
-    ensures unchanged { OnErr result (out.new.items ≡ out.old.items) }
+    ensures err { OnErr result (out.new.items ≡ out.old.items) }
 {
     let at = out.len();
     append_number(0, out)?;
@@ -73,9 +73,9 @@ pub fn append_value<N: Reading>(node: N, out: &mut Vec<u8>) -> Result<(), WriteF
     requires { zero_in (N.tree node) ≡ false }
     ensures ok { OnOk result (out.new.items ≡ out.old.items ++ bytes_of (N.tree node)) }
     ensures spells { OnOk result (IsValue (N.tree node) (bytes_of (N.tree node))) }
-    ensures err { IfErr result
+    ensures fault { IfErr result
         (OverrunsLimit (length out.old.items + length (bytes_of (N.tree node)))) }
-    ensures unchanged { OnErr result (out.new.items ≡ out.old.items) }
+    ensures err { OnErr result (out.new.items ≡ out.old.items) }
 {
     let before = out.len();
     let value = put_value(node, out);
@@ -96,8 +96,8 @@ pub fn end_body(at: usize, out: &mut Vec<u8>) -> Result<(), WriteFault>
     ensures ok { OnOk result (out.new.items
         ≡ take at out.old.items ++ framed (drop (at + 4) out.old.items)) }
     ensures within { OnOk result (length out.new.items ≤ longest_document) }
-    ensures err { IfErr result (OverrunsLimit (length out.old.items + 1)) }
-    ensures unchanged { OnErr result (out.new.items ≡ out.old.items) }
+    ensures fault { IfErr result (OverrunsLimit (length out.old.items + 1)) }
+    ensures err { OnErr result (out.new.items ≡ out.old.items) }
 {
     let before = out.len();
     out.extend_from_slice(b"\0")?;

@@ -48,7 +48,7 @@ pub(crate) fn put_value<N: Reading>(node: N, out: &mut Vec<u8>) -> Result<(), Wr
     requires { zero_in (N.tree node) ≡ false }
     ensures ok { OnOk result (out.new.items ≡ out.old.items ++ bytes_of (N.tree node)) }
     ensures spells { OnOk result (IsValue (N.tree node) (bytes_of (N.tree node))) }
-    ensures err { IfErr result
+    ensures fault { IfErr result
         (OverrunsLimit (length out.old.items + length (bytes_of (N.tree node)))) }
     ensures prefix { OnErr result (StartsWith out.new.items out.old.items) }
 {
@@ -68,7 +68,7 @@ fn append_fields<N: Reading>(fields: N::Rest, out: &mut Vec<u8>) -> Result<(), W
         ≡ out.old.items ++ framed (fields_bytes (fields_of (N.remaining fields)))) }
     ensures spells { OnOk result (AreFields
         (fields_of (N.remaining fields)) (fields_bytes (fields_of (N.remaining fields)))) }
-    ensures err { IfErr result (OverrunsLimit (length out.old.items
+    ensures fault { IfErr result (OverrunsLimit (length out.old.items
         + length (framed (fields_bytes (fields_of (N.remaining fields)))))) }
     ensures prefix { OnErr result (StartsWith out.new.items out.old.items) }
 {
@@ -92,7 +92,7 @@ fn append_items<N: Reading>(items: N::Rest, out: &mut Vec<u8>) -> Result<(), Wri
         ≡ out.old.items ++ framed (items_bytes 0 (items_of (values_of (N.remaining items))))) }
     ensures spells { OnOk result (AreItems (items_of (values_of (N.remaining items)))
         (items_bytes 0 (items_of (values_of (N.remaining items))))) }
-    ensures err { IfErr result (OverrunsLimit (length out.old.items
+    ensures fault { IfErr result (OverrunsLimit (length out.old.items
         + length (framed (items_bytes 0 (items_of (values_of (N.remaining items))))))) }
     ensures prefix { OnErr result (StartsWith out.new.items out.old.items) }
 {
@@ -121,7 +121,7 @@ fn append_element<N: Reading>(name: &str, node: N, out: &mut Vec<u8>) -> Result<
         × (length out.old.items ≤ longest_document)) }
     ensures spells { OnOk result (IsName name.now
         × IsValue (N.tree node) (bytes_of (N.tree node))) }
-    ensures err { IfErr result (OverrunsLimit (length out.old.items
+    ensures fault { IfErr result (OverrunsLimit (length out.old.items
         + length (element (N.tree node) name.now (bytes_of (N.tree node))))) }
     ensures prefix { OnErr result (StartsWith out.new.items out.old.items) }
 {
@@ -137,7 +137,7 @@ fn append_leaf<N: Reading>(node: N, out: &mut Vec<u8>) -> Result<(), WriteFault>
     requires zero { zero_in (N.tree node) ≡ false }
     ensures ok { OnOk result (out.new.items ≡ out.old.items ++ bytes_of (N.tree node)) }
     ensures spells { OnOk result (IsValue (N.tree node) (bytes_of (N.tree node))) }
-    ensures err { IfErr result
+    ensures fault { IfErr result
         (OverrunsLimit (length out.old.items + length (bytes_of (N.tree node)))) }
     ensures prefix { OnErr result (StartsWith out.new.items out.old.items) }
 {
@@ -163,8 +163,8 @@ fn append_leaf<N: Reading>(node: N, out: &mut Vec<u8>) -> Result<(), WriteFault>
 pub fn append_label(kind: Kind, name: &str, out: &mut Vec<u8>) -> Result<(), WriteFault>
     ensures ok { OnOk result ((out.new.items ≡ out.old.items
         ++ (byte_of kind ∷ (name.now ++ 0 ∷ []))) × (length out.old.items ≤ longest_document)) }
-    ensures err { IfErr result (OverrunsLimit (length out.old.items)) }
-    ensures unchanged { OnErr result (out.new.items ≡ out.old.items) }
+    ensures fault { IfErr result (OverrunsLimit (length out.old.items)) }
+    ensures err { OnErr result (out.new.items ≡ out.old.items) }
 {
     let before = out.len();
     if before > LONGEST_DOCUMENT {
@@ -185,8 +185,8 @@ pub(crate) fn seal(at: usize, out: &mut Vec<u8>) -> Result<(), WriteFault>
     ensures ok { OnOk result (out.new.items ≡ take at out.old.items
         ++ (number (length out.old.items - at) ++ drop (at + 4) out.old.items)) }
     ensures within { OnOk result (length out.new.items ≤ longest_document) }
-    ensures err { IfErr result (OverrunsLimit (length out.old.items)) }
-    ensures unchanged { OnErr result (out.new.items ≡ out.old.items) }
+    ensures fault { IfErr result (OverrunsLimit (length out.old.items)) }
+    ensures err { OnErr result (out.new.items ≡ out.old.items) }
 {
     if out.len() > LONGEST_DOCUMENT {
         return Err(WriteFault::TooLong);
@@ -208,7 +208,7 @@ pub fn write_scalar(scalar: Scalar<'_>, out: &mut Vec<u8>) -> Result<(), WriteFa
     requires { zero_in_leaf (view_of scalar) ≡ false }
     ensures ok { OnOk result (out.new.items ≡ out.old.items ++ leaf_bytes (view_of scalar.entry)) }
     ensures spells { OnOk result (LeafSpells (view_of scalar.entry)) }
-    ensures err { IfErr result
+    ensures fault { IfErr result
         (OverrunsLimit (length out.old.items + length (leaf_bytes (view_of scalar.entry)))) }
     ensures prefix { OnErr result (StartsWith out.new.items out.old.items) }
 {
@@ -248,7 +248,7 @@ fn append_binary(subtype: u8, payload: &[u8], out: &mut Vec<u8>) -> Result<(), W
         ((out.new.items ≡ out.old.items
         ++ (number (length (data_of subtype payload.now)) ++ subtype ∷ data_of subtype payload.now))
         × (length (data_of subtype payload.now) ≤ 16793604)) }
-    ensures err { IfErr result
+    ensures fault { IfErr result
         (OverrunsLimit (length out.old.items + length
         (number (length (data_of subtype payload.now)) ++ subtype ∷ data_of subtype payload.now))) }
     ensures prefix { OnErr result (StartsWith out.new.items out.old.items) }
@@ -294,7 +294,7 @@ fn data_length(subtype: u8, payload: &[u8]) -> u32
 fn append_string(text: &str, out: &mut Vec<u8>) -> Result<(), WriteFault>
     ensures ok { OnOk result ((out.new.items ≡ out.old.items ++ string text.now)
         × (length text.now ≤ longest_document)) }
-    ensures err { IfErr result (OverrunsLimit (length out.old.items + length (string text.now))) }
+    ensures fault { IfErr result (OverrunsLimit (length out.old.items + length (string text.now))) }
     ensures prefix { OnErr result (StartsWith out.new.items out.old.items) }
 {
     if text.len() > LONGEST_DOCUMENT {
@@ -323,7 +323,7 @@ fn write_name(name: &str, out: &mut Vec<u8>) -> Result<(), NoMemory>
 #[tactic(auto, unfolding(bd_bson_view::specs::Spelling::long))]
 fn append_long(n: u64, out: &mut Vec<u8>) -> Result<(), NoMemory>
     ensures ok { OnOk result (out.new.items ≡ out.old.items ++ long n) }
-    ensures unchanged { OnErr result (out.new.items ≡ out.old.items) }
+    ensures err { OnErr result (out.new.items ≡ out.old.items) }
 {
     out.extend_from_slice(&n.to_le_bytes())
 }
@@ -336,7 +336,7 @@ fn append_long(n: u64, out: &mut Vec<u8>) -> Result<(), NoMemory>
 #[tactic(auto, unfolding(bd_bson_view::specs::Spelling::number))]
 pub(crate) fn append_number(n: u32, out: &mut Vec<u8>) -> Result<(), NoMemory>
     ensures ok { OnOk result (out.new.items ≡ out.old.items ++ number n) }
-    ensures unchanged { OnErr result (out.new.items ≡ out.old.items) }
+    ensures err { OnErr result (out.new.items ≡ out.old.items) }
 {
     out.extend_from_slice(&n.to_le_bytes())
 }
