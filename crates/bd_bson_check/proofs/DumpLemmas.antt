@@ -7,6 +7,7 @@ use Rattle.std.proofs.lemmas.List.{take_at, length-append, length-drop, take-app
 use Rattle.bd_value.specs.{Limits.longest_document, Tree.Doc}
 use Rattle.bd_bson_check.specs.Dump.{stated_length, frame_length, framed_fault, frame_fault, AreJoined, IsDumpScan}
 use Rattle.bd_bson_check.specs.{declared.fault.FaultKind.FaultKind, Fault.Fault, FirstFault.first_fault, FirstFault.skip_document}
+use Rattle.bd_bson_check.specs.declared.profile.Profile.TheVariants.{Named}
 use Rattle.bd_bson_view.specs.{Spelling.IsDocument, Spelling.framed, Unique.number_prefix, Sizes.number_of, Unique.framed_after, Unique.cancel}
 use Rattle.bd_bson_view.proofs.{ValueAtLemmas.framed_length, SoundLemmas.document_unique}
 use Rattle.bd_bson_check.proofs.FirstFaultLemmas.{guard_ok, IsBytes, IsBytes-take, IsBytes-drop, document_found, document_again}
@@ -38,7 +39,7 @@ document_frame d prefix rest h =
 
 -- the bytes of a document have no fault
 pub document_faultless : (base : ℕ) (bytes : List ℕ) (d : Doc) → IsDocument d bytes → first_fault base bytes ≡ None
-document_faultless base bytes d h = ap result_err (document_again (base + length bytes) bytes d h)
+document_faultless base bytes d h = ap result_err (document_again Named (base + length bytes) bytes d h)
 
 frame_faultless : (base : ℕ) (d : Doc) (prefix rest : List ℕ) → IsDocument d prefix → frame_fault base (prefix ++ rest) ≡ None
 frame_faultless base d prefix rest h =
@@ -147,7 +148,7 @@ no_fault (Err f) is = absurd cc
 
 -- bytes without a fault are a document
 pub found_document : (base : ℕ) (bytes : List ℕ) → IsBytes bytes → first_fault base bytes ≡ None → (d : Doc) × IsDocument d bytes
-found_document base bytes fits is = document_found (base + length bytes) bytes fits (no_fault (skip_document (base + length bytes) bytes) is)
+found_document base bytes fits is = document_found (base + length bytes) bytes fits (no_fault (skip_document Named (base + length bytes) bytes) is)
 
 abbrev Scanner : ℕ → Type 0
 Scanner turns = (done : List Doc) (prefix rest : List ℕ) → length rest ≤ turns → IsBytes rest → AreJoined done prefix → Scanned done prefix rest

@@ -12,17 +12,18 @@ use Rattle.std.proofs.lemmas.{Str.is_utf8-from_IsUtf8, Option.same_Some}
 use Rattle.std.proofs.Math.Seq.{drop-cons}
 use Rattle.bd_value.specs.Tree.{Scalar, Tree, leaf, doc, array, code_scope, Fields, no_fields, field, Items, no_items, item, Doc, fields_of, pairs_of, fields_of-pairs_of}
 use Rattle.bd_value.specs.{Limits.longest_document, Limits.most_levels, View.scalar_kind, View.kind_of, declared.node.Kind.Kind}
-use Rattle.bd_bson_check.specs.declared.fault.FaultKind.TheVariants.{UnknownType, BadUtf8, ShortLength, NoTerminator, NameUnended, StringUnended, BadBinaryLength, ValueShort}
+use Rattle.bd_bson_check.specs.declared.fault.FaultKind.TheVariants.{UnknownType, Double, Decimal128, BadUtf8, ShortLength, NoTerminator, NameUnended, StringUnended, BadBinaryLength, ValueShort}
 use Rattle.bd_bson_check.specs.FirstFault.{within, label, ◌>>=◌, fault, skip_number, skip_zero, text_at, skip_name, skip_string, skip_frame, skip_fixed}
 use Rattle.bd_bson_check.specs.FirstFault.{skip_boolean, skip_data, skip_binary, skip_code_frame, skip_value, skip_typed, skip_element, skip_elements, skip_body}
-use Rattle.bd_bson_check.specs.FirstFault.{skip_code_scope, skip_nested, skip_document, Nested, skip_regex}
+use Rattle.bd_bson_check.specs.FirstFault.{skip_code_scope, skip_nested, skip_document, Nested, skip_regex, skip_wide}
 use Rattle.bd_bson_check.specs.{Fault.Fault, declared.fault.FaultKind.FaultKind}
+use Rattle.bd_bson_check.specs.declared.profile.{Profile.Profile, Profile.TheVariants.Named, Profile.TheVariants.All}
 use Rattle.bd_bson_view.proofs.ValueAtLemmas.{framed_length, scoped_length}
 use Rattle.bd_bson_view.specs.declared.raw_parts.ElementType.{ElementType}
 use Rattle.bd_bson_view.specs.Unique.{number_length, number_value, number_prefix, zero_offset, string_after, string_length, binary_whole, binary_count}
 use Rattle.bd_bson_view.specs.Unique.{binary_subtype, after_five, regex_whole, scalar_size}
 use Rattle.bd_bson_view.specs.Spelling.{number, long, string, data_of, scoped, IsName, IsText, IsScalar, framed, element, IsValue, AreItems, AreFields, depth, items_depth}
-use Rattle.bd_bson_view.specs.Spelling.{fields_depth, IsDocument}
+use Rattle.bd_bson_view.specs.Spelling.{fields_depth, IsDocument, Grammar, AreFieldsBy, AreItemsBy, nineteen}
 use Rattle.bd_bson_view.specs.{declared.raw_parts.Holder.Holder, Spelling.type_byte, Spelling.type_at, Sizes.number_of, Unique.type_is, Unique.framed_after}
 use Rattle.bd_value.specs.Tree as trees
 use Rattle.bd_value.specs.declared.node.Kind.TheVariants as kinds
@@ -47,7 +48,7 @@ IsBytes-take n bytes h i =
     ]
 
 -- the value of a step that did not fail
-bind_ok : {A B : Type 0} (r : Result A Fault) (f : A → Result B Fault) (y : B) → (r >>= f) ≡ Ok y → (x : A) × (r ≡ Ok x) × (f x ≡ Ok y)
+pub bind_ok : {A B : Type 0} (r : Result A Fault) (f : A → Result B Fault) (y : B) → (r >>= f) ≡ Ok y → (x : A) × (r ≡ Ok x) × (f x ≡ Ok y)
 bind_ok (Ok x) f y e = (x, refl, e)
 bind_ok (Err d) f y e = absurd cc
 
@@ -56,10 +57,10 @@ pub guard_ok : {A E : Type 0} (b : Bool) (d : E) (x : Result A E) (y : A) → co
 guard_ok true d x y e = absurd cc
 guard_ok false d x y e = (refl, e)
 
-abbrev done : {A : Type 0} → A → Result A Fault
+abbrev pub done : {A : Type 0} → A → Result A Fault
 done x = Ok x
 
-ok_is : {A : Type 0} (x y : A) → done x ≡ done y → x ≡ y
+pub ok_is : {A : Type 0} (x y : A) → done x ≡ done y → x ≡ y
 ok_is x y e = cc
 
 -- what a reader took from the start of the bytes
@@ -67,11 +68,11 @@ pub record Takes (bytes text rest : List ℕ) : Type 0 where
   pub parts : bytes ≡ text ++ rest
   pub rest_fits : IsBytes rest
 
-Takes-then : {a x b y c : List ℕ} → Takes a x b → Takes b y c → Takes a (x ++ y) c
+pub Takes-then : {a x b y c : List ℕ} → Takes a x b → Takes b y c → Takes a (x ++ y) c
 Takes-then {a} {x} {b} {y} {c} p q = record { parts = p.parts ∙ ap (λ (t : List ℕ). x ++ t) q.parts ∙ sym (append_assoc x y c); rest_fits = q.rest_fits }
 
 -- n bytes that were skipped
-record TakesFixed (n : ℕ) (bytes rest : List ℕ) : Type 0 where
+pub record TakesFixed (n : ℕ) (bytes rest : List ℕ) : Type 0 where
   pub prefix : List ℕ
   pub takes : Takes bytes prefix rest
   pub size : length prefix ≡ n
@@ -82,7 +83,7 @@ split_at_byte n bytes fits le =
     let takes : Takes bytes (take n bytes) (drop n bytes) = record { parts = sym (take-append-drop n bytes); rest_fits = IsBytes-drop n bytes fits } in
     record { prefix = take n bytes; takes = takes; size = omega (arith, length-take n bytes); fits = IsBytes-take n bytes fits }
 
-fixed_takes : (n e : ℕ) (bytes rest : List ℕ) → IsBytes bytes → skip_fixed n e bytes ≡ Ok rest → TakesFixed n bytes rest
+pub fixed_takes : (n e : ℕ) (bytes rest : List ℕ) → IsBytes bytes → skip_fixed n e bytes ≡ Ok rest → TakesFixed n bytes rest
 fixed_takes n e bytes rest fits is =
     let g = guard_ok (ltb (length bytes) n) _ (done (drop n bytes)) rest is in
     rw (← ok_is (drop n bytes) rest g.1) (split_at_byte n bytes fits (ltb-false _ _ g.0))
@@ -128,7 +129,7 @@ none_zero bytes zero le h = tt
 none_zero [] (suc k) le h = absurd (omega arith)
 none_zero (b ∷ bytes) (suc k) le h = (eqb-false b 0 (h 0 (omega arith)), none_zero bytes k (omega arith) (λ i lt. h (suc i) (omega arith)))
 
-name_takes : (kind : FaultKind) (e : ℕ) (bytes : List ℕ) (x : List ℕ × List ℕ) → IsBytes bytes → skip_name kind e bytes ≡ Ok x → Takes bytes (x.0 ++ 0 ∷ []) x.1 × IsName x.0
+pub name_takes : (kind : FaultKind) (e : ℕ) (bytes : List ℕ) (x : List ℕ × List ℕ) → IsBytes bytes → skip_name kind e bytes ≡ Ok x → Takes bytes (x.0 ++ 0 ∷ []) x.1 × IsName x.0
 unfolding skip_name
 name_takes kind e bytes x fits is = up_to (position (λ b. b == 0) bytes) refl is
   where
@@ -143,12 +144,12 @@ name_takes kind e bytes x fits is = up_to (position (λ b. b == 0) bytes) refl i
         rw (← ok_is (a.0, drop (k + 1) bytes) x a.2, ← t.0) (c.0, (t.1, none_zero bytes k (omega (arith, p.0)) p.2))
 
 -- a string that was skipped
-record TakesString (bytes rest : List ℕ) : Type 0 where
+pub record TakesString (bytes rest : List ℕ) : Type 0 where
   pub text_bytes : List ℕ
   pub takes : Takes bytes (string text_bytes) rest
   pub fits : IsText text_bytes
 
-string_takes : (e : ℕ) (bytes rest : List ℕ) → IsBytes bytes → skip_string e bytes ≡ Ok rest → TakesString bytes rest
+pub string_takes : (e : ℕ) (bytes rest : List ℕ) → IsBytes bytes → skip_string e bytes ≡ Ok rest → TakesString bytes rest
 unfolding skip_string
 string_takes e bytes rest fits is =
     let head = bind_ok (skip_number ValueShort e bytes) _ rest is in
@@ -170,7 +171,7 @@ string_takes e bytes rest fits is =
 -- ---- documents without their elements
 
 -- a frame that was read: the bytes inside, and what follows
-record Frames (top : Bool) (bytes body rest : List ℕ) : Type 0 where
+pub record Frames (top : Bool) (bytes body rest : List ℕ) : Type 0 where
   pub takes : Takes bytes (framed body) rest
   pub body_fits : IsBytes body
   pub short : length (framed body) ≤ longest_document
@@ -180,7 +181,7 @@ not_other : (top : Bool) (n m : ℕ) → (top && not (eqb n m)) ≡ false → to
 not_other true n m h is = grind (arith, nat_tests, h)
 not_other false n m h is = absurd cc
 
-frame_takes : (top : Bool) (e : ℕ) (bytes : List ℕ) (f : List ℕ × ℕ × List ℕ) → IsBytes bytes → skip_frame top e bytes ≡ Ok f → Frames top bytes f.0 f.2
+pub frame_takes : (top : Bool) (e : ℕ) (bytes : List ℕ) (f : List ℕ × ℕ × List ℕ) → IsBytes bytes → skip_frame top e bytes ≡ Ok f → Frames top bytes f.0 f.2
 unfolding skip_frame
 frame_takes top e bytes f fits is =
     let head = bind_ok (skip_number (cond top ShortLength ValueShort) e bytes) _ f is in
@@ -267,19 +268,19 @@ abbrev pub NestedTakes : ℕ → Nested → Type 0
 NestedTakes depth_left nested = (holder : Holder) (q e : ℕ) (bytes rest : List ℕ) → IsBytes bytes → nested holder q e bytes ≡ Ok rest → TakesHolder holder depth_left bytes rest
 
 -- the items of an array are the values of a document
-abbrev items_in : Fields → Items
+abbrev pub items_in : Fields → Items
 items_in no_fields = no_items
 items_in (field n t fs) = item t (items_in fs)
 
-items_from_fields : (fs : Fields) (bytes : List ℕ) → AreFields fs bytes → AreItems (items_in fs) bytes
-items_from_fields no_fields bytes h = h
-items_from_fields (field n t fs) bytes h = (n, h.0, h.1, h.2, h.3, items_from_fields fs h.1 h.4, h.5)
+pub items_from_fields : (g : Grammar) (fs : Fields) (bytes : List ℕ) → AreFieldsBy g fs bytes → AreItemsBy g (items_in fs) bytes
+items_from_fields g no_fields bytes h = h
+items_from_fields g (field n t fs) bytes h = (n, h.0, h.1, h.2, h.3, items_from_fields g fs h.1 h.4, h.5)
 
-items_depth_is : (fs : Fields) → items_depth (items_in fs) ≡ fields_depth fs
+pub items_depth_is : (fs : Fields) → items_depth (items_in fs) ≡ fields_depth fs
 items_depth_is no_fields = refl
 items_depth_is (field n t fs) = ap (max (depth t)) (items_depth_is fs)
 
-record TakesValue (depth_left : ℕ) (kind : Kind) (bytes rest : List ℕ) : Type 0 where
+pub record TakesValue (depth_left : ℕ) (kind : Kind) (bytes rest : List ℕ) : Type 0 where
   pub tree : Tree
   pub value : List ℕ
   pub spells : IsValue tree value
@@ -335,7 +336,7 @@ module _ (depth_left : ℕ) where
 
 -- ---- types
 
-abbrev byte_stated : ElementType → ℕ
+abbrev pub byte_stated : ElementType → ℕ
 byte_stated types.Double = 1
 byte_stated types.Decimal128 = 19
 byte_stated (types.Kept k) = type_byte k
@@ -351,14 +352,14 @@ in_table (t ∷ ts) b type h is =
     found_in stated others true e i = eqb-true b t.0 e ∙ stated ∙ ap byte_stated (same_Some t.1 type i)
     found_in stated others false e i = others i
 
-type_takes : (f : Fault) (b : ℕ) (type : ElementType) → ok_or (type_at b) f ≡ Ok type → b ≡ byte_stated type
+pub type_takes : (f : Fault) (b : ℕ) (type : ElementType) → ok_or (type_at b) f ≡ Ok type → b ≡ byte_stated type
 type_takes f b type is = in_table table.types b type refl (of (type_at b) is)
   where
     of : (o : Option ElementType) → ok_or o f ≡ Ok type → o ≡ Some type
     of None is = absurd cc
     of (Some t) is = cc
 
-within_ok : {A : Type 0} (name : List ℕ) (r : Result A Fault) (x : A) → within name r ≡ Ok x → r ≡ Ok x
+pub within_ok : {A : Type 0} (name : List ℕ) (r : Result A Fault) (x : A) → within name r ≡ Ok x → r ≡ Ok x
 within_ok name (Ok y) x is = is
 within_ok name (Err f) x is = absurd cc
 
@@ -381,7 +382,7 @@ element_shrinks depth_left bytes rest r =
     omega (arith, e, f)
 
 -- the bytes of the code and the scope, and what follows
-code_frame_takes : (e : ℕ) (bytes : List ℕ) (f : List ℕ × ℕ × List ℕ) → IsBytes bytes → skip_code_frame e bytes ≡ Ok f → Takes bytes (number (length f.0 + 4) ++ f.0) f.2 × IsBytes f.0
+pub code_frame_takes : (e : ℕ) (bytes : List ℕ) (f : List ℕ × ℕ × List ℕ) → IsBytes bytes → skip_code_frame e bytes ≡ Ok f → Takes bytes (number (length f.0 + 4) ++ f.0) f.2 × IsBytes f.0
 unfolding skip_code_frame
 code_frame_takes e bytes f fits is =
     let head = bind_ok (skip_number ValueShort e bytes) _ f is in
@@ -401,7 +402,7 @@ code_frame_takes e bytes f fits is =
 -- ---- values that contain values, if those one level down are known
 
 module _ (depth_left : ℕ) (nested : Nested) (below : NestedTakes depth_left nested) where
-  value_takes : (kind : Kind) (q e : ℕ) (bytes rest : List ℕ) → IsBytes bytes → skip_value nested kind q e bytes ≡ Ok rest → TakesValue depth_left kind bytes rest
+  pub value_takes : (kind : Kind) (q e : ℕ) (bytes rest : List ℕ) → IsBytes bytes → skip_value nested kind q e bytes ≡ Ok rest → TakesValue depth_left kind bytes rest
   value_takes kinds.MinKey q e bytes rest fits is = none_takes depth_left trees.min_key bytes rest fits (tt, refl) is
   value_takes kinds.Undefined q e bytes rest fits is = none_takes depth_left trees.undefined bytes rest fits (tt, refl) is
   value_takes kinds.Null q e bytes rest fits is = none_takes depth_left trees.null bytes rest fits (tt, refl) is
@@ -446,7 +447,7 @@ module _ (depth_left : ℕ) (nested : Nested) (below : NestedTakes depth_left ne
   value_takes kinds.Array q e bytes rest fits is =
       let d = below holders.Array q e bytes rest fits is in
       let low = d.shallow in
-      let items = items_from_fields d.fields d.body d.spell in
+      let items = items_from_fields nineteen d.fields d.body d.spell in
       record { tree = array (items_in d.fields); value = framed d.body; spells = (d.body, items, refl); takes = d.takes; kinded = refl; shallow = omega (arith, items_depth_is d.fields) }
   value_takes kinds.CodeScope q e bytes rest fits is =
       let d = below holders.CodeScope q e bytes rest fits is in
@@ -454,13 +455,13 @@ module _ (depth_left : ℕ) (nested : Nested) (below : NestedTakes depth_left ne
       let value = scoped d.text_bytes (framed d.body) in
       record { tree = code_scope d.text_bytes d.fields; value = value; spells = (d.body, d.spell, refl, d.text_fits); takes = d.takes; kinded = refl; shallow = omega arith }
 
-  typed_takes : (type : ElementType) (q e : ℕ) (bytes rest : List ℕ) → IsBytes bytes → skip_typed nested type q e bytes ≡ Ok rest
+  typed_takes : (type : ElementType) (q e : ℕ) (bytes rest : List ℕ) → IsBytes bytes → skip_typed Named nested type q e bytes ≡ Ok rest
       → (kind : Kind) × (type ≡ types.Kept kind) × TakesValue depth_left kind bytes rest
   typed_takes types.Double q e bytes rest fits is = absurd cc
   typed_takes types.Decimal128 q e bytes rest fits is = absurd cc
   typed_takes (types.Kept kind) q e bytes rest fits is = (kind, refl, value_takes kind q e bytes rest fits is)
 
-  pub element_takes : (index : Option ℕ) (e : ℕ) (bytes rest : List ℕ) → IsBytes bytes → skip_element nested index e bytes ≡ Ok rest → TakesElement depth_left bytes rest
+  pub element_takes : (index : Option ℕ) (e : ℕ) (bytes rest : List ℕ) → IsBytes bytes → skip_element Named nested index e bytes ≡ Ok rest → TakesElement depth_left bytes rest
   unfolding skip_element
   element_takes index e [] rest fits is = absurd cc
   element_takes index e (b ∷ bytes) rest fits is =
@@ -470,29 +471,29 @@ module _ (depth_left : ℕ) (nested : Nested) (below : NestedTakes depth_left ne
       let x = bind_ok (skip_name NameUnended e bytes) _ rest f.2 in
       let name = x.0.0 in
       let n = name_takes NameUnended e bytes x.0 (IsBytes-drop 1 (b ∷ bytes) fits) x.1 in
-      let typed = typed_takes f.0 q e x.0.1 rest n.0.rest_fits (within_ok (label index name) (skip_typed nested f.0 q e x.0.1) rest x.2) in
+      let typed = typed_takes f.0 q e x.0.1 rest n.0.rest_fits (within_ok (label index name) (skip_typed Named nested f.0 q e x.0.1) rest x.2) in
       let v = typed.2 in
       let same : type_byte (kind_of v.tree) ≡ b = ap type_byte v.kinded ∙ ap byte_stated (sym typed.1) ∙ sym (type_takes unknown b f.0 f.1) in
       let joined = Takes-then n.0 v.takes in
       let parts : b ∷ bytes ≡ element v.tree name v.value ++ rest = rw same (ap (λ (x : List ℕ). b ∷ x) (joined.parts ∙ ap (λ (x : List ℕ). x ++ rest) (append_assoc name (0 ∷ []) v.value))) in
       record { name = name; tree = v.tree; value = v.value; named = n.1; spells = v.spells; takes = record { parts = parts; rest_fits = v.takes.rest_fits }; shallow = v.shallow }
 
-  elements_take : (index : Option ℕ) (n e : ℕ) (bytes : List ℕ) → IsBytes bytes → length bytes ≤ n → skip_elements nested index n e bytes ≡ Ok tt
+  elements_take : (index : Option ℕ) (n e : ℕ) (bytes : List ℕ) → IsBytes bytes → length bytes ≤ n → skip_elements Named nested index n e bytes ≡ Ok tt
       → (fields : Fields) × AreFields fields bytes × (fields_depth fields ≤ depth_left)
   unfolding skip_elements
   elements_take index n e [] fits le is = (no_fields, refl, omega arith)
   elements_take index zero e (b ∷ bytes) fits le is = absurd (omega arith)
   elements_take index (suc n) e (b ∷ bytes) fits le is =
-      let a = bind_ok (skip_element nested index e (b ∷ bytes)) _ tt is in
+      let a = bind_ok (skip_element Named nested index e (b ∷ bytes)) _ tt is in
       let r = element_takes index e (b ∷ bytes) a.0 fits a.1 in
       let less = element_shrinks depth_left (b ∷ bytes) a.0 r in
       let rec = elements_take (option_map suc index) n e a.0 r.takes.rest_fits (omega (arith, less)) a.2 in
       (field r.name r.tree rec.0, (r.value, a.0, r.named, r.spells, rec.1, r.takes.parts), omega (arith, r.shallow, rec.2))
 
-  body_takes : (in_array : Bool) (e : ℕ) (bytes rest : List ℕ) → IsBytes bytes → skip_body nested in_array e bytes ≡ Ok rest → TakesBody (suc depth_left) bytes rest
+  body_takes : (in_array : Bool) (e : ℕ) (bytes rest : List ℕ) → IsBytes bytes → skip_body Named nested in_array e bytes ≡ Ok rest → TakesBody (suc depth_left) bytes rest
   body_takes in_array e bytes rest fits is =
       let f = bind_ok (skip_frame false e bytes) _ rest is in
-      let o = bind_ok (skip_elements nested (cond in_array (Some 0) None) (length f.0.0) f.0.1 f.0.0) _ rest f.2 in
+      let o = bind_ok (skip_elements Named nested (cond in_array (Some 0) None) (length f.0.0) f.0.1 f.0.0) _ rest f.2 in
       let r = frame_takes false e bytes f.0 fits f.1 in
       let all = elements_take (cond in_array (Some 0) None) (length f.0.0) f.0.1 f.0.0 r.body_fits (omega arith) o.1 in
       rw (← ok_is f.0.2 rest o.2) (record { fields = all.0; body = f.0.0; spell = all.1; takes = r.takes; shallow = omega (arith, all.2) })
@@ -520,22 +521,92 @@ module _ (depth_left : ℕ) (nested : Nested) (below : NestedTakes depth_left ne
         shallow = omega arith;
       })
 
-pub nested_takes : (depth_left : ℕ) → NestedTakes depth_left (skip_nested depth_left)
+pub nested_takes : (depth_left : ℕ) → NestedTakes depth_left (skip_nested Named depth_left)
 unfolding skip_nested
 nested_takes zero holder q e bytes rest fits is = absurd cc
-nested_takes (suc depth_left) holders.Document q e bytes rest fits is = body_takes depth_left (skip_nested depth_left) (nested_takes depth_left) false e bytes rest fits is
-nested_takes (suc depth_left) holders.Array q e bytes rest fits is = body_takes depth_left (skip_nested depth_left) (nested_takes depth_left) true e bytes rest fits is
+nested_takes (suc depth_left) holders.Document q e bytes rest fits is = body_takes depth_left (skip_nested Named depth_left) (nested_takes depth_left) false e bytes rest fits is
+nested_takes (suc depth_left) holders.Array q e bytes rest fits is = body_takes depth_left (skip_nested Named depth_left) (nested_takes depth_left) true e bytes rest fits is
 nested_takes (suc zero) holders.CodeScope q e bytes rest fits is = absurd cc
-nested_takes (suc (suc depth_left)) holders.CodeScope q e bytes rest fits is = code_takes (suc depth_left) (skip_nested (suc depth_left)) (nested_takes (suc depth_left)) q e bytes rest fits is
+nested_takes (suc (suc depth_left)) holders.CodeScope q e bytes rest fits is = code_takes (suc depth_left) (skip_nested Named (suc depth_left)) (nested_takes (suc depth_left)) q e bytes rest fits is
+
+-- ---- what an item leaves, under any profile
+
+-- the bytes after an item are the last of those at which it begins
+abbrev pub Leaves : List ℕ → List ℕ → Type 0
+Leaves bytes rest = (text : List ℕ) × Takes bytes text rest
+
+abbrev pub NestedLeaves : Nested → Type 0
+NestedLeaves nested = (holder : Holder) (q e : ℕ) (bytes rest : List ℕ) → IsBytes bytes → nested holder q e bytes ≡ Ok rest → Leaves bytes rest
+
+no_more : (bytes text rest : List ℕ) → Takes bytes text rest → length rest ≤ length bytes
+no_more bytes text rest t = omega (arith, ap length t.parts, length-append text rest)
+
+abbrev pub refused : Nested
+refused holder q e bytes = fault UnknownType q
+
+pub refused_takes : NestedTakes 0 refused
+refused_takes holder q e bytes rest fits is = absurd cc
+
+wide_leaves : (p : Profile) (kind : FaultKind) (n q e : ℕ) (bytes rest : List ℕ) → IsBytes bytes → skip_wide p kind n q e bytes ≡ Ok rest → Leaves bytes rest
+wide_leaves Named kind n q e bytes rest fits is = absurd cc
+wide_leaves All kind n q e bytes rest fits is = let f = fixed_takes n e bytes rest fits is in (f.prefix, f.takes)
+
+module _ (p : Profile) (nested : Nested) (below : NestedLeaves nested) where
+  value_leaves : (kind : Kind) (q e : ℕ) (bytes rest : List ℕ) → IsBytes bytes → skip_value nested kind q e bytes ≡ Ok rest → Leaves bytes rest
+  value_leaves kinds.Doc q e bytes rest fits is = below holders.Document q e bytes rest fits is
+  value_leaves kinds.Array q e bytes rest fits is = below holders.Array q e bytes rest fits is
+  value_leaves kinds.CodeScope q e bytes rest fits is = below holders.CodeScope q e bytes rest fits is
+  value_leaves kind q e bytes rest fits is = let v = value_takes 0 refused refused_takes kind q e bytes rest fits is in (v.value, v.takes)
+
+  typed_leaves : (type : ElementType) (q e : ℕ) (bytes rest : List ℕ) → IsBytes bytes → skip_typed p nested type q e bytes ≡ Ok rest → Leaves bytes rest
+  typed_leaves types.Double q e bytes rest fits is = wide_leaves p Double 8 q e bytes rest fits is
+  typed_leaves types.Decimal128 q e bytes rest fits is = wide_leaves p Decimal128 16 q e bytes rest fits is
+  typed_leaves (types.Kept kind) q e bytes rest fits is = value_leaves kind q e bytes rest fits is
+
+  -- an element takes some bytes
+  pub element_leaves : (index : Option ℕ) (e : ℕ) (bytes rest : List ℕ) → IsBytes bytes → skip_element p nested index e bytes ≡ Ok rest → (length rest < length bytes) × IsBytes rest
+  unfolding skip_element
+  element_leaves index e [] rest fits is = absurd cc
+  element_leaves index e (b ∷ bytes) rest fits is =
+      let q = e - suc (length bytes) in
+      let unknown : Fault = record { kind = UnknownType; offset = q; path = [] } in
+      let f = bind_ok (ok_or (type_at b) unknown) _ rest is in
+      let x = bind_ok (skip_name NameUnended e bytes) _ rest f.2 in
+      let n = name_takes NameUnended e bytes x.0 (IsBytes-drop 1 (b ∷ bytes) fits) x.1 in
+      let v = typed_leaves f.0 q e x.0.1 rest n.0.rest_fits (within_ok (label index x.0.0) (skip_typed p nested f.0 q e x.0.1) rest x.2) in
+      (omega (arith, no_more bytes (x.0.0 ++ 0 ∷ []) x.0.1 n.0, no_more x.0.1 v.0 rest v.1), v.1.rest_fits)
+
+  body_leaves : (in_array : Bool) (e : ℕ) (bytes rest : List ℕ) → IsBytes bytes → skip_body p nested in_array e bytes ≡ Ok rest → Leaves bytes rest
+  body_leaves in_array e bytes rest fits is =
+      let f = bind_ok (skip_frame false e bytes) _ rest is in
+      let o = bind_ok (skip_elements p nested (cond in_array (Some 0) None) (length f.0.0) f.0.1 f.0.0) _ rest f.2 in
+      rw (← ok_is f.0.2 rest o.2) (framed f.0.0, (frame_takes false e bytes f.0 fits f.1).takes)
+
+  code_leaves : (q e : ℕ) (bytes rest : List ℕ) → IsBytes bytes → skip_code_scope nested q e bytes ≡ Ok rest → Leaves bytes rest
+  code_leaves q e bytes rest fits is =
+      let f = bind_ok (skip_code_frame e bytes) _ rest is in
+      let s = bind_ok (skip_string f.0.1 f.0.0) _ rest f.2 in
+      let d = bind_ok (within (codes "$scope") (nested holders.Document q f.0.1 s.0)) _ rest s.2 in
+      let z = guard_ok (ltb 0 (length d.0)) _ (done f.0.2) rest d.2 in
+      rw (← ok_is f.0.2 rest z.1) (number (length f.0.0 + 4) ++ f.0.0, (code_frame_takes e bytes f.0 fits f.1).0)
+
+pub nested_leaves : (p : Profile) (depth_left : ℕ) → NestedLeaves (skip_nested p depth_left)
+unfolding skip_nested
+nested_leaves p zero holder q e bytes rest fits is = absurd cc
+nested_leaves p (suc depth_left) holders.Document q e bytes rest fits is = body_leaves p (skip_nested p depth_left) (nested_leaves p depth_left) false e bytes rest fits is
+nested_leaves p (suc depth_left) holders.Array q e bytes rest fits is = body_leaves p (skip_nested p depth_left) (nested_leaves p depth_left) true e bytes rest fits is
+nested_leaves p (suc zero) holders.CodeScope q e bytes rest fits is = absurd cc
+nested_leaves p (suc (suc depth_left)) holders.CodeScope q e bytes rest fits is =
+    code_leaves p (skip_nested p (suc depth_left)) (nested_leaves p (suc depth_left)) q e bytes rest fits is
 
 -- a document without a fault is spelled by the bytes
-pub document_found : (e : ℕ) (bytes : List ℕ) → IsBytes bytes → skip_document e bytes ≡ Ok tt → (d : Doc) × IsDocument d bytes
+pub document_found : (e : ℕ) (bytes : List ℕ) → IsBytes bytes → skip_document Named e bytes ≡ Ok tt → (d : Doc) × IsDocument d bytes
 unfolding skip_document
 document_found e bytes fits is =
     let f = bind_ok (skip_frame true e bytes) _ tt is in
     let r = frame_takes true e bytes f.0 fits f.1 in
     let levels = most_levels - 1 in
-    let all = elements_take levels (skip_nested levels) (nested_takes levels) None (length f.0.0) f.0.1 f.0.0 r.body_fits (omega arith) f.2 in
+    let all = elements_take levels (skip_nested Named levels) (nested_takes levels) None (length f.0.0) f.0.1 f.0.0 r.body_fits (omega arith) f.2 in
     let whole : bytes ≡ framed f.0.0 = r.takes.parts ∙ ap (λ (x : List ℕ). framed f.0.0 ++ x) (r.whole refl) ∙ append-nil (framed f.0.0) in
     let same = fields_of-pairs_of all.0 in
     let spells : IsValue (doc (fields_of (pairs_of all.0))) bytes = (f.0.0, rw same all.1, whole) in
@@ -584,33 +655,33 @@ frame_again top e body rest short all =
     ap (skip_frame top e) (framed_after body rest)
     ∙ rw (number_again (cond top ShortLength ValueShort) e n more (omega (arith, total, short)), tests, k, drop_at body (0 ∷ rest) (length body) refl, take_at body (0 ∷ rest) (length body) refl) refl
 
-element_again : (nested : Nested) (index : Option ℕ) (e : ℕ) (t : Tree) (name value rest : List ℕ) → IsName name → ((q : ℕ) → skip_value nested (kind_of t) q e (value ++ rest) ≡ Ok rest)
-    → skip_element nested index e (element t name value ++ rest) ≡ Ok rest
+element_again : (p : Profile) (nested : Nested) (index : Option ℕ) (e : ℕ) (t : Tree) (name value rest : List ℕ) → IsName name → ((q : ℕ) → skip_value nested (kind_of t) q e (value ++ rest) ≡ Ok rest)
+    → skip_element p nested index e (element t name value ++ rest) ≡ Ok rest
 unfolding skip_element
-element_again nested index e t name value rest named h =
+element_again p nested index e t name value rest named h =
     let whole : (name ++ 0 ∷ value) ++ rest ≡ name ++ 0 ∷ (value ++ rest) = append_assoc name (0 ∷ value) rest in
     let q = e - suc (length (name ++ 0 ∷ (value ++ rest))) in
-    ap (λ (x : List ℕ). skip_element nested index e (type_byte (kind_of t) ∷ x)) whole ∙ rw (type_is (kind_of t), name_again NameUnended e name (value ++ rest) named, h q) refl
+    ap (λ (x : List ℕ). skip_element p nested index e (type_byte (kind_of t) ∷ x)) whole ∙ rw (type_is (kind_of t), name_again NameUnended e name (value ++ rest) named, h q) refl
 
 -- one more element
-next_again : (nested : Nested) (index : Option ℕ) (n e : ℕ) (t : Tree) (name value rest bytes : List ℕ) → IsName name → bytes ≡ element t name value ++ rest → length bytes ≤ n
-    → ((q : ℕ) → skip_value nested (kind_of t) q e (value ++ rest) ≡ Ok rest) → ((m : ℕ) → length rest ≤ m → skip_elements nested (option_map suc index) m e rest ≡ Ok tt)
-    → skip_elements nested index n e bytes ≡ Ok tt
+next_again : (p : Profile) (nested : Nested) (index : Option ℕ) (n e : ℕ) (t : Tree) (name value rest bytes : List ℕ) → IsName name → bytes ≡ element t name value ++ rest → length bytes ≤ n
+    → ((q : ℕ) → skip_value nested (kind_of t) q e (value ++ rest) ≡ Ok rest) → ((m : ℕ) → length rest ≤ m → skip_elements p nested (option_map suc index) m e rest ≡ Ok tt)
+    → skip_elements p nested index n e bytes ≡ Ok tt
 unfolding skip_elements
-next_again nested index zero e t name value rest bytes named is turns first others = absurd (omega (arith, ap length is))
-next_again nested index (suc n) e t name value rest bytes named is turns first others =
-    rw (is, element_again nested index e t name value rest named first) (others n (omega (arith, ap length is, length-append (element t name value) rest)))
+next_again p nested index zero e t name value rest bytes named is turns first others = absurd (omega (arith, ap length is))
+next_again p nested index (suc n) e t name value rest bytes named is turns first others =
+    rw (is, element_again p nested index e t name value rest named first) (others n (omega (arith, ap length is, length-append (element t name value) rest)))
 
 -- no elements have no fault
-pub elements_nil : (nested : Nested) (index : Option ℕ) (n e : ℕ) → skip_elements nested index n e [] ≡ Ok tt
+pub elements_nil : (p : Profile) (nested : Nested) (index : Option ℕ) (n e : ℕ) → skip_elements p nested index n e [] ≡ Ok tt
 unfolding skip_elements
-elements_nil nested index zero e = refl
-elements_nil nested index (suc n) e = refl
+elements_nil p nested index zero e = refl
+elements_nil p nested index (suc n) e = refl
 
-body_again : (nested : Nested) (in_array : Bool) (e : ℕ) (body rest : List ℕ) → length (framed body) ≤ longest_document
-    → ((e : ℕ) → skip_elements nested (cond in_array (Some 0) None) (length body) e body ≡ Ok tt)
-    → skip_body nested in_array e (framed body ++ rest) ≡ Ok rest
-body_again nested in_array e body rest short h = rw (frame_again false e body rest short (λ is. absurd cc), h (e - length (0 ∷ rest))) refl
+body_again : (p : Profile) (nested : Nested) (in_array : Bool) (e : ℕ) (body rest : List ℕ) → length (framed body) ≤ longest_document
+    → ((e : ℕ) → skip_elements p nested (cond in_array (Some 0) None) (length body) e body ≡ Ok tt)
+    → skip_body p nested in_array e (framed body ++ rest) ≡ Ok rest
+body_again p nested in_array e body rest short h = rw (frame_again false e body rest short (λ is. absurd cc), h (e - length (0 ∷ rest))) refl
 
 -- ---- scalars
 
@@ -683,14 +754,14 @@ code_frame_again e parts rest least short =
     let tests = or_from (ltb n 14) (ltb (length (number n ++ (parts ++ rest))) n) (le-ltb _ _ (omega arith)) (le-ltb _ _ (omega (arith, size))) in
     ap (skip_code_frame e) whole ∙ rw (number_again ValueShort e n (parts ++ rest) (omega arith), tests, k, drop_at parts rest (length parts) refl, take_at parts rest (length parts) refl) refl
 
-code_nested : (r q e : ℕ) (s body rest : List ℕ) → IsText s → length (string s ++ framed body) ≤ longest_document → ((e : ℕ) → skip_elements (skip_nested r) None (length body) e body ≡ Ok tt)
-    → skip_nested (suc (suc r)) holders.CodeScope q e (scoped s (framed body) ++ rest) ≡ Ok rest
+code_nested : (p : Profile) (r q e : ℕ) (s body rest : List ℕ) → IsText s → length (string s ++ framed body) ≤ longest_document → ((e : ℕ) → skip_elements p (skip_nested p r) None (length body) e body ≡ Ok tt)
+    → skip_nested p (suc (suc r)) holders.CodeScope q e (scoped s (framed body) ++ rest) ≡ Ok rest
 unfolding skip_nested
-code_nested r q e s body rest h short inside =
+code_nested p r q e s body rest h short inside =
     let size = length-append (string s) (framed body) in
     let f = code_frame_again e (string s ++ framed body) rest (omega (arith, size, framed_length body, string_length s)) short in
-    let scope : skip_nested (suc r) holders.Document q (e - length rest) (framed body) ≡ Ok [] =
-    ap (skip_body (skip_nested r) false (e - length rest)) (sym (append-nil (framed body))) ∙ body_again (skip_nested r) false (e - length rest) body [] (omega (arith, size, short)) inside in
+    let scope : skip_nested p (suc r) holders.Document q (e - length rest) (framed body) ≡ Ok [] =
+    ap (skip_body p (skip_nested p r) false (e - length rest)) (sym (append-nil (framed body))) ∙ body_again p (skip_nested p r) false (e - length rest) body [] (omega (arith, size, short)) inside in
     rw (f, string_again (e - length rest) s (framed body) h, scope) refl
 
 parts_length : (t : Tree) (name value rest bytes : List ℕ) → bytes ≡ element t name value ++ rest → length bytes ≡ 2 + length name + length value + length rest
@@ -699,49 +770,49 @@ parts_length t name value rest bytes is = ap length is ∙ omega (arith, length-
 mutual
   unfolding skip_nested
 
-  value_again : (t : Tree) (depth_left q e : ℕ) (value rest : List ℕ) → IsValue t value → depth t ≤ depth_left → length value ≤ longest_document
-      → skip_value (skip_nested depth_left) (kind_of t) q e (value ++ rest) ≡ Ok rest
-  value_again (leaf s) depth_left q e value rest h deep short = scalar_again (skip_nested depth_left) s q e value rest h
-  value_again (doc fs) zero q e value rest h deep short = absurd (omega arith)
-  value_again (doc fs) (suc r) q e value rest h deep short =
+  value_again : (p : Profile) (t : Tree) (depth_left q e : ℕ) (value rest : List ℕ) → IsValue t value → depth t ≤ depth_left → length value ≤ longest_document
+      → skip_value (skip_nested p depth_left) (kind_of t) q e (value ++ rest) ≡ Ok rest
+  value_again p (leaf s) depth_left q e value rest h deep short = scalar_again (skip_nested p depth_left) s q e value rest h
+  value_again p (doc fs) zero q e value rest h deep short = absurd (omega arith)
+  value_again p (doc fs) (suc r) q e value rest h deep short =
       let size : length (framed h.0) ≤ longest_document = omega (arith, short, ap length h.2) in
       let less : length h.0 ≤ longest_document = omega (arith, size, framed_length h.0) in
-      rw h.2 (body_again (skip_nested r) false e h.0 rest size (λ end. fields_again fs None r (length h.0) end h.0 h.1 (omega arith) less (omega arith)))
-  value_again (array ts) zero q e value rest h deep short = absurd (omega arith)
-  value_again (array ts) (suc r) q e value rest h deep short =
+      rw h.2 (body_again p (skip_nested p r) false e h.0 rest size (λ end. fields_again p fs None r (length h.0) end h.0 h.1 (omega arith) less (omega arith)))
+  value_again p (array ts) zero q e value rest h deep short = absurd (omega arith)
+  value_again p (array ts) (suc r) q e value rest h deep short =
       let size : length (framed h.0) ≤ longest_document = omega (arith, short, ap length h.2) in
       let less : length h.0 ≤ longest_document = omega (arith, size, framed_length h.0) in
-      rw h.2 (body_again (skip_nested r) true e h.0 rest size (λ end. items_again ts (Some 0) r (length h.0) end h.0 h.1 (omega arith) less (omega arith)))
-  value_again (code_scope s fs) zero q e value rest h deep short = absurd (omega arith)
-  value_again (code_scope s fs) (suc zero) q e value rest h deep short = absurd (omega arith)
-  value_again (code_scope s fs) (suc (suc r)) q e value rest h deep short =
+      rw h.2 (body_again p (skip_nested p r) true e h.0 rest size (λ end. items_again p ts (Some 0) r (length h.0) end h.0 h.1 (omega arith) less (omega arith)))
+  value_again p (code_scope s fs) zero q e value rest h deep short = absurd (omega arith)
+  value_again p (code_scope s fs) (suc zero) q e value rest h deep short = absurd (omega arith)
+  value_again p (code_scope s fs) (suc (suc r)) q e value rest h deep short =
       let parts : length (string s ++ framed h.0) ≤ longest_document = omega (arith, short, ap (λ (x : List ℕ). length x) h.2, scoped_length s (framed h.0)) in
       let less : length h.0 ≤ longest_document = omega (arith, parts, framed_length h.0, length-append (string s) (framed h.0)) in
-      rw h.2 (code_nested r q e s h.0 rest h.3 parts (λ end. fields_again fs None r (length h.0) end h.0 h.1 (omega arith) less (omega arith)))
+      rw h.2 (code_nested p r q e s h.0 rest h.3 parts (λ end. fields_again p fs None r (length h.0) end h.0 h.1 (omega arith) less (omega arith)))
 
-  fields_again : (fs : Fields) (index : Option ℕ) (depth_left n e : ℕ) (bytes : List ℕ) → AreFields fs bytes → fields_depth fs ≤ depth_left
-      → length bytes ≤ longest_document → length bytes ≤ n → skip_elements (skip_nested depth_left) index n e bytes ≡ Ok tt
-  fields_again no_fields index depth_left n e bytes h deep short turns = rw h (elements_nil (skip_nested depth_left) index n e)
-  fields_again (field name t fs) index depth_left n e bytes h deep short turns =
+  fields_again : (p : Profile) (fs : Fields) (index : Option ℕ) (depth_left n e : ℕ) (bytes : List ℕ) → AreFields fs bytes → fields_depth fs ≤ depth_left
+      → length bytes ≤ longest_document → length bytes ≤ n → skip_elements p (skip_nested p depth_left) index n e bytes ≡ Ok tt
+  fields_again p no_fields index depth_left n e bytes h deep short turns = rw h (elements_nil p (skip_nested p depth_left) index n e)
+  fields_again p (field name t fs) index depth_left n e bytes h deep short turns =
       let size = parts_length t name h.0 h.1 bytes h.5 in
-      next_again (skip_nested depth_left) index n e t name h.0 h.1 bytes h.2 h.5 turns (λ q. value_again t depth_left q e h.0 h.1 h.3 (omega arith) (omega (arith, size)))
-      (λ m le. fields_again fs (option_map suc index) depth_left m e h.1 h.4 (omega arith) (omega (arith, size)) le)
+      next_again p (skip_nested p depth_left) index n e t name h.0 h.1 bytes h.2 h.5 turns (λ q. value_again p t depth_left q e h.0 h.1 h.3 (omega arith) (omega (arith, size)))
+      (λ m le. fields_again p fs (option_map suc index) depth_left m e h.1 h.4 (omega arith) (omega (arith, size)) le)
 
-  items_again : (ts : Items) (index : Option ℕ) (depth_left n e : ℕ) (bytes : List ℕ) → AreItems ts bytes → items_depth ts ≤ depth_left
-      → length bytes ≤ longest_document → length bytes ≤ n → skip_elements (skip_nested depth_left) index n e bytes ≡ Ok tt
-  items_again no_items index depth_left n e bytes h deep short turns = rw h (elements_nil (skip_nested depth_left) index n e)
-  items_again (item t ts) index depth_left n e bytes h deep short turns =
+  items_again : (p : Profile) (ts : Items) (index : Option ℕ) (depth_left n e : ℕ) (bytes : List ℕ) → AreItems ts bytes → items_depth ts ≤ depth_left
+      → length bytes ≤ longest_document → length bytes ≤ n → skip_elements p (skip_nested p depth_left) index n e bytes ≡ Ok tt
+  items_again p no_items index depth_left n e bytes h deep short turns = rw h (elements_nil p (skip_nested p depth_left) index n e)
+  items_again p (item t ts) index depth_left n e bytes h deep short turns =
       let size = parts_length t h.0 h.1 h.2 bytes h.6 in
-      next_again (skip_nested depth_left) index n e t h.0 h.1 h.2 bytes h.3 h.6 turns (λ q. value_again t depth_left q e h.1 h.2 h.4 (omega arith) (omega (arith, size)))
-      (λ m le. items_again ts (option_map suc index) depth_left m e h.2 h.5 (omega arith) (omega (arith, size)) le)
+      next_again p (skip_nested p depth_left) index n e t h.0 h.1 h.2 bytes h.3 h.6 turns (λ q. value_again p t depth_left q e h.1 h.2 h.4 (omega arith) (omega (arith, size)))
+      (λ m le. items_again p ts (option_map suc index) depth_left m e h.2 h.5 (omega arith) (omega (arith, size)) le)
 
 -- the bytes of a document have no fault
-pub document_again : (e : ℕ) (bytes : List ℕ) (d : Doc) → IsDocument d bytes → skip_document e bytes ≡ Ok tt
+pub document_again : (p : Profile) (e : ℕ) (bytes : List ℕ) (d : Doc) → IsDocument d bytes → skip_document p e bytes ≡ Ok tt
 unfolding skip_document
-document_again e bytes d h =
+document_again p e bytes d h =
     let s = h.spells in
     let size : length (framed s.0) ≤ longest_document = let m = h.short in omega (arith, ap length s.2) in
     let deep : fields_depth (fields_of d) ≤ most_levels - 1 = let m = h.shallow in omega arith in
     let whole : bytes ≡ framed s.0 ++ [] = s.2 ∙ sym (append-nil (framed s.0)) in
-    let inside = fields_again (fields_of d) None (most_levels - 1) (length s.0) (e - length {A = ℕ} (0 ∷ [])) s.0 s.1 deep (omega (arith, size, framed_length s.0)) (omega arith) in
+    let inside = fields_again p (fields_of d) None (most_levels - 1) (length s.0) (e - length {A = ℕ} (0 ∷ [])) s.0 s.1 deep (omega (arith, size, framed_length s.0)) (omega arith) in
     rw (whole, frame_again true e s.0 [] size (λ is. refl), inside) refl

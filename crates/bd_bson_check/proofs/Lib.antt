@@ -1,3 +1,5 @@
 pub mod DumpLemmas
 pub mod CheckingLemmas
 pub mod FirstFaultLemmas
+pub mod ProfileLemmas
+pub mod WideLemmas

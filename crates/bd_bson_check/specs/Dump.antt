@@ -4,7 +4,7 @@ use Rattle.std.specs.Prelude.{Option, Some, None, Result, Ok, Err}
 use Rattle.std.specs.Int.{w32, from_le_bytes}
 use Rattle.bd_value.specs.{Limits.longest_document, Limits.longest_input, Tree.Doc}
 use Rattle.bd_bson_view.specs.{Spelling.IsDocument, Raw.document_pairs, declared.raw.RawDoc.RawDoc}
-use Rattle.bd_bson_check.specs.{Fault.Fault, FirstFault.first_fault, declared.fault.FaultKind.FaultKind}
+use Rattle.bd_bson_check.specs.{Fault.Fault, FirstFault.fault_under, declared.fault.FaultKind.FaultKind, declared.profile.Profile.Profile}
 
 -- the length that a document states: its first four bytes as a number, least byte first; below 2^32
 abbrev pub stated_length : List ℕ → ℕ
@@ -19,16 +19,25 @@ frame_length (b ∷ bytes) = if nat_lt (length (b ∷ bytes)) 4 then Err FaultKi
     || nat_lt (length (b ∷ bytes)) (stated_length (b ∷ bytes)) then Err FaultKind.BadLength
     else Ok (Some (stated_length (b ∷ bytes))))
 
+-- the fault, under a profile, of the document at the start, whose length was read or is at fault
+abbrev pub framed_under : Profile → ℕ → List ℕ → Result (Option ℕ) FaultKind → Option Fault
+framed_under profile base bytes (Ok None) = None
+framed_under profile base bytes (Ok (Some n)) = fault_under profile base (take n bytes)
+framed_under profile base bytes (Err kind) = Some (record { kind = kind; offset = base; path = [] })
+
+-- the first fault, under a profile, of the document at the start of bytes, the first of which is at this offset of the
+-- dump; None if it has none, and at the end of the bytes
+abbrev pub frame_fault_under : Profile → ℕ → List ℕ → Option Fault
+frame_fault_under profile base bytes = framed_under profile base bytes (frame_length bytes)
+
 -- the fault of the document at the start, whose length was read or is at fault
 abbrev pub framed_fault : ℕ → List ℕ → Result (Option ℕ) FaultKind → Option Fault
-framed_fault base bytes (Ok None) = None
-framed_fault base bytes (Ok (Some n)) = first_fault base (take n bytes)
-framed_fault base bytes (Err kind) = Some (record { kind = kind; offset = base; path = [] })
+framed_fault base bytes frame = framed_under Profile.Named base bytes frame
 
 -- the first fault of the document at the start of bytes, the first of which is at this offset of the dump;
 -- None if it is well-formed, and at the end of the bytes
 abbrev pub frame_fault : ℕ → List ℕ → Option Fault
-frame_fault base bytes = framed_fault base bytes (frame_length bytes)
+frame_fault base bytes = frame_fault_under Profile.Named base bytes
 
 -- The document at this offset, as a view, and the offset after it; None at the end of the bytes.
 abbrev pub IsNext : List ℕ → ℕ → Option (RawDoc × ℕ) → Type 0

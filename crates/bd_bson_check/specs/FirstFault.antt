@@ -3,14 +3,14 @@
 -- Each function checks one item at the start of its bytes, and gives the bytes after it, or the fault.
 -- e is the offset that the item may not exceed, and the bytes end there:
 -- the item is at offset `e - length bytes`.
-use Rattle.std.specs.Prelude.{ℕ, zero, suc, ◌+◌, ◌-◌, List, [], ◌∷◌, length, take, drop, Option, Some, None, option_map}
+use Rattle.std.specs.Prelude.{◌≢◌, ℕ, zero, suc, ◌+◌, ◌-◌, List, [], ◌∷◌, length, take, drop, Option, Some, None, option_map}
 use Rattle.std.specs.Prelude.{Result, Ok, Err, Bool, true, false, nat_lt, ◌==◌, ◌||◌, ◌&&◌, not, if◌then◌else◌, decimal}
 use Rattle.std.specs.Prelude.{codes, slice_index_or}
 use Rattle.std.specs.{List.position, Option.ok_or, Option.option_map_or, Result.result_err, Str.is_utf8}
 use Rattle.std.specs.{Str.Lossy.utf8_valid_len, Int.w32, Int.from_le_bytes}
 use Rattle.bd_value.specs.{Limits.longest_document, Limits.most_levels, declared.node.Kind.Kind}
 use Rattle.bd_bson_view.specs.{Spelling.type_at, Sizes.number_of, declared.raw_parts.{ElementType.ElementType, Holder.Holder}}
-use Rattle.bd_bson_check.specs.{Fault.Fault, Fault.longer, declared.fault.FaultKind.FaultKind}
+use Rattle.bd_bson_check.specs.{Fault.Fault, Fault.longer, declared.fault.FaultKind.FaultKind, declared.profile.Profile.Profile}
 use Rattle.bd_bson_check.specs.declared.fault.FaultKind.TheVariants.{ShortLength, BadLength, NoTerminator, UnknownType}
 use Rattle.bd_bson_check.specs.declared.fault.FaultKind.TheVariants.{Double, Decimal128, NameUnended, BadUtf8}
 use Rattle.bd_bson_check.specs.declared.fault.FaultKind.TheVariants.{BadStringLength, StringUnended, BadBoolean}
@@ -136,12 +136,17 @@ skip_value nested Kind.Doc q e bytes = nested Holder.Document q e bytes
 skip_value nested Kind.Array q e bytes = nested Holder.Array q e bytes
 skip_value nested Kind.CodeScope q e bytes = nested Holder.CodeScope q e bytes
 
--- the bytes after a value of that type; a double (0x01) and a decimal128 (0x13) are faults,
--- and their bytes are not read
-abbrev pub skip_typed : Nested → ElementType → ℕ → ℕ → List ℕ → Result (List ℕ) Fault
-skip_typed nested ElementType.Double q e bytes = fault Double q
-skip_typed nested ElementType.Decimal128 q e bytes = fault Decimal128 q
-skip_typed nested (ElementType.Kept kind) q e bytes = skip_value nested kind q e bytes
+-- a double or a decimal128, which takes n bytes: a profile reads it, or it is a fault of that kind at its type byte,
+-- and its bytes are not read
+abbrev pub skip_wide : Profile → FaultKind → ℕ → ℕ → ℕ → List ℕ → Result (List ℕ) Fault
+skip_wide Profile.Named kind n q e bytes = fault kind q
+skip_wide Profile.All kind n q e bytes = skip_fixed n e bytes
+
+-- the bytes after a value of that type, under a profile
+abbrev pub skip_typed : Profile → Nested → ElementType → ℕ → ℕ → List ℕ → Result (List ℕ) Fault
+skip_typed profile nested ElementType.Double q e bytes = skip_wide profile Double 8 q e bytes
+skip_typed profile nested ElementType.Decimal128 q e bytes = skip_wide profile Decimal128 16 q e bytes
+skip_typed profile nested (ElementType.Kept kind) q e bytes = skip_value nested kind q e bytes
 
 -- how the path of a fault names an element: in an array by its index, in a document by its name
 abbrev pub label : Option ℕ → List ℕ → List ℕ
@@ -153,27 +158,27 @@ within name (Ok x) = Ok x
 within name (Err f) = Err (longer name f)
 
 -- the bytes after an element: its type byte, its name, its value
-unfoldable pub skip_element : Nested → Option ℕ → ℕ → List ℕ → Result (List ℕ) Fault
-skip_element nested index e [] = fault UnknownType e
-skip_element nested index e (b ∷ bytes) = do
+unfoldable pub skip_element : Profile → Nested → Option ℕ → ℕ → List ℕ → Result (List ℕ) Fault
+skip_element profile nested index e [] = fault UnknownType e
+skip_element profile nested index e (b ∷ bytes) = do
   type ← ok_or (type_at b) (record { kind = UnknownType; offset = e - suc (length bytes); path = [] })
   name ← skip_name NameUnended e bytes
-  within (label index name.0) (skip_typed nested type (e - suc (length bytes)) e name.1)
+  within (label index name.0) (skip_typed profile nested type (e - suc (length bytes)) e name.1)
 
 -- All elements of a document or an array. The first number bounds the steps:
 -- the count of the bytes is always enough.
-unfoldable pub skip_elements : Nested → Option ℕ → ℕ → ℕ → List ℕ → Result (Unit {0}) Fault
-skip_elements nested index zero e bytes = Ok tt
-skip_elements nested index (suc n) e [] = Ok tt
-skip_elements nested index (suc n) e (b ∷ bytes) = do
-  rest ← skip_element nested index e (b ∷ bytes)
-  skip_elements nested (option_map suc index) n e rest
+unfoldable pub skip_elements : Profile → Nested → Option ℕ → ℕ → ℕ → List ℕ → Result (Unit {0}) Fault
+skip_elements profile nested index zero e bytes = Ok tt
+skip_elements profile nested index (suc n) e [] = Ok tt
+skip_elements profile nested index (suc n) e (b ∷ bytes) = do
+  rest ← skip_element profile nested index e (b ∷ bytes)
+  skip_elements profile nested (option_map suc index) n e rest
 
 -- the bytes after a document, or after an array, whose elements are counted from 0
-abbrev pub skip_body : Nested → Bool → ℕ → List ℕ → Result (List ℕ) Fault
-skip_body nested in_array e bytes = do
+abbrev pub skip_body : Profile → Nested → Bool → ℕ → List ℕ → Result (List ℕ) Fault
+skip_body profile nested in_array e bytes = do
   f ← skip_frame false e bytes
-  skip_elements nested (if in_array then Some 0 else None) (length f.0) f.1 f.0 >>= λ u. Ok f.2
+  skip_elements profile nested (if in_array then Some 0 else None) (length f.0) f.1 f.0 >>= λ u. Ok f.2
 
 -- the bytes after code with scope, whose scope must end where it ends
 abbrev pub skip_code_scope : Nested → ℕ → ℕ → List ℕ → Result (List ℕ) Fault
@@ -185,20 +190,30 @@ skip_code_scope nested q e bytes = do
 
 -- The bytes after a value that contains values, with `depth_left` levels remaining for it;
 -- code with scope takes one and its scope another.
-unfoldable pub skip_nested : ℕ → Nested
-skip_nested zero holder q e bytes = fault TooDeep q
-skip_nested (suc depth_left) Holder.Document q e bytes = skip_body (skip_nested depth_left) false e bytes
-skip_nested (suc depth_left) Holder.Array q e bytes = skip_body (skip_nested depth_left) true e bytes
-skip_nested (suc zero) Holder.CodeScope q e bytes = fault TooDeep q
-skip_nested (suc (suc depth_left)) Holder.CodeScope q e bytes = skip_code_scope (skip_nested (suc depth_left)) q e bytes
+unfoldable pub skip_nested : Profile → ℕ → Nested
+skip_nested profile zero holder q e bytes = fault TooDeep q
+skip_nested profile (suc depth_left) Holder.Document q e bytes = skip_body profile (skip_nested profile depth_left) false e bytes
+skip_nested profile (suc depth_left) Holder.Array q e bytes = skip_body profile (skip_nested profile depth_left) true e bytes
+skip_nested profile (suc zero) Holder.CodeScope q e bytes = fault TooDeep q
+skip_nested profile (suc (suc depth_left)) Holder.CodeScope q e bytes = skip_code_scope (skip_nested profile (suc depth_left)) q e bytes
 
 -- the document that all of the bytes must be, at level 1 of 200
-unfoldable pub skip_document : ℕ → List ℕ → Result (Unit {0}) Fault
-skip_document e bytes = do
+unfoldable pub skip_document : Profile → ℕ → List ℕ → Result (Unit {0}) Fault
+skip_document profile e bytes = do
   f ← skip_frame true e bytes
-  skip_elements (skip_nested (most_levels - 1)) None (length f.0) f.1 f.0
+  skip_elements profile (skip_nested profile (most_levels - 1)) None (length f.0) f.1 f.0
+
+-- the first fault, under a profile, of bytes that must be one document, the first of which is at offset `base` of the
+-- dump; None if they have none
+abbrev pub fault_under : Profile → ℕ → List ℕ → Option Fault
+fault_under profile base bytes = result_err (skip_document profile (base + length bytes) bytes)
 
 -- the first fault of bytes that must be one document, the first of which is at offset `base` of the dump;
 -- None if they are a document
 abbrev pub first_fault : ℕ → List ℕ → Option Fault
-first_fault base bytes = result_err (skip_document (base + length bytes) bytes)
+first_fault base bytes = fault_under Profile.Named base bytes
+
+-- There is no fault, or it is not that of a double or a decimal128.
+abbrev pub ReportsNoNumber : Option Fault → Type 0
+ReportsNoNumber None = Unit {0}
+ReportsNoNumber (Some f) = (f.kind ≢ Double) × (f.kind ≢ Decimal128)

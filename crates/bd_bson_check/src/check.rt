@@ -8,13 +8,14 @@ ghost use Rattle.bd_bson_view.specs.Spelling.{IsDocument};
 ghost use Rattle.bd_bson_view.specs.Raw.{document_pairs, document_source};
 ghost use Rattle.bd_bson_check.specs.Fault.{ReportsFault, IsWantOfMemory};
 ghost use Rattle.bd_bson_check.specs.inside.Fault.{GivesItem};
-ghost use Rattle.bd_bson_check.specs.FirstFault.{skip_typed, skip_element, skip_elements, skip_body, skip_code_scope, skip_nested, skip_document, first_fault};
+ghost use Rattle.bd_bson_check.specs.FirstFault.{skip_typed, skip_element, skip_elements, skip_body, skip_code_scope, skip_nested, skip_document, first_fault, fault_under};
 ghost use Rattle.bd_bson_check.specs.Dump.{frame_length, frame_fault, IsNext};
 
 use crate::fault::{
     Fault, FaultKind, Skipped, Stop, fault_at, fault_of, frame_fault, want_of_memory, within,
 };
-use crate::parts::{binary, boolean, code_frame, fixed, frame, name, regex, string};
+use crate::parts::{binary, boolean, code_frame, fixed, frame, name, regex, string, wide};
+use crate::profile::Profile;
 use crate::quick::is_sound;
 use bd_bson_view::{ElementType, Holder, RawDoc, element_type, raw_parts};
 use bd_value::{Document, Kind, LONGEST_DOCUMENT, MOST_LEVELS};
@@ -38,11 +39,32 @@ pub fn check_document<'a>(
     ensures first { MatchResult result (λ _.
         first_fault base bytes.now ≡ None) (ReportsFault number (first_fault base bytes.now)) }
 {
-    if is_sound(bytes) {
-        return Ok(RawDoc::whole(bytes));
+    check_bytes(alloc, Profile::Named, bytes, base, number)?;
+    Ok(RawDoc::whole(bytes))
+}
+
+/// Checks that all of the bytes are one document of the types of a profile, which begins at the offset `base` of a dump and
+/// has that number in it.
+///
+/// The fault is the first from left to right: BSON 1.1, `document`, with at most 16,793,600 bytes and 200 levels. Only the
+/// path of a fault takes memory.
+#[inline(always)]
+pub fn check_bytes(
+    alloc: Global,
+    profile: Profile,
+    bytes: &[u8],
+    base: u64,
+    number: u32,
+) -> Result<(), Fault>
+    requires { base + length bytes.now ≤ longest_input }
+    ensures { MatchResult result (λ _. fault_under profile base bytes.now ≡ None)
+        (ReportsFault number (fault_under profile base bytes.now)) }
+{
+    if is_sound(profile, bytes) {
+        return Ok(());
     }
-    match document(alloc, base + bytes.len() as u64, bytes) {
-        Ok(()) => Ok(RawDoc::whole(bytes)),
+    match document(alloc, profile, base + bytes.len() as u64, bytes) {
+        Ok(()) => Ok(()),
         Err(stop) => Err(fault_of(alloc, stop, number)),
     }
 }
@@ -136,31 +158,32 @@ pub fn next_document<'a>(
 
 /// Skips the document, which must be all of the bytes.
 #[tactic(auto, unfolding(crate::specs::FirstFault::skip_document))]
-fn document(alloc: Global, e: u64, bytes: &[u8]) -> Result<(), Stop>
+fn document(alloc: Global, profile: Profile, e: u64, bytes: &[u8]) -> Result<(), Stop>
     requires { length bytes.now ≤ e }
-    ensures { GivesItem (λ x. tt) result (skip_document e bytes.now) }
+    ensures { GivesItem (λ x. tt) result (skip_document profile e bytes.now) }
 {
     let (body, end, _) = frame(alloc, true, e, bytes)?;
-    elements(alloc, MOST_LEVELS as u32 - 1, false, end, body)
+    elements(alloc, profile, MOST_LEVELS as u32 - 1, false, end, body)
 }
 
 /// Skips all elements.
 #[cycle(checking)]
 fn elements(
     alloc: Global,
+    profile: Profile,
     depth_left: u32,
     in_array: bool,
     e: u64,
     bytes: &[u8],
 ) -> Result<(), Stop>
     requires { length bytes.now ≤ e }
-    ensures { GivesItem (λ x. tt) result (skip_elements (skip_nested depth_left)
+    ensures { GivesItem (λ x. tt) result (skip_elements profile (skip_nested profile depth_left)
         (if in_array then Some 0 else None) (length bytes.now) e bytes.now) }
 {
     let mut index = if in_array { Some(0) } else { None };
     let mut rest = bytes;
     while !rest.is_empty() {
-        rest = element(alloc, depth_left, index, e, rest)?;
+        rest = element(alloc, profile, depth_left, index, e, rest)?;
         index = next(index);
     }
     Ok(())
@@ -182,6 +205,7 @@ fn next(index: Option<usize>) -> Option<usize>
 #[tactic(auto, unfolding(crate::specs::FirstFault::skip_element))]
 fn element(
     alloc: Global,
+    profile: Profile,
     depth_left: u32,
     index: Option<usize>,
     e: u64,
@@ -190,7 +214,7 @@ fn element(
     requires some { 0 < length bytes.now }
     requires inside { length bytes.now ≤ e }
     ensures gives { GivesItem (λ x.
-        x.now) result (skip_element (skip_nested depth_left) index e bytes.now) }
+        x.now) result (skip_element profile (skip_nested profile depth_left) index e bytes.now) }
     ensures after { IfOk result (λ x. length x.now < length bytes.now) }
 {
     let q = e - bytes.len() as u64;
@@ -199,16 +223,17 @@ fn element(
     };
     let (_, rest) = bytes.split_at(1);
     let (name, rest) = name(alloc, FaultKind::NameUnended, e, rest)?;
-    match value(alloc, depth_left, element_type, q, e, rest) {
+    match value(alloc, profile, depth_left, element_type, q, e, rest) {
         Ok(rest) => Ok(rest),
         Err(stop) => Err(within(alloc, index, name, stop)),
     }
 }
 
-/// Skips the value of an element whose type byte is at `q`. Doubles and decimal128 are refused unread.
+/// Skips the value of an element whose type byte is at `q`.
 #[cycle(checking)]
 fn value(
     alloc: Global,
+    profile: Profile,
     depth_left: u32,
     typed: ElementType,
     q: u64,
@@ -217,13 +242,15 @@ fn value(
 ) -> Skipped<'_>
     requires { length bytes.now ≤ e }
     ensures gives { GivesItem (λ x.
-        x.now) result (skip_typed (skip_nested depth_left) typed q e bytes.now) }
+        x.now) result (skip_typed profile (skip_nested profile depth_left) typed q e bytes.now) }
     ensures after { IfOk result (λ x. length x.now ≤ length bytes.now) }
 {
     let kind = match typed {
         ElementType::Kept(kind) => kind,
-        ElementType::Double => return Err(fault_at(alloc, FaultKind::Double, q)),
-        ElementType::Decimal128 => return Err(fault_at(alloc, FaultKind::Decimal128, q)),
+        ElementType::Double => return wide(alloc, profile, FaultKind::Double, 8, q, e, bytes),
+        ElementType::Decimal128 => {
+            return wide(alloc, profile, FaultKind::Decimal128, 16, q, e, bytes);
+        }
     };
     match kind {
         Kind::MinKey | Kind::Undefined | Kind::Null | Kind::MaxKey => Ok(bytes),
@@ -238,9 +265,9 @@ fn value(
         }
         Kind::Binary => binary(alloc, e, bytes),
         Kind::Regex => regex(alloc, e, bytes),
-        Kind::Doc => nested(alloc, depth_left, Holder::Document, q, e, bytes),
-        Kind::Array => nested(alloc, depth_left, Holder::Array, q, e, bytes),
-        Kind::CodeScope => nested(alloc, depth_left, Holder::CodeScope, q, e, bytes),
+        Kind::Doc => nested(alloc, profile, depth_left, Holder::Document, q, e, bytes),
+        Kind::Array => nested(alloc, profile, depth_left, Holder::Array, q, e, bytes),
+        Kind::CodeScope => nested(alloc, profile, depth_left, Holder::CodeScope, q, e, bytes),
     }
 }
 
@@ -248,6 +275,7 @@ fn value(
 #[cycle(checking)]
 fn nested(
     alloc: Global,
+    profile: Profile,
     depth_left: u32,
     holder: Holder,
     q: u64,
@@ -255,48 +283,62 @@ fn nested(
     bytes: &[u8],
 ) -> Skipped<'_>
     requires { length bytes.now ≤ e }
-    ensures gives { GivesItem (λ x. x.now) result (skip_nested depth_left holder q e bytes.now) }
+    ensures gives { GivesItem (λ x. x.now) result (skip_nested profile depth_left holder q e bytes.now) }
     ensures after { IfOk result (λ x. length x.now ≤ length bytes.now) }
 {
     if depth_left == 0 {
         return Err(fault_at(alloc, FaultKind::TooDeep, q));
     }
     match holder {
-        Holder::Document => body(alloc, depth_left - 1, false, e, bytes),
-        Holder::Array => body(alloc, depth_left - 1, true, e, bytes),
+        Holder::Document => body(alloc, profile, depth_left - 1, false, e, bytes),
+        Holder::Array => body(alloc, profile, depth_left - 1, true, e, bytes),
         Holder::CodeScope => {
             if depth_left == 1 {
                 return Err(fault_at(alloc, FaultKind::TooDeep, q));
             }
-            code_scope(alloc, depth_left - 1, q, e, bytes)
+            code_scope(alloc, profile, depth_left - 1, q, e, bytes)
         }
     }
 }
 
 /// Skips a document or an array, with `depth_left` levels remaining below it.
 #[cycle(checking)]
-fn body(alloc: Global, depth_left: u32, in_array: bool, e: u64, bytes: &[u8]) -> Skipped<'_>
+fn body(
+    alloc: Global,
+    profile: Profile,
+    depth_left: u32,
+    in_array: bool,
+    e: u64,
+    bytes: &[u8],
+) -> Skipped<'_>
     requires { length bytes.now ≤ e }
     ensures gives { GivesItem (λ x.
-        x.now) result (skip_body (skip_nested depth_left) in_array e bytes.now) }
+        x.now) result (skip_body profile (skip_nested profile depth_left) in_array e bytes.now) }
     ensures after { IfOk result (λ x. length x.now ≤ length bytes.now) }
 {
     let (body, end, rest) = frame(alloc, false, e, bytes)?;
-    elements(alloc, depth_left, in_array, end, body)?;
+    elements(alloc, profile, depth_left, in_array, end, body)?;
     Ok(rest)
 }
 
 /// Skips code with scope, with `depth_left` levels remaining for its scope.
 #[cycle(checking)]
-fn code_scope(alloc: Global, depth_left: u32, q: u64, e: u64, bytes: &[u8]) -> Skipped<'_>
+fn code_scope(
+    alloc: Global,
+    profile: Profile,
+    depth_left: u32,
+    q: u64,
+    e: u64,
+    bytes: &[u8],
+) -> Skipped<'_>
     requires { length bytes.now ≤ e }
     ensures gives { GivesItem (λ x.
-        x.now) result (skip_code_scope (skip_nested depth_left) q e bytes.now) }
+        x.now) result (skip_code_scope (skip_nested profile depth_left) q e bytes.now) }
     ensures after { IfOk result (λ x. length x.now ≤ length bytes.now) }
 {
     let (parts, end, rest) = code_frame(alloc, e, bytes)?;
     let scope = string(alloc, end, parts)?;
-    match nested(alloc, depth_left, Holder::Document, q, end, scope) {
+    match nested(alloc, profile, depth_left, Holder::Document, q, end, scope) {
         Ok([]) => Ok(rest),
         Ok(_) => Err(fault_at(alloc, FaultKind::BadScopeLength, e - bytes.len() as u64)),
         Err(stop) => Err(within(alloc, None, "$scope", stop)),

@@ -17,6 +17,7 @@
 //! - `check`: `check_document`, which descends into nested values, and the documents of a dump in turn.
 //! - `quick`: whether bytes are a document, without saying which fault they have.
 //! - `parts`: values that contain no other value, and the frames of documents, for both.
+//! - `profile`: which types of values are read.
 //! - `fault`: why bytes are not a document, and where.
 //! - `laws`: bytes have no fault exactly if they spell a document; bytes are a dump or have one first fault.
 #![tactic(auto)]
@@ -25,8 +26,13 @@ mod check;
 mod fault;
 mod laws;
 mod parts;
+mod profile;
 mod quick;
 
-pub use check::{Frame, check_document, next_document, next_frame, read_document};
+pub use check::{Frame, check_bytes, check_document, next_document, next_frame, read_document};
 pub use fault::{Fault, FaultKind, frame_fault, want_of_memory};
-pub use laws::{dump_or_fault, no_fault_where_spelled, scans_in_one_way, scans_on};
+pub use laws::{
+    documents_have_no_fault, dump_or_fault, no_fault_where_spelled, other_faults_are_first_faults,
+    scans_in_one_way, scans_on, sound_bytes_are_documents,
+};
+pub use profile::Profile;

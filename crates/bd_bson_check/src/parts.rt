@@ -8,9 +8,11 @@ ghost use Rattle.std.specs.List.{list_any};
 ghost use Rattle.std.specs.Simd.Lanes.{mask_l};
 ghost use Rattle.std.specs.Str.{is_utf8};
 ghost use Rattle.bd_bson_check.specs.inside.Fault.{GivesItem};
-ghost use Rattle.bd_bson_check.specs.FirstFault.{skip_number, skip_zero, text_at, skip_name, skip_string, skip_frame, skip_fixed, skip_boolean, skip_binary, skip_regex, skip_code_frame, Nested, skip_element, skip_value};
+ghost use Rattle.bd_bson_check.specs.FirstFault.{skip_number, skip_zero, text_at, skip_name, skip_string, skip_frame, skip_fixed, skip_boolean, skip_binary, skip_regex, skip_code_frame, Nested, skip_element, skip_value, skip_wide, skip_typed};
+ghost use Rattle.bd_bson_check.specs.declared.profile.Profile as profiles;
 
 use crate::fault::{FaultKind, Skipped, Stop, fault_at};
+use crate::profile::Profile;
 use bd_bson_view::{ElementType, element_type, raw_parts as raw};
 use bd_value::{Kind, LONGEST_DOCUMENT};
 use std::alloc::Global;
@@ -143,6 +145,27 @@ pub fn boolean(alloc: Global, e: u64, bytes: &[u8]) -> Skipped<'_>
     }
 }
 
+/// The bytes after a double or a decimal128, which takes `n` bytes and whose type byte is at `q`. If the profile does not read
+/// it, it has the fault `refused` there.
+pub fn wide(
+    alloc: Global,
+    profile: Profile,
+    refused: FaultKind,
+    n: usize,
+    q: u64,
+    e: u64,
+    bytes: &[u8],
+) -> Skipped<'_>
+    requires { length bytes.now ≤ e }
+    ensures gives { GivesItem (λ x. x.now) result (skip_wide profile refused n q e bytes.now) }
+    ensures after { IfOk result (λ x. length x.now ≤ length bytes.now) }
+{
+    match profile {
+        Profile::Named => Err(fault_at(alloc, refused, q)),
+        Profile::All => fixed(alloc, n, e, bytes),
+    }
+}
+
 /// The bytes after `n` bytes.
 pub fn fixed(alloc: Global, n: usize, e: u64, bytes: &[u8]) -> Skipped<'_>
     requires { length bytes.now ≤ e }
@@ -199,20 +222,34 @@ fn text(alloc: Global, at: u64, bytes: &[u8]) -> Result<&str, Stop>
 
 // ---- quickly
 
-/// The kind of an element, and the bytes after its name; None if it has no supported type, or its name has a fault.
+/// The type of an element, and the bytes after its name; None if there is no such type, or its name has a fault.
 #[inline(always)]
-pub fn kind_and_value(bytes: &[u8]) -> Option<(Kind, &[u8])>
+pub fn type_and_value(bytes: &[u8]) -> Option<(ElementType, &[u8])>
     requires { 0 < length bytes.now }
-    ensures gives { IfSome result (λ x.
+    ensures gives { IfSome result (λ x. (profile : profiles.Profile)
         (nested : Nested) (index : Option ℕ) (e : ℕ) (after : List ℕ) →
-        skip_value nested x.0 (e - length bytes.now) e x.1.now ≡ Ok after →
-        skip_element nested index e bytes.now ≡ Ok after) }
+        skip_typed profile nested x.0 (e - length bytes.now) e x.1.now ≡ Ok after →
+        skip_element profile nested index e bytes.now ≡ Ok after) }
     ensures after { IfSome result (λ x. length x.1.now < length bytes.now) }
 {
     let (_, named) = bytes.split_at(1);
     let value = after_name(named)?;
     match element_type(bytes[0]) {
-        Some(ElementType::Kept(kind)) => Some((kind, value)),
+        Some(typed) => Some((typed, value)),
+        None => None,
+    }
+}
+
+/// The bytes after a double or a decimal128; None if the profile does not read it, or it is another type, or has a fault.
+#[inline(always)]
+pub fn after_number(profile: Profile, typed: ElementType, bytes: &[u8]) -> Option<&[u8]>
+    ensures gives { IfSome result (λ x. (nested : Nested) (q e : ℕ) →
+        skip_typed profile nested typed q e bytes.now ≡ Ok x.now) }
+    ensures after { IfSome result (λ x. length x.now ≤ length bytes.now) }
+{
+    match (profile, typed) {
+        (Profile::All, ElementType::Double) => after(8, bytes),
+        (Profile::All, ElementType::Decimal128) => after(16, bytes),
         _ => None,
     }
 }

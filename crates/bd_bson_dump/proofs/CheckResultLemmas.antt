@@ -4,8 +4,9 @@ use Rattle.std.proofs.Common.{arith, append-nil, append_assoc, length-drop, leng
 use Rattle.std.proofs.lemmas.List.{nil_from_length, take_at, drop_at}
 use Rattle.std.specs.List.{AllByRecursion}
 use Rattle.bd_value.specs.Tree.{Doc}
-use Rattle.bd_bson_check.specs.Dump.{AreJoined, IsDumpScan, frame_length, framed_fault, frame_fault}
-use Rattle.bd_bson_check.specs.{declared.fault.FaultKind.FaultKind, Fault.Fault, FirstFault.first_fault}
+use Rattle.bd_bson_check.specs.Dump.{AreJoined, IsDumpScan, frame_length, framed_fault, framed_under, frame_fault_under}
+use Rattle.bd_bson_check.specs.{declared.fault.FaultKind.FaultKind, Fault.Fault, FirstFault.fault_under}
+use Rattle.bd_bson_check.specs.declared.profile.{Profile.Profile, Profile.TheVariants.Named}
 use Rattle.bd_bson_view.specs.Spelling.{IsDocument}
 use Rattle.bd_bson_dump.specs.CheckResults.{check_results_by, check_results_from, check_results_at, check_results, BeginAs}
 use Rattle.bd_bson_check.proofs.{FirstFaultLemmas.IsBytes, DumpLemmas.document_faultless, DumpLemmas.document_frame, DumpLemmas.frame_inside, DumpLemmas.scan_on}
@@ -15,10 +16,10 @@ CheckResults = List (Option Fault)
 
 -- ---- a bound of as many steps as there are bytes is enough
 
-nothing_from : (turns base : ℕ) → check_results_from turns base [] ≡ []
+nothing_from : (p : Profile) (turns base : ℕ) → check_results_from p turns base [] ≡ []
 unfolding check_results_from
-nothing_from zero base = refl
-nothing_from (suc turns) base = refl
+nothing_from p zero base = refl
+nothing_from p (suc turns) base = refl
 
 same_after : (first : Option Fault) (f g : ℕ → CheckResults) (frame : Result (Option ℕ) FaultKind) → ((n : ℕ) → frame ≡ Ok (Some n) → f n ≡ g n)
     → check_results_by first f frame ≡ check_results_by first g frame
@@ -26,76 +27,76 @@ same_after first f g (Ok None) same = refl
 same_after first f g (Ok (Some n)) same = ap (λ (vs : CheckResults). first ∷ vs) (same n refl)
 same_after first f g (Err kind) same = refl
 
-turns_enough : (m n base : ℕ) (bytes : List ℕ) → length bytes ≤ m → length bytes ≤ n → check_results_from m base bytes ≡ check_results_from n base bytes
+turns_enough : (p : Profile) (m n base : ℕ) (bytes : List ℕ) → length bytes ≤ m → length bytes ≤ n → check_results_from p m base bytes ≡ check_results_from p n base bytes
 unfolding check_results_from
-turns_enough zero n base bytes a b = rw (nil_from_length bytes (omega arith)) (sym (nothing_from n base))
-turns_enough (suc m) zero base bytes a b = rw (nil_from_length bytes (omega arith)) refl
-turns_enough (suc m) (suc n) base bytes a b =
-    same_after (frame_fault base bytes) (λ k. check_results_from m (base + k) (drop k bytes)) (λ k. check_results_from n (base + k) (drop k bytes)) (frame_length bytes)
-    (λ k is. let i = frame_inside bytes k is in turns_enough m n (base + k) (drop k bytes) (omega (arith, i.0, i.1, length-drop k bytes)) (omega (arith, i.0, i.1, length-drop k bytes)))
+turns_enough p zero n base bytes a b = rw (nil_from_length bytes (omega arith)) (sym (nothing_from p n base))
+turns_enough p (suc m) zero base bytes a b = rw (nil_from_length bytes (omega arith)) refl
+turns_enough p (suc m) (suc n) base bytes a b =
+    same_after (frame_fault_under p base bytes) (λ k. check_results_from p m (base + k) (drop k bytes)) (λ k. check_results_from p n (base + k) (drop k bytes)) (frame_length bytes)
+    (λ k is. let i = frame_inside bytes k is in turns_enough p m n (base + k) (drop k bytes) (omega (arith, i.0, i.1, length-drop k bytes)) (omega (arith, i.0, i.1, length-drop k bytes)))
 
 -- ---- the documents in turn
 
 -- the end of a dump has no results
-pub none_at : (base : ℕ) → check_results_at base [] ≡ []
+pub none_at : (p : Profile) (base : ℕ) → check_results_at p base [] ≡ []
 unfolding check_results_at
-none_at base = nothing_from 0 base
+none_at p base = nothing_from p 0 base
 
-by_frame : (base : ℕ) (b : ℕ) (bytes : List ℕ) (frame : Result (Option ℕ) FaultKind) → frame_length (b ∷ bytes) ≡ frame
-    → check_results_at base (b ∷ bytes) ≡ check_results_by (framed_fault base (b ∷ bytes) frame) (λ k. check_results_from (length bytes) (base + k) (drop k (b ∷ bytes))) frame
+by_frame : (p : Profile) (base : ℕ) (b : ℕ) (bytes : List ℕ) (frame : Result (Option ℕ) FaultKind) → frame_length (b ∷ bytes) ≡ frame
+    → check_results_at p base (b ∷ bytes) ≡ check_results_by (framed_under p base (b ∷ bytes) frame) (λ k. check_results_from p (length bytes) (base + k) (drop k (b ∷ bytes))) frame
 unfolding check_results_at check_results_from
-by_frame base b bytes frame is = ap (λ (f : Result (Option ℕ) FaultKind). check_results_by (framed_fault base (b ∷ bytes) f) (λ k. check_results_from (length bytes) (base + k) (drop k (b ∷ bytes))) f) is
+by_frame p base b bytes frame is = ap (λ (f : Result (Option ℕ) FaultKind). check_results_by (framed_under p base (b ∷ bytes) f) (λ k. check_results_from p (length bytes) (base + k) (drop k (b ∷ bytes))) f) is
 
-after_enough : (turns base : ℕ) (bytes : List ℕ) → length bytes ≤ turns → check_results_from turns base bytes ≡ check_results_at base bytes
+after_enough : (p : Profile) (turns base : ℕ) (bytes : List ℕ) → length bytes ≤ turns → check_results_from p turns base bytes ≡ check_results_at p base bytes
 unfolding check_results_at
-after_enough turns base bytes le = turns_enough turns (length bytes) base bytes le (omega arith)
+after_enough p turns base bytes le = turns_enough p turns (length bytes) base bytes le (omega arith)
 
 -- the results begin with that of the first document, and continue after the bytes that its length counts
-pub turn_at : (base n : ℕ) (bytes : List ℕ) → frame_length bytes ≡ Ok (Some n) → check_results_at base bytes ≡ first_fault base (take n bytes) ∷ check_results_at (base + n) (drop n bytes)
-turn_at base n [] is = absurd cc
-turn_at base n (b ∷ bytes) is =
+pub turn_at : (p : Profile) (base n : ℕ) (bytes : List ℕ) → frame_length bytes ≡ Ok (Some n) → check_results_at p base bytes ≡ fault_under p base (take n bytes) ∷ check_results_at p (base + n) (drop n bytes)
+turn_at p base n [] is = absurd cc
+turn_at p base n (b ∷ bytes) is =
     let i = frame_inside (b ∷ bytes) n is in
-    by_frame base b bytes (Ok (Some n)) is
-    ∙ ap (λ (vs : CheckResults). first_fault base (take n (b ∷ bytes)) ∷ vs) (after_enough (length bytes) (base + n) (drop n (b ∷ bytes)) (omega (arith, i.0, i.1, length-drop n (b ∷ bytes))))
+    by_frame p base b bytes (Ok (Some n)) is
+    ∙ ap (λ (vs : CheckResults). fault_under p base (take n (b ∷ bytes)) ∷ vs) (after_enough p (length bytes) (base + n) (drop n (b ∷ bytes)) (omega (arith, i.0, i.1, length-drop n (b ∷ bytes))))
 
 -- a bad length has the last result
-pub last_at : (base : ℕ) (bytes : List ℕ) (kind : FaultKind) → frame_length bytes ≡ Err kind → check_results_at base bytes ≡ Some (record { kind = kind; offset = base; path = [] }) ∷ []
-last_at base [] kind is = absurd cc
-last_at base (b ∷ bytes) kind is = by_frame base b bytes (Err kind) is
+pub last_at : (p : Profile) (base : ℕ) (bytes : List ℕ) (kind : FaultKind) → frame_length bytes ≡ Err kind → check_results_at p base bytes ≡ Some (record { kind = kind; offset = base; path = [] }) ∷ []
+last_at p base [] kind is = absurd cc
+last_at p base (b ∷ bytes) kind is = by_frame p base b bytes (Err kind) is
 
 -- ---- the same as the scan
 
-document_at : (base : ℕ) (d : Doc) (prefix rest : List ℕ) → IsDocument d prefix → check_results_at base (prefix ++ rest) ≡ None ∷ check_results_at (base + length prefix) rest
+document_at : (base : ℕ) (d : Doc) (prefix rest : List ℕ) → IsDocument d prefix → check_results_at Named base (prefix ++ rest) ≡ None ∷ check_results_at Named (base + length prefix) rest
 document_at base d prefix rest is =
-    turn_at base (length prefix) (prefix ++ rest) (document_frame d prefix rest is)
+    turn_at Named base (length prefix) (prefix ++ rest) (document_frame d prefix rest is)
     ∙ rw (take_at prefix rest (length prefix) refl, drop_at prefix rest (length prefix) refl, document_faultless base prefix d is) refl
 
-joined_at : (base : ℕ) (ds : List Doc) (prefix rest : List ℕ) → AreJoined ds prefix → check_results_at base (prefix ++ rest) ≡ map (λ d. None) ds ++ check_results_at (base + length prefix) rest
-joined_at base [] prefix rest j = rw j (ap (λ n. check_results_at n rest) (omega arith))
+joined_at : (base : ℕ) (ds : List Doc) (prefix rest : List ℕ) → AreJoined ds prefix → check_results_at Named base (prefix ++ rest) ≡ map (λ d. None) ds ++ check_results_at Named (base + length prefix) rest
+joined_at base [] prefix rest j = rw j (ap (λ n. check_results_at Named n rest) (omega arith))
 joined_at base (d ∷ ds) prefix rest j =
     let whole : prefix ++ rest ≡ j.0 ++ (j.1 ++ rest) = ap (λ (x : List ℕ). x ++ rest) j.4 ∙ append_assoc j.0 j.1 rest in
     let size : base + length j.0 + length j.1 ≡ base + length prefix = omega (arith, ap length j.4, length-append j.0 j.1) in
-    ap (check_results_at base) whole
+    ap (check_results_at Named base) whole
     ∙ document_at base d j.0 (j.1 ++ rest) j.2
-    ∙ ap (λ (vs : CheckResults). None ∷ vs) (joined_at (base + length j.0) ds j.1 rest j.3 ∙ ap (λ (n : ℕ). map (λ d. None) ds ++ check_results_at n rest) size)
+    ∙ ap (λ (vs : CheckResults). None ∷ vs) (joined_at (base + length j.0) ds j.1 rest j.3 ∙ ap (λ (n : ℕ). map (λ d. None) ds ++ check_results_at Named n rest) size)
 
 fault_at : (base : ℕ) (bytes : List ℕ) (f : Fault) (frame : Result (Option ℕ) FaultKind) → frame_length bytes ≡ frame → framed_fault base bytes frame ≡ Some f
-    → (others : CheckResults) × (check_results_at base bytes ≡ Some f ∷ others)
+    → (others : CheckResults) × (check_results_at Named base bytes ≡ Some f ∷ others)
 fault_at base bytes f (Ok None) is has = absurd cc
 fault_at base bytes f (Ok (Some n)) is has =
-    let others = check_results_at (base + n) (drop n bytes) in
-    (others, turn_at base n bytes is ∙ ap (λ (v : Option Fault). v ∷ others) has)
-fault_at base bytes f (Err kind) is has = ([], last_at base bytes kind is ∙ ap (λ (v : Option Fault). v ∷ []) has)
+    let others = check_results_at Named (base + n) (drop n bytes) in
+    (others, turn_at Named base n bytes is ∙ ap (λ (v : Option Fault). v ∷ others) has)
+fault_at base bytes f (Err kind) is has = ([], last_at Named base bytes kind is ∙ ap (λ (v : Option Fault). v ∷ []) has)
 
 -- the results begin as the scan does: none has a fault before the first fault
 pub as_scan : (ds : List Doc) (end : Option Fault) (bytes : List ℕ) → IsDumpScan ds end bytes → BeginAs ds end (check_results bytes)
 as_scan ds None bytes w =
     ap check_results (sym (append-nil bytes)) ∙ joined_at 0 ds bytes [] w
-    ∙ ap (λ (vs : CheckResults). map (λ d. None) ds ++ vs) (none_at (0 + length bytes)) ∙ append-nil (map (λ d. None) ds)
+    ∙ ap (λ (vs : CheckResults). map (λ d. None) ds ++ vs) (none_at Named (0 + length bytes)) ∙ append-nil (map (λ d. None) ds)
 as_scan ds (Some f) bytes w =
     let found = fault_at (length w.0) w.1 f (frame_length w.1) refl w.4 in
     let place : 0 + length w.0 ≡ length w.0 = omega arith in
-    (found.0, ap check_results w.3 ∙ joined_at 0 ds w.0 w.1 w.2 ∙ ap (λ (vs : CheckResults). map (λ d. None) ds ++ vs) (ap (λ n. check_results_at n w.1) place ∙ found.1))
+    (found.0, ap check_results w.3 ∙ joined_at 0 ds w.0 w.1 w.2 ∙ ap (λ (vs : CheckResults). map (λ d. None) ds ++ vs) (ap (λ n. check_results_at Named n w.1) place ∙ found.1))
 
 no_fault_among : (ds : List Doc) (f : Fault) (others : CheckResults) → AllByRecursion (λ v. v ≡ None) (map (λ d. None) ds ++ Some f ∷ others) → ⊥
 no_fault_among [] f others all = let e = all.0 in absurd cc

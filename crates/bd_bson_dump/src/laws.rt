@@ -4,20 +4,21 @@ ghost use Rattle.std.specs.Prelude.{◌≡◌, ◌<◌, ◌+◌, ◌∷◌, [], 
 ghost use Rattle.std.specs.List.{AllByRecursion};
 ghost use Rattle.bd_value.specs.Tree.{Doc};
 ghost use Rattle.bd_bson_check.specs.Fault.{Fault as FaultView};
-ghost use Rattle.bd_bson_check.specs.FirstFault.{first_fault};
+ghost use Rattle.bd_bson_check.specs.FirstFault.{fault_under};
 ghost use Rattle.bd_bson_check.specs.Dump.{AreJoined, IsDumpScan, frame_length};
 ghost use Rattle.bd_bson_check.specs.declared.fault.FaultKind.{FaultKind as Kind};
+ghost use Rattle.bd_bson_check.specs.declared.profile.Profile.{Profile};
 ghost use Rattle.bd_bson_dump.specs.CheckResults.{BeginAs, check_results, check_results_at};
 
-/// Documents are checked in turn, each by the bytes that its length counts, whatever was found before it. The check ends at
+/// Under a profile documents are checked in turn, each by the bytes that its length counts, whatever was found before it. The check ends at
 /// the end of the bytes, and at a fault of a length itself.
 pub fn checks_in_turn()
-    ensures end { (base : ℕ) → check_results_at base [] ≡ [] }
-    ensures turn { (base n : ℕ) (bytes : List ℕ) →
-        frame_length bytes ≡ Ok (Some n) → check_results_at base bytes
-        ≡ first_fault base (take n bytes) ∷ check_results_at (base + n) (drop n bytes) }
-    ensures last { (base : ℕ) (bytes : List ℕ) (kind : Kind) → frame_length bytes ≡ Err kind →
-        check_results_at base bytes ≡ Some (record { kind = kind; offset = base; path = [] }) ∷ [] }
+    ensures end { (p : Profile) (base : ℕ) → check_results_at p base [] ≡ [] }
+    ensures turn { (p : Profile) (base n : ℕ) (bytes : List ℕ) →
+        frame_length bytes ≡ Ok (Some n) → check_results_at p base bytes
+        ≡ fault_under p base (take n bytes) ∷ check_results_at p (base + n) (drop n bytes) }
+    ensures last { (p : Profile) (base : ℕ) (bytes : List ℕ) (kind : Kind) →
+        frame_length bytes ≡ Err kind → check_results_at p base bytes ≡ Some (record { kind = kind; offset = base; path = [] }) ∷ [] }
 {}
 
 /// The first document with a fault is the one at which a scan ends, and its fault is the scan's. So bytes are documents

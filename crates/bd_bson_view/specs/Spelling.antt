@@ -1,5 +1,5 @@
 -- Which bytes are which document (BSON 1.1, the grammar of `document`).
-use Rattle.std.specs.Prelude.{◌≡◌, ◌≢◌, ◌≤◌, ◌<◌, ◌^◌, ℕ, ◌+◌, Bool, true, false, Option, List, [], ◌∷◌, ◌++◌, length}
+use Rattle.std.specs.Prelude.{◌≡◌, ◌≢◌, ◌≤◌, ◌<◌, ◌^◌, ℕ, ℤ, ◌+◌, Bool, true, false, Option, List, [], ◌∷◌, ◌++◌, length}
 use Rattle.std.specs.Prelude.{IsUtf8, FitsSigned, ◌==◌, nat_eq, if◌then◌else◌}
 use Rattle.std.specs.{List.AllByRecursion, Map.lookup}
 use Rattle.std.specs.Int.{w32, w64, to_le_bytes, cast_unsigned}
@@ -93,6 +93,34 @@ element t name value = type_byte (kind_of t) ∷ (name ++ 0 ∷ value)
 abbrev pub IsText : List ℕ → Type 0
 IsText s = IsUtf8 s × (length s + 1 < 2 ^ 32)
 
+-- the four types of numbers
+pub data NumberKind : Type 0 where
+  as_double : NumberKind
+  as_int32 : NumberKind
+  as_int64 : NumberKind
+  as_decimal128 : NumberKind
+
+-- the type of a kind of number
+abbrev pub number_type : NumberKind → ElementType
+number_type as_double = Double
+number_type as_int32 = Kept kinds.Int32
+number_type as_int64 = Kept kinds.Int64
+number_type as_decimal128 = Decimal128
+
+-- BSON 1.1, `element`: the type byte of a kind of number
+abbrev pub number_byte : NumberKind → ℕ
+number_byte as_double = 1
+number_byte as_int32 = 16
+number_byte as_int64 = 18
+number_byte as_decimal128 = 19
+
+-- how many bytes its value has
+abbrev pub number_size : NumberKind → ℕ
+number_size as_double = 8
+number_size as_int32 = 4
+number_size as_int64 = 8
+number_size as_decimal128 = 16
+
 -- the bytes of a scalar after its type byte and name (BSON 1.1), least byte first;
 -- none for null, undefined, MinKey and MaxKey
 abbrev pub scalar_bytes : Scalar → List ℕ
@@ -130,34 +158,89 @@ CanSpell _ = Unit {0}
 abbrev pub IsScalar : Scalar → List ℕ → Type 0
 IsScalar s bytes = CanSpell s × (bytes ≡ scalar_bytes s)
 
+-- The grammar of a document, but for its scalars: which bytes spell a scalar, and how these stand in an element.
+pub record Grammar : Type 1 where
+  -- The bytes spell the scalar.
+  pub Spells : Scalar → List ℕ → Type 0
+  -- the bytes of an element, by the value, its name and the bytes that spell it
+  pub written : Tree → List ℕ → List ℕ → List ℕ
+
 -- The bytes spell the value. An array is spelled as a document whose names are any names.
 abbrev mutual
   -- The bytes spell the value after its type byte and name (BSON 1.1, `element`);
   -- of a document they are all of its bytes.
-  pub IsValue : Tree → List ℕ → Type 0
-  IsValue (leaf s) bytes = IsScalar s bytes
-  IsValue (doc fs) bytes = (body : List ℕ) × AreFields fs body × (bytes ≡ framed body)
-  IsValue (array ts) bytes = (body : List ℕ) × AreItems ts body × (bytes ≡ framed body)
-  IsValue (code_scope s fs) bytes = (body : List ℕ) × AreFields fs body × (bytes ≡ scoped s (framed body)) × IsText s
+  pub IsValueBy : Grammar → Tree → List ℕ → Type 0
+  IsValueBy g (leaf s) bytes = g.Spells s bytes
+  IsValueBy g (doc fs) bytes = (body : List ℕ) × AreFieldsBy g fs body × (bytes ≡ framed body)
+  IsValueBy g (array ts) bytes = (body : List ℕ) × AreItemsBy g ts body × (bytes ≡ framed body)
+  IsValueBy g (code_scope s fs) bytes =
+      (body : List ℕ) × AreFieldsBy g fs body × (bytes ≡ scoped s (framed body)) × IsText s
 
   -- `e_list`: the bytes are the elements of a document, one after the other.
-  pub AreFields : Fields → List ℕ → Type 0
-  AreFields no_fields bytes = bytes ≡ []
-  AreFields (field name t fs) bytes =
-      (value : List ℕ) × (rest : List ℕ) × IsName name × IsValue t value × AreFields fs rest
-      × (bytes ≡ element t name value ++ rest)
+  pub AreFieldsBy : Grammar → Fields → List ℕ → Type 0
+  AreFieldsBy g no_fields bytes = bytes ≡ []
+  AreFieldsBy g (field name t fs) bytes =
+      (value : List ℕ) × (rest : List ℕ) × IsName name × IsValueBy g t value × AreFieldsBy g fs rest
+      × (bytes ≡ g.written t name value ++ rest)
 
   -- `e_list`: the bytes are the elements of an array, one after the other, whatever their names.
-  pub AreItems : Items → List ℕ → Type 0
-  AreItems no_items bytes = bytes ≡ []
-  AreItems (item t ts) bytes = (name : List ℕ) × (value : List ℕ) × (rest : List ℕ) × IsName name × IsValue t value
-      × AreItems ts rest × (bytes ≡ element t name value ++ rest)
+  pub AreItemsBy : Grammar → Items → List ℕ → Type 0
+  AreItemsBy g no_items bytes = bytes ≡ []
+  AreItemsBy g (item t ts) bytes = (name : List ℕ) × (value : List ℕ) × (rest : List ℕ) × IsName name × IsValueBy g t value
+      × AreItemsBy g ts rest × (bytes ≡ g.written t name value ++ rest)
 
--- The bytes are this document (BSON 1.1): at most 16,793,600 bytes, and at most 200 levels.
-pub record IsDocument (d : Doc) (bytes : List ℕ) : Type 0 where
-  pub spells : IsValue (doc (fields_of d)) bytes
+-- The bytes are this document by the grammar: at most 16,793,600 bytes, and at most 200 levels.
+pub record IsDocumentBy (g : Grammar) (d : Doc) (bytes : List ℕ) : Type 0 where
+  pub spells : IsValueBy g (doc (fields_of d)) bytes
   pub short : length bytes ≤ longest_document
   pub shallow : depth (doc (fields_of d)) ≤ most_levels
+
+-- ---- the nineteen kinds
+
+-- BSON 1.1 without double and decimal128: each kind has one type byte
+abbrev pub nineteen : Grammar
+nineteen = record { Spells = IsScalar; written = element }
+
+-- The bytes spell the value after its type byte and name (BSON 1.1, `element`); of a document they are all of its bytes.
+abbrev pub IsValue : Tree → List ℕ → Type 0
+IsValue = IsValueBy nineteen
+
+-- `e_list`: the bytes are the elements of a document, one after the other.
+abbrev pub AreFields : Fields → List ℕ → Type 0
+AreFields = AreFieldsBy nineteen
+
+-- `e_list`: the bytes are the elements of an array, one after the other, whatever their names.
+abbrev pub AreItems : Items → List ℕ → Type 0
+AreItems = AreItemsBy nineteen
+
+-- The bytes are this document (BSON 1.1): at most 16,793,600 bytes, and at most 200 levels.
+abbrev pub IsDocument : Doc → List ℕ → Type 0
+IsDocument = IsDocumentBy nineteen
+
+-- ---- all types, with numbers by value
+
+-- A number as it is spelled: its type byte, and the bytes of its value. Its worth is z, by `worth`.
+pub record IsNumber (worth : ElementType → List ℕ → ℤ) (z : ℤ) (bytes : List ℕ) : Type 0 where
+  pub kind : NumberKind
+  pub value : List ℕ
+  pub typed : bytes ≡ number_byte kind ∷ value
+  pub sized : length value ≡ number_size kind
+  pub is_worth : worth (number_type kind) value ≡ z
+
+-- Of a number the type byte comes first, and stands before the name in the element.
+abbrev pub written_typed : Tree → List ℕ → List ℕ → List ℕ
+written_typed (leaf (trees.int64 z)) name (type ∷ value) = type ∷ (name ++ 0 ∷ value)
+written_typed t name value = element t name value
+
+-- the scalars of all types: each number is a whole number, its worth, as an int64; others as ever
+abbrev pub IsValuedScalar : (ElementType → List ℕ → ℤ) → Scalar → List ℕ → Type 0
+IsValuedScalar worth (trees.int32 z) bytes = ⊥
+IsValuedScalar worth (trees.int64 z) bytes = IsNumber worth z bytes
+IsValuedScalar worth s bytes = IsScalar s bytes
+
+-- BSON 1.1, all 21 types: int32, int64, double and decimal128 by their worth
+abbrev pub valued : (ElementType → List ℕ → ℤ) → Grammar
+valued worth = record { Spells = IsValuedScalar worth; written = written_typed }
 
 -- The text is no longer than a document may be: 16,793,600 bytes.
 abbrev pub IsShort : List ℕ → Type 0

@@ -24,7 +24,7 @@ use Rattle.bd_cli_files.specs.declared.input.InputFault.TheVariants as inputs
 printed : (vs : List (Option Fault)) (given text : List ℕ) → AreVisited dump_texts vs given text
     → (ds : List Doc) × AreJoined ds given × (length ds ≡ length vs) × (text ≡ lines ds)
 printed vs given text none_visited = ([], refl, refl, refl)
-printed vs given text (more_visited us prefix before None frame piece visited is (d, spelled, line)) =
+printed vs given text (more_visited us prefix before None frame piece visited is (none, (d, spelled, line))) =
     let h = printed us prefix before visited in (
       h.0 ++ d ∷ [],
       joined_append h.0 (d ∷ []) prefix frame h.1 (joined_one d frame spelled),
@@ -78,7 +78,7 @@ module _ (old new : Reader) (out_old out_new : Writer) (err_old err_new : Writer
   prints_stop NoMemory (vs, given, text, visited, at, no_failure, wrote) reported =
       let p = printed vs given text visited in
       inr (inr (text, (p.0, given, p.1, at, no_failure, p.3), wrote, reported))
-  prints_stop Unwritten (vs, given, text, piece, visited, failed_write, inl (None, frame, is, (d, spelled, line), at, no_failure)) reported =
+  prints_stop Unwritten (vs, given, text, piece, visited, failed_write, inl (None, frame, is, (none, (d, spelled, line)), at, no_failure)) reported =
       let p = printed vs given text visited in
       inr (inl (text, piece, (p.0, d, given ++ frame, joined_append p.0 (d ∷ []) given frame p.1 (joined_one d frame spelled), (at.0, no_failure), p.3, line), failed_write, reported))
   prints_stop Unwritten (vs, given, text, piece, visited, failed_write, inl (Some f, frame, is, prints, at, no_failure)) reported = let e = prints.1 in absurd cc

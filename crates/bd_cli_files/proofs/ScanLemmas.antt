@@ -9,8 +9,8 @@ use Rattle.bd_value.specs.Limits.{longest_input, most_reads}
 use Rattle.bd_io_device.specs.{Devices.after_more, declared.reading.ReadFault.ReadFault}
 use Rattle.bd_io_device.specs.Devices.{AreReads, Reader, ReadsUntil, TakesText, WriteFailsAfter, Writer, between}
 use Rattle.bd_io_device.proofs.DevicesLemmas.{reads_append, reads_at_least}
-use Rattle.bd_bson_check.specs.{Fault.Fault, FirstFault.first_fault, Fault.ReportsFault, Fault.fault_view}
-use Rattle.bd_bson_check.specs.Dump.{frame_fault, frame_length, framed_fault}
+use Rattle.bd_bson_check.specs.{Fault.Fault, FirstFault.fault_under, Fault.ReportsFault, Fault.fault_view, declared.profile.Profile.Profile}
+use Rattle.bd_bson_check.specs.Dump.{frame_fault_under, frame_length, framed_under}
 use Rattle.bd_bson_stream.specs.declared.doc_buffer.{DocBuffer.DocBuffer, DocFault.DocFault, FrameFault.FrameFault}
 use Rattle.bd_bson_stream.specs.Stream.{FailsToRead, FindsEnd, IsReason, ReadsDocument, ReadsToFault, buffered_bytes, AreFrames, EndsWithinOne, HasNoFrame, IsFrame, IsWithinOne}
 use Rattle.bd_bson_stream.proofs.StreamLemmas.{cut_short_within, frame_on, frame_within, frames_more}
@@ -86,9 +86,9 @@ framed_rest (Some xs) None part f gave none is = absurd gave
 framed_rest (Some xs) (Some ys) part f gave none is = (ys, sym gave, subst (λ (x : List ℕ). frame_length x ≡ Err f.kind) (none.1 ∙ gave) none.2)
 
 -- the fault in a document of which all bytes are there
-fault_inside : (offset : ℕ) (frame rest : List ℕ) (f : Fault) → IsFrame frame → first_fault offset frame ≡ Some f → frame_fault offset (frame ++ rest) ≡ Some f
-fault_inside offset frame rest f is first =
-    ap (framed_fault offset (frame ++ rest)) (frame_on frame rest is) ∙ ap (first_fault offset) (take_at frame rest (length frame) refl) ∙ first
+fault_inside : (p : Profile) (offset : ℕ) (frame rest : List ℕ) (f : Fault) → IsFrame frame → fault_under p offset frame ≡ Some f → frame_fault_under p offset (frame ++ rest) ≡ Some f
+fault_inside p offset frame rest f is first =
+    ap (framed_under p offset (frame ++ rest)) (frame_on frame rest is) ∙ ap (fault_under p offset) (take_at frame rest (length frame) refl) ∙ first
 
 -- ---- one step
 
@@ -274,25 +274,25 @@ module _ {texts : Texts} {old mid : Reader} {out_old out_mid : Writer} {buffer :
     abbrev IsLast : ℕ → List ℕ → reported.Fault → Type 0
     IsLast number bytes f = (texts.bad number (fault_view f) ≡ None) ⊎ ((frame_length part ≡ Err f.kind) × (frame_length bytes ≡ Err f.kind))
 
-    ends_at : (rest : List ℕ) (f : reported.Fault) → IfSome mid.remaining (λ xs. part ++ rest ≡ xs) → f.document ≡ buffer.number → frame_fault buffer.offset (part ++ rest) ≡ Some (fault_view f)
+    ends_at : (rest : List ℕ) (f : reported.Fault) → IfSome mid.remaining (λ xs. part ++ rest ≡ xs) → f.document ≡ buffer.number → frame_fault_under texts.profile buffer.offset (part ++ rest) ≡ Some (fault_view f)
         → IsLast buffer.number (part ++ rest) f → EndsScan texts (between old new) (length s.done) s.given (Some (inputs.Faulty f))
     ends_at rest f known numbered fails last =
         let all = streams (s.given ++ (part ++ rest)) (known_after old.remaining mid.remaining s.given (part ++ rest) s.gave known) in
-        let fault = subst (λ p. frame_fault p (part ++ rest) ≡ Some (fault_view f)) s.located fails in
+        let fault = subst (λ p. frame_fault_under texts.profile p (part ++ rest) ≡ Some (fault_view f)) s.located fails in
         (part, rest, all, at, numbered ∙ s.counted, fault, subst (λ n. IsLast n (part ++ rest) f) s.counted last)
 
-    pub ends_faulty : (f : reported.Fault) → IsFrame part → first_fault buffer.offset part ≡ Some (fault_view f) → f.document ≡ buffer.number
+    pub ends_faulty : (f : reported.Fault) → IsFrame part → fault_under texts.profile buffer.offset part ≡ Some (fault_view f) → f.document ≡ buffer.number
         → texts.bad buffer.number (fault_view f) ≡ None → Ended new out_mid (Some (inputs.Faulty f))
     ends_faulty f is first numbered none =
         let rest = rest_of new.remaining in
-        let end = ends_at rest f (known_whole mid.remaining new.remaining part g.gave) numbered (fault_inside buffer.offset part rest (fault_view f) is first) (inl none) in
+        let end = ends_at rest f (known_whole mid.remaining new.remaining part g.gave) numbered (fault_inside texts.profile buffer.offset part rest (fault_view f) is first) (inl none) in
         ends_so new (Some (inputs.Faulty f)) end (ap (λ (o : Option (List ℕ)). unwrap_or o []) (subst (λ n. texts.bad n (fault_view f) ≡ None) s.counted none))
 
     pub ends_framed : (f : reported.Fault) → HasNoFrame [] mid.remaining f.kind → frame_length part ≡ Err f.kind → f.offset ≡ buffer.offset → f.document ≡ buffer.number → f.path.items ≡ []
         → EndsScan texts (between old new) (length s.done) s.given (Some (inputs.Faulty f))
     ends_framed f none is offset numbered path =
         let r = framed_rest mid.remaining new.remaining part f g.gave none is in
-        let fails = ap (framed_fault buffer.offset (part ++ r.0)) r.2
+        let fails = ap (framed_under texts.profile buffer.offset (part ++ r.0)) r.2
         ∙ ap₂ (λ (o : ℕ) (p : List (List ℕ)). Some (record { kind = f.kind; offset = o; path = p })) (sym offset) (sym (ap (map string_bytes) path)) in
         ends_at r.0 f r.1 numbered fails (inr (is, r.2))
 

@@ -5,9 +5,9 @@ use Rattle.std.specs.{List.count_by}
 use Rattle.bd_value.specs.{Limits.longest_input}
 use Rattle.bd_io_device.specs.Devices.{Over, Reader, read_words}
 use Rattle.bd_io_device.specs.declared.reading.ReadFault.{ReadFault}
-use Rattle.bd_bson_check.specs.{Fault.Fault, declared.fault.FaultKind.FaultKind, Dump.frame_length}
+use Rattle.bd_bson_check.specs.{Fault.Fault, declared.fault.FaultKind.FaultKind, Dump.frame_length, declared.profile.Profile.Profile}
 use Rattle.bd_bson_stream.specs.Stream.{AreFrames, IsCutShort}
-use Rattle.bd_bson_dump.specs.CheckResults.{check_results}
+use Rattle.bd_bson_dump.specs.CheckResults.{check_results_under}
 use Rattle.bd_cli_files.specs.{declared.output.Status.Status}
 use Rattle.bd_cli_files.specs.{declared.output.Status.TheVariants.Done}
 use Rattle.bd_cli_files.specs.{declared.output.Status.TheVariants.Failed}
@@ -47,16 +47,20 @@ check_output vs unread = let message = option_map read_words unread in record {
 
 -- For each document of an input its first fault or None;
 -- if a read failed, for those before the document in which it failed.
-abbrev pub AreCheckResults : List ℕ → Option ReadFault → List (Option Fault) → Type 0
-AreCheckResults bytes None vs = vs ≡ check_results bytes
-AreCheckResults bytes (Some fault) vs =
+abbrev pub AreCheckResults : Profile → List ℕ → Option ReadFault → List (Option Fault) → Type 0
+AreCheckResults p bytes None vs = vs ≡ check_results_under p bytes
+AreCheckResults p bytes (Some fault) vs =
     (frames : List (List ℕ)) × (prefix : List ℕ) × (part : List ℕ) × AreFrames frames prefix × IsCutShort part
-    × (bytes ≡ prefix ++ part) × (vs ≡ check_results prefix)
+    × (bytes ≡ prefix ++ part) × (vs ≡ check_results_under p prefix)
+
+-- This is the output of `check` under a profile for all bytes of an input, or for those before a failed read.
+abbrev pub IsOutputUnder : Profile → List ℕ → Option ReadFault → Transcript → Type 0
+IsOutputUnder p bytes fault output =
+    (vs : List (Option Fault)) × AreCheckResults p bytes fault vs × (output ≡ check_output vs fault)
 
 -- This is the output of `check` for all bytes of an input, or for those before a failed read.
 abbrev pub IsOutputOfCheck : List ℕ → Option ReadFault → Transcript → Type 0
-IsOutputOfCheck bytes fault output =
-    (vs : List (Option Fault)) × AreCheckResults bytes fault vs × (output ≡ check_output vs fault)
+IsOutputOfCheck bytes fault output = IsOutputUnder Profile.Named bytes fault output
 
 -- At most 4,294,967,295 bytes were checked: there are no more, or no more come before a bad length.
 abbrev pub ChecksWithinLimit : List ℕ → Option ReadFault → Type 0
@@ -66,18 +70,22 @@ ChecksWithinLimit bytes None = (length bytes ≤ longest_input)
 ChecksWithinLimit bytes (Some f) = Unit {0}
 
 -- All bytes of the input have these results and then others, and no read failed.
-abbrev pub HasResultsFirst : Over Reader → List (Option Fault) → Type 0
-HasResultsFirst file vs = (bytes : List ℕ) × (more : List (Option Fault)) × StreamsInput file bytes None
-    × (check_results bytes ≡ vs ++ more)
+abbrev pub HasResultsFirst : Profile → Over Reader → List (Option Fault) → Type 0
+HasResultsFirst p file vs = (bytes : List ℕ) × (more : List (Option Fault)) × StreamsInput file bytes None
+    × (check_results_under p bytes ≡ vs ++ more)
 
--- A run of `check`: a piece is the line of a faulty document, and is written before the next document is read.
-abbrev pub check_run : Over Reader → Run
-check_run file = record {
+-- A run of `check` under a profile: a piece is the line of a faulty document, and is written before the next document is read.
+abbrev pub check_run_under : Profile → Over Reader → Run
+check_run_under p file = record {
   IsOutput = λ output. (bytes : List ℕ) × (fault : Option ReadFault) × StreamsInput file bytes fault
-      × ChecksWithinLimit bytes fault × IsOutputOfCheck bytes fault output;
+      × ChecksWithinLimit bytes fault × IsOutputUnder p bytes fault output;
   IsNext = λ text piece. (vs : List (Option Fault)) × (f : Fault) × (given : List ℕ)
-      × (check_results given ≡ vs ++ Some f ∷ []) × GivesOnly file given × HasResultsFirst file (vs ++ Some f ∷ [])
+      × (check_results_under p given ≡ vs ++ Some f ∷ []) × GivesOnly file given × HasResultsFirst p file (vs ++ Some f ∷ [])
       × (text ≡ check_result_lines 0 vs) × (piece ≡ check_result_line (length vs) (Some f));
-  IsBegun = λ text. (vs : List (Option Fault)) × (given : List ℕ) × (check_results given ≡ vs)
-      × StopsWithinOne given file × HasResultsFirst file vs × (text ≡ check_result_lines 0 vs);
+  IsBegun = λ text. (vs : List (Option Fault)) × (given : List ℕ) × (check_results_under p given ≡ vs)
+      × StopsWithinOne given file × HasResultsFirst p file vs × (text ≡ check_result_lines 0 vs);
 }
+
+-- a run of `check`
+abbrev pub check_run : Over Reader → Run
+check_run file = check_run_under Profile.Named file

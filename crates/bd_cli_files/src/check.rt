@@ -2,8 +2,9 @@
 
 ghost use Rattle.std.specs.Prelude.{OnErr, OnOk};
 ghost use Rattle.bd_io_device.specs.Devices.{WriteFailsWithin, TakesText, over};
-ghost use Rattle.bd_cli_files.specs.Check.{check_message, check_run, check_status};
-ghost use Rattle.bd_cli_files.specs.inside.{Output.reported_bytes, Scan.check_texts};
+ghost use Rattle.bd_cli_files.specs.Check.{check_message, check_run, check_run_under, check_status};
+ghost use Rattle.bd_cli_files.specs.inside.{Output.reported_bytes, Scan.check_texts, Scan.profile_of};
+ghost use Rattle.bd_bson_check.specs.declared.profile.Profile.TheVariants.{All};
 ghost use Rattle.bd_cli_files.specs.Input.{ReadsNoFurther};
 ghost use Rattle.bd_cli_files.specs.Run.{Prints, ReportsMessage};
 
@@ -12,8 +13,7 @@ use crate::output::{
     OutputFault, Status, push_fault, report_stop, status_of, write_count, write_end,
 };
 use crate::scan::{Visitor, scan_documents};
-use bd_bson_check::Fault;
-use bd_bson_view::RawDoc;
+use bd_bson_check::{Fault, Profile};
 use bd_io_device::{DeviceFault, Input, Output, write_all};
 use std::alloc::Global;
 
@@ -34,8 +34,37 @@ pub fn check<R: Input, O: Output, E: Output>(
         (over O.state out.old out.new) (over E.state err.old err.new) result }
     ensures stops_reading { ReadsNoFurther R.read_gives input.old input.new }
 {
+    check_by::<false, R, O, E>(alloc, input, out, err)
+}
+
+/// Reads an input document by document, and prints the fault of each document that has one if all types are read. No tree
+/// is built.
+pub fn check_all_types<R: Input, O: Output, E: Output>(
+    alloc: Global,
+    input: &mut R,
+    out: &mut O,
+    err: &mut E,
+) -> Status
+    ensures checks { Prints (check_run_under All (over R.state input.old input.new))
+        (over O.state out.old out.new) (over E.state err.old err.new) result }
+    ensures stops_reading { ReadsNoFurther R.read_gives input.old input.new }
+{
+    check_by::<true, R, O, E>(alloc, input, out, err)
+}
+
+/// The same under either profile.
+fn check_by<const ALL: bool, R: Input, O: Output, E: Output>(
+    alloc: Global,
+    input: &mut R,
+    out: &mut O,
+    err: &mut E,
+) -> Status
+    ensures checks { Prints (check_run_under (profile_of ALL) (over R.state input.old input.new))
+        (over O.state out.old out.new) (over E.state err.old err.new) result }
+    ensures stops_reading { ReadsNoFurther R.read_gives input.old input.new }
+{
     let line = String::new(alloc);
-    match scan_documents(alloc, input, &mut Checker { line }, out) {
+    match scan_documents(alloc, input, &mut Checker::<ALL> { line }, out) {
         Ok(scan) => match scan.fault {
             None => report_findings(scan.count, scan.bad, None, err),
             // A bad length: the scan cannot find the next document.
@@ -50,17 +79,21 @@ pub fn check<R: Input, O: Output, E: Output>(
     }
 }
 
-/// Writes a line for each document that has a fault.
+/// Writes a line for each document that has a fault, if all types are read or not.
 #[derive(Debug, Drop)]
-struct Checker {
+struct Checker<const ALL: bool> {
     /// The buffer for their lines.
     line: String,
 }
 
-impl<O: Output> Visitor<O> for Checker {
-    ghost texts = { check_texts };
+impl<O: Output, const ALL: bool> Visitor<O> for Checker<ALL> {
+    ghost texts = { check_texts (profile_of ALL) };
 
-    fn visit(&mut self, _document: RawDoc<'_>, _out: &mut O) -> Result<(), OutputFault> {
+    fn profile(&self) -> Profile {
+        if ALL { Profile::All } else { Profile::Named }
+    }
+
+    fn visit(&mut self, _document: &[u8], _out: &mut O) -> Result<(), OutputFault> {
         Ok(())
     }
 

@@ -12,7 +12,7 @@ ghost use Rattle.bd_cli_files.specs.declared.output.Status.TheVariants.{Failed};
 use crate::input::InputFault;
 use crate::output::{OutputFault, Status, message_of, report_end, report_no_memory, report_stop};
 use crate::scan::{DumpScan, Visitor, scan_documents};
-use bd_bson_check::Fault;
+use bd_bson_check::{Fault, Profile};
 use bd_bson_view::RawDoc;
 use bd_extjson_text::TextBuffer;
 use bd_io_device::{Input, Output, write_all};
@@ -49,8 +49,12 @@ struct Printer {
 impl<O: Output> Visitor<O> for Printer {
     ghost texts = { dump_texts };
 
-    fn visit(&mut self, document: RawDoc<'_>, out: &mut O) -> Result<(), OutputFault> {
-        let line = self.buffer.line(document.value())?;
+    fn profile(&self) -> Profile {
+        Profile::Named
+    }
+
+    fn visit(&mut self, document: &[u8], out: &mut O) -> Result<(), OutputFault> {
+        let line = self.buffer.line(RawDoc::whole(document).value())?;
         Ok(write_all(out, line)?)
     }
 

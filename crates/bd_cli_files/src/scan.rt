@@ -1,19 +1,18 @@
 //! A scan of the documents of an input, one after the other, for `dump` and for `check`.
 
-ghost use Rattle.std.specs.Prelude.{◌≡◌, ◌<◌, ◌≤◌, ℕ, [], IfErr, IfOk, is_none, unwrap_or};
+ghost use Rattle.std.specs.Prelude.{◌≡◌, ◌<◌, ◌≤◌, ℕ, List, [], None, IfErr, IfOk, is_none, unwrap_or};
 ghost use Rattle.bd_value.specs.Limits.{longest_input};
 ghost use Rattle.bd_io_device.specs.Devices.{over};
-ghost use Rattle.bd_bson_view.specs.Raw.{document_pairs};
 ghost use Rattle.bd_bson_check.specs.Fault.{fault_view, Fault as DumpFault};
-ghost use Rattle.bd_cli_files.specs.inside.Scan.{ScansDocuments, StopsScan, Texts};
+ghost use Rattle.bd_bson_check.specs.FirstFault.{fault_under};
+ghost use Rattle.bd_cli_files.specs.inside.Scan.{IsGoodText, ScansDocuments, StopsScan, Texts};
 ghost use Rattle.bd_cli_files.specs.Input.{ReadsNoFurther};
 ghost use Rattle.bd_cli_files.specs.inside.Output.{WritesText};
 
 use crate::input::{InputFault, LIMITS};
 use crate::output::{OutputFault, is_want_of_memory};
-use bd_bson_check::{Fault, check_document};
+use bd_bson_check::{Fault, Profile, check_bytes};
 use bd_bson_stream::{DocBuffer, DocFault};
-use bd_bson_view::RawDoc;
 use bd_io_device::{Input, Output, ReadFault};
 use std::alloc::Global;
 
@@ -22,10 +21,15 @@ pub(crate) trait Visitor<O: Output> {
     /// What is written for them.
     ghost texts: { Texts };
 
-    /// Receives a document without a fault.
-    fn visit(&mut self, document: RawDoc<'_>, out: &mut O) -> Result<(), OutputFault>
-        ensures { WritesText (texts.good (document_pairs document.entry))
-            (over O.state out.old out.new) result };
+    /// Which types the documents may have.
+    fn profile(&self) -> Profile
+        ensures { result ≡ texts.profile };
+
+    /// Receives the bytes of a document without a fault.
+    fn visit(&mut self, document: &[u8], out: &mut O) -> Result<(), OutputFault>
+        requires { (base : ℕ) × (fault_under texts.profile base document.now ≡ None) }
+        ensures { (text : List ℕ) × IsGoodText texts.good document.now text
+            × WritesText text (over O.state out.old out.new) result };
 
     /// Whether the scan ends at the first document with a fault.
     fn ends_at_fault(&self) -> bool
@@ -51,26 +55,30 @@ pub(crate) fn scan_documents<R: Input, O: Output, V: Visitor<O>>(
         (StopsScan V.texts (over R.state input.old input.new) (over O.state out.old out.new)) }
     ensures stops_reading { ReadsNoFurther R.read_gives input.old input.new }
 {
+    let profile = visitor.profile();
     let mut buffer = DocBuffer::new(alloc, LIMITS);
     let mut bad = 0;
     loop {
         let base = buffer.offset();
         let count = buffer.number();
         match buffer.read_next(input) {
-            Ok(true) => match check_document(alloc, buffer.bytes(), base, count) {
-                Ok(document) => visitor.visit(document, out)?,
-                Err(fault) => {
-                    if is_want_of_memory(&fault) {
-                        return Err(OutputFault::NoMemory);
+            Ok(true) => {
+                let bytes = buffer.bytes();
+                match check_bytes(alloc, profile, bytes, base, count) {
+                    Ok(()) => visitor.visit(bytes, out)?,
+                    Err(fault) => {
+                        if is_want_of_memory(&fault) {
+                            return Err(OutputFault::NoMemory);
+                        }
+                        if visitor.ends_at_fault() {
+                            let fault = Some(InputFault::Faulty(fault));
+                            return Ok(DumpScan { count, bad, fault });
+                        }
+                        visitor.meet(&fault, out)?;
+                        bad += 1;
                     }
-                    if visitor.ends_at_fault() {
-                        let fault = Some(InputFault::Faulty(fault));
-                        return Ok(DumpScan { count, bad, fault });
-                    }
-                    visitor.meet(&fault, out)?;
-                    bad += 1;
                 }
-            },
+            }
             Ok(false) => {
                 let fault = None;
                 return Ok(DumpScan { count, bad, fault });

@@ -21,18 +21,18 @@ use Rattle.bd_wide.proofs.SameLemmas.{scope_count}
 
 -- ---- how many bytes a value has
 
-zero_there : (name rest : List ℕ) → IsName name → first_zero (name ++ 0 ∷ rest) ≡ Some (length name)
+pub zero_there : (name rest : List ℕ) → IsName name → first_zero (name ++ 0 ∷ rest) ≡ Some (length name)
 zero_there name rest h =
     let at = zero_offset name rest h.1 in
     let some : nat_lt (length name) (length (name ++ 0 ∷ rest)) ≡ true = grind (arith, nat_tests, length-append name (0 ∷ rest)) in
     rw (at, some) refl
 
-fixed_there : (n : ℕ) (v r : List ℕ) → n ≡ length v → fixed n (v ++ r) ≡ Some (length v)
+pub fixed_there : (n : ℕ) (v r : List ℕ) → n ≡ length v → fixed n (v ++ r) ≡ Some (length v)
 fixed_there n v r same =
     let some : nat_lt (length (v ++ r)) n ≡ false = grind (arith, nat_tests, length-append v r) in
     rw some (ap Some same)
 
-counted_there : (least others : ℕ) (v r : List ℕ) → 4 ≤ length v → least ≤ number_of (v ++ r) → number_of (v ++ r) + others ≡ length v → counted least others (v ++ r) ≡ Some (length v)
+pub counted_there : (least others : ℕ) (v r : List ℕ) → 4 ≤ length v → least ≤ number_of (v ++ r) → number_of (v ++ r) + others ≡ length v → counted least others (v ++ r) ≡ Some (length v)
 counted_there least others v r four some same =
     let enough : (nat_lt (length (v ++ r)) 4 || nat_lt (number_of (v ++ r)) least) ≡ false = grind (arith, nat_tests, length-append v r) in
     ap (λ b. if b then None else fixed (number_of (v ++ r) + others) (v ++ r)) enough ∙ fixed_there (number_of (v ++ r) + others) v r same
@@ -46,7 +46,7 @@ two_there p o r first second =
     ∙ ap (λ (f : Option ℕ). f >>= λ k. first_zero (drop (k + 1) (p ++ 0 ∷ (o ++ 0 ∷ r))) >>= λ m. Some (k + 1 + (m + 1))) (zero_there p (o ++ 0 ∷ r) first)
     ∙ ap (λ (f : Option ℕ). f >>= λ m. Some (length p + 1 + (m + 1))) (ap first_zero after ∙ zero_there o r second)
 
-scalar_there : (a : Scalar) (v r : List ℕ) → IsScalar a v → size_at (Kept (scalar_kind a)) (v ++ r) ≡ Some (length v)
+pub scalar_there : (a : Scalar) (v r : List ℕ) → IsScalar a v → size_at (Kept (scalar_kind a)) (v ++ r) ≡ Some (length v)
 unfolding size_at
 scalar_there (trees.boolean b) v r h = fixed_there 1 v r (scalar_size (trees.boolean b) v r h)
 scalar_there (trees.int32 z) v r h = fixed_there 4 v r (scalar_size (trees.int32 z) v r h)

@@ -1,13 +1,13 @@
 -- What a scan of the documents of an input visits and writes, for `dump` and for `check`.
 use Rattle.std.specs.Prelude.{◌≡◌, ◌⊎◌, ℕ, List, [], ◌∷◌, ◌++◌, length}
-use Rattle.std.specs.Prelude.{Option, Some, None}
+use Rattle.std.specs.Prelude.{Option, Some, None, Bool, true, false}
 use Rattle.std.specs.Prelude.{is_some, unwrap_or, Err}
 use Rattle.std.specs.{List.count_by}
 use Rattle.bd_value.specs.{Tree.Doc}
 use Rattle.bd_io_device.specs.Devices.{WriteFailsAfter, Over, Reader, TakesText, Writer}
 use Rattle.bd_bson_view.specs.Spelling.{IsDocument}
-use Rattle.bd_bson_check.specs.{Fault.fault_view, Fault.Fault, FirstFault.first_fault}
-use Rattle.bd_bson_check.specs.Dump.{frame_fault, frame_length}
+use Rattle.bd_bson_check.specs.{Fault.fault_view, Fault.Fault, FirstFault.fault_under, declared.profile.Profile.Profile}
+use Rattle.bd_bson_check.specs.Dump.{frame_fault_under, frame_length}
 use Rattle.bd_bson_stream.specs.Stream.{IsCutShort, IsFrame}
 use Rattle.bd_cli_files.specs.{declared.input.InputFault.InputFault, declared.scan.DumpScan.DumpScan}
 use Rattle.bd_cli_files.specs.{declared.output.OutputFault.OutputFault}
@@ -21,25 +21,38 @@ use Rattle.bd_cli_files.specs.Check.{check_result_line}
 
 -- ---- the scan of the documents
 
--- what a scan of a dump writes for a document, and for a fault by its document number; None:
--- the scan ends at a fault
+-- Under which profile a scan of a dump reads, and what it writes: for a document without a fault, by its pairs; None: nothing;
+-- for a fault by its document number; None: the scan ends at a fault.
 pub record Texts : Type 0 where
-  pub good : Doc → List ℕ
+  pub profile : Profile
+  pub good : Option (Doc → List ℕ)
   pub bad : ℕ → Fault → Option (List ℕ)
+
+-- the profile that reads all types, or not
+abbrev pub profile_of : Bool → Profile
+profile_of true = Profile.All
+profile_of false = Profile.Named
 
 -- `dump` writes the line of each document, and ends at the first fault
 abbrev pub dump_texts : Texts
-dump_texts = record { good = λ d. lines (d ∷ []); bad = λ number f. None }
+dump_texts = record { profile = Profile.Named; good = Some (λ d. lines (d ∷ [])); bad = λ number f. None }
 
--- `check` writes nothing for a well-formed document, and the line of each fault
-abbrev pub check_texts : Texts
-check_texts = record { good = λ d. []; bad = λ number f. Some (check_result_line number (Some f)) }
+-- `check` writes nothing for a document without a fault, and the line of each fault
+abbrev pub check_texts : Profile → Texts
+check_texts p = record { profile = p; good = None; bad = λ number f. Some (check_result_line number (Some f)) }
+
+-- This is written for a document without a fault, which has these bytes.
+abbrev pub IsGoodText : Option (Doc → List ℕ) → List ℕ → List ℕ → Type 0
+IsGoodText None bytes text = text ≡ []
+IsGoodText (Some write) bytes text = (d : Doc) × IsDocument d bytes × (text ≡ write d)
 
 -- This is written for the document of that number, which has these bytes at that offset,
 -- and this fault or none.
 abbrev pub IsTextOf : Texts → ℕ → ℕ → List ℕ → Option Fault → List ℕ → Type 0
-IsTextOf texts number offset bytes None text = (d : Doc) × IsDocument d bytes × (text ≡ texts.good d)
-IsTextOf texts number offset bytes (Some f) text = (first_fault offset bytes ≡ Some f) × (texts.bad number f ≡ Some text)
+IsTextOf texts number offset bytes None text =
+    (fault_under texts.profile offset bytes ≡ None) × IsGoodText texts.good bytes text
+IsTextOf texts number offset bytes (Some f) text =
+    (fault_under texts.profile offset bytes ≡ Some f) × (texts.bad number f ≡ Some text)
 
 -- The scan visited these documents: for each its first fault or None, their bytes,
 -- and what is written for them.
@@ -55,7 +68,7 @@ abbrev pub EndsScan : Texts → Over Reader → ℕ → List ℕ → Option Inpu
 EndsScan texts file number given None = StreamsInput file given None × StopsWithinOne given file
 EndsScan texts file number given (Some (faults.Faulty f)) =
     (part : List ℕ) × (rest : List ℕ) × StreamsInput file (given ++ (part ++ rest)) None × StopsInside given part file
-    × (f.document ≡ number) × (frame_fault (length given) (part ++ rest) ≡ Some (fault_view f))
+    × (f.document ≡ number) × (frame_fault_under texts.profile (length given) (part ++ rest) ≡ Some (fault_view f))
     × ((texts.bad number (fault_view f) ≡ None)
     ⊎ ((frame_length part ≡ Err f.kind) × (frame_length (part ++ rest) ≡ Err f.kind)))
 EndsScan texts file number given (Some (faults.Unread f)) =

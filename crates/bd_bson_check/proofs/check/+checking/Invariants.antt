@@ -26,7 +26,7 @@ invariant-elements-loop-rest l = record {
   inside : length l.rest ≤ l.e;
   fits : IsBytes l.rest;
   counted : IfSome l.index (λ i. i + length l.rest ≤ length l.bytes);
-  so_far : skip_elements (skip_nested l.depth_left) l.index (length l.rest) l.e l.rest ≡ skip_elements (skip_nested l.depth_left) (cond l.in_array (Some 0) None) (length l.bytes) l.e l.bytes;
+  so_far : skip_elements l.profile (skip_nested l.profile l.depth_left) l.index (length l.rest) l.e l.rest ≡ skip_elements l.profile (skip_nested l.profile l.depth_left) (cond l.in_array (Some 0) None) (length l.bytes) l.e l.bytes;
 }
 
 abbrev pub decreases-elements-loop-rest : goal.decreases-elements-loop-rest

@@ -15,8 +15,8 @@ decreases-after_nested l = 3 * l.depth_left
 abbrev pub invariant-are_sound-loop-rest : goal.invariant-are_sound-loop-rest
 invariant-are_sound-loop-rest l = record {
   fits : IsBytes l.rest;
-  whole : ((index : Option ℕ) (e : ℕ) → skip_elements (skip_nested l.depth_left) index (length l.rest) e l.rest ≡ Ok tt)
-      → (index : Option ℕ) (e : ℕ) → skip_elements (skip_nested l.depth_left) index (length l.bytes) e l.bytes ≡ Ok tt;
+  whole : ((index : Option ℕ) (e : ℕ) → skip_elements l.profile (skip_nested l.profile l.depth_left) index (length l.rest) e l.rest ≡ Ok tt)
+      → (index : Option ℕ) (e : ℕ) → skip_elements l.profile (skip_nested l.profile l.depth_left) index (length l.bytes) e l.bytes ≡ Ok tt;
 }
 
 abbrev pub decreases-are_sound-loop-rest : goal.decreases-are_sound-loop-rest
