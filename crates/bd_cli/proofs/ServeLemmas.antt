@@ -12,11 +12,12 @@ use Rattle.bd_cli_service.specs.ServiceView.{KeepsState, RepliesTo, service_dump
 use Rattle.bd_cli_service.specs.Talk.{IsUnchanged, RepliesInText}
 use Rattle.bd_cli_service.specs.declared.service.Service.{Service}
 use Rattle.bd_cli_service.proofs.ServedLemmas.{served, stopped}
-use Rattle.bd_cli_files.specs.{Load.FailsToLoad, Load.LoadsDump, Load.ReportsLoadFault, declared.input.InputFault.InputFault, declared.output.Status.Status, declared.output.Status.TheVariants.Done, declared.output.Status.TheVariants.Failed}
-use Rattle.bd_cli_files.specs.Output.{cannot_write, error_line, fault_text, no_memory, output_before, refusal_output}
-use Rattle.bd_cli_files.specs.Run.{Prints, ReportsMessage}
+use Rattle.bd_cli_scan.specs.{declared.input.InputFault.InputFault, declared.output.Status.Status, declared.output.Status.TheVariants.Done, declared.output.Status.TheVariants.Failed}
+use Rattle.bd_cli_files.specs.{Load.FailsToLoad, Load.LoadsDump, Load.ReportsLoadFault}
+use Rattle.bd_cli_scan.specs.Output.{cannot_write, error_line, fault_text, no_memory, output_before, refusal_output}
+use Rattle.bd_cli_scan.specs.Run.{Prints, ReportsMessage}
 use Rattle.bd_cli.specs.Serve.{command_limits, serve_run, talk_run}
-use Rattle.bd_cli_files.specs.declared.input.InputFault.TheVariants as loads
+use Rattle.bd_cli_scan.specs.declared.input.InputFault.TheVariants as loads
 use Rattle.bd_io_device.specs.declared.reading.ReadFault.TheVariants as reads
 use Rattle.bd_io_lines.specs.declared.serving.ServeFault.TheVariants as faults
 
@@ -26,7 +27,7 @@ serve_words (faults.Unread fault) = read_words fault
 serve_words faults.NoMemory = no_memory
 serve_words faults.Unwritten = cannot_write
 
-module _ {C : Type 0} (state : C → Reader) (gives : C → Option (List ℕ) → C → Type 0) (old new : C) (out : Over Writer) where
+module _ {program : List ℕ} {C : Type 0} (state : C → Reader) (gives : C → Option (List ℕ) → C → Type 0) (old new : C) (out : Over Writer) where
   -- each read but the last gives at least one byte, so the limit of bytes comes first
   never_too_many : (s t : Service) → StopsServing state gives RepliesTo command_limits old new out s t KeepsState (faults.Unread reads.TooManyTurns) → ⊥
   never_too_many s t (text, u, wrote) =
@@ -35,7 +36,7 @@ module _ {C : Type 0} (state : C → Reader) (gives : C → Option (List ℕ) �
 
   module _ (dump : Dump) (status : Status) (s t : Service) (is_new : service_state s ≡ new_state) (is_over : service_dump s ≡ dump) where
     abbrev PrintsTalk : Over Writer → Type 0
-    PrintsTalk err = Prints (talk_run state gives old new (bytes_of dump) (documents dump)) out err status
+    PrintsTalk err = Prints program (talk_run state gives old new (bytes_of dump) (documents dump)) out err status
 
     pub to_the_end : (err : Writer) → (text : List ℕ) × ServesAll state gives RepliesTo command_limits old new s text t × TakesText out text → status ≡ Done
         → PrintsTalk (between err err)
@@ -43,37 +44,37 @@ module _ {C : Type 0} (state : C → Reader) (gives : C → Option (List ℕ) �
         inl (output_before text None [], (text, None, (service_state t, rw (is_new, is_over) at (served state gives command_limits old new s text t all)), refl), wrote, inl (takes_none err, done))
 
     pub to_a_fault : (err : Over Writer) (fault : ServeFault) → StopsServing state gives RepliesTo command_limits old new out s t KeepsState fault
-        → ReportsMessage err (error_line (serve_words fault)) Failed status → PrintsTalk err
+        → ReportsMessage err (error_line program (serve_words fault)) Failed status → PrintsTalk err
     to_a_fault err fault stops = by_fault fault (λ is. never_too_many s t (subst (λ f. StopsServing state gives RepliesTo command_limits old new out s t KeepsState f) is stops))
         (rw (is_new, is_over) at (stopped state gives command_limits old new out s t fault stops))
       where
         by_fault : (fault : ServeFault) → (fault ≡ faults.Unread reads.TooManyTurns → ⊥)
             → StopsServing state gives (RepliesInText (bytes_of dump) (documents dump)) command_limits old new out new_state (service_state t) IsUnchanged fault
-            → ReportsMessage err (error_line (serve_words fault)) Failed status → PrintsTalk err
+            → ReportsMessage err (error_line program (serve_words fault)) Failed status → PrintsTalk err
         by_fault (faults.Unread fault) few (text, u, wrote) reported = inl (
           output_before text (Some (read_words fault)) [],
           (text, Some fault, (λ is. few (ap faults.Unread is), (service_state t, u)), refl),
           wrote,
-          subst (λ x. ReportsMessage err x Failed status) (sym (append-nil (error_line (read_words fault)))) reported,
+          subst (λ x. ReportsMessage err x Failed status) (sym (append-nil (error_line program (read_words fault)))) reported,
         )
         by_fault faults.NoMemory few (text, lacks, wrote) reported = inr (inr (text, (service_state t, lacks), wrote, reported))
         by_fault faults.Unwritten few (text, piece, next, failed_write) reported = inr (inl (text, piece, (service_state t, next), failed_write, reported))
 
-module _ {C : Type 0} (state : C → Reader) (gives : C → Option (List ℕ) → C → Type 0) (file : Over Reader) where
+module _ {program : List ℕ} {C : Type 0} (state : C → Reader) (gives : C → Option (List ℕ) → C → Type 0) (file : Over Reader) where
   -- the file is a dump of these documents
   pub over_dump : (bytes : List ℕ) (ds : List Doc) → LoadsDump file bytes ds → (old new : C) (out err : Over Writer) (status : Status)
-      → Prints (talk_run state gives old new bytes ds) out err status → Prints (serve_run state gives old new file) out err status
+      → Prints program (talk_run state gives old new bytes ds) out err status → Prints program (serve_run state gives old new file) out err status
   over_dump bytes ds loaded old new out err status (inl (output, is, wrote, reported)) = inl (output, inr (bytes, ds, loaded, is), wrote, reported)
   over_dump bytes ds loaded old new out err status (inr (inl (text, piece, next, failed_write, reported))) =
       inr (inl (text, piece, (bytes, ds, loaded, next), failed_write, reported))
   over_dump bytes ds loaded old new out err status (inr (inr (text, begun, wrote, reported))) = inr (inr (text, inr (bytes, ds, loaded, begun), wrote, reported))
 
   -- the file is no dump in memory, which is reported
-  pub load_reported : (old : C) (out : Writer) (err : Over Writer) (status : Status) (fault : InputFault) → FailsToLoad file fault → ReportsLoadFault err status fault
-      → Prints (serve_run state gives old old file) (between out out) err status
+  pub load_reported : (old : C) (out : Writer) (err : Over Writer) (status : Status) (fault : InputFault) → FailsToLoad file fault → ReportsLoadFault program err status fault
+      → Prints program (serve_run state gives old old file) (between out out) err status
   load_reported old out err status (loads.Unread fault) (inl read) (inl reported) = inl (refusal_output (read_words fault), inl (Err fault, read, refl, refl), takes_none out, reported)
   load_reported old out err status (loads.Faulty fault) (bytes, ds, read, scan, numbered) (inl reported) =
-      let words = ap (λ n. error_line (fault_text n (fault_view fault))) numbered in
+      let words = ap (λ n. error_line program (fault_text n (fault_view fault))) numbered in
       inl (
         refusal_output (fault_text (length ds) (fault_view fault)),
         inl (Ok bytes, read, (ds, fault_view fault, scan, refl), refl),
@@ -81,7 +82,7 @@ module _ {C : Type 0} (state : C → Reader) (gives : C → Option (List ℕ) �
         subst (λ (x : List ℕ). ReportsMessage err x Failed status) words reported,
       )
   load_reported old out err status (loads.Unread fault) (inr (memory, (bytes, read, fits))) (inl reported) =
-      let reports = subst (λ f. ReportsMessage err (error_line (read_words f)) Failed status) memory reported in
+      let reports = subst (λ f. ReportsMessage err (error_line program (read_words f)) Failed status) memory reported in
       inr (inr ([], inl (bytes, read, refl, refl), takes_none out, reports))
   load_reported old out err status (loads.Unread fault) fails (inr (f, same, reported)) = absurd cc
   load_reported old out err status (loads.Faulty fault) (bytes, ds, read, scan, numbered) (inr (f, same, reported)) =

@@ -1,9 +1,10 @@
 -- What a run of each command prints.
 use Rattle.std.specs.Prelude.{◌⊎◌, ◌<◌, [], List, ℕ, Option}
 use Rattle.bd_io_device.specs.Devices.{Over, Reader, Writer}
-use Rattle.bd_cli_files.specs.{Check.check_run, Dump.dump_run, Pack.pack_run, Run.Run}
-use Rattle.bd_cli_files.specs.declared.output.Status.TheVariants.{Done, Usage}
-use Rattle.bd_cli_files.specs.Output.{no_memory, refusal_output, Transcript}
+use Rattle.bd_cli_scan.specs.{Check.check_run, Dump.dump_run, Run.Run}
+use Rattle.bd_cli_files.specs.{Pack.pack_run}
+use Rattle.bd_cli_scan.specs.declared.output.Status.TheVariants.{Done, Usage}
+use Rattle.bd_cli_scan.specs.Output.{no_memory, refusal_output, Transcript}
 use Rattle.bd_cli_args.specs.{declared.order.Order.Order}
 use Rattle.bd_cli_args.specs.{declared.command_line.TheConstants.USAGE, declared.order.WordsFault.WordsFault}
 use Rattle.bd_cli_find.specs.{Find.find_run, Options.RequestsNothing}
@@ -43,6 +44,6 @@ DeviceFails file commands out err =
 
 -- the output for arguments that are not a command: the usage, for `--help` on standard output
 abbrev pub report_output : WordsFault → Transcript
-report_output words.Help = record { out = USAGE.now; err = []; status = Done }
-report_output words.Usage = record { out = []; err = USAGE.now; status = Usage }
+report_output words.Help = record { out = USAGE.now; err = λ program. []; status = Done }
+report_output words.Usage = record { out = []; err = λ program. USAGE.now; status = Usage }
 report_output words.NoMemory = refusal_output no_memory

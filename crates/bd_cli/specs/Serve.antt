@@ -7,8 +7,9 @@ use Rattle.bd_io_device.specs.{declared.reading.Limits.Limits, declared.reading.
 use Rattle.bd_io_device.specs.Devices.{Over, Reader, read_words}
 use Rattle.bd_io_lines.specs.Serving.{IsNextReply, LacksReply, ServesAll, StopsUnread}
 use Rattle.bd_cli_service.specs.Talk.{IsUnchanged, RepliesInText}
-use Rattle.bd_cli_files.specs.{Input.ReadsInput, Load.LoadsDump, Run.Run}
-use Rattle.bd_cli_files.specs.Output.{Transcript, fault_text, output_before, refusal_output}
+use Rattle.bd_cli_scan.specs.{Input.ReadsInput, Run.Run}
+use Rattle.bd_cli_files.specs.{Load.LoadsDump}
+use Rattle.bd_cli_scan.specs.Output.{Transcript, fault_text, output_before, refusal_output}
 use Rattle.bd_io_device.specs.declared.reading.ReadFault.TheVariants as reads
 
 -- the limits of the commands of `serve`: those of an input

@@ -10,8 +10,8 @@ ghost use Rattle.bd_io_lines.specs.{Lines.commands_of, Lines.text_lines, Serving
 ghost use Rattle.bd_cli_service.specs.Talk.{RepliesInText};
 ghost use Rattle.bd_bson_check.specs.Fault.{Fault};
 ghost use Rattle.bd_bson_dump.specs.CheckResults.{check_results};
-ghost use Rattle.bd_cli_files.specs.{Check.IsOutputOfCheck, Check.check_result_lines, Dump.IsOutputOfDump};
-ghost use Rattle.bd_cli_files.specs.Output.{Transcript, lines};
+ghost use Rattle.bd_cli_scan.specs.{Check.IsOutputOfCheck, Check.check_result_lines, Dump.IsOutputOfDump};
+ghost use Rattle.bd_cli_scan.specs.Output.{Transcript, lines};
 ghost use Rattle.bd_cli_files.specs.Pack.{IsOutputOfPack, PacksLines};
 ghost use Rattle.bd_cli_files.specs.declared.pack.BadLine.{BadLine};
 ghost use Rattle.bd_cli_find.specs.Find.{IsOutputOfFind};

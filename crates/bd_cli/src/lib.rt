@@ -19,7 +19,8 @@
 //! ```
 //!
 //! - `runs`: `run` and `report`.
-//! - `serve`: the command `serve`. `bd_cli_files` has `dump`, `check` and `pack`, and `bd_cli_find` has `find`.
+//! - `serve`: the command `serve`. `bd_cli_scan` has `dump` and `check`, `bd_cli_files` `pack`, and
+//!   `bd_cli_find` `find`.
 //! - `laws`: what is true of the output of every command.
 #![tactic(auto)]
 
@@ -28,7 +29,7 @@ mod runs;
 mod serve;
 
 pub use bd_cli_args::{FindOptions, Order, USAGE, WordsFault, parse_words};
-pub use bd_cli_files::Status;
-pub use bd_cli_files::output::CANNOT_WRITE;
+pub use bd_cli_scan::Status;
+pub use bd_cli_scan::output::CANNOT_WRITE;
 pub use laws::{check_has_the_status_of_dump, prints_a_prefix, prints_one_thing};
-pub use runs::{report, run};
+pub use runs::{PROGRAM, report, run};

@@ -1,20 +1,23 @@
 //! Runs of a command over devices, and the output for arguments that are not a command.
 
-ghost use Rattle.std.specs.Prelude.{◌≡◌};
+ghost use Rattle.std.specs.Prelude.{◌≡◌, codes};
 ghost use Rattle.bd_io_device.specs.{Devices.over};
-ghost use Rattle.bd_cli_files.specs.{Input.ReadsNoFurther, Run.Prints, Run.run_of};
+ghost use Rattle.bd_cli_scan.specs.{Input.ReadsNoFurther, Run.Prints, Run.run_of};
 ghost use Rattle.bd_cli.specs.Runs.{DeviceFails, ReadsNoCommands, ReadsNoFile, WriterFails, order_run, report_output};
 
 use crate::serve::serve;
 use bd_cli_args::{Order, USAGE, WordsFault};
-use bd_cli_files::Status;
-use bd_cli_files::check::check;
-use bd_cli_files::dump::dump;
-use bd_cli_files::output::{report_no_memory, report_unwritten, status_of};
+use bd_cli_scan::Status;
+use bd_cli_scan::check::check;
+use bd_cli_scan::dump::dump;
+use bd_cli_scan::output::{report_no_memory, report_unwritten, status_of};
 use bd_cli_files::pack::pack;
 use bd_cli_find::find::find;
 use bd_io_device::{Input, Output, write_all};
 use std::alloc::Global;
+
+/// The name of the program, before each message.
+pub const PROGRAM: &str = "bsonfind";
 
 /// Runs a command, and returns the exit status: 0 if all was done, 1 after a fault of the input, of a query, a sort,
 /// the path of an index or a token, or of a device, or if memory runs out.
@@ -29,7 +32,7 @@ pub fn run<F: Input, C: Input, O: Output, E: Output>(
     out: &mut O,
     err: &mut E,
 ) -> Status
-    ensures ran { Prints (order_run C.state C.read_gives commands.old commands.new
+    ensures ran { Prints (codes "bsonfind") (order_run C.state C.read_gives commands.old commands.new
         order.now (over F.state file.old file.new)) (over O.state out.old out.new)
         (over E.state err.old err.new) result }
     // After a failed read, or at the end, the file is read no more.
@@ -43,11 +46,11 @@ pub fn run<F: Input, C: Input, O: Output, E: Output>(
         (over O.state out.old out.new) (over E.state err.old err.new) → result ≡ Status.Failed }
 {
     match order {
-        Order::Dump { .. } => dump(alloc, file, out, err),
-        Order::Check { .. } => check(alloc, file, out, err),
-        Order::Pack { .. } => pack(alloc, file, out, err),
-        Order::Find { options, .. } => find(alloc, options, file, out, err),
-        Order::Serve { .. } => serve(alloc, file, commands, out, err),
+        Order::Dump { .. } => dump(alloc, PROGRAM, file, out, err),
+        Order::Check { .. } => check(alloc, PROGRAM, file, out, err),
+        Order::Pack { .. } => pack(alloc, PROGRAM, file, out, err),
+        Order::Find { options, .. } => find(alloc, PROGRAM, options, file, out, err),
+        Order::Serve { .. } => serve(alloc, PROGRAM, file, commands, out, err),
     }
 }
 
@@ -56,7 +59,7 @@ pub fn run<F: Input, C: Input, O: Output, E: Output>(
 /// A request for help prints the usage on `out`, with status 0; invalid arguments print it on `err`, with
 /// status 2; out of memory is reported on `err`, with status 1. A device that fails makes the status 1.
 pub fn report<O: Output, E: Output>(fault: &WordsFault, out: &mut O, err: &mut E) -> Status
-    ensures output { Prints (run_of (report_output fault.now)) (over O.state out.old out.new)
+    ensures output { Prints (codes "bsonfind") (run_of (report_output fault.now)) (over O.state out.old out.new)
         (over E.state err.old err.new) result }
     ensures failed { WriterFails (over O.state out.old out.new) (over E.state err.old err.new) →
         result ≡ Status.Failed }
@@ -64,9 +67,9 @@ pub fn report<O: Output, E: Output>(fault: &WordsFault, out: &mut O, err: &mut E
     match fault {
         WordsFault::Help => match write_all(out, USAGE.as_bytes()) {
             Ok(()) => Status::Done,
-            Err(_) => report_unwritten(err),
+            Err(_) => report_unwritten(PROGRAM, err),
         },
         WordsFault::Usage => status_of(write_all(err, USAGE.as_bytes()), Status::Usage),
-        WordsFault::NoMemory => report_no_memory(err),
+        WordsFault::NoMemory => report_no_memory(PROGRAM, err),
     }
 }

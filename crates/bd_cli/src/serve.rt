@@ -2,13 +2,13 @@
 
 ghost use Rattle.bd_io_device.specs.Devices.{over};
 ghost use Rattle.bd_bson_dump.specs.Collection.{bytes_of, documents};
-ghost use Rattle.bd_cli_files.specs.{Input.ReadsNoFurther, Run.Prints};
+ghost use Rattle.bd_cli_scan.specs.{Input.ReadsNoFurther, Run.Prints};
 ghost use Rattle.bd_cli.specs.Serve.{serve_run, talk_run};
 
 use bd_bson_dump::Dump;
 use bd_cli_files::load::{load, report_load_fault};
-use bd_cli_files::output::{report_no_memory, report_read_fault, report_unwritten};
-use bd_cli_files::{LIMITS, Status};
+use bd_cli_scan::output::{report_no_memory, report_read_fault, report_unwritten};
+use bd_cli_scan::{LIMITS, Status};
 use bd_cli_service::Service;
 use bd_io_device::{Input, Output};
 use bd_io_lines::ServeFault;
@@ -18,39 +18,41 @@ use std::alloc::Global;
 /// input is not a dump.
 pub(crate) fn serve<F: Input, C: Input, O: Output, E: Output>(
     alloc: Global,
+    program: &str,
     file: &mut F,
     commands: &mut C,
     out: &mut O,
     err: &mut E,
 ) -> Status
-    ensures serves { Prints (serve_run C.state C.read_gives commands.old commands.new
+    ensures serves { Prints program.now (serve_run C.state C.read_gives commands.old commands.new
         (over F.state file.old file.new)) (over O.state out.old out.new)
         (over E.state err.old err.new) result }
     ensures stops_reading { ReadsNoFurther F.read_gives file.old file.new }
 {
     match load(alloc, file) {
-        Ok(dump) => serve_dump(alloc, dump, commands, out, err),
-        Err(fault) => report_load_fault(alloc, &fault, err),
+        Ok(dump) => serve_dump(alloc, program, dump, commands, out, err),
+        Err(fault) => report_load_fault(alloc, program, &fault, err),
     }
 }
 
 /// Serves the commands over a dump.
 fn serve_dump<C: Input, O: Output, E: Output>(
     alloc: Global,
+    program: &str,
     dump: Dump,
     commands: &mut C,
     out: &mut O,
     err: &mut E,
 ) -> Status
-    ensures { Prints (talk_run C.state C.read_gives commands.old commands.new
+    ensures { Prints program.now (talk_run C.state C.read_gives commands.old commands.new
         (bytes_of dump) (documents dump)) (over O.state out.old out.new)
         (over E.state err.old err.new) result }
 {
     let mut service = Service::new(alloc, dump);
     match bd_io_lines::reply_to_lines(alloc, LIMITS, commands, &mut service, out) {
         Ok(()) => Status::Done,
-        Err(ServeFault::Unread(fault)) => report_read_fault(fault, err),
-        Err(ServeFault::NoMemory) => report_no_memory(err),
-        Err(ServeFault::Unwritten) => report_unwritten(err),
+        Err(ServeFault::Unread(fault)) => report_read_fault(program, fault, err),
+        Err(ServeFault::NoMemory) => report_no_memory(program, err),
+        Err(ServeFault::Unwritten) => report_unwritten(program, err),
     }
 }

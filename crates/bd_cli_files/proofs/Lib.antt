@@ -1,6 +1,1 @@
-pub mod CheckLemmas
-pub mod DumpLemmas
-pub mod InputLemmas
-pub mod OutputLemmas
 pub mod PackLemmas
-pub mod ScanLemmas

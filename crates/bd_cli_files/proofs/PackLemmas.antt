@@ -12,11 +12,11 @@ use Rattle.bd_extjson_fault.specs.TextFault.{text_fault}
 use Rattle.bd_extjson_pack.specs.Packable.{plain, IsPackable, IsBad}
 use Rattle.bd_extjson_pack.specs.declared.line.LineFault.{LineFault}
 use Rattle.bd_cli_files.specs.{declared.pack.BadLine.BadLine, declared.pack.Packing.Packing}
-use Rattle.bd_cli_files.specs.{declared.output.OutputFault.TheVariants.Unwritten, declared.output.Status.Status, declared.output.Status.TheVariants.Failed}
-use Rattle.bd_cli_files.specs.Output.{Transcript, cannot_write, error_line, no_memory, wrong_line, wrong_status}
+use Rattle.bd_cli_scan.specs.{declared.output.OutputFault.TheVariants.Unwritten, declared.output.Status.Status, declared.output.Status.TheVariants.Failed}
+use Rattle.bd_cli_scan.specs.Output.{Transcript, cannot_write, error_line, no_memory, wrong_line, wrong_status}
 use Rattle.bd_cli_files.specs.Pack.{IsOutputOfPack, PacksLines, bad_line_text, objects_packed, pack_output}
-use Rattle.bd_cli_files.specs.Run.{Prints, ReportsMessage, partial_run}
-use Rattle.bd_cli_files.proofs.OutputLemmas.{all_output, stop_output}
+use Rattle.bd_cli_scan.specs.Run.{Prints, ReportsMessage, partial_run}
+use Rattle.bd_cli_scan.proofs.OutputLemmas.{all_output, stop_output}
 use Rattle.bd_cli_files.specs.inside.Pack.{ArePacked, IsTaken, PacksFirst}
 use Rattle.bd_io_lines.specs.Lines.{IsLine, is_empty_line, is_newline, text_lines}
 use Rattle.bd_io_lines.proofs.LinesLemmas.{line_grows, lines_apart}
@@ -102,30 +102,30 @@ all_lines : (lines : List (List ℕ)) (ds : List Doc) (bad : Option BadLine) →
 all_lines lines ds None first = let p = first [] [] None (refl, refl) in rw (append-nil lines, append-nil ds) at p
 all_lines lines ds (Some bad) first = let p = first [] in rw (append-nil lines) at p
 
-module _ (text : List ℕ) (packing : Packing) (packed : ArePacked (text_lines text) packing) (out_old out_new err_old err_new : Writer) (status : Status) where
+module _ (program text : List ℕ) (packing : Packing) (packed : ArePacked (text_lines text) packing) (out_old out_new err_old err_new : Writer) (status : Status) where
   -- the run printed an output of `pack` for the text
   abbrev PrintsPacked : Type 0
-  PrintsPacked = (output : Transcript) × IsOutputOfPack (Ok text) output × Prints (partial_run output) (between out_old out_new) (between err_old err_new) status
+  PrintsPacked = (output : Transcript) × IsOutputOfPack (Ok text) output × Prints program (partial_run output) (between out_old out_new) (between err_old err_new) status
 
   abbrev output : Transcript
   output = pack_output packed.0 packing.bad
 
-  prints : Prints (partial_run output) (between out_old out_new) (between err_old err_new) status → PrintsPacked
+  prints : Prints program (partial_run output) (between out_old out_new) (between err_old err_new) status → PrintsPacked
   prints printed = (output, (packed.0, packing.bad, all_lines (text_lines text) packed.0 packing.bad packed.1, refl), printed)
 
   -- the bad line, if any, and the count were reported, or that memory ran out
   abbrev ReportsPacking : ℕ → Type 0
   ReportsPacking count =
-      ReportsMessage (between err_old err_new) (wrong_line (option_map bad_line_text packing.bad) ++ (decimal count ++ objects_packed)) (wrong_status (option_map bad_line_text packing.bad)) status
-      ⊎ ReportsMessage (between err_old err_new) (error_line no_memory) Failed status
+      ReportsMessage (between err_old err_new) (wrong_line program (option_map bad_line_text packing.bad) ++ (decimal count ++ objects_packed)) (wrong_status (option_map bad_line_text packing.bad)) status
+      ⊎ ReportsMessage (between err_old err_new) (error_line program no_memory) Failed status
 
   pub prints_packing : TakesText (between out_old out_new) packing.bytes.items → ReportsPacking packing.count → PrintsPacked
   prints_packing wrote reported =
-      prints (all_output out_old out_new err_old err_new status output (subst (TakesText (between out_old out_new)) packed.2 wrote) (subst ReportsPacking packed.3 reported))
+      prints (all_output program out_old out_new err_old err_new status output (subst (TakesText (between out_old out_new)) packed.2 wrote) (subst ReportsPacking packed.3 reported))
 
-  pub prints_unwritten : WriteFailsWithin (between out_old out_new) packing.bytes.items → ReportsMessage (between err_old err_new) (error_line cannot_write) Failed status → PrintsPacked
+  pub prints_unwritten : WriteFailsWithin (between out_old out_new) packing.bytes.items → ReportsMessage (between err_old err_new) (error_line program cannot_write) Failed status → PrintsPacked
   prints_unwritten failed_write reported =
-      prints (stop_output out_old out_new err_old err_new status output Unwritten (subst (WriteFailsWithin (between out_old out_new)) packed.2 failed_write) reported)
+      prints (stop_output program out_old out_new err_old err_new status output Unwritten (subst (WriteFailsWithin (between out_old out_new)) packed.2 failed_write) reported)
 
 -- ---- one more line
 

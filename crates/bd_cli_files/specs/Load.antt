@@ -3,12 +3,12 @@ use Rattle.std.specs.Prelude.{◌≡◌, ◌<◌, ◌⊎◌, ℕ, List, length, 
 use Rattle.bd_value.specs.{Tree.Doc}
 use Rattle.bd_io_device.specs.Devices.{Over, Reader, Writer}
 use Rattle.bd_bson_check.specs.{Dump.IsDumpScan, Fault.fault_view, declared.fault.Fault.Fault}
-use Rattle.bd_cli_files.specs.{declared.input.InputFault.InputFault, declared.output.Status.Status}
-use Rattle.bd_cli_files.specs.declared.output.Status.TheVariants.{Failed}
-use Rattle.bd_cli_files.specs.Input.{ReadsInput}
-use Rattle.bd_cli_files.specs.Output.{error_line, input_words, no_memory}
-use Rattle.bd_cli_files.specs.Run.{ReportsMessage}
-use Rattle.bd_cli_files.specs.declared.input.InputFault.TheVariants as faults
+use Rattle.bd_cli_scan.specs.{declared.input.InputFault.InputFault, declared.output.Status.Status}
+use Rattle.bd_cli_scan.specs.declared.output.Status.TheVariants.{Failed}
+use Rattle.bd_cli_scan.specs.Input.{ReadsInput}
+use Rattle.bd_cli_scan.specs.Output.{error_line, input_words, no_memory}
+use Rattle.bd_cli_scan.specs.Run.{ReportsMessage}
+use Rattle.bd_cli_scan.specs.declared.input.InputFault.TheVariants as faults
 use Rattle.bd_io_device.specs.declared.reading.ReadFault.TheVariants as reads
 
 -- The whole input was read, and is a dump of these documents.
@@ -23,6 +23,6 @@ FailsToLoad file (faults.Faulty fault) = (bytes : List ℕ) × (ds : List Doc) �
     × IsDumpScan ds (Some (fault_view fault)) bytes × (fault.document ≡ length ds)
 
 -- The fault was reported; for that of a document it may say instead that memory ran out.
-abbrev pub ReportsLoadFault : Over Writer → Status → InputFault → Type 0
-ReportsLoadFault err status fault = ReportsMessage err (error_line (input_words fault)) Failed status
-    ⊎ ((f : Fault) × (fault ≡ faults.Faulty f) × ReportsMessage err (error_line no_memory) Failed status)
+abbrev pub ReportsLoadFault : List ℕ → Over Writer → Status → InputFault → Type 0
+ReportsLoadFault program err status fault = ReportsMessage err (error_line program (input_words fault)) Failed status
+    ⊎ ((f : Fault) × (fault ≡ faults.Faulty f) × ReportsMessage err (error_line program no_memory) Failed status)

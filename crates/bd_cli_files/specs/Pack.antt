@@ -8,9 +8,10 @@ use Rattle.bd_io_device.specs.declared.reading.ReadFault.{ReadFault}
 use Rattle.bd_extjson_fault.specs.{JsonFault.json_fault_words, declared.json_fault.JsonFaultKind.JsonFaultKind}
 use Rattle.bd_extjson_pack.specs.{Packable.plain, Packable.IsPackable, Packable.IsBad, declared.line.LineFault.LineFault}
 use Rattle.bd_io_lines.specs.Lines.{is_empty_line, text_lines}
-use Rattle.bd_cli_files.specs.{Input.ReadsInput, declared.pack.BadLine.BadLine}
-use Rattle.bd_cli_files.specs.Output.{Transcript, output_before, refusal_output}
-use Rattle.bd_cli_files.specs.Run.{Run, run_after}
+use Rattle.bd_cli_scan.specs.{Input.ReadsInput}
+use Rattle.bd_cli_files.specs.{declared.pack.BadLine.BadLine}
+use Rattle.bd_cli_scan.specs.Output.{Transcript, output_before, refusal_output}
+use Rattle.bd_cli_scan.specs.Run.{Run, run_after}
 use Rattle.bd_extjson_fault.specs.declared.json_fault.JsonFaultKind.TheVariants as kinds
 use Rattle.bd_extjson_pack.specs.declared.line.LineFault.TheVariants as faults
 

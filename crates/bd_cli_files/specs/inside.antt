@@ -1,3 +1,1 @@
-pub mod Output
 pub mod Pack
-pub mod Scan

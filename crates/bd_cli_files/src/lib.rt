@@ -1,31 +1,21 @@
-//! The commands that read a file once, `dump`, `check` and `pack`, over any devices; and the messages of every command.
+//! The files that a command holds: the text of `pack`, and the dump of `find` and `serve`.
 //!
-//! An example, which `bd_cli_tests` proves and runs as `examples::check_a_dump`:
+//! An example, which `bd_cli_tests` proves and runs as `examples::pack_a_text`:
 //!
 //! ```
-//! let mut file = MemoryInput::new(b"\x05\0\0\0\0", 5, None);
+//! let mut file = MemoryInput::new(b"{}\n", 3, None);
+//! let mut packed = [0; 5];
 //! let mut buffer = [0; 100];
-//! let mut out = MemoryOutput::new(&mut [], 1, None);
+//! let mut out = MemoryOutput::new(&mut packed, 5, None);
 //! let mut err = MemoryOutput::new(&mut buffer, 100, None);
-//! let status = check(alloc, &mut file, &mut out, &mut err);
+//! let status = pack(alloc, "bsonfind", &mut file, &mut out, &mut err);
 //! assert!(rt; status == Status::Done);
-//! assert!(rt; err.bytes() == b"1 documents, 0 faulty\n".as_slice());
+//! assert!(rt; out.bytes() == b"\x05\0\0\0\0".as_slice());
 //! ```
 //!
-//! - `dump` and `check`, which scan a file document by document; `pack`, which holds the documents of its whole file.
-//! - `scan`: the scan of `dump` and `check`.
-//! - `input`: a file that is read completely, how much of a file is read, and why it is not read to its end.
+//! - `pack`: the documents of lines of text, as BSON.
 //! - `load`: a dump that is read into memory, for `find` and `serve`.
-//! - `output`: the messages of a run, and its exit status.
 #![tactic(auto)]
 
-pub mod check;
-pub mod dump;
-mod input;
 pub mod load;
-pub mod output;
 pub mod pack;
-mod scan;
-
-pub use input::{InputFault, LIMITS, read_input};
-pub use output::Status;

@@ -3,12 +3,12 @@
 ghost use Rattle.std.specs.Prelude.{◌<◌, ℕ, IfErr, IfOk, slice_index};
 ghost use Rattle.bd_io_device.specs.Devices.{over};
 ghost use Rattle.bd_bson_dump.specs.Collection.{bytes_of, documents};
-ghost use Rattle.bd_cli_files.specs.Input.{ReadsNoFurther};
+ghost use Rattle.bd_cli_scan.specs.Input.{ReadsNoFurther};
 ghost use Rattle.bd_cli_files.specs.Load.{FailsToLoad, LoadsDump, ReportsLoadFault};
 
-use crate::input::{InputFault, read_input};
-use crate::output::{Status, is_want_of_memory, message_of, report_error, report_no_memory};
 use bd_bson_dump::{Dump, read_dump};
+use bd_cli_scan::output::{is_want_of_memory, message_of, report_error, report_no_memory};
+use bd_cli_scan::{InputFault, Status, read_input};
 use bd_io_device::{Input, Output, ReadFault};
 use std::alloc::Global;
 
@@ -46,11 +46,16 @@ fn are_bytes(bytes: &[u8])
 {}
 
 /// Reports why an input is no dump in memory.
-pub fn report_load_fault<E: Output>(alloc: Global, fault: &InputFault, err: &mut E) -> Status
-    ensures { ReportsLoadFault (over E.state err.old err.new) result fault.now }
+pub fn report_load_fault<E: Output>(
+    alloc: Global,
+    program: &str,
+    fault: &InputFault,
+    err: &mut E,
+) -> Status
+    ensures { ReportsLoadFault program.now (over E.state err.old err.new) result fault.now }
 {
     match message_of(fault, &mut String::new(alloc)) {
-        Ok(message) => report_error(message, err),
-        Err(_) => report_no_memory(err),
+        Ok(message) => report_error(program, message, err),
+        Err(_) => report_no_memory(program, err),
     }
 }

@@ -4,15 +4,16 @@ ghost use Rattle.std.specs.Prelude.{◌≡◌, ◌++◌, ◌∷◌, ◌+◌, ◌
 ghost use Rattle.bd_value.specs.Limits.{longest_input};
 ghost use Rattle.bd_io_device.specs.Devices.{over};
 ghost use Rattle.bd_io_lines.specs.Lines.{text_lines};
-ghost use Rattle.bd_cli_files.specs.Input.{ReadsInput, ReadsNoFurther};
-ghost use Rattle.bd_cli_files.specs.Output.{Transcript, error_line, no_memory, wrong_line, wrong_status};
-ghost use Rattle.bd_cli_files.specs.Run.{Prints, ReportsMessage, partial_run};
+ghost use Rattle.bd_cli_scan.specs.Input.{ReadsInput, ReadsNoFurther};
+ghost use Rattle.bd_cli_scan.specs.Output.{Transcript, error_line, no_memory, wrong_line, wrong_status};
+ghost use Rattle.bd_cli_scan.specs.Run.{Prints, ReportsMessage, partial_run};
 ghost use Rattle.bd_cli_files.specs.Pack.{IsOutputOfPack, bad_line_text, line_fault_text, objects_packed, pack_run};
 ghost use Rattle.bd_cli_files.specs.inside.Pack.{ArePacked, IsTaken};
-ghost use Rattle.bd_cli_files.specs.declared.output.Status.TheVariants.{Failed};
+ghost use Rattle.bd_cli_scan.specs.declared.output.Status.TheVariants.{Failed};
 
-use crate::output::{
-    Status, push_number, report_end, report_no_memory, report_read_fault, report_unwritten,
+use bd_cli_scan::Status;
+use bd_cli_scan::output::{
+    push_number, report_end, report_no_memory, report_read_fault, report_unwritten,
 };
 use bd_extjson_fault::JsonFaultKind;
 use bd_extjson_pack::{LineFault, Packer};
@@ -27,18 +28,19 @@ const OBJECTS_PACKED: &str = " objects packed\n";
 /// Reads the whole input, and writes the BSON of its lines' documents, up to the first line that is no document.
 pub fn pack<R: Input, O: Output, E: Output>(
     alloc: Global,
+    program: &str,
     input: &mut R,
     out: &mut O,
     err: &mut E,
 ) -> Status
-    ensures packs { Prints (pack_run (over R.state input.old input.new))
+    ensures packs { Prints program.now (pack_run (over R.state input.old input.new))
         (over O.state out.old out.new) (over E.state err.old err.new) result }
     ensures stops_reading { ReadsNoFurther R.read_gives input.old input.new }
 {
     let mut packing = Packing::new(alloc);
     match pack_input(alloc, input, &mut packing) {
-        Ok(()) => write_packing(alloc, &packing, out, err),
-        Err(fault) => report_read_fault(fault, err),
+        Ok(()) => write_packing(alloc, program, &packing, out, err),
+        Err(fault) => report_read_fault(program, fault, err),
     }
 }
 
@@ -84,17 +86,18 @@ fn pack_input<R: Input>(
 /// Writes the documents of the lines that were packed, and reports them.
 fn write_packing<O: Output, E: Output>(
     alloc: Global,
+    program: &str,
     packing: &Packing,
     out: &mut O,
     err: &mut E,
 ) -> Status
     ensures { (text : List ℕ) → ArePacked (text_lines text) packing.now →
-        (output : Transcript) × IsOutputOfPack (Ok text) output × Prints (partial_run output)
+        (output : Transcript) × IsOutputOfPack (Ok text) output × Prints program.now (partial_run output)
         (over O.state out.old out.new) (over E.state err.old err.new) result }
 {
     match write_all(out, &packing.bytes) {
-        Ok(()) => report_packing(alloc, packing, err),
-        Err(_) => report_unwritten(err),
+        Ok(()) => report_packing(alloc, program, packing, err),
+        Err(_) => report_unwritten(program, err),
     }
 }
 
@@ -195,17 +198,22 @@ impl Packing {
 }
 
 /// Reports how lines were packed, after the bytes on standard output.
-fn report_packing<E: Output>(alloc: Global, packing: &Packing, err: &mut E) -> Status
+fn report_packing<E: Output>(
+    alloc: Global,
+    program: &str,
+    packing: &Packing,
+    err: &mut E,
+) -> Status
     ensures { ReportsMessage (over E.state err.old err.new)
-        (wrong_line (option_map bad_line_text packing.now.bad) ++ (decimal packing.now.count
+        (wrong_line program.now (option_map bad_line_text packing.now.bad) ++ (decimal packing.now.count
         ++ objects_packed)) (wrong_status (option_map bad_line_text packing.now.bad)) result
-        ⊎ ReportsMessage (over E.state err.old err.new) (error_line no_memory) Failed result }
+        ⊎ ReportsMessage (over E.state err.old err.new) (error_line program.now no_memory) Failed result }
 {
     match &packing.bad {
-        None => report_end(None, packing.count, OBJECTS_PACKED, err),
+        None => report_end(program, None, packing.count, OBJECTS_PACKED, err),
         Some(bad) => match bad_line_message(alloc, bad) {
-            Ok(message) => report_end(Some(&message), packing.count, OBJECTS_PACKED, err),
-            Err(_) => report_no_memory(err),
+            Ok(message) => report_end(program, Some(&message), packing.count, OBJECTS_PACKED, err),
+            Err(_) => report_no_memory(program, err),
         },
     }
 }

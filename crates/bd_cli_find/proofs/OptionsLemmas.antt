@@ -5,7 +5,7 @@ use Rattle.bd_io_device.specs.Devices.{Over, Writer}
 use Rattle.bd_cursor_request.specs.{Refused.IsRefusedPart, Refused.Reason, Refused.bad_filter, Refused.plain, Refused.reason_of, Refused.refused_words, Refused.then_part, declared.results.Refused.Refused}
 use Rattle.bd_query_filter.specs.{Fault.refusal_of, declared.fault.FilterFault.FilterFault}
 use Rattle.bd_cli_args.specs.FindOptions.{FindOptions}
-use Rattle.bd_cli_files.specs.{Run.ReportsMessage, Output.error_line, Output.no_memory, declared.output.Status.Status, declared.output.Status.TheVariants.Failed}
+use Rattle.bd_cli_scan.specs.{Run.ReportsMessage, Output.error_line, Output.no_memory, declared.output.Status.Status, declared.output.Status.TheVariants.Failed}
 use Rattle.bd_cli_find.specs.Options.{document_in, search_of, refusal_text, refused_option, refused_text, requested_by}
 use Rattle.bd_cli_find.specs.inside.Options.{ReportsSearchFault, ReportsReason, ReportsRefusal}
 use Rattle.bd_cli_find.specs.declared.options.SearchFault.{SearchFault}
@@ -19,18 +19,18 @@ reason_reported part refused other (inl out_of_memory) = absurd (other out_of_me
 reason_reported part refused other (inr is) = rw is refl
 
 -- the line of a filter's fault, and that of another refusal
-pub filter_reported : (err : Over Writer) (refused : Refused) (fault : FilterFault) (text : List ℕ) (status : Status) → refused ≡ reasons.BadFilter fault
-    → text ≡ refusal_text (refusal_of fault) → ReportsMessage err (error_line text) Failed status → ReportsRefusal err (reason_of refused) status
-filter_reported err refused fault text status is same reported = rw is (inl (subst (λ (x : List ℕ). ReportsMessage err (error_line x) Failed status) same reported))
+pub filter_reported : {program : List ℕ} (err : Over Writer) (refused : Refused) (fault : FilterFault) (text : List ℕ) (status : Status) → refused ≡ reasons.BadFilter fault
+    → text ≡ refusal_text (refusal_of fault) → ReportsMessage err (error_line program text) Failed status → ReportsRefusal program err (reason_of refused) status
+filter_reported {program} err refused fault text status is same reported = rw is (inl (subst (λ (x : List ℕ). ReportsMessage err (error_line program x) Failed status) same reported))
 
-pub plain_reported : (err : Over Writer) (refused : Refused) (status : Status) → ((x : FilterFault) → refused ≡ reasons.BadFilter x → ⊥)
-    → ReportsMessage err (error_line (refused_option refused ++ refused_words refused)) Failed status → ReportsRefusal err (reason_of refused) status
+pub plain_reported : {program : List ℕ} (err : Over Writer) (refused : Refused) (status : Status) → ((x : FilterFault) → refused ≡ reasons.BadFilter x → ⊥)
+    → ReportsMessage err (error_line program (refused_option refused ++ refused_words refused)) Failed status → ReportsRefusal program err (reason_of refused) status
 plain_reported err (reasons.BadFilter fault) status other reported = absurd (other fault refl)
 plain_reported err refused status other reported = reported
 
 -- the line of a refusal is written, or that of out of memory
-pub explain_refusal : (err : Over Writer) (reason : Reason) (status : Status) → ReportsRefusal err reason status
-    → ReportsMessage err (error_line (refused_text reason)) Failed status ⊎ ReportsMessage err (error_line no_memory) Failed status
+pub explain_refusal : {program : List ℕ} (err : Over Writer) (reason : Reason) (status : Status) → ReportsRefusal program err reason status
+    → ReportsMessage err (error_line program (refused_text reason)) Failed status ⊎ ReportsMessage err (error_line program no_memory) Failed status
 explain_refusal err (plain refused) status reported = inl reported
 explain_refusal err (bad_filter r) status reported = reported
 

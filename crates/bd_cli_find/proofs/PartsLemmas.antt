@@ -20,8 +20,9 @@ use Rattle.bd_io_lines.specs.Lines.{is_newline, text_lines}
 use Rattle.bd_io_lines.proofs.LinesLemmas.{lines_apart}
 use Rattle.bd_extjson_pack.specs.Packable.{plain}
 use Rattle.bd_extjson_pack.proofs.PlainLemmas.{reads_plain}
-use Rattle.bd_cli_files.specs.{Pack.PacksLines, Output.lines}
-use Rattle.bd_cli_files.proofs.OutputLemmas.{lines-append}
+use Rattle.bd_cli_scan.specs.{Output.lines}
+use Rattle.bd_cli_files.specs.{Pack.PacksLines}
+use Rattle.bd_cli_scan.proofs.OutputLemmas.{lines-append}
 use Rattle.bd_cli_find.specs.Find.{IsReadBack, document_request, documents_output}
 
 -- ---- the printed documents are those that answer the request

@@ -9,7 +9,7 @@ use Rattle.bd_path.specs.declared.path.PathFault.{PathFault}
 use Rattle.bd_cursor_request.specs.{declared.token.Token.Token, Refused.Reason, Refused.then_part, Refused.error_as, Request.Request, Request.named_index, Request.request_of}
 use Rattle.bd_cli_find.specs.Options.{after_part, batch_part, document_in, index_fault_text, refused_text, requested_by, search_of}
 use Rattle.bd_cli_find.specs.Find.{IsOutputOfFind, IsOutputOf, IsOutputOfBytes, documents_output, output_of_dump, output_of_scan}
-use Rattle.bd_cli_files.specs.Output.{Transcript, lines, refusal_output}
+use Rattle.bd_cli_scan.specs.Output.{Transcript, lines, refusal_output}
 
 -- ---- there is one output
 

@@ -16,9 +16,9 @@ use Rattle.bd_bson_check.specs.{Fault.Fault, Dump.IsDumpScan}
 use Rattle.bd_cli_args.specs.FindOptions.{FindOptions}
 use Rattle.bd_cli_find.specs.Options.{refused_text, requested_by}
 use Rattle.bd_cursor_sort.specs.Selection.{query_to, selection_for}
-use Rattle.bd_cli_files.specs.{Input.ReadsInput, Run.Run, Run.run_after}
-use Rattle.bd_cli_files.specs.declared.output.Status.TheVariants.{Done}
-use Rattle.bd_cli_files.specs.Output.{Transcript, lines, fault_text, refusal_output}
+use Rattle.bd_cli_scan.specs.{Input.ReadsInput, Run.Run, Run.run_after}
+use Rattle.bd_cli_scan.specs.declared.output.Status.TheVariants.{Done}
+use Rattle.bd_cli_scan.specs.Output.{Transcript, lines, fault_text, refusal_output}
 use Rattle.bd_extjson_text.specs.Text.{text}
 use Rattle.bd_path.specs.Sort.{SortPath, sort_cmp}
 use Rattle.bd_query_filter.specs.{Filter.Filter, FilterMatch.matches}
@@ -59,7 +59,7 @@ find_count_line count ends token = decimal count ++ (end_words ends ++ (token_wo
 abbrev pub batch_output : Option ℕ → List Doc → OpenCursor → Transcript
 batch_output size ds c = let ps = at_most size c.remaining in record {
   out = lines (documents_at ds ps);
-  err = find_count_line (length ps) (is_empty (remaining_over size c.remaining)) (token_after c.digest c.token ps);
+  err = λ program. find_count_line (length ps) (is_empty (remaining_over size c.remaining)) (token_after c.digest c.token ps);
   status = Done;
 }
 

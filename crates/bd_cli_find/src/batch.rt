@@ -11,9 +11,9 @@ ghost use Rattle.bd_cursor_sort.specs.Selection.{query_of};
 ghost use Rattle.bd_cursor.specs.{Access.way_of, SessionView.dump_of, SessionView.hint_of, SessionView.positioned_token, SessionView.state_of};
 ghost use Rattle.bd_cursor_request.specs.Request.{request_view};
 ghost use Rattle.bd_cursor_request.specs.declared.results.Refused.TheVariants.{NoMemory as memory};
-ghost use Rattle.bd_cli_files.specs.Output.{error_line, lines, no_memory};
-ghost use Rattle.bd_cli_files.specs.Run.{Prints, ReportsMessage, StopsWithin, partial_run};
-ghost use Rattle.bd_cli_files.specs.declared.output.Status.TheVariants.{Done, Failed};
+ghost use Rattle.bd_cli_scan.specs.Output.{error_line, lines, no_memory};
+ghost use Rattle.bd_cli_scan.specs.Run.{Prints, ReportsMessage, StopsWithin, partial_run};
+ghost use Rattle.bd_cli_scan.specs.declared.output.Status.TheVariants.{Done, Failed};
 ghost use Rattle.bd_cli_find.specs.Options.{fits_batch};
 ghost use Rattle.bd_cli_find.specs.Find.{end_words, find_count_line, batch_output};
 ghost use Rattle.bd_cli_find.specs.inside.Find.{AwaitsFirst, IsOpenedOn, IsReady, index_way};
@@ -21,8 +21,8 @@ ghost use Rattle.bd_cli_find.specs.Find.{output_of_dump, token_words};
 
 use crate::options::{Search, report_refused};
 use bd_bson_dump::Dump;
-use bd_cli_files::Status;
-use bd_cli_files::output::{OutputFault, push_number, report_no_memory, report_stop, status_of};
+use bd_cli_scan::Status;
+use bd_cli_scan::output::{OutputFault, push_number, report_no_memory, report_stop, status_of};
 use bd_cursor::{Choice, Session};
 use bd_cursor_request::{Batch, Refused, Token};
 use bd_extjson_text::TextBuffer;
@@ -43,6 +43,7 @@ const TOKEN: &str = ", token ";
 /// Prints the first batch, of this size, of a search in a dump; without a size all of its documents.
 pub(crate) fn print_found<O: Output, E: Output>(
     alloc: Global,
+    program: &str,
     dump: Dump,
     search: Search,
     size: Option<u32>,
@@ -51,14 +52,14 @@ pub(crate) fn print_found<O: Output, E: Output>(
 ) -> Status
     requires within_limit { length (documents dump) ≤ greatest_count }
     requires fits { fits_batch size ≡ true }
-    ensures { Prints (partial_run (output_of_dump size
+    ensures { Prints program.now (partial_run (output_of_dump size
         (request_view search.request, search.token) (bytes_of dump) (documents dump)))
         (over O.state out.old out.new) (over E.state err.old err.new) result }
 {
     let mut session = Session::new(alloc, dump);
     match open_first(alloc, &mut session, search) {
-        Ok(id) => print_batch(alloc, &mut session, id, size, out, err),
-        Err(refused) => report_refused(alloc, &refused, err),
+        Ok(id) => print_batch(alloc, program, &mut session, id, size, out, err),
+        Err(refused) => report_refused(alloc, program, &refused, err),
     }
 }
 
@@ -96,6 +97,7 @@ fn choose(alloc: Global, session: &mut Session, index: Option<Path>) -> Result<C
 /// Prints the first batch of a cursor.
 fn print_batch<O: Output, E: Output>(
     alloc: Global,
+    program: &str,
     session: &mut Session,
     id: u64,
     size: Option<u32>,
@@ -105,15 +107,15 @@ fn print_batch<O: Output, E: Output>(
     requires ready { IsReady (state_of session.now) id (length (documents (dump_of session.now))) }
     requires fits { fits_batch size ≡ true }
     ensures { (cursor : OpenCursor) → cursor_of id (state_of session.old).cursors ≡ Some cursor →
-        Prints (partial_run (batch_output size (documents (dump_of session.old)) cursor))
+        Prints program.now (partial_run (batch_output size (documents (dump_of session.old)) cursor))
         (over O.state out.old out.new) (over E.state err.old err.new) result }
 {
     let Ok(batch) = session.next(id, most_of(size)) else {
-        return report_no_memory(err);
+        return report_no_memory(program, err);
     };
     match write_documents(alloc, session.dump(), &batch.places, out) {
-        Ok(()) => report_batch(alloc, &batch, err),
-        Err(fault) => report_stop(fault, err),
+        Ok(()) => report_batch(alloc, program, &batch, err),
+        Err(fault) => report_stop(program, fault, err),
     }
 }
 
@@ -149,15 +151,20 @@ fn write_documents<O: Output>(
 }
 
 /// Reports how many documents a batch has, whether nothing remains, and the token after it.
-fn report_batch<E: Output>(alloc: Global, batch: &Batch, err: &mut E) -> Status
+fn report_batch<E: Output>(
+    alloc: Global,
+    program: &str,
+    batch: &Batch,
+    err: &mut E,
+) -> Status
     ensures { ReportsMessage (over E.state err.old err.new)
         (find_count_line (length batch.now.places.items) batch.now.end
         (option_map positioned_token batch.now.token)) Done result
-        ⊎ ReportsMessage (over E.state err.old err.new) (error_line no_memory) Failed result }
+        ⊎ ReportsMessage (over E.state err.old err.new) (error_line program.now no_memory) Failed result }
 {
     match count_line(alloc, batch) {
         Ok(line) => status_of(write_all(err, line.as_bytes()), Status::Done),
-        Err(_) => report_no_memory(err),
+        Err(_) => report_no_memory(program, err),
     }
 }
 

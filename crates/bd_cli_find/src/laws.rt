@@ -12,7 +12,8 @@ ghost use Rattle.bd_cli_args.specs.FindOptions.{FindOptions};
 ghost use Rattle.bd_cursor_request.specs.{Request.Request, declared.token.Token.Token};
 ghost use Rattle.bd_cli_find.specs.Find.{IsReadBack, IsOutputOfFind, document_request, documents_output};
 ghost use Rattle.bd_cli_find.specs.Options.{requested_by};
-ghost use Rattle.bd_cli_files.specs.{Output.Transcript, Output.lines, Pack.PacksLines};
+ghost use Rattle.bd_cli_scan.specs.{Output.Transcript, Output.lines};
+ghost use Rattle.bd_cli_files.specs.{Pack.PacksLines};
 ghost use Rattle.bd_extjson_pack.specs.Packable.{plain};
 
 /// A collection may be split between documents, and `find` may search each part: without a skip, and either without a limit or

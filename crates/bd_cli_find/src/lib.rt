@@ -18,7 +18,7 @@
 //! let mut buffer = [0; 100];
 //! let mut out = MemoryOutput::new(&mut [], 1, None);
 //! let mut err = MemoryOutput::new(&mut buffer, 100, None);
-//! let status = find(alloc, &options, &mut file, &mut out, &mut err);
+//! let status = find(alloc, "bsonfind", &options, &mut file, &mut out, &mut err);
 //! assert!(rt; status == Status::Done);
 //! assert!(rt; err.bytes() == b"0 documents, end\n".as_slice());
 //! ```

@@ -7,15 +7,17 @@ ghost use Rattle.bd_path.specs.PathNames.{path_text};
 ghost use Rattle.bd_query_filter.specs.Fault.{refusal_of};
 ghost use Rattle.bd_cursor_request.specs.Refused.{reason_of, refused_words, error_as};
 ghost use Rattle.bd_cursor_request.specs.Request.{named_index, request_of, request_view};
-ghost use Rattle.bd_cli_files.specs.Output.{error_line};
+ghost use Rattle.bd_cli_scan.specs.Output.{error_line};
 ghost use Rattle.bd_cli_find.specs.Options.{after_part, batch_part, document_in};
 ghost use Rattle.bd_cli_find.specs.inside.Options.{ReportsSearchFault, ReportsReason, ReportsRefusal};
 ghost use Rattle.bd_cli_find.specs.Options.{fits_batch, index_fault_text, json_fault_text, refusal_text, refused_option, requested_by, search_of};
 ghost use Rattle.bd_cli_find.specs.declared.options.SearchFault.TheVariants.{NoMemory as no_memory};
 
 use bd_cli_args::FindOptions;
-use bd_cli_files::Status;
-use bd_cli_files::output::{push_number, push_path, report_error, report_no_memory, status_of};
+use bd_cli_scan::Status;
+use bd_cli_scan::output::{
+    push_number, push_path, report_error, report_no_memory, status_of, write_pair,
+};
 use bd_cursor_request::{Refused, Request, Token};
 use bd_extjson::read_doc;
 use bd_extjson_fault::{JsonFault, JsonFaultKind};
@@ -217,40 +219,38 @@ fn filter_message(alloc: Global, fault: &FilterFault) -> Result<String, NoMemory
 }
 
 /// Reports why a filter, a sort, a number or a token is refused. It takes memory only for the path of a filter's fault.
-pub(crate) fn report_refused<E: Output>(alloc: Global, refused: &Refused, err: &mut E) -> Status
-    ensures { ReportsRefusal (over E.state err.old err.new) (reason_of refused.now) result }
+pub(crate) fn report_refused<E: Output>(
+    alloc: Global,
+    program: &str,
+    refused: &Refused,
+    err: &mut E,
+) -> Status
+    ensures { ReportsRefusal program.now (over E.state err.old err.new) (reason_of refused.now) result }
 {
     match refused {
         Refused::BadFilter(fault) => match filter_message(alloc, fault) {
-            Ok(message) => report_error(&message, err),
-            Err(_) => report_no_memory(err),
+            Ok(message) => report_error(program, &message, err),
+            Err(_) => report_no_memory(program, err),
         },
-        refused => status_of(write_refused(refused, err), Status::Failed),
+        refused => status_of(write_refused(program, refused, err), Status::Failed),
     }
 }
 
 /// Writes the line of a refusal.
-#[tactic(auto, using(bd_cli_files::proofs::OutputLemmas::taking))]
-fn write_refused<E: Output>(refused: &Refused, err: &mut E) -> Result<(), DeviceFault>
+#[tactic(auto, using(bd_cli_scan::proofs::OutputLemmas::taking))]
+fn write_refused<E: Output>(
+    program: &str,
+    refused: &Refused,
+    err: &mut E,
+) -> Result<(), DeviceFault>
     ensures ok { OnOk result (TakesText (over E.state err.old err.new)
-        (error_line (refused_option refused.now ++ refused_words refused.now))) }
+        (error_line program.now (refused_option refused.now ++ refused_words refused.now))) }
     ensures err { OnErr result (WriteFailsWithin (over E.state err.old err.new)
-        (error_line (refused_option refused.now ++ refused_words refused.now))) }
+        (error_line program.now (refused_option refused.now ++ refused_words refused.now))) }
 {
-    write_all(err, b"bsonfind: ")?;
-    write_words(refused_option(refused), refused.words(), err)?;
+    write_pair(program, ": ", err)?;
+    write_pair(refused_option(refused), refused.words(), err)?;
     write_all(err, b"\n")
-}
-
-/// Writes a text, and another after it.
-#[tactic(auto, using(bd_cli_files::proofs::OutputLemmas::taking))]
-fn write_words<E: Output>(first: &str, second: &str, err: &mut E) -> Result<(), DeviceFault>
-    ensures ok { OnOk result (TakesText (over E.state err.old err.new) (first.now ++ second.now)) }
-    ensures err { OnErr result
-        (WriteFailsWithin (over E.state err.old err.new) (first.now ++ second.now)) }
-{
-    write_all(err, first.as_bytes())?;
-    write_all(err, second.as_bytes())
 }
 
 /// The name of the refused option, if it is an option that is refused.

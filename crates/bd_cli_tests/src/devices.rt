@@ -1,7 +1,7 @@
 //! Runs over devices in memory.
 use bd_cli::run;
 use bd_cli_args::{FindOptions, Order};
-use bd_cli_files::Status;
+use bd_cli_scan::Status;
 use bd_io_device::{FailingWrite, MemoryInput, MemoryOutput};
 use std::alloc::Global;
 

@@ -1,8 +1,9 @@
-//! The examples of use in the roots of `bd_cli`, `bd_cli_args`, `bd_cli_files` and `bd_cli_find`.
+//! The examples of use in the roots of `bd_cli`, `bd_cli_args`, `bd_cli_scan`, `bd_cli_files` and `bd_cli_find`.
 use bd_cli::run;
 use bd_cli_args::{FindOptions, Order, parse_words};
-use bd_cli_files::Status;
-use bd_cli_files::check::check;
+use bd_cli_scan::Status;
+use bd_cli_scan::check::check;
+use bd_cli_files::pack::pack;
 use bd_cli_find::find::find;
 use bd_io_device::{MemoryInput, MemoryOutput};
 use std::test::Fail;
@@ -14,9 +15,22 @@ fn check_a_dump(rt: HostRuntime) {
     let mut buffer = [0; 100];
     let mut out = MemoryOutput::new(&mut [], 1, None);
     let mut err = MemoryOutput::new(&mut buffer, 100, None);
-    let status = check(alloc, &mut file, &mut out, &mut err);
+    let status = check(alloc, "bsonfind", &mut file, &mut out, &mut err);
     assert!(rt; status == Status::Done);
     assert!(rt; err.bytes() == b"1 documents, 0 faulty\n".as_slice());
+}
+
+#[test]
+fn pack_a_text(rt: HostRuntime) {
+    let alloc = rt.alloc();
+    let mut file = MemoryInput::new(b"{}\n", 3, None);
+    let mut packed = [0; 5];
+    let mut buffer = [0; 100];
+    let mut out = MemoryOutput::new(&mut packed, 5, None);
+    let mut err = MemoryOutput::new(&mut buffer, 100, None);
+    let status = pack(alloc, "bsonfind", &mut file, &mut out, &mut err);
+    assert!(rt; status == Status::Done);
+    assert!(rt; out.bytes() == b"\x05\0\0\0\0".as_slice());
 }
 
 #[test]
@@ -35,7 +49,7 @@ fn find_in_a_dump(rt: HostRuntime) -> Result<(), Fail> {
     let mut buffer = [0; 100];
     let mut out = MemoryOutput::new(&mut [], 1, None);
     let mut err = MemoryOutput::new(&mut buffer, 100, None);
-    let status = find(alloc, &options, &mut file, &mut out, &mut err);
+    let status = find(alloc, "bsonfind", &options, &mut file, &mut out, &mut err);
     assert!(rt; status == Status::Done);
     assert!(rt; err.bytes() == b"0 documents, end\n".as_slice());
     Ok(())

@@ -1,4 +1,4 @@
-//! Tests of `bd_cli_args`, `bd_cli_files`, `bd_cli_find` and `bd_cli`, over their public calls: those that need devices in memory.
+//! Tests of `bd_cli_args`, `bd_cli_scan`, `bd_cli_files`, `bd_cli_find` and `bd_cli`, over their public calls: those that need devices in memory.
 //! The output of the program, and each of its reads and writes that fails, is tested with the program itself.
 #![tactic(auto)]
 

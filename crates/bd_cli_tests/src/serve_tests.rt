@@ -1,7 +1,7 @@
 //! `serve` over devices in memory, with outcomes that were worked by hand.
 use crate::devices::{BAD_AND_ONE, Command, ONE, order_of};
 use bd_cli::run;
-use bd_cli_files::Status;
+use bd_cli_scan::Status;
 use bd_io_device::{MemoryInput, MemoryOutput};
 
 /// Lines of 12, 3, 1, 25 and 23 bytes, with their newlines. The last has no newline.

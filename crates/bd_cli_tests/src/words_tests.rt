@@ -1,7 +1,7 @@
 //! The output for arguments that are not a command.
 use bd_cli::report;
 use bd_cli_args::{USAGE, WordsFault};
-use bd_cli_files::Status;
+use bd_cli_scan::Status;
 use bd_io_device::MemoryOutput;
 
 #[test]

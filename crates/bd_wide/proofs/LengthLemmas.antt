@@ -1,4 +1,4 @@
--- If the text for each number is as long as the number, the whole is as long as before.
+-- What the first element of bytes, a scope and a whole document have at least.
 use Rattle.std.proofs.Common.{◌≡◌, ℕ, zero, suc, ◌+◌, ◌-◌, ◌≤◌, List, [], ◌∷◌, ◌++◌, length, take, drop, Option, Some, None, refl, sym, ap, ◌∙◌, arith, length-append, length-drop, Bool, true, false, if◌then◌else◌, nat_lt, ◌==◌, ◌||◌, not, subst}
 use Rattle.std.proofs.lemmas.{Bool.Decides.nat_tests, List.length-take-le, List.Quantifiers.position-Some}
 use Rattle.bd_value.specs.declared.node.Kind.TheVariants as kinds
@@ -103,61 +103,7 @@ first_element_fits (b ∷ bytes) x is = named (length (b ∷ bytes)) (type_at b)
     (f.0, omega (arith, a.0, f.1, length-drop (k + 1) bytes)))
     is
 
--- ---- what is written
-
-pub record Keeps (Is : Writes) (others : Others) : Type 0 where
-  pub element : (path : List ℕ) (t : ElementType) (head value new : List ℕ) → 2 ≤ length head → least t ≤ length value → Is path t head value new → length new ≡ length head + length value
-  pub rest : (bytes : List ℕ) → length (others bytes) ≡ length bytes
-
-abbrev KeepsNested : Nested → Type 0
-KeepsNested f = (h : Holder) (path value new : List ℕ) → holder_least h ≤ length value → f h path value new → length new ≡ length value
-
-headed_keeps : (f : List ℕ → Type 0) (head value new : List ℕ) → ((v : List ℕ) → f v → length v ≡ length value) → (v : List ℕ) × f v × (new ≡ head ++ v) → length new ≡ length head + length value
-headed_keeps f head value new below h = omega (arith, ap (λ xs. length xs) h.2, length-append head h.0, below h.0 h.1)
-
-same_keeps : (head value new : List ℕ) → new ≡ head ++ value → length new ≡ length head + length value
-same_keeps head value new h = ap (λ xs. length xs) h ∙ length-append head value
-
-element_keeps : (Is : Writes) (others : Others) → Keeps Is others → (f : Nested) → KeepsNested f → (path : List ℕ) (t : ElementType) (head value new : List ℕ) → 2 ≤ length head → least t ≤ length value
-    → IsElement Is f path t head value new → length new ≡ length head + length value
-unfolding IsElement part_of least holder_least
-element_keeps Is others keeps f below path Double head value new two some h = keeps.element path Double head value new two some h
-element_keeps Is others keeps f below path Decimal128 head value new two some h = keeps.element path Decimal128 head value new two some h
-element_keeps Is others keeps f below path (Kept kinds.Int32) head value new two some h = keeps.element path (Kept kinds.Int32) head value new two some h
-element_keeps Is others keeps f below path (Kept kinds.Int64) head value new two some h = keeps.element path (Kept kinds.Int64) head value new two some h
-element_keeps Is others keeps f below path (Kept kinds.Doc) head value new two some h = headed_keeps (f holders.Document (path ++ separator holders.Document) value) head value new (λ v. below holders.Document (path ++ separator holders.Document) value v some) h
-element_keeps Is others keeps f below path (Kept kinds.Array) head value new two some h = headed_keeps (f holders.Array (path ++ separator holders.Array) value) head value new (λ v. below holders.Array (path ++ separator holders.Array) value v some) h
-element_keeps Is others keeps f below path (Kept kinds.CodeScope) head value new two some h = headed_keeps (f holders.CodeScope (path ++ separator holders.CodeScope) value) head value new (λ v. below holders.CodeScope (path ++ separator holders.CodeScope) value v some) h
-element_keeps Is others keeps f below path (Kept _) head value new two some h = same_keeps head value new h
-
-elements_keep : (Is : Writes) (others : Others) → Keeps Is others → (f : Nested) → KeepsNested f → (path_in : List ℕ → List ℕ) (n : ℕ) (bytes new : List ℕ) → AreElements Is others f path_in n bytes new → length new ≡ length bytes
-elements_keep Is others keeps f below path_in zero bytes new h = ap (λ xs. length xs) (no_turn Is others f path_in bytes new h)
-elements_keep Is others keeps f below path_in (suc n) [] new h = ap (λ xs. length xs) (none_only Is others f path_in (suc n) new h)
-elements_keep Is others keeps f below path_in (suc n) (b ∷ bytes) new h =
-    let all : List ℕ = b ∷ bytes in
-    let here : (r : Option (ElementType × ℕ × ℕ)) → first_element all ≡ r → Turn Is others f path_in n all r new → length new ≡ length all = elim [
-      | None ↦ λ is t. ap (λ xs. length xs) t ∙ keeps.rest all
-      | Some x ↦ λ is t.
-          let fits = first_element_fits all x is in
-          let head : List ℕ = take x.1 all in
-          let value : List ℕ = take x.2 (drop x.1 all) in
-          let rest : List ℕ = drop x.2 (drop x.1 all) in
-          let hs : length head ≡ x.1 = length-take-le x.1 all (omega (arith, fits.2)) in
-          let vs : length value ≡ x.2 = length-take-le x.2 (drop x.1 all) (omega (arith, fits.2, length-drop x.1 all)) in
-          let one = element_keeps Is others keeps f below (path_in head) x.0 head value t.0 (omega (arith, hs, fits.0)) (omega (arith, vs, fits.1)) t.2 in
-          let two = elements_keep Is others keeps f below path_in n rest t.1 t.3 in
-          omega (arith, ap (λ xs. length xs) t.4, length-append t.0 t.1, one, two, hs, vs, fits.2, length-drop x.2 (drop x.1 all), length-drop x.1 all)
-    ] in
-    here (first_element all) refl (to_turn Is others f path_in n b bytes new h)
-
-body_keeps : (Is : Writes) (others : Others) → Keeps Is others → (f : Nested) → KeepsNested f → (path_in : List ℕ → List ℕ) (value new : List ℕ) → 5 ≤ length value → IsBody Is others f path_in value new → length new ≡ length value
-unfolding IsBody
-body_keeps Is others keeps f below path_in value new some h =
-    let inner : List ℕ = take (length value - 5) (drop 4 value) in
-    let last : List ℕ = drop (length value - 1) value in
-    let i : length inner ≡ length value - 5 = length-take-le (length value - 5) (drop 4 value) (omega (arith, length-drop 4 value)) in
-    let n : length h.0 ≡ length inner = elements_keep Is others keeps f below path_in (length inner) inner h.0 h.1 in
-    omega (arith, ap (λ xs. length xs) h.2, length-append (number (length h.0 + 5)) (h.0 ++ last), number_length (length h.0 + 5), length-append h.0 last, length-drop (length value - 1) value, i, n)
+-- ---- code with scope, and a whole document
 
 scope_cases : (count size n at : ℕ) (b : Bool) → (count == 0 || nat_lt size (8 + count + 5) || not (n == size - (8 + count))) ≡ b → (if b then None else Some (8 + count)) ≡ Some at → (8 ≤ at) × (at + 5 ≤ size)
 scope_cases count size n at true is h = absurd cc
@@ -172,27 +118,6 @@ scope_inside value at h =
     let count : ℕ = number_of (drop 4 value) in
     scope_cases count (length value) (number_of (drop (8 + count) value)) at (count == 0 || nat_lt (length value) (8 + count + 5) || not (number_of (drop (8 + count) value) == length value - (8 + count))) refl h
 
-scoped_keeps : (document : List ℕ → List ℕ → Type 0) → ((value new : List ℕ) → 5 ≤ length value → document value new → length new ≡ length value) → (value new : List ℕ) → IsScoped document value new → length new ≡ length value
-scoped_keeps document below value new h =
-    let cases : (r : Option ℕ) → scope_at value ≡ r → ScopeTurn document value new r → length new ≡ length value = elim [
-      | None ↦ λ is t. ap (λ xs. length xs) t
-      | Some at ↦ λ is t.
-          let fits = scope_inside value at is in
-          let s : length t.0 ≡ length (drop at value) = below (drop at value) t.0 (omega (arith, fits.1, length-drop at value)) t.1 in
-          let code : List ℕ = take (at - 4) (drop 4 value) in
-          let c : length code ≡ at - 4 = length-take-le (at - 4) (drop 4 value) (omega (arith, fits.1, length-drop 4 value)) in
-          omega (arith, ap (λ xs. length xs) t.2, length-append (number (at + length t.0)) (code ++ t.0), number_length (at + length t.0), length-append code t.0, s, c, fits.0, fits.1, length-drop at value)
-    ] in
-    cases (scope_at value) refl (to_scope document value new h)
-
-nested_keeps : (Is : Writes) (others : Others) → Keeps Is others → (depth_left : ℕ) → KeepsNested (IsNested Is others depth_left)
-unfolding IsNested holder_least
-nested_keeps Is others keeps zero h path value new some is = ap (λ xs. length xs) is
-nested_keeps Is others keeps (suc depth_left) holders.Document path value new some is = body_keeps Is others keeps (IsNested Is others depth_left) (nested_keeps Is others keeps depth_left) (path_of false path) value new some is
-nested_keeps Is others keeps (suc depth_left) holders.Array path value new some is = body_keeps Is others keeps (IsNested Is others depth_left) (nested_keeps Is others keeps depth_left) (path_of true path) value new some is
-nested_keeps Is others keeps (suc depth_left) holders.CodeScope path value new some is =
-    scoped_keeps (IsNested Is others depth_left holders.Document path) (λ v n h. nested_keeps Is others keeps depth_left holders.Document path v n h) value new is
-
 pub long_enough : (bytes : List ℕ) → nat_lt (length bytes) 5 ≡ false → 5 ≤ length bytes
 long_enough bytes at = grind (arith, nat_tests)
 
@@ -205,12 +130,3 @@ WholeTurn Is others bytes new false = IsNested Is others 200 holders.Document []
 pub to_whole : (Is : Writes) (others : Others) (bytes new : List ℕ) → IsRewritten Is others bytes new → WholeTurn Is others bytes new (nat_lt (length bytes) 5)
 unfolding IsRewritten
 to_whole Is others bytes new = elim (nat_lt (length bytes) 5) as (λ b. (elim b [ true ↦ new ≡ bytes | false ↦ IsNested Is others 200 holders.Document [] bytes new ]) → WholeTurn Is others bytes new b) [ true ↦ λ h. h | false ↦ λ h. h ]
-
-pub rewritten_keeps : (Is : Writes) (others : Others) → Keeps Is others → (bytes new : List ℕ) → IsRewritten Is others bytes new → length new ≡ length bytes
-unfolding holder_least
-rewritten_keeps Is others keeps bytes new h =
-    let cases : (b : Bool) → nat_lt (length bytes) 5 ≡ b → WholeTurn Is others bytes new b → length new ≡ length bytes = elim [
-      | true ↦ λ is t. ap (λ xs. length xs) t
-      | false ↦ λ is t. nested_keeps Is others keeps 200 holders.Document [] bytes new (long_enough bytes is) t
-    ] in
-    cases (nat_lt (length bytes) 5) refl (to_whole Is others bytes new h)

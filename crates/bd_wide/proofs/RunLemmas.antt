@@ -3,7 +3,6 @@ use Rattle.std.proofs.Common.{◌≡◌, ◌≤◌, ◌+◌, ap₂, zero, suc, i
 use Rattle.std.proofs.lemmas.List.{take-append-drop}
 use Rattle.bd_bson_view.specs.declared.raw_parts.ElementType.{ElementType}
 use Rattle.bd_wide.specs.declared.element.Part.TheVariants as parts
-use Rattle.bd_wide.specs.Changes.{Retypes}
 use Rattle.bd_wide.specs.inside.Changes.{Stays}
 use Rattle.bd_wide.specs.Rewritten.{Writes, Others, Nested, first_element, part_of, IsElement}
 use Rattle.bd_wide.proofs.RewriteLemmas.{Comes, stepped, part_of_element}
@@ -62,27 +61,3 @@ run_goes_on Is others nested path_in bytes old out run rest head more value rema
     let written : (out ++ before run rest) ++ one ≡ out ++ before run after = append_assoc out (before run rest) one ∙ ap (λ x. out ++ x) (sym splits) in
     subst (λ (l : List ℕ). Comes Is others nested path_in bytes l old (out ++ before run l) × (run ≡ before run l ++ l)) same
     (subst (λ (x : List ℕ). Comes Is others nested path_in bytes after old x) written next, all ∙ ap (λ x. x ++ after) (sym splits))
-
--- an element that gets another type ends the run before its type, and begins one after it
-pub after_type : (k : ℕ) (rest : List ℕ) → 1 ≤ k → k ≤ length rest → drop 1 rest ≡ drop 1 (take k rest) ++ drop k rest
-after_type k [] some fits = absurd (omega (arith, some, fits))
-after_type zero (b ∷ bytes) some fits = absurd (omega (arith, some))
-after_type (suc k) (b ∷ bytes) some fits = sym (take-append-drop k bytes)
-
-pub run_retyped : (Is : Writes) (others : Others) (nested : Nested) (path_in : List ℕ → List ℕ) (bytes old begun now run rest more remaining : List ℕ) (t : ElementType) (k n byte : ℕ)
-    → Comes Is others nested path_in bytes rest old begun → Some (t, k, n) ≡ first_element rest → (part_of t ≡ Some parts.Number) × Retypes Is t byte → 2 ≤ k → k + n ≤ length rest
-    → more ≡ drop k rest → remaining ≡ drop n more → run ≡ drop 1 rest → now ≡ begun ++ (byte ∷ [])
-    → Comes Is others nested path_in bytes remaining old (now ++ before run remaining) × (run ≡ before run remaining ++ remaining)
-run_retyped Is others nested path_in bytes old begun now run rest more remaining t k n byte comes is number two fits q s splits added =
-    let head : List ℕ = take k rest in
-    let value : List ℕ = take n (drop k rest) in
-    let after : List ℕ = drop n (drop k rest) in
-    let tail : List ℕ = drop 1 head ++ value in
-    let same : remaining ≡ after = s ∙ ap (drop n) q in
-    let all : run ≡ tail ++ remaining = splits ∙ after_type k rest (omega (arith, two)) (omega (arith, fits))
-    ∙ ap (λ x. drop 1 head ++ x) (sym (take-append-drop n (drop k rest))) ∙ sym (append_assoc (drop 1 head) value after) ∙ ap (λ x. tail ++ x) (sym same) in
-    let here : before run remaining ≡ tail = before_splits run tail remaining all in
-    let element : IsElement Is nested (path_in head) t head value (byte ∷ tail) = part_of_element Is nested (path_in head) t (Some parts.Number) head value (byte ∷ tail) (sym number.0) (number.1 (path_in head) head value) in
-    let next = stepped Is others nested path_in bytes old begun (begun ++ (byte ∷ tail)) rest head (drop k rest) value remaining (path_in head) t k n comes is refl refl refl same refl (byte ∷ tail, element, refl) in
-    let written : begun ++ (byte ∷ tail) ≡ now ++ before run remaining = sym (ap₂ (λ (x y : List ℕ). x ++ y) added here ∙ append_assoc begun (byte ∷ []) tail) in
-    (subst (λ (x : List ℕ). Comes Is others nested path_in bytes remaining old x) written next, all ∙ ap (λ x. x ++ remaining) (sym here))

@@ -1,5 +1,5 @@
 -- What a writer of numbers may promise, so that less has to be done.
-use Rattle.std.specs.Prelude.{ℕ, List, ◌∷◌, ◌++◌, drop}
+use Rattle.std.specs.Prelude.{ℕ, List, ◌++◌}
 use Rattle.bd_bson_view.specs.declared.raw_parts.ElementType.{ElementType}
 use Rattle.bd_wide.specs.Rewritten.{Writes}
 
@@ -11,8 +11,3 @@ IgnoresPaths Is = (path other : List ℕ) (type : ElementType) (head value new :
 -- An element with a number of this type may stay as it is.
 abbrev pub Leaves : Writes → ElementType → Type 0
 Leaves Is type = (path head value : List ℕ) → Is path type head value (head ++ value)
-
--- An element with a number of this type may get this type byte and stay as it is otherwise.
-abbrev pub Retypes : Writes → ElementType → ℕ → Type 0
-Retypes Is type byte = (path head value : List ℕ)
-    → Is path type head value (byte ∷ (drop 1 head ++ value))

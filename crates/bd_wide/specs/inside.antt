@@ -1,4 +1,3 @@
 pub mod Changes
-pub mod Masking
 pub mod Refused
 pub mod Wrap

@@ -4,17 +4,10 @@ ghost use Rattle.std.specs.Prelude.{◌≡◌, ◌<◌, [], List, ℕ, None, len
 ghost use Rattle.bd_bson_view.specs.Sizes.{number_of};
 ghost use Rattle.bd_bson_view.specs.Spelling.{IsDocument};
 ghost use Rattle.bd_value.specs.Tree.{Doc};
-ghost use Rattle.bd_wide.specs.Mask.{IsMasked, masked_others};
 ghost use Rattle.bd_wide.specs.Order.{IsOrdered};
 ghost use Rattle.bd_wide.specs.Refused.{first_refused};
 ghost use Rattle.bd_wide.specs.Rewritten.{IsRewritten};
 ghost use Rattle.bd_wide.specs.Wrap.{IsWrapped, refuses_wide};
-
-/// Masked bytes have the same length.
-pub fn mask_keeps_length()
-    ensures { (bytes new : List ℕ) → IsRewritten IsMasked masked_others bytes new
-        → length new ≡ length bytes }
-{}
 
 /// `wrap` leaves a document unchanged if no double and no decimal128 is found in it.
 pub fn wrap_leaves_others()
@@ -30,11 +23,9 @@ pub fn order_leaves_others()
         → IsRewritten (IsOrdered []) (λ others. others) bytes new → new ≡ bytes }
 {}
 
-/// Each filter leaves a document unchanged that `bsonfind` reads: `mask`, `wrap`, and, apart from the document's number,
-/// `order` if no path is requested.
+/// Each filter leaves a document unchanged that `bsonfind` reads: `wrap`, and, apart from the document's number, `order` if no
+/// path is requested.
 pub fn read_documents_stay()
-    ensures masked { (d : Doc) (bytes new : List ℕ) → IsDocument d bytes
-        → IsRewritten IsMasked masked_others bytes new → new ≡ bytes }
     ensures wrapped { (d : Doc) (bytes new : List ℕ) → IsDocument d bytes
         → IsRewritten IsWrapped (λ others. others) bytes new → new ≡ bytes }
     ensures ordered { (d : Doc) (bytes new : List ℕ) → IsDocument d bytes

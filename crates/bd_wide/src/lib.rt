@@ -2,19 +2,17 @@
 //!
 //! What may be written for a document's bytes, whatever they are: `specs/Rewritten.antt`.
 //!
-//! An example, which `bd_wide_tests` proves and runs as `examples::masked`:
+//! An example, which `bd_wide_tests` proves and runs as `examples::wrapped`:
 //!
 //! ```
+//! // {"d":1.0}, and {"d":{"$numberDouble":"1.0"}}
 //! let bytes = b"\x10\0\0\0\x01d\0\0\0\0\0\0\0\xf0\x3f\0";
+//! let wanted =
+//!     b"\x24\0\0\0\x03d\0\x1c\0\0\0\x02$numberDouble\0\x04\0\0\01.0\0\0\0";
 //! let mut path = Vec::new(alloc);
 //! let mut out = Vec::new(alloc);
-//! write_rewritten(&Mask, bytes, &mut path, &mut out)?;
-//! // The same eight bytes, as an int64.
-//! assert!(rt; out.as_slice() == b"\x10\0\0\0\x12d\0\0\0\0\0\0\0\xf0\x3f\0".as_slice());
-//! // The same at its place.
-//! let mut copy = Vec::new(alloc);
-//! write_masked(bytes, &mut copy)?;
-//! assert!(rt; copy.as_slice() == out.as_slice());
+//! assert!(rt; write_wrapped(bytes, &mut path, &mut out)?);
+//! assert!(rt; out.as_slice() == wanted.as_slice());
 //! ```
 //!
 //! - `find`: `find_refused`, the first number that a `Refuser` refuses: `specs/Refused.antt`.
@@ -23,16 +21,12 @@
 //! - `element`: the first element of bytes, by sizes alone.
 //! - `order`: `write_ordered`, a document whose numbers are whole numbers in the same order: `specs/Order.antt`.
 //! - `paths`: the paths whose numbers become codes: `specs/Paths.antt`.
-//! - `mask`: `Mask`, which gives each element a type that `bsonfind` reads, in place.
-//! - `masking`: `write_masked`, which masks a document in place.
-//! - `laws`: `mask` keeps the length, and `wrap` and `order` leave documents without doubles and decimal128 unchanged.
+//! - `laws`: `wrap` and `order` leave documents without doubles and decimal128 unchanged.
 #![tactic(auto)]
 
 mod element;
 mod find;
 mod laws;
-mod mask;
-mod masking;
 mod order;
 mod paths;
 mod rewrite;
@@ -40,9 +34,7 @@ mod wrap;
 
 pub use element::Part;
 pub use find::{Found, Refusal, Refuser, find_refused};
-pub use laws::{mask_keeps_length, order_leaves_others, read_documents_stay, wrap_leaves_others};
-pub use mask::Mask;
-pub use masking::write_masked;
+pub use laws::{order_leaves_others, read_documents_stay, wrap_leaves_others};
 pub use order::{Order, Outcome, Unfiltered, Unordered, write_ordered};
 pub use paths::{OrderPath, read_order};
 pub use rewrite::{NumberWriter, write_rewritten};

@@ -59,10 +59,6 @@ impl NumberWriter for Order {
         false
     }
 
-    fn retyped(&self, _typed: ElementType) -> Option<u8> {
-        None
-    }
-
     #[tactic(auto, using(bd_value::proofs::PrefixLemmas::prefixes))]
     fn element(
         &self,

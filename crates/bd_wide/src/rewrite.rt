@@ -3,7 +3,7 @@
 ghost use Rattle.std.specs.Prelude.{◌≡◌, ◌≤◌, ◌<◌, ◌+◌, ◌-◌, ◌++◌, List, ℕ, length, take, drop, vec_len, OnOk, OnErr, IfSome, IsTrue, Some};
 ghost use Rattle.std.specs.Io.{StartsWith};
 ghost use Rattle.bd_bson_view.specs.Spelling.{number};
-ghost use Rattle.bd_wide.specs.Changes.{IgnoresPaths, Leaves, Retypes};
+ghost use Rattle.bd_wide.specs.Changes.{IgnoresPaths, Leaves};
 ghost use Rattle.bd_wide.specs.inside.Changes.{Allows, ServesAs};
 ghost use Rattle.bd_wide.specs.Rewritten.{least, holder_least, Adds, IsElement, IsPart, AreElements, IsBody, IsScoped, IsNested, IsRewritten, part_of, path_of, separator as separator_of, scope_at as scope_at_of};
 ghost use Rattle.bd_wide.specs.declared.element.Part.TheVariants as parts;
@@ -29,10 +29,6 @@ pub trait NumberWriter {
     /// Whether each element with a number of this type may stay unchanged.
     fn leaves(&self, typed: ElementType) -> bool
         ensures { IsTrue result → Leaves (is_written self.now) typed };
-
-    /// The type that each element with a number of this type may get, if it may otherwise stay unchanged.
-    fn retyped(&self, typed: ElementType) -> Option<u8>
-        ensures { IfSome result (λ byte. Retypes (is_written self.now) typed byte) };
 
     /// Appends what is written for an element with a number.
     fn element(
@@ -129,12 +125,6 @@ fn elements<W: NumberWriter>(
         let (value, after) = more.split_at(n);
         match change(writer, typed) {
             Change::Nothing => {}
-            Change::Type(byte) => {
-                put_run(run, rest, out)?;
-                out.push(byte)?;
-                let (_, named) = rest.split_at(1);
-                run = named;
-            }
             Change::Part(part) => {
                 put_run(run, rest, out)?;
                 element(
@@ -158,22 +148,8 @@ fn change<W: NumberWriter>(writer: &W, typed: ElementType) -> Change
 {
     match looked_into(typed) {
         None => Change::Nothing,
-        Some(Part::Number) => number_change(writer, typed),
+        Some(Part::Number) if writer.leaves(typed) => Change::Nothing,
         Some(part) => Change::Part(part),
-    }
-}
-
-/// The part of an element with a number of this type that changes.
-fn number_change<W: NumberWriter>(writer: &W, typed: ElementType) -> Change
-    requires { part_of typed ≡ Some parts.Number }
-    ensures { Allows (W.is_written writer.now) typed result }
-{
-    if writer.leaves(typed) {
-        return Change::Nothing;
-    }
-    match writer.retyped(typed) {
-        Some(byte) => Change::Type(byte),
-        None => Change::Part(Part::Number),
     }
 }
 

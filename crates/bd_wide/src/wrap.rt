@@ -39,10 +39,6 @@ impl NumberWriter for Wrap {
         matches!(typed, ElementType::Kept(_))
     }
 
-    fn retyped(&self, _typed: ElementType) -> Option<u8> {
-        None
-    }
-
     #[tactic(auto, using(bd_value::proofs::PrefixLemmas::prefixes), unfolding(crate::specs::Rewritten::least))]
     fn element(
         &self,

@@ -14,20 +14,20 @@ use std::alloc::Global;
 /// A command with its file and paths. The file `-` is standard input.
 #[derive(Debug, Drop)]
 pub enum Order {
-    /// Each element with a type that `bsonfind` reads, in place.
-    Mask { file: String },
+    /// A line for each document that has a fault.
+    Check { file: String },
     /// Doubles and decimal128 as documents that contain their texts.
     Wrap { file: String },
     /// Numbers as whole numbers in the same order; at these paths by their codes.
     Order { file: String, paths: Vec<String> },
 }
 
-/// The command that the arguments mean, without the program's name. `mask FILE`, `wrap FILE` and `order FILE [PATH..]` are
+/// The command that the arguments mean, without the program's name. `check FILE`, `wrap FILE` and `order FILE [PATH..]` are
 /// accepted. A file or a path whose name looks like a flag comes after `--`.
 ///
 /// # Errors
 ///
-/// - `Help` if the arguments request help by a flag, such as `--help` and `mask -h`.
+/// - `Help` if the arguments request help by a flag, such as `--help` and `check -h`.
 /// - `Usage` if they are invalid otherwise.
 /// - `NoMemory` if memory runs out.
 pub fn parse_words(alloc: Global, words: &[String]) -> Result<Order, WordsFault>
@@ -60,7 +60,7 @@ fn order_named(alloc: Global, name: &str, matches: &ArgMatches<'_>) -> Result<Or
     };
     let file = String::from_str(alloc, file)?;
     match name {
-        "mask" => Ok(Order::Mask { file }),
+        "check" => Ok(Order::Check { file }),
         "wrap" => Ok(Order::Wrap { file }),
         "order" => {
             let paths = texts_of(alloc, matches, "path")?;
@@ -121,4 +121,4 @@ fn paths_argument<'a>(alloc: Global) -> Arg<'a>
 }
 
 /// The commands that take only a file.
-const FILE_COMMANDS: [&str; 2] = ["mask", "wrap"];
+const FILE_COMMANDS: [&str; 2] = ["check", "wrap"];

@@ -2,7 +2,7 @@
 use Rattle.std.proofs.Common.{◌≡◌, ℕ, List, ◌++◌, sym, subst, inl, inr, Result, Ok, Err, OnErr, OnOk, true, false, true≢false}
 use Rattle.std.specs.Result.{is_err}
 use Rattle.bd_io_device.specs.Devices.{WriteFailsWithin, Over, TakesText, Writer, between}
-use Rattle.bd_wide_cli.specs.{Output.ReportsMessage, declared.output.Status.Status, declared.output.Status.TheVariants.Failed}
+use Rattle.bd_cli_scan.specs.{Run.ReportsMessage, declared.output.Status.Status, declared.output.Status.TheVariants.Failed}
 use Rattle.bd_io_device.proofs.DevicesLemmas.{write_fails_first, write_fails_second, takes_both}
 
 -- ---- one text after the other

@@ -6,29 +6,26 @@ use Rattle.bd_value.specs.Limits.{longest_document}
 use Rattle.bd_bson_view.specs.Sizes.{number_of}
 use Rattle.bd_io_device.specs.Devices.{WriteFailsWithin, Over, Reader, TakesPrefix, TakesText, Writer}
 use Rattle.bd_extjson_text.specs.Text.{quoted}
-use Rattle.bd_wide.specs.{Mask.IsMasked, Mask.masked_others, Order.IsOrderedDocument, Order.IsUnordered}
-use Rattle.bd_wide.specs.{Rewritten.IsRewritten, Wrap.IsWrappedDocument}
+use Rattle.bd_wide.specs.{Order.IsOrderedDocument, Order.IsUnordered}
+use Rattle.bd_wide.specs.{Wrap.IsWrappedDocument}
 use Rattle.bd_wide.specs.declared.find.{Found.Found, Refusal.Refusal}
 use Rattle.bd_wide.specs.declared.find.Refusal.TheVariants as refusals
 use Rattle.bd_wide.specs.declared.order.Unordered.{Unordered}
 use Rattle.bd_wide.specs.declared.order.Unordered.TheVariants as unordereds
 use Rattle.bd_wide_cli.specs.declared.filter.Filter.{Filter}
-use Rattle.bd_wide_cli.specs.declared.filter.Filter.TheVariants.{Mask, Wrap, Order}
+use Rattle.bd_wide_cli.specs.declared.filter.Filter.TheVariants.{Wrap, Order}
 use Rattle.bd_wide_cli.specs.declared.running.Stop.{Stop}
 use Rattle.bd_wide_cli.specs.declared.running.Stop.TheVariants as stops
 
 -- This may be written for the document with number n;
 -- the Boolean says whether it was filtered, or is unchanged because `wrap` could not wrap it.
 abbrev pub IsFiltered : Filter → ℕ → List ℕ → Bool → List ℕ → Type 0
-IsFiltered Mask n bytes true new = IsRewritten IsMasked masked_others bytes new
-IsFiltered Mask n bytes false new = ⊥
 IsFiltered Wrap n bytes filtered new = IsWrappedDocument bytes filtered new
 IsFiltered (Order order) n bytes true new = IsOrderedDocument order.paths.items n bytes new
 IsFiltered (Order order) n bytes false new = ⊥
 
 -- Why nothing may be written for the document: `order` refuses a number, which has this path, or the length.
 abbrev pub IsRefused : Filter → ℕ → List ℕ → List ℕ → Unordered → Type 0
-IsRefused Mask n bytes path why = ⊥
 IsRefused Wrap n bytes path why = ⊥
 IsRefused (Order order) n bytes path why = IsUnordered order.paths.items n bytes path why
 

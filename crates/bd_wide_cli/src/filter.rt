@@ -5,13 +5,11 @@ ghost use Rattle.bd_wide.specs.Rewritten.{Adds};
 ghost use Rattle.bd_wide.specs.Order.{IsUnfiltered};
 ghost use Rattle.bd_wide_cli.specs.Filtered.{IsFiltered, IsRefused};
 
-use bd_wide::{Order, Unfiltered, write_masked, write_ordered, write_wrapped};
+use bd_wide::{Order, Unfiltered, write_ordered, write_wrapped};
 
 /// A command, by its effect on the documents of a dump.
 #[derive(Debug, Drop)]
 pub enum Filter {
-    /// Each element has a type that `bsonfind` reads, in place.
-    Mask,
     /// Doubles and decimal128 are documents that contain their texts.
     Wrap,
     /// Numbers are whole numbers in the same order.
@@ -38,12 +36,6 @@ pub(crate) fn write_filtered(
     ensures err { OnErr result (out.new.items ≡ out.old.items) }
 {
     match filter {
-        Filter::Mask => {
-            if write_masked(bytes, out).is_err() {
-                return Err(Unfiltered::NoMemory);
-            }
-            Ok(true)
-        }
         Filter::Wrap => match write_wrapped(bytes, path, out) {
             Ok(filtered) => Ok(filtered),
             Err(_) => Err(Unfiltered::NoMemory),

@@ -1,6 +1,6 @@
 //! The commands of `bsonwide`.
 //!
-//! What a filter writes for a dump: `specs/Filtered.antt`. The messages of a run, and its status: `specs/Output.antt`.
+//! What a filter writes for a dump: `specs/Filtered.antt`. The messages of a run: `specs/Output.antt`.
 //!
 //! An example, which `bd_wide_tests` proves and runs as `examples::filtered`:
 //!
@@ -10,7 +10,7 @@
 //! let mut out = MemoryOutput::new(&mut buffer, 100, None);
 //! let mut reported = [0; 100];
 //! let mut err = MemoryOutput::new(&mut reported, 100, None);
-//! let status = run(rt.alloc(), &Filter::Mask, &mut input, &mut out, &mut err);
+//! let status = run(rt.alloc(), &Filter::Wrap, &mut input, &mut out, &mut err);
 //! assert!(rt; status == Status::Done);
 //! assert!(rt; out.bytes() == b"\x05\0\0\0\0".as_slice());
 //! ```
@@ -19,7 +19,7 @@
 //! - `frame`: the next document of a device, or bytes that begin with no document.
 //! - `running`: `run`, a whole run over devices.
 //! - `refusal`: the message for a document that `order` refuses.
-//! - `output`: the messages on standard error, and `Status`.
+//! - `output`: the messages on standard error.
 #![tactic(auto)]
 
 mod filter;
@@ -29,5 +29,5 @@ mod refusal;
 mod running;
 
 pub use filter::Filter;
-pub use output::{CANNOT_WRITE, Status, report, write_error};
+pub use output::{PROGRAM, report, write_error};
 pub use running::{Stop, run};

@@ -1,58 +1,36 @@
-//! The messages of a run on standard error, and how it ends. It takes no memory.
+//! The messages of a run on standard error. It takes no memory.
 
-ghost use Rattle.std.specs.Prelude.{◌≡◌, ◌++◌, OnErr, OnOk, decimal};
+ghost use Rattle.std.specs.Prelude.{◌≡◌, OnErr, OnOk, codes};
 ghost use Rattle.bd_io_device.specs.Devices.{WriteFailsWithin, TakesText, over};
-ghost use Rattle.bd_wide_cli.specs.Output.{ReportsFault, ReportsMessage, error_line, kept_line, stop_words, usage_text};
-ghost use Rattle.bd_wide_cli.specs.declared.output.Status.TheVariants.{Done, Failed, Usage};
+ghost use Rattle.bd_cli_scan.specs.{Output.error_line, Run.ReportsMessage};
+ghost use Rattle.bd_cli_scan.specs.declared.output.Status.TheVariants.{Done, Failed, Usage};
+ghost use Rattle.bd_wide_cli.specs.Output.{ReportsFault, kept_line, stop_words, usage_text};
 
 use crate::running::Stop;
 use bd_cli_args::WordsFault;
+use bd_cli_scan::Status;
+use bd_cli_scan::output::{CANNOT_WRITE, NO_MEMORY, status_of, write_count};
 use bd_io_device::{DeviceFault, Output, write_all};
-use itoa::Buffer;
 
-/// The exit status of a run.
-#[derive(Clone, Copy, Debug, PartialEq, Eq)]
-pub enum Status {
-    /// All was done.
-    Done = 0,
-    /// A read, a write or memory failed.
-    Failed = 1,
-    /// The arguments are invalid.
-    Usage = 2,
-}
-
-/// The message if memory runs out.
-pub const NO_MEMORY: &str = "no memory";
-
-/// The message if standard output fails.
-pub const CANNOT_WRITE: &str = "cannot write";
+/// The name of the program, before each message.
+pub const PROGRAM: &str = "bsonwide";
 
 /// Writes the line of an error.
 #[tactic(auto, using(crate::proofs::OutputLemmas::taking))]
 pub fn write_error<E: Output>(message: &[u8], err: &mut E) -> Result<(), DeviceFault>
-    ensures ok { OnOk result (TakesText (over E.state err.old err.new) (error_line message.now)) }
+    ensures ok { OnOk result (TakesText (over E.state err.old err.new)
+        (error_line (codes "bsonwide") message.now)) }
     ensures err { OnErr result (WriteFailsWithin (over E.state err.old err.new)
-        (error_line message.now)) }
+        (error_line (codes "bsonwide") message.now)) }
 {
     write_all(err, b"bsonwide: ")?;
     write_all(err, message)?;
     write_all(err, b"\n")
 }
 
-/// The given status if a message was written, and 1 if it was not.
-pub fn status_of(written: Result<(), DeviceFault>, wanted: Status) -> Status
-    ensures ok { OnOk written (result ≡ wanted) }
-    ensures err { OnErr written (result ≡ Failed) }
-{
-    match written {
-        Ok(()) => wanted,
-        Err(_) => Status::Failed,
-    }
-}
-
 /// Reports why no more of an input was filtered.
 pub(crate) fn report_stop<E: Output>(stop: &Stop, err: &mut E) -> Status
-    ensures { ReportsMessage (over E.state err.old err.new) (error_line
+    ensures { ReportsMessage (over E.state err.old err.new) (error_line (codes "bsonwide")
         (stop_words stop.now)) Failed result }
 {
     let words = match stop {
@@ -83,21 +61,8 @@ fn write_kept<E: Output>(kept: u64, err: &mut E) -> Result<(), DeviceFault>
     write_count(kept, " documents too long or too deep to wrap\n", err)
 }
 
-/// Writes a number and the text after it.
-#[tactic(auto, using(crate::proofs::OutputLemmas::taking))]
-fn write_count<E: Output>(count: u64, words: &str, err: &mut E) -> Result<(), DeviceFault>
-    ensures ok { OnOk result (TakesText (over E.state err.old err.new)
-        (decimal count ++ words.now)) }
-    ensures err { OnErr result (WriteFailsWithin (over E.state err.old err.new)
-        (decimal count ++ words.now)) }
-{
-    let mut buffer = Buffer::new();
-    write_all(err, buffer.format(count).as_bytes())?;
-    write_all(err, words.as_bytes())
-}
-
 /// The answer to a request for help and to invalid arguments.
-pub const USAGE: &str = "usage: bsonwide mask FILE
+pub const USAGE: &str = "usage: bsonwide check FILE
        bsonwide wrap FILE
        bsonwide order FILE [PATH..]
 ";

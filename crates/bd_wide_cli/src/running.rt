@@ -9,7 +9,8 @@ ghost use Rattle.bd_wide_cli.specs.Output.{FiltersInput};
 
 use crate::filter::{Filter, write_filtered};
 use crate::frame::{Next, next_frame};
-use crate::output::{Status, report_kept, report_stop};
+use crate::output::{report_kept, report_stop};
+use bd_cli_scan::Status;
 use crate::refusal::{Place, refused};
 use bd_io_device::{Input, Limits, Output, ReadFault, write_all};
 use bd_value::{LONGEST_INPUT, MOST_READS};

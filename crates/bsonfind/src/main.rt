@@ -1,10 +1,10 @@
 //! `bsonfind`: the commands of bd_cli over the system's files and standard streams.
 #![tactic(auto)]
 
-use bd_cli::report;
+use bd_cli::{PROGRAM, report};
 use bd_cli_args::{Order, WordsFault, parse_words};
-use bd_cli_files::Status;
-use bd_cli_files::output::CANNOT_WRITE;
+use bd_cli_scan::Status;
+use bd_cli_scan::output::CANNOT_WRITE;
 use bd_io_device::{BufferedInput, ReadFault, SystemInput, SystemOutput, write_all};
 use bd_io_stdout::{
     BufferedOutput, FlushingError, FlushingInput, OutputBuffer, WriteState, hand_on,
@@ -80,7 +80,7 @@ fn run<F: Read + Drop>(
 /// Reports an error, and of which file. If standard error fails too, only the status reports it.
 fn report_error(rt: &HostRuntime, message: &str, file: &str) -> Status {
     let mut err = SystemOutput::new(rt.stderr());
-    for part in ["bsonfind: ", message, file, "\n"] {
+    for part in [PROGRAM, ": ", message, file, "\n"] {
         if write_all(&mut err, part.as_bytes()).is_err() {
             break;
         }

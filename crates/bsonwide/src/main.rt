@@ -1,14 +1,17 @@
-//! `bsonwide`: a filter that makes a dump readable for `bsonfind`, over the system's files and standard streams.
+//! `bsonwide`: all types of BSON 1.1, over the system's files and standard streams.
 #![tactic(auto)]
 
 use bd_cli_args::WordsFault;
+use bd_cli_scan::Status;
+use bd_cli_scan::check::check_all_types;
+use bd_cli_scan::output::CANNOT_WRITE;
 use bd_io_device::{BufferedInput, SystemOutput, write_all};
 use bd_io_stdout::{
     BufferedOutput, FlushingError, FlushingInput, OutputBuffer, WriteState, hand_on,
 };
 use bd_wide::read_order;
 use bd_wide_args::{Order, parse_words};
-use bd_wide_cli::{CANNOT_WRITE, Filter, Status, report};
+use bd_wide_cli::{Filter, PROGRAM, report};
 use std::cell::RefCell;
 use std::io::{BufReader, Read, Stdout};
 use std::process::ExitCode;
@@ -28,21 +31,33 @@ fn order(rt: &HostRuntime) -> Result<Order, WordsFault> {
     parse_words(rt.alloc(), &words)
 }
 
-/// The filter in the process's arguments, and its file.
-fn filter(rt: &HostRuntime) -> Result<(Filter, String), WordsFault> {
+/// What is done with the documents of a file.
+#[derive(Drop)]
+enum Command {
+    /// A line for each document that has a fault.
+    Check,
+    /// Each document is written in another form.
+    Filter(Filter),
+}
+
+/// The command in the process's arguments, and its file.
+fn command_line(rt: &HostRuntime) -> Result<(Command, String), WordsFault> {
     match order(rt)? {
-        Order::Mask { file } => Ok((Filter::Mask, file)),
-        Order::Wrap { file } => Ok((Filter::Wrap, file)),
+        Order::Check { file } => Ok((Command::Check, file)),
+        Order::Wrap { file } => Ok((Command::Filter(Filter::Wrap), file)),
         Order::Order { file, paths } => {
             let order = read_order(rt.alloc(), &paths)?;
-            Ok((Filter::Order(order), file))
+            Ok((Command::Filter(Filter::Order(order)), file))
         }
     }
 }
 
-/// How many bytes are requested from the system at once. It returns what is available. Output is flushed before each request,
-/// so most writes are as large: a quarter of a pipe, so that its reader works beside this program, and not in turns with it.
-const BUFFER: usize = 16_384;
+/// How many bytes are requested from the system at once. It returns what is available.
+const BUFFER: usize = 65_536;
+
+/// How many for a filter. Output is flushed before each request, so most writes are as large: a quarter of a pipe, so that its
+/// reader works beside this program, and not in turns with it.
+const PIPE_BUFFER: usize = 16_384;
 
 /// The buffer of standard output.
 type Waiting = RefCell<OutputBuffer<SystemOutput<Stdout>>>;
@@ -58,10 +73,10 @@ fn refuse(rt: &HostRuntime, fault: WordsFault, output_buffer: &Waiting) -> Statu
     report(fault, &mut out, &mut err)
 }
 
-/// Filters the input in a file.
+/// Runs a command over the input in its file.
 fn run<F: Read + Drop>(
     rt: &HostRuntime,
-    filter: &Filter,
+    command: &Command,
     reader: F,
     output_buffer: &Waiting,
 ) -> Status {
@@ -70,7 +85,11 @@ fn run<F: Read + Drop>(
         reader,
         output_buffer,
     };
-    let Ok(file) = BufReader::with_capacity(alloc, BUFFER, file) else {
+    let size = match command {
+        Command::Check => BUFFER,
+        Command::Filter(_) => PIPE_BUFFER,
+    };
+    let Ok(file) = BufReader::with_capacity(alloc, size, file) else {
         return refuse(rt, WordsFault::NoMemory, output_buffer);
     };
     let mut file = BufferedInput::new(file);
@@ -80,13 +99,16 @@ fn run<F: Read + Drop>(
         writer,
         output_buffer,
     });
-    bd_wide_cli::run(alloc, filter, &mut file, &mut out, &mut err)
+    match command {
+        Command::Check => check_all_types(alloc, PROGRAM, &mut file, &mut out, &mut err),
+        Command::Filter(filter) => bd_wide_cli::run(alloc, filter, &mut file, &mut out, &mut err),
+    }
 }
 
 /// Reports an error, and of which file. If standard error fails too, only the status reports it.
 fn report_error(rt: &HostRuntime, message: &str, file: &str) -> Status {
     let mut err = SystemOutput::new(rt.stderr());
-    for part in ["bsonwide: ", message, file, "\n"] {
+    for part in [PROGRAM, ": ", message, file, "\n"] {
         if write_all(&mut err, part.as_bytes()).is_err() {
             break;
         }
@@ -94,21 +116,21 @@ fn report_error(rt: &HostRuntime, message: &str, file: &str) -> Status {
     Status::Failed
 }
 
-/// Filters a file, which is opened here.
-fn run_filter(rt: &HostRuntime, filter: &Filter, file: &str, output_buffer: &Waiting) -> Status {
+/// Runs a command over its file, which is opened here.
+fn run_command(rt: &HostRuntime, command: &Command, file: &str, output_buffer: &Waiting) -> Status {
     if file == "-" {
-        return run(rt, filter, rt.reader(), output_buffer);
+        return run(rt, command, rt.reader(), output_buffer);
     }
     let Ok(opened) = fs::open(rt, file) else {
         return report_error(rt, "cannot open ", file);
     };
-    run(rt, filter, opened, output_buffer)
+    run(rt, command, opened, output_buffer)
 }
 
 /// Runs the command in the process's arguments.
 fn execute(rt: &HostRuntime, output_buffer: &Waiting) -> Status {
-    match filter(rt) {
-        Ok((filter, file)) => run_filter(rt, &filter, &file, output_buffer),
+    match command_line(rt) {
+        Ok((command, file)) => run_command(rt, &command, &file, output_buffer),
         Err(fault) => refuse(rt, fault, output_buffer),
     }
 }

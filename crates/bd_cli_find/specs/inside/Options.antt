@@ -3,8 +3,8 @@ use Rattle.std.specs.Prelude.{◌≡◌, ◌⊎◌, ℕ, List, codes}
 use Rattle.std.specs.Prelude.{Result, Err, string_bytes}
 use Rattle.bd_cursor_request.specs.Refused.{Reason, bad_filter, plain, reason_of, error_as}
 use Rattle.bd_io_device.specs.Devices.{Over, Writer}
-use Rattle.bd_cli_files.specs.{Run.ReportsMessage, Output.error_line, declared.output.Status.Status}
-use Rattle.bd_cli_files.specs.declared.output.Status.TheVariants.{Failed}
+use Rattle.bd_cli_scan.specs.{Run.ReportsMessage, Output.error_line, declared.output.Status.Status}
+use Rattle.bd_cli_scan.specs.declared.output.Status.TheVariants.{Failed}
 use Rattle.bd_cli_find.specs.declared.options.SearchFault.{SearchFault}
 use Rattle.bd_cli_find.specs.declared.options.SearchFault.TheVariants as faults
 use Rattle.bd_cli_find.specs.Options.{refusal_text, refused_text}
@@ -22,7 +22,7 @@ abbrev pub ReportsReason : {Given : Type 0} → Result Given Reason → SearchFa
 ReportsReason part fault = ReportsSearchFault (error_as refused_text part) fault
 
 -- The line of the refusal was written; for a filter it may say instead that memory ran out.
-abbrev pub ReportsRefusal : Over Writer → Reason → Status → Type 0
-ReportsRefusal err (plain refused) status = ReportsMessage err (error_line (refused_text (plain refused))) Failed status
-ReportsRefusal err (bad_filter r) status = ReportsMessage err (error_line (refusal_text r)) Failed status
-    ⊎ ReportsMessage err (error_line (codes "no memory")) Failed status
+abbrev pub ReportsRefusal : List ℕ → Over Writer → Reason → Status → Type 0
+ReportsRefusal program err (plain refused) status = ReportsMessage err (error_line program (refused_text (plain refused))) Failed status
+ReportsRefusal program err (bad_filter r) status = ReportsMessage err (error_line program (refusal_text r)) Failed status
+    ⊎ ReportsMessage err (error_line program (codes "no memory")) Failed status

@@ -5,7 +5,7 @@ use Rattle.bd_wide.specs.declared.element.Change.{Change}
 use Rattle.bd_wide.specs.declared.element.Change.TheVariants as changes
 use Rattle.bd_wide.specs.declared.element.Part.TheVariants as parts
 use Rattle.bd_wide.specs.Rewritten.{Writes, part_of}
-use Rattle.bd_wide.specs.Changes.{IgnoresPaths, Leaves, Retypes}
+use Rattle.bd_wide.specs.Changes.{IgnoresPaths, Leaves}
 
 -- What may be written at one path may be written at the other: they are equal, or paths are ignored.
 abbrev pub ServesAs : Writes → List ℕ → List ℕ → Type 0
@@ -18,5 +18,4 @@ Stays Is type = (part_of type ≡ None) ⊎ ((part_of type ≡ Some parts.Number
 -- This change of an element of this type may be made.
 abbrev pub Allows : Writes → ElementType → Change → Type 0
 Allows Is type changes.Nothing = Stays Is type
-Allows Is type (changes.Type byte) = (part_of type ≡ Some parts.Number) × Retypes Is type byte
 Allows Is type (changes.Part part) = part_of type ≡ Some part

@@ -1,5 +1,5 @@
-use Rattle.bd_cli_files.proofs.CheckLemmas as checks
-use Rattle.bd_cli_files.proofs.DumpLemmas as dumps
+use Rattle.bd_cli_scan.proofs.CheckLemmas as checks
+use Rattle.bd_cli_scan.proofs.DumpLemmas as dumps
 use Rattle.bd_cli.proofs.laws.prints_a_prefix.Goals as goal
 
 pub returns : goal.returns

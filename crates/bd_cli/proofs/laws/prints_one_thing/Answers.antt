@@ -1,5 +1,5 @@
 use Rattle.bd_cli_find.proofs.UniqueLemmas.{found_once, found_some}
-use Rattle.bd_cli_files.proofs.{CheckLemmas.checked_once, CheckLemmas.checked_some, DumpLemmas.output_once, DumpLemmas.output_some}
+use Rattle.bd_cli_scan.proofs.{CheckLemmas.checked_once, CheckLemmas.checked_some, DumpLemmas.output_once, DumpLemmas.output_some}
 use Rattle.bd_cli_files.proofs.PackLemmas.{packs_once, packed_once, packed_some}
 use Rattle.bd_cursor_model.specs.Laws.{new_state}
 use Rattle.bd_io_lines.specs.Lines.{commands_of, text_lines}

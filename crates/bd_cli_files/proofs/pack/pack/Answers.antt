@@ -1,8 +1,8 @@
 use Rattle.std.proofs.Common.{Err, inl, refl}
 use Rattle.bd_io_device.proofs.DevicesLemmas.{takes_none}
 use Rattle.bd_io_device.specs.Devices.{read_words}
-use Rattle.bd_cli_files.specs.Output.{refusal_output}
-use Rattle.bd_cli_files.proofs.OutputLemmas.{after_input}
+use Rattle.bd_cli_scan.specs.Output.{refusal_output}
+use Rattle.bd_cli_scan.proofs.OutputLemmas.{after_input}
 use Rattle.bd_cli_files.proofs.pack.pack.Goals as goal
 
 pub returns-in-Ok-clause-packs : goal.returns-in-Ok-clause-packs

@@ -5,9 +5,9 @@ use Rattle.bd_io_device.specs.Devices.{WriteFailsWithin, TakesText, between, ove
 use Rattle.bd_bson_view.specs.Sound.{meaning}
 use Rattle.bd_bson_dump.specs.{Collection.documents, Collection.documents_at}
 use Rattle.bd_extjson_text.specs.Text.{text}
-use Rattle.bd_cli_files.specs.Output.{lines}
+use Rattle.bd_cli_scan.specs.Output.{lines}
 use Rattle.bd_io_device.proofs.DevicesLemmas.{takes_both}
-use Rattle.bd_cli_files.proofs.OutputLemmas.{write_fails_piece, prefix_taken}
+use Rattle.bd_cli_scan.proofs.OutputLemmas.{write_fails_piece, prefix_taken}
 use Rattle.bd_cli_find.proofs.FindLemmas as finds
 use Rattle.bd_cli_find.proofs.batch.write_documents.Goals as goal
 

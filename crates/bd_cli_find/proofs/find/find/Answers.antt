@@ -6,9 +6,9 @@ use Rattle.bd_bson_dump.specs.Collection.{bytes_of, documents}
 use Rattle.bd_cli_find.specs.{Options.refused_text, Find.output_of_dump}
 use Rattle.bd_cli_find.proofs.BatchLemmas.{five_each}
 use Rattle.bd_cli_find.proofs.OptionsLemmas.{explain_refusal}
-use Rattle.bd_cli_files.specs.Output.{error_line, refusal_output}
-use Rattle.bd_cli_files.specs.Run.{ReportsMessage}
-use Rattle.bd_cli_files.specs.declared.output.Status.TheVariants.{Failed}
+use Rattle.bd_cli_scan.specs.Output.{error_line, refusal_output}
+use Rattle.bd_cli_scan.specs.Run.{ReportsMessage}
+use Rattle.bd_cli_scan.specs.declared.output.Status.TheVariants.{Failed}
 use Rattle.bd_io_device.specs.Devices.{zero_reads, over}
 use Rattle.bd_io_device.proofs.DevicesLemmas.{takes_none}
 use Rattle.bd_cli_find.proofs.FindLemmas as finds
@@ -18,9 +18,9 @@ pub returns-in-Err-Message-clause-found : goal.returns-in-Err-Message-clause-fou
 returns-in-Err-Message-clause-found g c =
     let message = string_bytes c.in-Err-Message.message in
     let none = rw c.in-Err-Message.field-0-is at c.in-Err-Message.ensures.fault in
-    let reported = subst (λ (text : List ℕ). ReportsMessage (over g.E.Output.state c.args.err.now c.report_error.new.err) (error_line text) Failed c.report_error.result) c.deref.ensures c.report_error.ensures in
+    let reported = subst (λ (text : List ℕ). ReportsMessage (over g.E.Output.state c.args.err.now c.report_error.new.err) (error_line c.args.program.now text) Failed c.report_error.result) c.deref.ensures c.report_error.ensures in
     finds.output_found c.args.options.now (over g.R.Input.state c.args.input.now c.args.input.now) [] (refusal_output message) (rw none refl) (rw none refl)
-    (finds.refusal_is_output (g.O.Output.state c.args.out.now) (g.O.Output.state c.args.out.now) (g.E.Output.state c.args.err.now)
+    (finds.refusal_is_output c.args.program.now (g.O.Output.state c.args.out.now) (g.O.Output.state c.args.out.now) (g.E.Output.state c.args.err.now)
     (g.E.Output.state c.report_error.new.err) _ message (inl reported))
 
 pub returns-in-Err-Refused-clause-found : goal.returns-in-Err-Refused-clause-found
@@ -30,7 +30,7 @@ returns-in-Err-Refused-clause-found g c =
     let none = rw c.in-Err-Refused.field-0-is at c.in-Err-Refused.ensures.fault in
     let err = over g.E.Output.state c.args.err.now c.report_refused.new.err in
     finds.output_found c.args.options.now (over g.R.Input.state c.args.input.now c.args.input.now) [] (refusal_output message) (rw none refl) (rw none refl)
-    (finds.refusal_is_output (g.O.Output.state c.args.out.now) (g.O.Output.state c.args.out.now) (g.E.Output.state c.args.err.now)
+    (finds.refusal_is_output c.args.program.now (g.O.Output.state c.args.out.now) (g.O.Output.state c.args.out.now) (g.E.Output.state c.args.err.now)
     (g.E.Output.state c.report_refused.new.err) _ message (explain_refusal err why c.report_refused.result c.report_refused.ensures))
 
 pub print_found-requires-clause-within_limit : goal.print_found-requires-clause-within_limit

@@ -1,7 +1,7 @@
 use Rattle.std.proofs.Common.{◌++◌, ◌∙◌, rules}
 use Rattle.bd_io_device.specs.Devices.{over}
 use Rattle.bd_cursor_request.specs.Refused.{refused_words}
-use Rattle.bd_cli_files.specs.{Run.ReportsMessage, Output.error_line, declared.output.Status.TheVariants.Failed}
+use Rattle.bd_cli_scan.specs.{Run.ReportsMessage, Output.error_line, declared.output.Status.TheVariants.Failed}
 use Rattle.bd_cli_find.specs.Options.{refused_option}
 use Rattle.bd_cli_find.proofs.OptionsLemmas.{filter_reported, plain_reported}
 use Rattle.bd_cli_find.proofs.options.report_refused.Goals as goal
@@ -14,5 +14,5 @@ returns-in-Ok g c =
 pub returns-in_default : goal.returns-in_default
 returns-in_default g c =
     let err = over g.E.Output.state c.args.err.now c.write_refused.new.err in
-    let reported : ReportsMessage err (error_line (refused_option c.args.refused.now ++ refused_words c.args.refused.now)) Failed c.status_of.result = search rules in
+    let reported : ReportsMessage err (error_line c.args.program.now (refused_option c.args.refused.now ++ refused_words c.args.refused.now)) Failed c.status_of.result = search rules in
     plain_reported err c.args.refused.now c.status_of.result c.in_default.not-BadFilter reported

@@ -1,29 +1,29 @@
 use Rattle.std.proofs.Common.{◌++◌, ◌∷◌, [], codes}
 use Rattle.bd_io_device.proofs.DevicesLemmas.{write_fails_first, write_fails_second}
-use Rattle.bd_cli_files.proofs.OutputLemmas.{on_err, on_err_map}
+use Rattle.bd_cli_scan.proofs.OutputLemmas.{on_err, on_err_map}
 use Rattle.bd_cursor_request.specs.Refused.{refused_words}
 use Rattle.bd_cli_find.specs.Options.{refused_option}
 use Rattle.bd_cli_find.proofs.options.write_refused.Goals as goal
 
-pub returns-in_err-write_all-clause-err : goal.returns-in_err-write_all-clause-err
-returns-in_err-write_all-clause-err g c =
+pub returns-in_err-write_pair-clause-err : goal.returns-in_err-write_pair-clause-err
+returns-in_err-write_pair-clause-err g c =
     let e = g.E.Output.state in
     let words = refused_option c.args.refused.now ++ refused_words c.args.refused.now in
-    on_err c.from_residual.result _ (write_fails_first (e c.args.err.now) (e c.write_all.new.writer) (codes "bsonfind: ") (words ++ 10 ∷ []) c.in_err-write_all.ensures.write_failed)
+    on_err c.from_residual.result _ (write_fails_first (e c.args.err.now) (e c.write_pair.new.err) (c.args.program.now ++ codes ": ") (words ++ 10 ∷ []) c.in_err-write_pair.ensures.err)
 
-pub returns-in_err-write_words-clause-err : goal.returns-in_err-write_words-clause-err
-returns-in_err-write_words-clause-err g c =
+pub returns-in_err-write_pair-2-clause-err : goal.returns-in_err-write_pair-2-clause-err
+returns-in_err-write_pair-2-clause-err g c =
     let e = g.E.Output.state in
     let words = refused_option c.args.refused.now ++ refused_words c.args.refused.now in
-    on_err c.from_residual-in_err-write_words.result _ (write_fails_second (e c.args.err.now) (e c.write_all.new.writer) (e c.write_words.new.err) (codes "bsonfind: ") (words ++ 10 ∷ [])
-    c.in_ok-write_all.ensures.written (write_fails_first (e c.write_all.new.writer) (e c.write_words.new.err) words (10 ∷ [])
-    (rw (c.refused_option.ensures, c.words.ensures) at c.in_err-write_words.ensures.err)))
+    on_err c.from_residual-in_err-write_pair-2.result _ (write_fails_second (e c.args.err.now) (e c.write_pair.new.err) (e c.write_pair-2.new.err) (c.args.program.now ++ codes ": ") (words ++ 10 ∷ [])
+    c.in_ok-write_pair.ensures.ok (write_fails_first (e c.write_pair.new.err) (e c.write_pair-2.new.err) words (10 ∷ [])
+    (rw (c.refused_option.ensures, c.words.ensures) at c.in_err-write_pair-2.ensures.err)))
 
 pub returns-clause-err : goal.returns-clause-err
 returns-clause-err g c =
     let e = g.E.Output.state in
     let words = refused_option c.args.refused.now ++ refused_words c.args.refused.now in
-    on_err_map c.write_all-2.result _ _ c.write_all-2.ensures.write_failed (λ failed_write.
-    write_fails_second (e c.args.err.now) (e c.write_all.new.writer) (e c.write_all-2.new.writer) (codes "bsonfind: ") (words ++ 10 ∷ []) c.in_ok-write_all.ensures.written
-    (write_fails_second (e c.write_all.new.writer) (e c.write_words.new.err) (e c.write_all-2.new.writer) words (10 ∷ [])
-    (rw (c.refused_option.ensures, c.words.ensures) at c.in_ok-write_words.ensures.ok) failed_write))
+    on_err_map c.write_all.result _ _ c.write_all.ensures.write_failed (λ failed_write.
+    write_fails_second (e c.args.err.now) (e c.write_pair.new.err) (e c.write_all.new.writer) (c.args.program.now ++ codes ": ") (words ++ 10 ∷ []) c.in_ok-write_pair.ensures.ok
+    (write_fails_second (e c.write_pair.new.err) (e c.write_pair-2.new.err) (e c.write_all.new.writer) words (10 ∷ [])
+    (rw (c.refused_option.ensures, c.words.ensures) at c.in_ok-write_pair-2.ensures.ok) failed_write))

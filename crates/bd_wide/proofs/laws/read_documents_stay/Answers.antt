@@ -2,12 +2,9 @@ use Rattle.std.proofs.Common.{◌≡◌, ◌++◌, List, [], ℕ, Option, None, 
 use Rattle.bd_value.specs.declared.node.Kind.{Kind}
 use Rattle.bd_bson_view.specs.declared.raw_parts.ElementType.TheVariants.{Kept}
 use Rattle.bd_wide_number.specs.declared.number.Number.{Number}
-use Rattle.bd_wide.specs.{Mask.IsMasked, Mask.masked_others, Order.IsOrdered, Order.became, Order.number_at, Order.outcome_of, Wrap.IsWrapped}
+use Rattle.bd_wide.specs.{Order.IsOrdered, Order.became, Order.number_at, Order.outcome_of, Wrap.IsWrapped}
 use Rattle.bd_wide.proofs.SpelledLemmas.{KeepsOthers, document_same}
 use Rattle.bd_wide.proofs.laws.read_documents_stay.Goals as goal
-
-masked : KeepsOthers IsMasked
-masked path kind head value new is = is
 
 wrapped : KeepsOthers IsWrapped
 wrapped path kind head value new is = is
@@ -18,9 +15,6 @@ stays kind head value (Some number) = refl
 
 ordered : KeepsOthers (IsOrdered [])
 ordered path kind head value new is = is ∙ stays kind head value (number_at (Kept kind) value)
-
-pub returns-clause-masked : goal.returns-clause-masked
-returns-clause-masked c = document_same IsMasked masked_others masked
 
 pub returns-clause-wrapped : goal.returns-clause-wrapped
 returns-clause-wrapped c = document_same IsWrapped (λ others. others) wrapped

@@ -56,24 +56,6 @@ elements-loop-typed-preserved-in-Nothing g t c =
     c.split_at.ensures.front c.split_at.ensures.back c.split_at-in-Some.ensures.front c.split_at-in-Some.ensures.back in
     record { comes = on.0; run_is = on.1; path_is = l.invariant.path_is; begun = l.invariant.begun }
 
-pub elements-loop-typed-preserved-in_ok-push-in-Type : goal.elements-loop-typed-preserved-in_ok-push-in-Type
-elements-loop-typed-preserved-in_ok-push-in-Type g t c =
-    let l = c.loop-typed in
-    let s = c.in-Some in
-    let begun = c.put_run.new.out.items in
-    let now = c.push.new.self.items in
-    let pushed : now ≡ begun ++ (c.in-Type.byte ∷ []) = search rules in
-    let on = runs.run_retyped (g.W.NumberWriter.is_written c.args.writer.now) (g.W.NumberWriter.others_of c.args.writer.now) (IsNested (g.W.NumberWriter.is_written c.args.writer.now) (g.W.NumberWriter.others_of c.args.writer.now) c.args.depth_left) (path_of c.args.in_array c.args.path.now.items) c.args.bytes.now c.args.out.now.items begun now c.split_at-in-Type.result.1.now l.rest.now c.split_at.result.1.now
-    c.split_at-in-Some.result.1.now s.typed s.k s.n c.in-Type.byte
-    (runs.comes_flushed (g.W.NumberWriter.is_written c.args.writer.now) (g.W.NumberWriter.others_of c.args.writer.now) (IsNested (g.W.NumberWriter.is_written c.args.writer.now) (g.W.NumberWriter.others_of c.args.writer.now) c.args.depth_left) (path_of c.args.in_array c.args.path.now.items) c.args.bytes.now l.rest.now c.args.out.now.items l.out.items begun l.run.now l.invariant.comes c.in_ok-put_run-in-Type.ensures.ok) s.ensures.gives c.in-Type.ensures
-    s.ensures.inside.0 s.ensures.inside.1 c.split_at.ensures.back c.split_at-in-Some.ensures.back c.split_at-in-Type.ensures.back pushed in
-    record {
-      comes = on.0;
-      run_is = on.1;
-      path_is = l.invariant.path_is;
-      begun = prefix_more c.args.out.now.items begun (c.in-Type.byte ∷ []) now (prefix_more c.args.out.now.items l.out.items (runs.before l.run.now l.rest.now) begun l.invariant.begun c.in_ok-put_run-in-Type.ensures.ok) pushed;
-    }
-
 pub elements-loop-typed-preserved : goal.elements-loop-typed-preserved
 elements-loop-typed-preserved g t c =
     let l = c.loop-typed in

@@ -1,0 +1,5 @@
+pub mod CheckLemmas
+pub mod DumpLemmas
+pub mod InputLemmas
+pub mod OutputLemmas
+pub mod ScanLemmas

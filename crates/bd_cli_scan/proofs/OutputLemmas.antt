@@ -1,0 +1,102 @@
+-- Lemmas on what a run writes.
+use Rattle.std.proofs.Common.{subst, ◌≡◌, ℕ, List, [], ◌∷◌, ◌++◌, refl, sym, ap, ◌∙◌, append_assoc, ◌⊎◌, append-nil, inl, inr, arith, ap₂, map, IsUtf8, String}
+use Rattle.std.proofs.lemmas.{Bool.Decides.nat_tests, Str.IsUtf8-append, Str.IsUtf8-nil, Str.IsUtf8-string_bytes}
+use Rattle.std.specs.Prelude.{OnErr, OnOk, Result, Ok, Err, string_bytes}
+use Rattle.std.specs.List.{join_with_byte}
+use Rattle.bd_value.specs.Tree.{Doc, doc, fields_of}
+use Rattle.bd_io_device.specs.Devices.{WriteFailsWithin, Over, TakesPrefix, TakesText, Writer, between}
+use Rattle.bd_io_device.specs.declared.reading.ReadFault.{ReadFault}
+use Rattle.bd_io_device.proofs.DevicesLemmas.{write_fails_first, write_fails_second, takes_both}
+use Rattle.json.proofs.Printed.Utf8.{IsUtf8-are_ascii, IsUtf8-quoted}
+use Rattle.bd_extjson_text.specs.Text.{escape_byte, escaped, quoted, text}
+use Rattle.bd_cli_scan.specs.{declared.output.OutputFault.OutputFault, declared.output.Status.Status, declared.output.Status.TheVariants.Failed}
+use Rattle.bd_cli_scan.specs.declared.output.OutputFault.TheVariants.{NoMemory, Unwritten}
+use Rattle.bd_cli_scan.specs.Output.{lines, Transcript, error_line, no_memory, stop_words}
+use Rattle.bd_cli_scan.specs.Run.{Prints, ReportsMessage, StopsWithin, partial_run, run_after}
+use Rattle.json.specs.Print as printed
+
+-- the lines of two lists of documents are those of both joined
+pub lines-append : (ds es : List Doc) → lines (ds ++ es) ≡ lines ds ++ lines es
+lines-append [] es = refl
+lines-append (d ∷ ds) es = ap (λ x. text (doc (fields_of d)) ++ 10 ∷ x) (lines-append ds es) ∙ sym (append_assoc (text (doc (fields_of d))) (10 ∷ lines ds) (lines es))
+
+-- ---- one text after the other
+
+-- a fact also holds if there is an error
+pub on_err : {A E : Type 0} (r : Result A E) (P : Type 0) → P → OnErr r P
+on_err (Ok x) P h = _
+on_err (Err e) P h = h
+
+-- if P holds on an error, and Q follows from P, then Q holds on it
+pub on_err_map : {A E : Type 0} (r : Result A E) (P Q : Type 0) → OnErr r P → (P → Q) → OnErr r Q
+on_err_map (Ok x) P Q h f = _
+on_err_map (Err e) P Q h f = f h
+
+-- the result of writing the second of two texts
+pub second_err : {A E : Type 0} (r : Result A E) (old mid new : Writer) (first second : List ℕ) → TakesText (between old mid) first
+    → OnErr r (WriteFailsWithin (between mid new) second) → OnErr r (WriteFailsWithin (between old new) (first ++ second))
+second_err (Ok x) old mid new first second a h = _
+second_err (Err e) old mid new first second a h = write_fails_second old mid new first second a h
+
+pub second_ok : {A E : Type 0} (r : Result A E) (old mid new : Writer) (first second : List ℕ) → TakesText (between old mid) first
+    → OnOk r (TakesText (between mid new) second) → OnOk r (TakesText (between old new) (first ++ second))
+second_ok (Ok x) old mid new first second a h = takes_both old mid new first second a h
+second_ok (Err e) old mid new first second a h = _
+
+pub ruleset taking = (takes_both, write_fails_first, write_fails_second)
+
+-- ---- a text of which a prefix was written
+
+-- if a writer took a prefix of a text, the whole text has that prefix
+pub prefix_taken : (old new : Writer) (prefix rest all : List ℕ) → TakesText (between old new) prefix → all ≡ prefix ++ rest → TakesPrefix (between old new) all
+prefix_taken old new prefix rest all took splits = (prefix, rest, splits, took)
+
+-- a write failed in the piece after what was written
+pub write_fails_piece : (old mid new : Writer) (prefix piece rest all : List ℕ) → TakesText (between old mid) prefix → WriteFailsWithin (between mid new) piece
+    → all ≡ prefix ++ (piece ++ rest) → WriteFailsWithin (between old new) all
+write_fails_piece old mid new prefix piece rest all took failed_write splits =
+    let whole = write_fails_first old new (prefix ++ piece) rest (write_fails_second old mid new prefix piece took failed_write) in
+    subst (λ (x : List ℕ). WriteFailsWithin (between old new) x) (append_assoc prefix piece rest ∙ sym splits) whole
+
+-- if standard output has everything and standard error the message, or that memory ran out,
+-- the run printed its output
+pub all_output : (program : List ℕ) (out_old out_new err_old err_new : Writer) (status : Status) (output : Transcript) → TakesText (between out_old out_new) output.out
+    → ReportsMessage (between err_old err_new) (output.err program) output.status status ⊎ ReportsMessage (between err_old err_new) (error_line program no_memory) Failed status
+    → Prints program (partial_run output) (between out_old out_new) (between err_old err_new) status
+all_output program out_old out_new err_old err_new status output wrote (inl reported) = inl (output, refl, wrote, reported)
+all_output program out_old out_new err_old err_new status output wrote (inr reported) = inr (inr (output.out, ([], sym (append-nil output.out)), wrote, reported))
+
+-- standard output was stopped
+pub stop_output : (program : List ℕ) (out_old out_new err_old err_new : Writer) (status : Status) (output : Transcript) (stopped : OutputFault) → StopsWithin (between out_old out_new) output.out stopped
+    → ReportsMessage (between err_old err_new) (error_line program (stop_words stopped)) Failed status → Prints program (partial_run output) (between out_old out_new) (between err_old err_new) status
+stop_output program out_old out_new err_old err_new status output NoMemory (prefix, rest, splits, took) reported = inr (inr (prefix, (rest, splits), took, reported))
+stop_output program out_old out_new err_old err_new status output Unwritten failed_write reported = inr (inl ([], output.out, (refl, refl), failed_write, reported))
+
+-- an output for an input that was read completely
+pub after_input : {program : List ℕ} {Reads : Result (List ℕ) ReadFault → Type 0} {Is : Result (List ℕ) ReadFault → Transcript → Type 0} {out err : Over Writer} {status : Status}
+    (bytes : List ℕ) (output : Transcript) → Reads (Ok bytes) → Is (Ok bytes) output → Prints program (partial_run output) out err status → Prints program (run_after Reads Is) out err status
+after_input {program} {Reads} {Is} bytes output read is (inl (o, same, wrote, reported)) = inl (o, (Ok bytes, read, subst (λ (t : Transcript). Is (Ok bytes) t) (sym same) is), wrote, reported)
+after_input {program} {Reads} {Is} bytes output read is (inr (inl (text, piece, next, failed_write, reported))) = inr (inl (text, piece, (bytes, output, read, is, next), failed_write, reported))
+after_input {program} {Reads} {Is} bytes output read is (inr (inr (text, begun, wrote, reported))) = inr (inr (text, (bytes, output, read, is, begun), wrote, reported))
+
+-- ---- a path is UTF-8
+
+same_byte : (x : ℕ) → escape_byte x ≡ printed.escape_byte x
+unfolding escape_byte printed.escape_byte
+same_byte x = grind (arith, nat_tests)
+
+same_escapes : (s : List ℕ) → escaped s ≡ printed.escape s
+same_escapes [] = refl
+same_escapes (x ∷ s) = ap₂ (λ (a b : List ℕ). a ++ b) (same_byte x) (same_escapes s)
+
+joined_utf8 : {Z : Type 0} (names : List (String Z)) → IsUtf8 (join_with_byte 46 (map string_bytes names))
+joined_utf8 [] = IsUtf8-nil
+joined_utf8 (n ∷ []) = IsUtf8-string_bytes n
+joined_utf8 (n ∷ m ∷ ns) =
+    IsUtf8-append (string_bytes n) _ (IsUtf8-string_bytes n) (IsUtf8-append (46 ∷ []) _ (IsUtf8-are_ascii (46 ∷ []) refl) (joined_utf8 (m ∷ ns)))
+
+pub path_utf8 : {Z : Type 0} (names : List (String Z)) → IsUtf8 (quoted (join_with_byte 46 (map string_bytes names)))
+unfolding quoted
+path_utf8 names =
+    let path = join_with_byte 46 (map string_bytes names) in
+    subst IsUtf8 (ap (λ (l : List ℕ). 34 ∷ (l ++ 34 ∷ [])) (sym (same_escapes path))) (IsUtf8-quoted path (joined_utf8 names))

@@ -1,0 +1,66 @@
+-- What a run of a command prints, for all commands.
+-- A command says which outputs its input may have, and where a run may stop before the end of one: that is its `Run`.
+use Rattle.std.specs.Prelude.{◌≡◌, ◌⊎◌, ℕ, List, [], ◌++◌, Result, Ok}
+use Rattle.bd_io_device.specs.Devices.{WriteFailsAfter, WriteFailsWithin, Over, TakesPrefix, TakesText, Writer}
+use Rattle.bd_io_device.specs.declared.reading.ReadFault.{ReadFault}
+use Rattle.bd_cli_scan.specs.{declared.output.Status.Status, declared.output.Status.TheVariants.Failed}
+use Rattle.bd_cli_scan.specs.{declared.output.OutputFault.OutputFault}
+use Rattle.bd_cli_scan.specs.declared.output.OutputFault.TheVariants.{NoMemory, Unwritten}
+use Rattle.bd_cli_scan.specs.Output.{Transcript, cannot_write, error_line, no_memory}
+
+-- what a run of a command may print
+pub record Run : Type 1 where
+  -- This is the output: the input was read to its end, or up to a fault or a failed read.
+  pub IsOutput : Transcript → Type 0
+  -- After this text, this is the next piece of the output, and no more was read than both need.
+  pub IsNext : List ℕ → List ℕ → Type 0
+  -- The output begins with this text, and no more was read than it and one more piece need.
+  pub IsBegun : List ℕ → Type 0
+
+-- The writer took the message, and the status is the expected one; or a write failed, and the status is 1.
+abbrev pub ReportsMessage : Over Writer → List ℕ → Status → Status → Type 0
+ReportsMessage err message wanted status =
+    (TakesText err message × (status ≡ wanted)) ⊎ (WriteFailsWithin err message × (status ≡ Failed))
+
+-- A run of the program of that name printed its output; or a write to standard output failed within a piece of it, or memory ran out before
+-- a piece, and standard error says so.
+abbrev pub Prints : List ℕ → Run → Over Writer → Over Writer → Status → Type 0
+Prints program run out err status =
+    ((output : Transcript) × run.IsOutput output × TakesText out output.out
+    × ReportsMessage err (output.err program) output.status status)
+    ⊎ ((text : List ℕ) × (piece : List ℕ) × run.IsNext text piece × WriteFailsAfter out text piece
+    × ReportsMessage err (error_line program cannot_write) Failed status)
+    ⊎ ((text : List ℕ) × run.IsBegun text × TakesText out text × ReportsMessage err (error_line program no_memory) Failed status)
+
+-- ---- an output that is known before any of it is written
+
+-- a run that prints this output, and takes no memory for it
+abbrev pub run_of : Transcript → Run
+run_of output = record {
+  IsOutput = λ o. o ≡ output;
+  IsNext = λ text piece. (text ≡ []) × (piece ≡ output.out);
+  IsBegun = λ text. ⊥;
+}
+
+-- a run that prints this output, or stops anywhere in it
+abbrev pub partial_run : Transcript → Run
+partial_run output = record {
+  IsOutput = λ o. o ≡ output;
+  IsNext = λ text piece. (text ≡ []) × (piece ≡ output.out);
+  IsBegun = λ text. (rest : List ℕ) × (output.out ≡ text ++ rest);
+}
+
+-- a run that reads its whole input first, and then prints an output for it, or stops anywhere in it
+abbrev pub run_after : (Result (List ℕ) ReadFault → Type 0) → (Result (List ℕ) ReadFault → Transcript → Type 0) → Run
+run_after Reads IsOutputFor = record {
+  IsOutput = λ output. (input : Result (List ℕ) ReadFault) × Reads input × IsOutputFor input output;
+  IsNext = λ text piece. (bytes : List ℕ) × (output : Transcript) × Reads (Ok bytes) × IsOutputFor (Ok bytes) output
+      × (partial_run output).IsNext text piece;
+  IsBegun = λ text. (bytes : List ℕ) × (output : Transcript) × Reads (Ok bytes) × IsOutputFor (Ok bytes) output
+      × (partial_run output).IsBegun text;
+}
+
+-- The writer took a prefix of the text: memory ran out, or a write of the rest failed.
+abbrev pub StopsWithin : Over Writer → List ℕ → OutputFault → Type 0
+StopsWithin out text NoMemory = TakesPrefix out text
+StopsWithin out text Unwritten = WriteFailsWithin out text

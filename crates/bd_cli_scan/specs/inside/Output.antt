@@ -1,0 +1,28 @@
+-- What a run writes: the text on standard output, the text on standard error, and the exit status.
+use Rattle.std.specs.Prelude.{◌≡◌, ℕ, List, Option, Some, None, Result, Ok}
+use Rattle.std.specs.Prelude.{Err}
+use Rattle.std.specs.{Borrow.Bor}
+use Rattle.bd_io_device.specs.Devices.{WriteFailsWithin, Over, TakesText, Writer}
+use Rattle.bd_extjson_text.specs.Text.{text}
+use Rattle.bd_cli_scan.specs.{declared.output.OutputFault.OutputFault}
+use Rattle.bd_cli_scan.specs.{declared.output.OutputFault.TheVariants.NoMemory}
+use Rattle.bd_cli_scan.specs.{declared.output.OutputFault.TheVariants.Unwritten}
+
+-- ---- the output
+
+-- the bytes of a borrowed text, if any
+abbrev pub reported_bytes : Option (Bor (List ℕ)) → Option (List ℕ)
+reported_bytes None = None
+reported_bytes (Some text) = Some text.now
+
+-- ---- what was written
+
+-- Nothing of the text was written, because memory ran out; or a write failed after a prefix of it.
+abbrev pub StopsWriting : List ℕ → Over Writer → OutputFault → Type 0
+StopsWriting text out NoMemory = out.after ≡ out.before
+StopsWriting text out Unwritten = WriteFailsWithin out text
+
+-- The writer took the text, or writing it was stopped.
+abbrev pub WritesText : {A : Type 0} → List ℕ → Over Writer → Result A OutputFault → Type 0
+WritesText text out (Ok x) = TakesText out text
+WritesText text out (Err stopped) = StopsWriting text out stopped

@@ -1,0 +1,112 @@
+//! A scan of the documents of an input, one after the other, for `dump` and for `check`.
+
+ghost use Rattle.std.specs.Prelude.{◌≡◌, ◌<◌, ◌≤◌, ℕ, List, [], None, IfErr, IfOk, is_none, unwrap_or};
+ghost use Rattle.bd_value.specs.Limits.{longest_input};
+ghost use Rattle.bd_io_device.specs.Devices.{over};
+ghost use Rattle.bd_bson_check.specs.Fault.{fault_view, Fault as DumpFault};
+ghost use Rattle.bd_bson_check.specs.FirstFault.{fault_under};
+ghost use Rattle.bd_cli_scan.specs.inside.Scan.{IsGoodText, ScansDocuments, StopsScan, Texts};
+ghost use Rattle.bd_cli_scan.specs.Input.{ReadsNoFurther};
+ghost use Rattle.bd_cli_scan.specs.inside.Output.{WritesText};
+
+use crate::input::{InputFault, LIMITS};
+use crate::output::{OutputFault, is_want_of_memory};
+use bd_bson_check::{Fault, Profile, check_bytes};
+use bd_bson_stream::{DocBuffer, DocFault};
+use bd_io_device::{Input, Output, ReadFault};
+use std::alloc::Global;
+
+/// Receives the documents of an input, each before the next is read.
+pub(crate) trait Visitor<O: Output> {
+    /// What is written for them.
+    ghost texts: { Texts };
+
+    /// Which types the documents may have.
+    fn profile(&self) -> Profile
+        ensures { result ≡ texts.profile };
+
+    /// Receives the bytes of a document without a fault.
+    fn visit(&mut self, document: &[u8], out: &mut O) -> Result<(), OutputFault>
+        requires { (base : ℕ) × (fault_under texts.profile base document.now ≡ None) }
+        ensures { (text : List ℕ) × IsGoodText texts.good document.now text
+            × WritesText text (over O.state out.old out.new) result };
+
+    /// Whether the scan ends at the first document with a fault.
+    fn ends_at_fault(&self) -> bool
+        ensures { (number : ℕ) (f : DumpFault) → result ≡ is_none (texts.bad number f) };
+
+    /// Receives the fault of a document.
+    fn meet(&mut self, fault: &Fault, out: &mut O) -> Result<(), OutputFault>
+        ensures { WritesText (unwrap_or (texts.bad fault.now.document (fault_view fault.now)) [])
+            (over O.state out.old out.new) result };
+}
+
+/// Scans the documents of an input.
+pub(crate) fn scan_documents<R: Input, O: Output, V: Visitor<O>>(
+    alloc: Global,
+    input: &mut R,
+    visitor: &mut V,
+    out: &mut O,
+) -> Result<DumpScan, OutputFault>
+    ensures within_limit { IfOk result (λ w. (w.count < longest_input) × (w.bad ≤ w.count)) }
+    ensures scans { IfOk result
+        (ScansDocuments V.texts (over R.state input.old input.new) (over O.state out.old out.new)) }
+    ensures stops { IfErr result
+        (StopsScan V.texts (over R.state input.old input.new) (over O.state out.old out.new)) }
+    ensures stops_reading { ReadsNoFurther R.read_gives input.old input.new }
+{
+    let profile = visitor.profile();
+    let mut buffer = DocBuffer::new(alloc, LIMITS);
+    let mut bad = 0;
+    loop {
+        let base = buffer.offset();
+        let count = buffer.number();
+        match buffer.read_next(input) {
+            Ok(true) => {
+                let bytes = buffer.bytes();
+                match check_bytes(alloc, profile, bytes, base, count) {
+                    Ok(()) => visitor.visit(bytes, out)?,
+                    Err(fault) => {
+                        if is_want_of_memory(&fault) {
+                            return Err(OutputFault::NoMemory);
+                        }
+                        if visitor.ends_at_fault() {
+                            let fault = Some(InputFault::Faulty(fault));
+                            return Ok(DumpScan { count, bad, fault });
+                        }
+                        visitor.meet(&fault, out)?;
+                        bad += 1;
+                    }
+                }
+            }
+            Ok(false) => {
+                let fault = None;
+                return Ok(DumpScan { count, bad, fault });
+            }
+            Err(DocFault::Frame(fault)) => {
+                let fault = fault.to_fault(alloc);
+                // A bad length: the scan cannot find the next document.
+                visitor.meet(&fault, out)?;
+                let fault = Some(InputFault::Faulty(fault));
+                return Ok(DumpScan { count, bad, fault });
+            }
+            Err(DocFault::Read(ReadFault::NoMemory)) => return Err(OutputFault::NoMemory),
+            Err(DocFault::Read(fault)) => {
+                let fault = Some(InputFault::Unread(fault));
+                return Ok(DumpScan { count, bad, fault });
+            }
+            Err(DocFault::Failed) => unreachable!(),
+        }
+    }
+}
+
+/// The documents of an input that were scanned.
+#[derive(Debug, Drop)]
+pub struct DumpScan {
+    /// How many there are.
+    pub count: u32,
+    /// How many of them have a fault.
+    pub bad: u32,
+    /// Why the scan ended before the end of the input, if it did.
+    pub fault: Option<InputFault>,
+}

@@ -1,2 +1,0 @@
-pub mod WideDump
-pub mod WideFault
