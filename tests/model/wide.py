@@ -1,4 +1,4 @@
-"""What `bsonwide` writes of a dump, by Python: `mask`, `wrap` with the texts of doubles and decimal128, and `order` with the codes."""
+"""What `bsonwide` writes of a dump, by Python: `check`, `wrap` with the texts of doubles and decimal128, and `order` with the codes."""
 
 import json
 import re
@@ -9,7 +9,7 @@ from fractions import Fraction
 from typing import NamedTuple
 
 from model.answers import INT64
-from model.dumps import LEVELS, LONGEST
+from model.dumps import LEVELS, LONGEST, read_dump
 
 FIXED = {0x01: 8, 0x06: 0, 0x07: 12, 0x08: 1, 0x09: 8, 0x0A: 0, 0x10: 4, 0x11: 8, 0x12: 8, 0x13: 16, 0x7F: 0, 0xFF: 0}
 # A count of four bytes, at least so many, counts all bytes of the value but so many.
@@ -55,23 +55,22 @@ class Place(NamedTuple):
 
 # An element by its type, its name with the zero, its value, and its place, whose last name is its own unless it is in an array.
 Element = Callable[[int, bytes, bytes, Place], bytes]
-Others = Callable[[bytes], bytes]
 
 
-def elements(data: bytes, place: Place, is_array: bool, element: Element, others: Others) -> bytes:
+def elements(data: bytes, place: Place, is_array: bool, element: Element) -> bytes:
     """The elements of a document or an array; the place is that of the first, with the names to the document."""
     made = b""
     while data:
         zero = data.find(0, 1)
         size = size_of(data[0], data[zero + 1 :]) if zero > 0 else None
         if size is None:
-            return made + others(data)
+            return made + data
         kind, name, value = data[0], data[1 : zero + 1], data[zero + 1 : zero + 1 + size]
         here = place.inside(0, *([] if is_array else [name[:-1]]), levels=0)
         if kind in (0x03, 0x04) and place.room > 0:
-            made += data[: zero + 1] + document(value, here.inside(zero + 1), kind == 0x04, element, others)
+            made += data[: zero + 1] + document(value, here.inside(zero + 1), kind == 0x04, element)
         elif kind == 0x0F and place.room > 0:
-            made += data[: zero + 1] + scoped(value, here.inside(zero + 1), element, others)
+            made += data[: zero + 1] + scoped(value, here.inside(zero + 1), element)
         elif kind in (0x01, 0x10, 0x12, 0x13):
             made += element(kind, name, value, here)
         else:
@@ -81,18 +80,18 @@ def elements(data: bytes, place: Place, is_array: bool, element: Element, others
     return made
 
 
-def document(data: bytes, place: Place, is_array: bool, element: Element, others: Others, more: bytes = b"") -> bytes:
+def document(data: bytes, place: Place, is_array: bool, element: Element, more: bytes = b"") -> bytes:
     """A document or an array, with more elements at its end."""
-    made = elements(data[4:-1], place.inside(4, levels=0), is_array, element, others) + more
+    made = elements(data[4:-1], place.inside(4, levels=0), is_array, element) + more
     return (len(made) + 5).to_bytes(4, "little") + made + data[-1:]
 
 
-def scoped(data: bytes, place: Place, element: Element, others: Others) -> bytes:
+def scoped(data: bytes, place: Place, element: Element) -> bytes:
     """Code with scope; the room of its place is that of a document in its place."""
     at = 8 + number(data, 4)
     if at == 8 or len(data) < at + 5 or number(data, at) != len(data) - at:
         return data
-    scope = document(data[at:], place.inside(at, b"$scope"), False, element, others) if place.room > 0 else data[at:]
+    scope = document(data[at:], place.inside(at, b"$scope"), False, element) if place.room > 0 else data[at:]
     return (at + len(scope)).to_bytes(4, "little") + data[4:at] + scope
 
 
@@ -105,19 +104,11 @@ def frames(data: bytes) -> tuple[list[bytes], bytes]:
     return found, data[at:]
 
 
-def mask(data: bytes) -> bytes:
-    def element(kind: int, name: bytes, value: bytes, _: Place) -> bytes:
-        if kind == 0x01:
-            return b"\x12" + name + value
-        if kind == 0x13:
-            return b"\x07" + name[:-1] + b"####\0" + value[4:]
-        return bytes([kind]) + name + value
-
-    def others(rest: bytes) -> bytes:
-        return (b"\x12" if rest[0] == 0x01 and 0 in rest[1:] else rest[:1]) + rest[1:]
-
-    documents, rest = frames(data)
-    return b"".join(document(it, Place(0, (), LEVELS - 1), False, element, others) for it in documents) + rest
+def check(data: bytes) -> tuple[bytes, bytes, int]:
+    """The lines of the faults, with doubles and decimal128 read, the line of counts, and the status."""
+    read = read_dump(data, is_wide=True)
+    faults = read.faults()
+    return "".join(faults).encode(), f"{len(read.documents)} documents, {len(faults)} faulty\n".encode(), int(faults != [])
 
 
 def double_text(bits: bytes) -> bytes:
@@ -185,7 +176,7 @@ def wrap(data: bytes) -> tuple[bytes, int]:
     documents, rest = frames(data)
     for it in documents:
         try:
-            new = document(it, Place(0, (), LEVELS - 1), False, element, lambda others: others)
+            new = document(it, Place(0, (), LEVELS - 1), False, element)
         except TooDeep:
             new = b""
         if new and len(new) <= LONGEST:
@@ -262,7 +253,7 @@ def order(data: bytes, paths: list[bytes]) -> tuple[bytes, str]:
     for index, it in enumerate(documents):
         place, mark = Place(at, (), LEVELS - 1), long(b"~n\0", index)
         try:
-            new = document(it, place, False, element, lambda others: others, mark)
+            new = document(it, place, False, element, mark)
         except NoCode as fault:
             return made, f"document {index}, {fault}"
         if len(new) > LONGEST:

@@ -1,7 +1,7 @@
 #!/usr/bin/env python3
 """The texts of doubles and decimal128 that `bsonwide wrap` and `bsonfind dump` print, beside those of others.
 
-usage: tests/wide/numbers.py [--program PATH] [--wide PATH] [--count N] [--seed N]     The last line is 'N passed, M failed'.
+usage: tests/wide/others.py [--program PATH] [--wide PATH] [--count N] [--seed N]     The last line is 'N passed, M failed'.
 
 First the drivers' corpus (corpus.jsonl): its canonical texts, and what it refuses. Then N random doubles and N random decimal128, 20,000
 without it, beside Python (`repr` and `decimal`) and, where Debian's golang-mongodb-mongo-driver-dev is installed, beside Go's driver.
@@ -37,12 +37,12 @@ class Programs:
     def __init__(self, program: str, wide: str) -> None:
         self.program, self.wide = program, wide
 
-    def filtered(self, filter: str, command: str, data: bytes) -> subprocess.CompletedProcess:
-        made = subprocess.run([self.wide, filter, "-"], input=data, stdout=subprocess.PIPE, check=True)
-        return subprocess.run([self.program, command, "-"], input=made.stdout, capture_output=True, check=False)
+    def check(self, data: bytes) -> subprocess.CompletedProcess:
+        return subprocess.run([self.wide, "check", "-"], input=data, capture_output=True, check=False)
 
     def lines(self, data: bytes) -> list[bytes]:
-        return self.filtered("wrap", "dump", data).stdout.split(b"\n")[:-1]
+        wrapped = subprocess.run([self.wide, "wrap", "-"], input=data, stdout=subprocess.PIPE, check=True)
+        return subprocess.run([self.program, "dump", "-"], input=wrapped.stdout, capture_output=True, check=False).stdout.split(b"\n")[:-1]
 
 
 def try_corpus(tests: Tests, programs: Programs) -> None:
@@ -55,7 +55,7 @@ def try_corpus(tests: Tests, programs: Programs) -> None:
         tests.want(f"corpus: {case['case']}", line == text, (line, text))
     for case in cases:
         if "text" not in case:
-            made = programs.filtered("mask", "check", bytes.fromhex(case["bytes"]))
+            made = programs.check(bytes.fromhex(case["bytes"]))
             tests.want(f"corpus, refused: {case['case']}", made.returncode == 1 and made.stdout.startswith(b"document 0, "), made)
 
 

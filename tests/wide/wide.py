@@ -2,10 +2,7 @@
 """Runs `bsonwide` beside the model of it: over worked examples, random and damaged documents, and each prefix of a small dump; and
 with each growth of memory, each read and each write failed in turn.
 
-usage: tests/wide/wide.py [PROGRAM] [DOCUMENTS]     The last line is 'N passed, M failed'. It needs ./bsonfind too.
-
-What `bsonfind check` reports of a masked dump is what a reader that passes doubles and decimal128 reports of the dump. Only of a
-damaged document it may report one of them: a decimal128 that is cut short, and what is in code with scope of a wrong length, stay.
+usage: tests/wide/wide.py [PROGRAM] [DOCUMENTS]     The last line is 'N passed, M failed'.
 """
 
 import random
@@ -14,18 +11,18 @@ import struct
 import subprocess
 import sys
 import tempfile
+from collections.abc import Callable
 from pathlib import Path
 
 sys.path.insert(0, str(Path(__file__).resolve().parents[1]))
 
-from model.dumps import LONGEST, read_dump
-from model.wide import decimal_text, double_text, mask, order, wrap
-from support import PROGRAM as BSONFIND
+from model.dumps import LONGEST
+from model.wide import check, decimal_text, double_text, frames, order, wrap
 from support import ROOT, Tests
 
 PROGRAM = Path(sys.argv[1]).resolve() if len(sys.argv) > 1 else ROOT / "bsonwide"
 DOCUMENTS = int(sys.argv[2]) if len(sys.argv) > 2 else 20_000
-USAGE = b"usage: bsonwide mask FILE\n       bsonwide wrap FILE\n       bsonwide order FILE [PATH..]\n"
+USAGE = b"usage: bsonwide check FILE\n       bsonwide wrap FILE\n       bsonwide order FILE [PATH..]\n"
 # What tests/faults/failing.c counts: whether it was loaded, the reads of standard input, the writes to standard output.
 LAYOUT, LOADED, READS, WRITES = struct.Struct("19q"), 0, 3, 12
 
@@ -227,11 +224,13 @@ def order_paths(tests: Tests) -> None:
         tests.want(f"order, {len(data)} bytes", made == ordered(data, b"b") and made[1:] == (told, over), made[1:])
 
 
-def fail_each(tests: Tests, command: str, data: bytes, whole: bytes, *paths: bytes) -> None:
-    """Fails each growth of memory, each read and each write in turn: a prefix is written, and why no more is.
+def fail_each(tests: Tests, words: list[str | bytes], data: bytes, of: Callable[[bytes], tuple[bytes, bytes, int]]) -> None:
+    """Fails each growth of memory, each read and each write of a byte in turn: what came before is written, and why no more is.
 
-    Each read finds the end in turn. No call follows one that failed or found the end.
+    Each read finds the end in turn. No call follows one that failed or found the end. `of` is what the command is to write of an
+    input, to tell and to end with; no document of the data has another length than its own, but for one cut short at the end.
     """
+    command, whole = words[0], of(data)
     ways = (
         (b"bsonwide: no memory\n", {}, "FAILING_GROWTH"),
         (b"bsonwide: cannot read\n", {"FAILING_INPUT": "0", "FAILING_ERROR": "5"}, "FAILING_READ"),
@@ -243,31 +242,31 @@ def fail_each(tests: Tests, command: str, data: bytes, whole: bytes, *paths: byt
         library = f"{room}/failing.so"
         subprocess.run(["cc", "-shared", "-fPIC", "-O2", "-o", library, ROOT / "tests/faults/failing.c"], check=True)
         for message, how, name in ways:
-            failed, finds_end = 0, not message
+            failed = 0
             for at in range(1, 1000):
                 counts = Path(room, "counts")
                 counts.write_bytes(bytes(19 * 8))
                 env = {"LD_PRELOAD": library, "FAILING_COUNTS": str(counts), "FAILING_SINGLE": "1", name: str(at), **how}
-                made = subprocess.run([PROGRAM, command, "-", *paths], input=data, capture_output=True, env=env, check=False)
-                told = LAYOUT.unpack(counts.read_bytes())
+                ran = subprocess.run([PROGRAM, *words], input=data, capture_output=True, env=env, check=False)
+                made, told = (ran.stdout, ran.stderr, ran.returncode), LAYOUT.unpack(counts.read_bytes())
                 tests.want(f"{command}: {name} {at}, loaded", told[LOADED] == 1)
-                if (told[READS] < at) if finds_end else ((made.returncode, made.stdout, made.stderr) == (0, whole, b"")):
+                if (made == whole) if message else (told[READS] < at):
                     break
                 failed += 1
-                is_told = (made.returncode, made.stderr) == (int(not finds_end), message)
-                tests.want(f"{command}: {name} {at}", is_told and (finds_end or whole.startswith(made.stdout)), made)
-                if name != "FAILING_GROWTH":
-                    calls = told[READS if name == "FAILING_READ" else WRITES]
-                    tests.want(f"{command}: {name} {at}, none follows", calls == at, calls)
+                if name == "FAILING_GROWTH":
+                    tests.want(f"{command}: {name} {at}", made[1:] == (message, 1) and whole[0].startswith(made[0]), made)
+                    continue
+                read, calls = data[: at - 1], told[READS if name == "FAILING_READ" else WRITES]
+                if name == "FAILING_WRITE":
+                    wanted = (whole[0][: at - 1], message, 1)
+                elif message:
+                    out, counted, _ = of(b"".join(frames(read)[0]))
+                    wanted = (out, message + counted, 1)
+                else:
+                    wanted = of(read)
+                tests.want(f"{command}: {name} {at}", made == wanted, (made, wanted))
+                tests.want(f"{command}: {name} {at}, none follows", calls == at, calls)
             tests.want(f"{command}: {name}, some failed", failed > 0)
-
-
-def wrong_faults(data: bytes, masked: bytes) -> list[str]:
-    """The lines of `bsonfind check` over a masked dump that are not those of the dump, and those that are missing."""
-    checked = subprocess.run([BSONFIND, "check", "-"], input=masked, capture_output=True, check=False).stdout.decode()
-    shown, wanted = ({it.partition(",")[0]: it for it in lines} for lines in (checked.splitlines(True), read_dump(data, True).faults()))
-    stay = {it for it in shown if it in wanted and shown[it].endswith((": double\n", ": decimal128\n"))}
-    return [shown.get(it, f"missing: {wanted.get(it)}") for it in shown | wanted if it not in stay and shown.get(it) != wanted.get(it)]
 
 
 def main() -> int:
@@ -297,11 +296,8 @@ def main() -> int:
         for byte in (0, 1, 5, 0x13, 0xFF, small[at] ^ 1):
             inputs[f"byte {at} is {byte}"] = small[:at] + bytes([byte]) + small[at + 1 :]
     for name, data in inputs.items():
-        made = ran("mask", data)
-        tests.want(f"mask, {name}", made == (mask(data), b"", 0), made[1:])
-        tests.want(f"mask, {name}: the length", len(made[0]) == len(data))
-        wrong = wrong_faults(data, made[0])
-        tests.want(f"mask and check, {name}", not wrong, wrong[:3])
+        made = ran("check", data)
+        tests.want(f"check, {name}", made == check(data), made[1:])
         wanted, kept = wrap(data)
         message = f"{kept} documents too long or too deep to wrap\n".encode() if kept else b""
         made = ran("wrap", data)
@@ -322,21 +318,24 @@ def main() -> int:
     if shutil.which("cc") is None:
         print("there is no C compiler: nothing was made to fail")
     else:
-        fail_each(tests, "mask", small + b"\1\0\0\0xyz", mask(small) + b"\1\0\0\0xyz")
-        fail_each(tests, "wrap", small + small[:9], wrap(small)[0] + small[:9])
-        fail_each(tests, "order", small + small[:9], order(small, list(PATHS))[0] + small[:9], *PATHS)
+        cut = document(b"\x13a\0" + bytes(15))
+        fail_each(tests, ["check", "-"], cut + small + cut[:9], check)
+        fail_each(tests, ["wrap", "-"], small + small[:9], lambda it: (wrap(it)[0], b"", 0))
+        fail_each(tests, ["order", "-", *PATHS], small + small[:9], lambda it: ordered(it, *PATHS))
 
     for words, status, out, err in (
-        ([], 2, b"", USAGE), (["mask"], 2, b"", USAGE), (["sort", "-"], 2, b"", USAGE), (["mask", "-", "-"], 2, b"", USAGE),
+        ([], 2, b"", USAGE), (["check"], 2, b"", USAGE), (["sort", "-"], 2, b"", USAGE), (["check", "-", "-"], 2, b"", USAGE),
         (["order"], 2, b"", USAGE), (["order", "absent", "a", "b"], 1, b"", b"bsonwide: cannot open absent\n"),
-        (["order", "-", "--", "-a"], 0, b"", b""), (["order", "-", "-a"], 2, b"", USAGE), (["--help"], 0, USAGE, b""), (["wrap", "-h"], 0, USAGE, b""), (["mask", "absent"], 1, b"", b"bsonwide: cannot open absent\n"),
-        (["mask", "--", "-x"], 1, b"", b"bsonwide: cannot open -x\n"), (["mask", "/"], 1, b"", b"bsonwide: cannot read\n"),
+        (["order", "-", "--", "-a"], 0, b"", b""), (["order", "-", "-a"], 2, b"", USAGE), (["--help"], 0, USAGE, b""), (["wrap", "-h"], 0, USAGE, b""), (["check", "absent"], 1, b"", b"bsonwide: cannot open absent\n"),
+        (["check", "--", "-x"], 1, b"", b"bsonwide: cannot open -x\n"), (["wrap", "/"], 1, b"", b"bsonwide: cannot read\n"),
+        (["check", "/"], 1, b"", b"bsonwide: cannot read\n0 documents, 0 faulty\n"), (["mask", "-"], 2, b"", USAGE),
     ):  # fmt: skip
         got = subprocess.run([PROGRAM, *words], input=b"", capture_output=True, check=False)
         tests.want(f"words {words}", (got.returncode, got.stdout, got.stderr) == (status, out, err), got)
-    with open("/dev/full", "wb") as full:
-        got = subprocess.run([PROGRAM, "wrap", "-"], input=small, stdout=full, stderr=subprocess.PIPE, check=False)
-    tests.want("a full device", (got.returncode, got.stderr) == (1, b"bsonwide: cannot write\n"), got)
+    for command, data in (("check", small[:9]), ("wrap", small)):
+        with open("/dev/full", "wb") as full:
+            got = subprocess.run([PROGRAM, command, "-"], input=data, stdout=full, stderr=subprocess.PIPE, check=False)
+        tests.want(f"{command}, a full device", (got.returncode, got.stderr) == (1, b"bsonwide: cannot write\n"), got)
     print(f"{tests.passed} passed, {tests.failed} failed")
     return int(tests.failed > 0)
 
