@@ -3,7 +3,8 @@
 
 usage: tests/rows/rows.py [--program PATH].. [FILE..]     The last line is 'N passed, M failed'.
 
-Without --program each row runs over ./bsonfind, and those of `order` over ./bsonwide. A failure names its file and line. The kinds are the functions of KINDS.
+Without --program each row runs over ./bsonfind, those of `order` over ./bsonwide, and those of `check` and `cut` over both. A failure
+names its file and line. The kinds are the functions of KINDS.
 A row is JSON whose names may stand twice and in any order that matters; where the form of a text matters it is a string.
 """
 
@@ -77,6 +78,11 @@ class Program:
         file = Path(tempfile.mkdtemp(dir=self.room), name)
         file.write_bytes(data)
         return file
+
+    def beside(self) -> "Program":
+        """The `bsonwide` that was built as this `bsonfind` was."""
+        folder = ROOT if self.path.is_relative_to(ROOT) else self.path.parent
+        return Program(folder / str(self.path.relative_to(folder)).replace("bsonfind", "bsonwide"), self.room)
 
     def dump(self, documents: list, name: str = "dump") -> Path:
         """A file of documents."""
@@ -235,18 +241,20 @@ def talk(program: Program, row: Members) -> int:
     return len(wanted)
 
 
-def judge(program: Program, data: bytes, documents: list, faults: list[str], count: int) -> None:
-    """Wants the documents before the first fault of dump, all faults of check, and of find the documents or the first fault."""
+def judge(program: Program, data: bytes, documents: list, faults: list[str], count: int, wide: list[str]) -> None:
+    """Wants the documents before the first fault of dump, all faults of check, of find the documents or the first fault, and of the
+    check of `bsonwide` its faults."""
     shown = "".join(f"{text_of(it)}\n" for it in documents)
     first = "".join(f"bsonfind: {it}\n" for it in faults[:1])
     status = 1 if faults else 0
     ran = program.run("dump", "-", given=data)
     want(ran.stdout.decode(), shown, "dump")
     want((ran.returncode, ran.stderr.decode()), (status, f"{first}{len(documents)} objects found\n"), "the end of dump")
-    ran = program.run("check", "-", given=data)
-    want(ran.stdout.decode(), "".join(f"{it}\n" for it in faults), "check")
-    told = f"{count} documents, {len(faults)} faulty\n"
-    want((ran.returncode, ran.stderr.decode()), (status, told), "the end of check")
+    for checking, found in ((program, faults), (program.beside(), wide)):
+        ran = checking.run("check", "-", given=data)
+        want(ran.stdout.decode(), "".join(f"{it}\n" for it in found), f"check of {checking.path.name}")
+        told = f"{count} documents, {len(found)} faulty\n"
+        want((ran.returncode, ran.stderr.decode()), (int(found != []), told), f"the end of check of {checking.path.name}")
     ran = program.run("find", "-", given=data)
     want(ran.stdout.decode(), "" if faults else shown, "find")
     told = re.sub(r", token \S+$", "", ran.stderr.decode())
@@ -256,9 +264,11 @@ def judge(program: Program, data: bytes, documents: list, faults: list[str], cou
 @one_by_one
 def check(program: Program, row: Members) -> int:
     """{"bytes":HEX,"documents":[D..],"faults":["document 0, byte 4, path \\"d\\": double"..]}: the documents before the first fault
-    as dump prints them, and the faults that check tells; "count" is of all documents, where it is not that of both."""
+    as dump prints them, and the faults that check tells; "count" is of all documents, where it is not that of both. "wide" are the
+    faults that `bsonwide` tells, which reads doubles and decimal128, where they are others."""
     documents, faults = row.get("documents", []), row.get("faults", [])
-    judge(program, bytes_of(row, "bytes"), documents, faults, row.get("count", len(documents) + len(faults)))
+    count = row.get("count", len(documents) + len(faults))
+    judge(program, bytes_of(row, "bytes"), documents, faults, count, row.get("wide", faults))
     return 1
 
 
@@ -286,7 +296,7 @@ def cut(program: Program, row: Members) -> int:
             faults.append(f"document {len(documents) + len(faults)}, byte {len(data) + byte}, {fault}")
             data += holding(size)
     count = len(documents) + len(faults)
-    judge(program, data, [it for _, it in documents], faults, count)
+    judge(program, data, [it for _, it in documents], faults, count, faults)
     return count
 
 
@@ -336,19 +346,11 @@ def run(program: Program, row: Members) -> int:
 def order(program: Program, row: Members) -> int:
     """{"bytes":HEX,"paths":[PATH..],"output":HEX,"refused":"document 0, byte 4, path \"v\": no double equals it"}: what `bsonwide order`
     writes of a dump, and why no more, if it refuses a document."""
-    filtering = Program(beside(program.path), program.room)
-    ran = filtering.run("order", "-", *row.get("paths"), given=bytes_of(row, "bytes"))
+    ran = program.beside().run("order", "-", *row.get("paths"), given=bytes_of(row, "bytes"))
     told = f"bsonwide: {row.get('refused')}\n" if "refused" in row else ""
     output = bytes_of(row, "output").hex() if "output" in row else ""
     want((ran.stdout.hex(), ran.stderr.decode(), ran.returncode), (output, told, int(told != "")), "order")
     return 1
-
-
-def beside(path: Path) -> Path:
-    """The `bsonwide` that was built as this `bsonfind` was."""
-    if path.is_relative_to(ROOT):
-        return ROOT / str(path.relative_to(ROOT)).replace("bsonfind", "bsonwide")
-    return path.with_name(path.name.replace("bsonfind", "bsonwide"))
 
 
 def pages(row: Members, size: int, use: str, is_anew: bool, shown: list[str], tied: bytes, numbers: Iterator[int]) -> Iterator[tuple[str, str]]:
