@@ -1,0 +1,4 @@
+pub mod ElementLemmas
+pub mod ValueLemmas
+pub mod LineLemmas
+pub mod RawLemmas
