@@ -21,12 +21,12 @@ use Rattle.bd_wide_dump.specs.inside.Begins.{values_in, HasElements, is_whole, I
 
 -- ---- type bytes
 
-byte_type : (type : ElementType) → type_at (byte_of type) ≡ Some type
+pub byte_type : (type : ElementType) → type_at (byte_of type) ≡ Some type
 byte_type Double = refl
 byte_type Decimal128 = refl
 byte_type (Kept k) = type_is k
 
-some_byte : (type : ElementType) → byte_of type ≢ 0
+pub some_byte : (type : ElementType) → byte_of type ≢ 0
 some_byte type h = let e : Some type ≡ None = sym (byte_type type) ∙ ap type_at h in cc
 
 number_typed : (k : NumberKind) → byte_of (number_type k) ≡ number_byte k
@@ -37,7 +37,7 @@ number_typed as_decimal128 = refl
 
 -- ---- a value, by its type and its own bytes
 
-record Placed (tree : Tree) (name value : List ℕ) : Type 0 where
+pub record Placed (tree : Tree) (name value : List ℕ) : Type 0 where
   pub type : ElementType
   pub own : List ℕ
   pub spells : IsOwn type own tree
@@ -80,7 +80,7 @@ module _ (name value : List ℕ) where
   placed_leaf (trees.code s) h = plain (trees.code s) refl refl refl h
   placed_leaf trees.max_key h = plain trees.max_key refl refl refl h
 
-  placed : (t : Tree) → IsValueBy (valued raw) t value → Placed t name value
+  pub placed : (t : Tree) → IsValueBy (valued raw) t value → Placed t name value
   placed (leaf a) h = placed_leaf a h
   placed (doc fs) h = record {
     type = Kept kinds.Doc;
@@ -141,7 +141,7 @@ pub record Next (bytes : List ℕ) (at : ℕ) (fields : Fields) : Type 0 where
   pub more : AreFieldsBy (valued raw) others rest
   pub splits : drop at bytes ≡ byte_of type ∷ (name ++ 0 ∷ (own ++ (rest ++ 0 ∷ after)))
 
-regroup : (b : ℕ) (n v r x : List ℕ) → ((b ∷ (n ++ 0 ∷ v)) ++ r) ++ x ≡ b ∷ (n ++ 0 ∷ (v ++ (r ++ x)))
+pub regroup : (b : ℕ) (n v r x : List ℕ) → ((b ∷ (n ++ 0 ∷ v)) ++ r) ++ x ≡ b ∷ (n ++ 0 ∷ (v ++ (r ++ x)))
 regroup b n v r x = simp append_assoc
 
 module _ (bytes : List ℕ) (at : ℕ) where

@@ -2,3 +2,4 @@ pub mod ElementLemmas
 pub mod ValueLemmas
 pub mod LineLemmas
 pub mod RawLemmas
+pub mod PlainLemmas

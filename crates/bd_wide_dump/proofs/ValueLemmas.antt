@@ -176,7 +176,7 @@ module _ (kind : Kind) (bytes : List ℕ) (d : kind ≡ kinds.Doc → ⊥) (a : 
 abbrev IsHolder : Kind → Type 0
 IsHolder kind = is_holder kind ≡ true
 
-number_no_holder : (k : NumberKind) (kind : Kind) → is_holder kind ≡ true → Kept kind ≡ number_type k → ⊥
+pub number_no_holder : (k : NumberKind) (kind : Kind) → is_holder kind ≡ true → Kept kind ≡ number_type k → ⊥
 number_no_holder as_double kind h e = cc
 number_no_holder as_decimal128 kind h e = cc
 number_no_holder as_int32 kind h e = let same : kind ≡ kinds.Int32 = cc in let f : false ≡ true = sym (ap is_holder same) ∙ h in cc

@@ -13,7 +13,7 @@
 //! - `line`: `WideTextBuffer`, the buffer of a line for one document after the other.
 //! - `element`: the next element of a document, read without a check.
 //! - `number`: doubles and decimal128.
-//! - `laws`: different numbers differ.
+//! - `laws`: different numbers differ; documents of the nineteen kinds are printed as `bd_extjson_text` prints them.
 #![tactic(auto)]
 
 mod element;
@@ -21,5 +21,5 @@ mod laws;
 mod line;
 mod number;
 
-pub use laws::numbers_differ;
+pub use laws::{numbers_differ, plain_lines};
 pub use line::WideTextBuffer;
