@@ -123,12 +123,7 @@ impl<O: Output, L: Lines> Visitor<O> for Printer<L> {
 }
 
 /// Reports the end of a scan on standard error, after its lines on standard output. Memory is taken only for the path of a fault.
-fn report_scan<E: Output>(
-    alloc: Global,
-    program: &str,
-    scan: &DumpScan,
-    err: &mut E,
-) -> Status
+fn report_scan<E: Output>(alloc: Global, program: &str, scan: &DumpScan, err: &mut E) -> Status
     ensures { ReportsMessage (over E.state err.old err.new)
         (wrong_line program.now (option_map input_words scan.now.fault) ++ (decimal scan.now.count
         ++ objects_found)) (wrong_status (option_map input_words scan.now.fault)) result
