@@ -67,12 +67,12 @@ framed_length body = omega (arith, length-append (number (length body + 5)) (bod
 pub scoped_length : (s d : List ℕ) → length (scoped s d) ≡ length (string s ++ d) + 4
 scoped_length s d = omega (arith, length-append (number (length (string s ++ d) + 4)) (string s ++ d), number_length (length (string s ++ d) + 4))
 
-framed_size : (body v r : List ℕ) → v ≡ framed body → length v ≤ longest_document → number_of (v ++ r) ≡ length v
+pub framed_size : (body v r : List ℕ) → v ≡ framed body → length v ≤ longest_document → number_of (v ++ r) ≡ length v
 framed_size body v r e short =
     let len : length v ≡ length body + 5 = ap length e ∙ framed_length body in
     ap (λ (x : List ℕ). number_of (x ++ r)) e ∙ ap number_of (framed_after body r) ∙ number_prefix (length body + 5) (body ++ 0 ∷ r) (omega arith) ∙ sym len
 
-scoped_size : (s d v r : List ℕ) → v ≡ scoped s d → length v ≤ longest_document → number_of (v ++ r) ≡ length v
+pub scoped_size : (s d v r : List ℕ) → v ≡ scoped s d → length v ≤ longest_document → number_of (v ++ r) ≡ length v
 scoped_size s d v r e short =
     let n = length (string s ++ d) + 4 in
     let len : length v ≡ length (string s ++ d) + 4 = ap (λ (x : List ℕ). length x) e ∙ scoped_length s d in

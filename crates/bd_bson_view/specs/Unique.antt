@@ -203,7 +203,7 @@ scalar_size (trees.regex p o) v r h = let rest = o ++ 0 ∷ r in
 scalar_size _ v r h = rw h.1 refl
 
 -- if the same bytes begin with two scalars of one kind, these are one scalar, and it takes the same bytes
-scalars : (a b : Scalar) (v w r s : List ℕ) → IsScalar a v → IsScalar b w
+pub scalars : (a b : Scalar) (v w r s : List ℕ) → IsScalar a v → IsScalar b w
     → scalar_kind a ≡ scalar_kind b → v ++ r ≡ w ++ s → (a ≡ b) × (v ≡ w)
 scalars a b v w r s p q k h = let same : a ≡ b = sym (scalar_back a v r p) ∙ ap₂ scalar_at k h ∙ scalar_back b w s q in
     let len : length v ≡ length w = sym (scalar_size a v r p) ∙ ap₂ size_of k h ∙ scalar_size b w s q in
@@ -230,7 +230,7 @@ after_numbers : (a b : ℕ) (r s : List ℕ) → number a ++ r ≡ number b ++ s
 after_numbers a b r s h = sym (number_after a r) ∙ ap (drop 4) h ∙ number_after b s
 
 -- two names before a zero in the same bytes are equal, and so is what follows
-names : (n m r s : List ℕ) → AllByRecursion (λ b. b ≢ 0) n → AllByRecursion (λ b. b ≢ 0) m
+pub names : (n m r s : List ℕ) → AllByRecursion (λ b. b ≢ 0) n → AllByRecursion (λ b. b ≢ 0) m
     → n ++ 0 ∷ r ≡ m ++ 0 ∷ s → (n ≡ m) × (r ≡ s)
 names [] [] r s p q h = (refl, cc)
 names [] (b ∷ m) r s p q h = absurd (q.0 (cc))
@@ -242,7 +242,7 @@ pub framed_after : (b r : List ℕ) → framed b ++ r ≡ number (length b + 5) 
 framed_after b r = simp append_assoc
 
 -- if the same bytes begin with two documents, so do the bytes after their lengths
-bodies : (b c v w r s : List ℕ) → v ≡ framed b → w ≡ framed c → v ++ r ≡ w ++ s → b ++ 0 ∷ r ≡ c ++ 0 ∷ s
+pub bodies : (b c v w r s : List ℕ) → v ≡ framed b → w ≡ framed c → v ++ r ≡ w ++ s → b ++ 0 ∷ r ≡ c ++ 0 ∷ s
 bodies b c v w r s e f h = after_numbers (length b + 5) (length c + 5) (b ++ 0 ∷ r) (c ++ 0 ∷ s)
     (sym (framed_after b r) ∙ ap (λ (x : List ℕ). x ++ r) (sym e) ∙ h
     ∙ ap (λ (x : List ℕ). x ++ s) f ∙ framed_after c s)
@@ -252,7 +252,7 @@ codes_after : (s d r : List ℕ) → scoped s d ++ r ≡ number (length (string 
 codes_after s d r = simp append_assoc
 
 -- two codes with scope in the same bytes have the same code, and the same bytes after it
-same_code : (s z d e x y v w : List ℕ) → IsText s → IsText z → v ≡ scoped s d → w ≡ scoped z e
+pub same_code : (s z d e x y v w : List ℕ) → IsText s → IsText z → v ≡ scoped s d → w ≡ scoped z e
     → v ++ x ≡ w ++ y → (s ≡ z) × (d ++ x ≡ e ++ y)
 same_code s z d e x y v w p q a b h = let inside : string s ++ (d ++ x) ≡ string z ++ (e ++ y) =
     after_numbers (length (string s ++ d) + 4) (length (string z ++ e) + 4)

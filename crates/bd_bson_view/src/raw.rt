@@ -92,6 +92,21 @@ impl<'a> RawDoc<'a> {
 }
 
 impl<'a> RawValue<'a> {
+    ghost use Rattle.bd_bson_view.specs.Raw.{value_tree, value_source};
+
+    /// The value of that kind at that offset of the bytes, which are known to spell one there.
+    #[inline(always)]
+    pub fn there(kind: Kind, bytes: &'a [u8], start: usize) -> RawValue<'a>
+        requires short { length bytes.now ≤ longest_input }
+        requires inside { start ≤ length bytes.now }
+        requires sound { Sound kind (drop start bytes.now) }
+        ensures meaning { (sound : Sound kind (drop start bytes.now)) →
+            value_tree result ≡ meaning sound }
+        ensures same_source { value_source result ≡ bytes.now }
+    {
+        RawValue { bytes, start, kind }
+    }
+
     /// The offset after it.
     #[inline(always)]
     fn end(self) -> usize

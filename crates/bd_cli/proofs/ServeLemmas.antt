@@ -27,14 +27,14 @@ serve_words (faults.Unread fault) = read_words fault
 serve_words faults.NoMemory = no_memory
 serve_words faults.Unwritten = cannot_write
 
-module _ {program : List ℕ} {C : Type 0} (state : C → Reader) (gives : C → Option (List ℕ) → C → Type 0) (old new : C) (out : Over Writer) where
+module _ {C : Type 0} (state : C → Reader) (gives : C → Option (List ℕ) → C → Type 0) (old new : C) (out : Over Writer) where
   -- each read but the last gives at least one byte, so the limit of bytes comes first
   never_too_many : (s t : Service) → StopsServing state gives RepliesTo command_limits old new out s t KeepsState (faults.Unread reads.TooManyTurns) → ⊥
   never_too_many s t (text, u, wrote) =
       let each = reads_at_least u.stops.turns old new (u.whole ++ u.rest) u.stops.reads.0 in
       let turns = u.stops.reads.2 in let short = u.cause.1 in omega (arith, each, turns, short)
 
-  module _ (dump : Dump) (status : Status) (s t : Service) (is_new : service_state s ≡ new_state) (is_over : service_dump s ≡ dump) where
+  module _ (program : List ℕ) (dump : Dump) (status : Status) (s t : Service) (is_new : service_state s ≡ new_state) (is_over : service_dump s ≡ dump) where
     abbrev PrintsTalk : Over Writer → Type 0
     PrintsTalk err = Prints program (talk_run state gives old new (bytes_of dump) (documents dump)) out err status
 

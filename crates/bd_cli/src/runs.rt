@@ -7,12 +7,12 @@ ghost use Rattle.bd_cli.specs.Runs.{DeviceFails, ReadsNoCommands, ReadsNoFile, W
 
 use crate::serve::serve;
 use bd_cli_args::{Order, USAGE, WordsFault};
+use bd_cli_files::pack::pack;
+use bd_cli_find::find::find;
 use bd_cli_scan::Status;
 use bd_cli_scan::check::check;
 use bd_cli_scan::dump::dump;
 use bd_cli_scan::output::{report_no_memory, report_unwritten, status_of};
-use bd_cli_files::pack::pack;
-use bd_cli_find::find::find;
 use bd_io_device::{Input, Output, write_all};
 use std::alloc::Global;
 

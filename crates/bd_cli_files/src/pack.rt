@@ -198,12 +198,7 @@ impl Packing {
 }
 
 /// Reports how lines were packed, after the bytes on standard output.
-fn report_packing<E: Output>(
-    alloc: Global,
-    program: &str,
-    packing: &Packing,
-    err: &mut E,
-) -> Status
+fn report_packing<E: Output>(alloc: Global, program: &str, packing: &Packing, err: &mut E) -> Status
     ensures { ReportsMessage (over E.state err.old err.new)
         (wrong_line program.now (option_map bad_line_text packing.now.bad) ++ (decimal packing.now.count
         ++ objects_packed)) (wrong_status (option_map bad_line_text packing.now.bad)) result

@@ -19,20 +19,20 @@ reason_reported part refused other (inl out_of_memory) = absurd (other out_of_me
 reason_reported part refused other (inr is) = rw is refl
 
 -- the line of a filter's fault, and that of another refusal
-pub filter_reported : {program : List ℕ} (err : Over Writer) (refused : Refused) (fault : FilterFault) (text : List ℕ) (status : Status) → refused ≡ reasons.BadFilter fault
+pub filter_reported : (program : List ℕ) (err : Over Writer) (refused : Refused) (fault : FilterFault) (text : List ℕ) (status : Status) → refused ≡ reasons.BadFilter fault
     → text ≡ refusal_text (refusal_of fault) → ReportsMessage err (error_line program text) Failed status → ReportsRefusal program err (reason_of refused) status
-filter_reported {program} err refused fault text status is same reported = rw is (inl (subst (λ (x : List ℕ). ReportsMessage err (error_line program x) Failed status) same reported))
+filter_reported program err refused fault text status is same reported = rw is (inl (subst (λ (x : List ℕ). ReportsMessage err (error_line program x) Failed status) same reported))
 
-pub plain_reported : {program : List ℕ} (err : Over Writer) (refused : Refused) (status : Status) → ((x : FilterFault) → refused ≡ reasons.BadFilter x → ⊥)
+pub plain_reported : (program : List ℕ) (err : Over Writer) (refused : Refused) (status : Status) → ((x : FilterFault) → refused ≡ reasons.BadFilter x → ⊥)
     → ReportsMessage err (error_line program (refused_option refused ++ refused_words refused)) Failed status → ReportsRefusal program err (reason_of refused) status
-plain_reported err (reasons.BadFilter fault) status other reported = absurd (other fault refl)
-plain_reported err refused status other reported = reported
+plain_reported program err (reasons.BadFilter fault) status other reported = absurd (other fault refl)
+plain_reported program err refused status other reported = reported
 
 -- the line of a refusal is written, or that of out of memory
-pub explain_refusal : {program : List ℕ} (err : Over Writer) (reason : Reason) (status : Status) → ReportsRefusal program err reason status
+pub explain_refusal : (program : List ℕ) (err : Over Writer) (reason : Reason) (status : Status) → ReportsRefusal program err reason status
     → ReportsMessage err (error_line program (refused_text reason)) Failed status ⊎ ReportsMessage err (error_line program no_memory) Failed status
-explain_refusal err (plain refused) status reported = inl reported
-explain_refusal err (bad_filter r) status reported = reported
+explain_refusal program err (plain refused) status reported = inl reported
+explain_refusal program err (bad_filter r) status reported = reported
 
 -- what needs a part that is refused is refused with its message
 part_refused : {Given Wanted : Type 0} (part : Result Given (List ℕ)) (next : Given → Result Wanted (List ℕ)) (fault : SearchFault)

@@ -151,12 +151,7 @@ fn write_documents<O: Output>(
 }
 
 /// Reports how many documents a batch has, whether nothing remains, and the token after it.
-fn report_batch<E: Output>(
-    alloc: Global,
-    program: &str,
-    batch: &Batch,
-    err: &mut E,
-) -> Status
+fn report_batch<E: Output>(alloc: Global, program: &str, batch: &Batch, err: &mut E) -> Status
     ensures { ReportsMessage (over E.state err.old err.new)
         (find_count_line (length batch.now.places.items) batch.now.end
         (option_map positioned_token batch.now.token)) Done result

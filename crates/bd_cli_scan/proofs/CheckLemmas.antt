@@ -22,6 +22,7 @@ use Rattle.bd_cli_scan.specs.inside.Scan.{ScansDocuments, check_texts}
 use Rattle.bd_cli_scan.specs.Output.{error_line, stop_words, Transcript, fault_text, wrong_status}
 use Rattle.bd_cli_scan.specs.Run.{Prints, ReportsMessage}
 use Rattle.bd_cli_scan.specs.declared.output.OutputFault.TheVariants.{NoMemory, Unwritten}
+use Rattle.bd_cli_scan.proofs.DumpLemmas.{scan_named}
 use Rattle.bd_cli_scan.proofs.ScanLemmas.{faulty_append, faulty_count, known_whole, rest_of, visited_frames}
 use Rattle.bd_io_device.proofs.DevicesLemmas.{no_write_fails}
 use Rattle.bd_bson_check.specs.declared.fault.Fault as reported
@@ -66,8 +67,8 @@ status_of output = output.status
 
 pub same_status : (bytes : List ℕ) (fault : Option ReadFault) (s t : Transcript) → IsOutputOfDump bytes fault s → IsOutputOfCheck bytes fault t → s.status ≡ t.status
 same_status bytes None s t p q =
-    ap status_of p.3 ∙ scan_checked p.0 p.1 (check_results bytes) (as_scan p.0 p.1 bytes p.2) ∙ ap (λ (vs : List (Option Fault)). check_status None (faulty_count vs)) (sym q.1) ∙ sym (ap status_of q.2)
-same_status bytes (Some fault) s t p q = ap status_of p.6 ∙ sym (ap status_of q.2)
+    ap status_of p.5 ∙ scan_checked p.0 p.2 (check_results bytes) (as_scan p.0 p.2 bytes (scan_named p.0 p.2 bytes p.3)) ∙ ap (λ (vs : List (Option Fault)). check_status None (faulty_count vs)) (sym q.1) ∙ sym (ap status_of q.2)
+same_status bytes (Some fault) s t p q = ap status_of p.8 ∙ sym (ap status_of q.2)
 
 -- the result of a check, as contracts see it
 abbrev CheckResult : Type 0

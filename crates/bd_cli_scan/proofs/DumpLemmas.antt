@@ -2,16 +2,17 @@
 use Rattle.std.proofs.Common.{◌≡◌, ◌<◌, ◌+◌, ℕ, List, [], ◌∷◌, ◌++◌, length, Option, Some, None, refl, sym, ap, ap₂, ◌∙◌, subst, append-nil, append_assoc, inl, inr, arith, length-append}
 use Rattle.std.proofs.{lemmas.List.get_or-append-add}
 use Rattle.std.specs.Prelude.{◌⊎◌, decimal, option_map}
-use Rattle.bd_value.specs.Tree.{Doc}
+use Rattle.bd_value.specs.Tree.{Doc, doc, fields_of}
 use Rattle.bd_io_device.specs.Devices.{Reader, Writer, between, TakesText, read_words}
 use Rattle.bd_io_device.specs.declared.reading.ReadFault.{ReadFault}
 use Rattle.bd_bson_check.specs.{Fault.Fault, Dump.AreJoined, Dump.IsDumpScan, Fault.fault_view}
 use Rattle.bd_bson_check.proofs.FirstFaultLemmas.{IsBytes}
-use Rattle.bd_bson_check.proofs.DumpLemmas.{joined_append, joined_once, joined_one, scan_on, scan_once}
+use Rattle.bd_bson_check.proofs.DumpLemmas.{joined_once, scan_on, scan_once}
+use Rattle.bd_extjson_text.specs.Text.{text}
 use Rattle.bd_bson_stream.proofs.StreamLemmas.{cut_short_stuck}
 use Rattle.bd_cli_scan.specs.{declared.input.InputFault.InputFault, declared.output.OutputFault.OutputFault, declared.output.OutputFault.TheVariants.NoMemory}
 use Rattle.bd_cli_scan.specs.{declared.output.OutputFault.TheVariants.Unwritten, declared.output.Status.Status, declared.output.Status.TheVariants.Failed, declared.scan.DumpScan.DumpScan}
-use Rattle.bd_cli_scan.specs.Dump.{IsOutputOfDump, ReadsToFirstFault, dump_output, dump_run, objects_found}
+use Rattle.bd_cli_scan.specs.Dump.{AreDocuments, AreLines, EndsAs, Form, IsOutputOfDump, ReadsToFirstFault, dump_output, dump_run_by, named, objects_found}
 use Rattle.bd_cli_scan.specs.inside.Scan.{more_visited, none_visited}
 use Rattle.bd_cli_scan.specs.inside.Scan.{AreVisited, EndsScan, StopsScan, ScansDocuments, dump_texts, text_at_end}
 use Rattle.bd_cli_scan.specs.Output.{Transcript, error_line, fault_text, input_words, lines, no_memory, wrong_line, wrong_status, stop_words}
@@ -20,28 +21,43 @@ use Rattle.bd_cli_scan.proofs.OutputLemmas.{lines-append}
 use Rattle.bd_bson_check.specs.declared.fault.Fault as reported
 use Rattle.bd_cli_scan.specs.declared.input.InputFault.TheVariants as inputs
 
+-- ---- documents and lines, one after the other
+
+documents_append : (form : Form) (ds es : List Doc) (p q : List ℕ) → AreDocuments form ds p → AreDocuments form es q → AreDocuments form (ds ++ es) (p ++ q)
+documents_append form [] es p q none are = subst (λ (x : List ℕ). AreDocuments form es (x ++ q)) (sym none) are
+documents_append form (d ∷ ds) es p q (prefix, rest, one, others, splits) are =
+    (prefix, rest ++ q, one, documents_append form ds es rest q others are, ap (λ x. x ++ q) splits ∙ append_assoc prefix rest q)
+
+one_document : (form : Form) (d : Doc) (bytes : List ℕ) → form.Spells d bytes → AreDocuments form (d ∷ []) bytes
+one_document form d bytes spelled = (bytes, [], spelled, refl, sym (append-nil bytes))
+
+lines_join : (form : Form) (ds es : List Doc) (p q : List ℕ) → AreLines form ds p → AreLines form es q → AreLines form (ds ++ es) (p ++ q)
+lines_join form [] es p q none are = subst (λ (x : List ℕ). AreLines form es (x ++ q)) (sym none) are
+lines_join form (d ∷ ds) es p q (line, rest, is, others, splits) are =
+    (line, rest ++ q, is, lines_join form ds es rest q others are, ap (λ x. x ++ q) splits ∙ append_assoc line (10 ∷ rest) q)
+
 -- the documents that were scanned, and their lines
-printed : (vs : List (Option Fault)) (given text : List ℕ) → AreVisited dump_texts vs given text
-    → (ds : List Doc) × AreJoined ds given × (length ds ≡ length vs) × (text ≡ lines ds)
-printed vs given text none_visited = ([], refl, refl, refl)
-printed vs given text (more_visited us prefix before None frame piece visited is (none, (d, spelled, line))) =
-    let h = printed us prefix before visited in (
+printed : (form : Form) (vs : List (Option Fault)) (given text : List ℕ) → AreVisited (dump_texts form) vs given text
+    → (ds : List Doc) × AreDocuments form ds given × (length ds ≡ length vs) × AreLines form ds text
+printed form vs given text none_visited = ([], refl, refl, refl)
+printed form vs given text (more_visited us prefix before None frame piece visited is (none, (d, spelled, line))) =
+    let h = printed form us prefix before visited in (
       h.0 ++ d ∷ [],
-      joined_append h.0 (d ∷ []) prefix frame h.1 (joined_one d frame spelled),
+      documents_append form h.0 (d ∷ []) prefix frame h.1 (one_document form d frame spelled),
       let e = h.2 in omega (arith, length-append h.0 (d ∷ []), length-append us (None ∷ [])),
-      ap₂ (λ (x y : List ℕ). x ++ y) h.3 line ∙ sym (lines-append h.0 (d ∷ [])),
+      lines_join form h.0 (d ∷ []) before piece h.3 line,
     )
-printed vs given text (more_visited us prefix before (Some f) frame piece visited is prints) = let e = prints.1 in absurd cc
+printed form vs given text (more_visited us prefix before (Some f) frame piece visited is prints) = let e = prints.1 in absurd cc
 
-none_at_end : (number : ℕ) (fault : Option InputFault) → text_at_end dump_texts number fault ≡ []
-none_at_end number None = refl
-none_at_end number (Some (inputs.Faulty f)) = refl
-none_at_end number (Some (inputs.Unread f)) = refl
+none_at_end : (form : Form) (number : ℕ) (fault : Option InputFault) → text_at_end (dump_texts form) number fault ≡ []
+none_at_end form number None = refl
+none_at_end form number (Some (inputs.Faulty f)) = refl
+none_at_end form number (Some (inputs.Unread f)) = refl
 
-module _ (program : List ℕ) (old new : Reader) (out_old out_new : Writer) (err_old err_new : Writer) (status : Status) where
+module _ (program : List ℕ) (form : Form) (old new : Reader) (out_old out_new : Writer) (err_old err_new : Writer) (status : Status) where
   -- `dump` ran as its contract says
   abbrev pub PrintsDump : Type 0
-  PrintsDump = Prints program (dump_run (between old new)) (between out_old out_new) (between err_old err_new) status
+  PrintsDump = Prints program (dump_run_by form (between old new)) (between out_old out_new) (between err_old err_new) status
 
   abbrev Reports : List ℕ → Status → Type 0
   Reports text wanted = ReportsMessage (between err_old err_new) text wanted status
@@ -52,50 +68,101 @@ module _ (program : List ℕ) (old new : Reader) (out_old out_new : Writer) (err
       Reports (wrong_line program (option_map input_words fault) ++ (decimal count ++ objects_found)) (wrong_status (option_map input_words fault))
       ⊎ ((f : reported.Fault) × (fault ≡ Some (inputs.Faulty f)) × Reports (error_line program no_memory) Failed)
 
-  module _ (ds : List Doc) (given : List ℕ) (joined : AreJoined ds given) (wrote : TakesText (between out_old out_new) (lines ds)) where
-    ends : (fault : Option InputFault) → EndsScan dump_texts (between old new) (length ds) given fault → ReportsEnding (length ds) fault → PrintsDump
-    ends None (was, at) (inl reported) =
-        inl (dump_output ds None, (given, None, was, (ds, None, joined, refl), λ e. (ds, given, [], joined, sym (append-nil given), inl refl, at)), wrote, reported)
+  module _ (ds : List Doc) (given text : List ℕ) (joined : AreDocuments form ds given) (are : AreLines form ds text) (wrote : TakesText (between out_old out_new) text) where
+    ends : (fault : Option InputFault) → EndsScan (dump_texts form) (between old new) (length ds) given fault → ReportsEnding (length ds) fault → PrintsDump
+    ends None (was, at) (inl reported) = inl (
+      dump_output text (length ds) None,
+      (given, None, was, (ds, text, None, joined, are, refl), λ e. (ds, given, [], joined, sym (append-nil given), inl refl, at)),
+      wrote,
+      reported,
+    )
     ends (Some (inputs.Faulty f)) (part, rest, was, at, numbered, fails, last) (inl reported) =
         let fault = fault_view f in
         let line = subst (λ n. Reports (error_line program (fault_text n fault) ++ (decimal (length ds) ++ objects_found)) Failed) numbered reported in
-        let here : ReadsToFirstFault (between old new) (given ++ (part ++ rest)) = (ds, given, part ++ rest, joined, refl, inr (fault, fails), (part, at)) in
-        inl (dump_output ds (Some (fault_text (length ds) fault)), (given ++ (part ++ rest), None, was, (ds, Some fault, (given, part ++ rest, joined, refl, fails), refl), λ e. here), wrote, line)
-    ends (Some (inputs.Unread f)) (part, was, splits) (inl reported) =
-        inl (dump_output ds (Some (read_words f)), (given ++ part, Some f, was, (ds, given, part, joined, splits, refl, refl), λ e. absurd cc), wrote, reported)
+        let here : ReadsToFirstFault form (between old new) (given ++ (part ++ rest)) = (ds, given, part ++ rest, joined, refl, inr (fault, fails), (part, at)) in
+        inl (
+          dump_output text (length ds) (Some (fault_text (length ds) fault)),
+          (given ++ (part ++ rest), None, was, (ds, text, Some fault, (given, part ++ rest, joined, refl, fails), are, refl), λ e. here),
+          wrote,
+          line,
+        )
+    ends (Some (inputs.Unread f)) (part, was, splits) (inl reported) = inl (
+      dump_output text (length ds) (Some (read_words f)),
+      (given ++ part, Some f, was, (ds, text, given, part, joined, splits, refl, are, refl), λ e. absurd cc),
+      wrote,
+      reported,
+    )
     ends None at (inr reported) = let e = reported.1 in absurd cc
     ends (Some (inputs.Faulty f)) (part, rest, was, at, numbered, fails, last) (inr reported) =
-        inr (inr (lines ds, (ds, given, joined, (part, at), was.2, refl), wrote, reported.2))
+        inr (inr (text, (ds, given, joined, (part, at), was.2, are), wrote, reported.2))
     ends (Some (inputs.Unread f)) at (inr reported) = let e = reported.1 in absurd cc
 
-  pub prints_scan : (scan : DumpScan) → ScansDocuments dump_texts (between old new) (between out_old out_new) scan → ReportsEnding scan.count scan.fault → PrintsDump
+  pub prints_scan : (scan : DumpScan) → ScansDocuments (dump_texts form) (between old new) (between out_old out_new) scan → ReportsEnding scan.count scan.fault → PrintsDump
   prints_scan scan (vs, given, text, visited, counted, bad, end, wrote) reported =
-      let p = printed vs given text visited in
-      ends p.0 given p.1 (subst (λ (x : List ℕ). TakesText (between out_old out_new) x) (ap (λ x. text ++ x) (none_at_end (length vs) scan.fault) ∙ append-nil text ∙ p.3) wrote) scan.fault
-      (subst (λ n. EndsScan dump_texts (between old new) n given scan.fault) (sym p.2) end) (subst (λ n. ReportsEnding n scan.fault) (counted ∙ sym p.2) reported)
+      let p = printed form vs given text visited in
+      ends p.0 given text p.1 p.3 (subst (λ (x : List ℕ). TakesText (between out_old out_new) x) (ap (λ x. text ++ x) (none_at_end form (length vs) scan.fault) ∙ append-nil text) wrote) scan.fault
+      (subst (λ n. EndsScan (dump_texts form) (between old new) n given scan.fault) (sym p.2) end) (subst (λ n. ReportsEnding n scan.fault) (counted ∙ sym p.2) reported)
 
-  pub prints_stop : (stopped : OutputFault) → StopsScan dump_texts (between old new) (between out_old out_new) stopped → Reports (error_line program (stop_words stopped)) Failed → PrintsDump
+  pub prints_stop : (stopped : OutputFault) → StopsScan (dump_texts form) (between old new) (between out_old out_new) stopped → Reports (error_line program (stop_words stopped)) Failed → PrintsDump
   prints_stop NoMemory (vs, given, text, visited, at, no_failure, wrote) reported =
-      let p = printed vs given text visited in
+      let p = printed form vs given text visited in
       inr (inr (text, (p.0, given, p.1, at, no_failure, p.3), wrote, reported))
   prints_stop Unwritten (vs, given, text, piece, visited, failed_write, inl (None, frame, is, (none, (d, spelled, line)), at, no_failure)) reported =
-      let p = printed vs given text visited in
-      inr (inl (text, piece, (p.0, d, given ++ frame, joined_append p.0 (d ∷ []) given frame p.1 (joined_one d frame spelled), (at.0, no_failure), p.3, line), failed_write, reported))
+      let p = printed form vs given text visited in
+      let next = documents_append form p.0 (d ∷ []) given frame p.1 (one_document form d frame spelled) in
+      inr (inl (text, piece, (p.0, d, given ++ frame, next, (at.0, no_failure), p.3, line), failed_write, reported))
   prints_stop Unwritten (vs, given, text, piece, visited, failed_write, inl (Some f, frame, is, prints, at, no_failure)) reported = let e = prints.1 in absurd cc
   prints_stop Unwritten (vs, given, text, piece, visited, failed_write, inr (f, at, line)) reported = absurd cc
 
+-- ---- the form of `bsonfind`
+
+joined_named : (ds : List Doc) (bytes : List ℕ) → AreDocuments named ds bytes → AreJoined ds bytes
+joined_named [] bytes none = none
+joined_named (d ∷ ds) bytes (prefix, rest, one, others, splits) = (prefix, rest, one, joined_named ds rest others, splits)
+
+named_joined : (ds : List Doc) (bytes : List ℕ) → AreJoined ds bytes → AreDocuments named ds bytes
+named_joined [] bytes none = none
+named_joined (d ∷ ds) bytes (prefix, rest, one, others, splits) = (prefix, rest, one, named_joined ds rest others, splits)
+
+lines_named : (ds : List Doc) (all : List ℕ) → AreLines named ds all → all ≡ lines ds
+lines_named [] all none = none
+lines_named (d ∷ ds) all (line, rest, is, others, splits) = splits ∙ ap₂ (λ (x y : List ℕ). x ++ 10 ∷ y) is (lines_named ds rest others)
+
+named_lines : (ds : List Doc) → AreLines named ds (lines ds)
+named_lines [] = refl
+named_lines (d ∷ ds) = (text (doc (fields_of d)), lines ds, refl, named_lines ds, refl)
+
+-- a scan by the form of `bsonfind` is the scan of a dump
+pub scan_named : (ds : List Doc) (end : Option Fault) (bytes : List ℕ) → EndsAs named ds end bytes → IsDumpScan ds end bytes
+scan_named ds None bytes are = joined_named ds bytes are
+scan_named ds (Some f) bytes (prefix, rest, are, splits, fails) = (prefix, rest, joined_named ds prefix are, splits, fails)
+
+named_scan : (ds : List Doc) (end : Option Fault) (bytes : List ℕ) → IsDumpScan ds end bytes → EndsAs named ds end bytes
+named_scan ds None bytes are = named_joined ds bytes are
+named_scan ds (Some f) bytes (prefix, rest, are, splits, fails) = (prefix, rest, named_joined ds prefix are, splits, fails)
+
 -- ---- the output is determined
 
+abbrev output_of : List Doc → List ℕ → Option (List ℕ) → Transcript
+output_of ds all wrong = dump_output all (length ds) wrong
+
 pub output_once : (bytes : List ℕ) (fault : Option ReadFault) (s t : Transcript) → IsOutputOfDump bytes fault s → IsOutputOfDump bytes fault t → s ≡ t
-output_once bytes None s t (ds, end, is, prints) (es, other, was, showed) =
-    let e = scan_once ds es end other bytes is was in
-    prints ∙ ap₂ (λ (x : List Doc) (o : Option Fault). dump_output x (option_map (fault_text (length x)) o)) e.0 e.1 ∙ sym showed
-output_once bytes (Some fault) s t (ds, prefix, part, joined, splits, is, prints) (es, begin, piece, joint, short, was, showed) =
-    let e = joined_once ds es prefix begin part piece joined joint (cut_short_stuck part splits) (cut_short_stuck piece short) (sym is ∙ was) in
-    prints ∙ ap (λ (x : List Doc). dump_output x (Some (read_words fault))) e.0 ∙ sym showed
+output_once bytes None s t (ds, x, end, is, xs, prints) (es, y, other, was, ys, showed) =
+    let e = scan_once ds es end other bytes (scan_named ds end bytes is) (scan_named es other bytes was) in
+    let wrong : List Doc → Option Fault → Option (List ℕ) = λ zs o. option_map (fault_text (length zs)) o in
+    prints ∙ ap (λ l. output_of ds l (wrong ds end)) (lines_named ds x xs)
+    ∙ ap₂ (λ (zs : List Doc) (o : Option Fault). output_of zs (lines zs) (wrong zs o)) e.0 e.1
+    ∙ sym (showed ∙ ap (λ l. output_of es l (wrong es other)) (lines_named es y ys))
+output_once bytes (Some fault) s t (ds, x, prefix, part, joined, splits, is, xs, prints) (es, y, begin, piece, joint, short, was, ys, showed) =
+    let e = joined_once ds es prefix begin part piece (joined_named ds prefix joined) (joined_named es begin joint) (cut_short_stuck part splits) (cut_short_stuck piece short) (sym is ∙ was) in
+    prints ∙ ap (λ l. output_of ds l (Some (read_words fault))) (lines_named ds x xs)
+    ∙ ap (λ (zs : List Doc). output_of zs (lines zs) (Some (read_words fault))) e.0
+    ∙ sym (showed ∙ ap (λ l. output_of es l (Some (read_words fault))) (lines_named es y ys))
 
 pub output_some : (bytes : List ℕ) → IsBytes bytes → (s : Transcript) × IsOutputOfDump bytes None s
-output_some bytes fits = let w = scan_on [] [] bytes fits refl in (dump_output w.more (option_map (fault_text (length w.more)) w.end), (w.more, w.end, w.scan, refl))
+output_some bytes fits =
+    let w = scan_on [] [] bytes fits refl in
+    (output_of w.more (lines w.more) (option_map (fault_text (length w.more)) w.end), (w.more, lines w.more, w.end, named_scan w.more w.end bytes w.scan, named_lines w.more, refl))
 
 bytes_after : (given rest : List ℕ) → IsBytes (given ++ rest) → IsBytes rest
 bytes_after given rest h i = subst (λ n. n < 256) (get_or-append-add given rest i 0) (h (length given + i))
@@ -103,8 +170,8 @@ bytes_after given rest h i = subst (λ n. n < 256) (get_or-append-add given rest
 -- the output for a prefix of the bytes is a prefix of the output for all of them
 pub prints_prefix : (bytes given rest : List ℕ) (output : Transcript) (ds : List Doc) (prefix more : List ℕ) → IsBytes bytes → bytes ≡ given ++ rest → IsOutputOfDump bytes None output
     → AreJoined ds given → lines ds ≡ prefix ++ more → (after : List ℕ) × (output.out ≡ prefix ++ after)
-prints_prefix bytes given rest output ds prefix more fits splits (es, end, scan, prints) joined is =
+prints_prefix bytes given rest output ds prefix more fits splits (es, x, end, scan, xs, prints) joined is =
     let w = scan_on ds given rest (bytes_after given rest (subst (λ (x : List ℕ). IsBytes x) splits fits)) joined in
-    let same = scan_once es (ds ++ w.more) end w.end bytes scan (subst (λ (x : List ℕ). IsDumpScan (ds ++ w.more) w.end x) (sym splits) w.scan) in
-    let out : output.out ≡ lines ds ++ lines w.more = ap (λ (s : Transcript). s.out) prints ∙ ap lines same.0 ∙ lines-append ds w.more in
+    let same = scan_once es (ds ++ w.more) end w.end bytes (scan_named es end bytes scan) (subst (λ (x : List ℕ). IsDumpScan (ds ++ w.more) w.end x) (sym splits) w.scan) in
+    let out : output.out ≡ lines ds ++ lines w.more = ap (λ (s : Transcript). s.out) prints ∙ lines_named es x xs ∙ ap lines same.0 ∙ lines-append ds w.more in
     (more ++ lines w.more, out ∙ ap (λ x. x ++ lines w.more) is ∙ append_assoc prefix more (lines w.more))

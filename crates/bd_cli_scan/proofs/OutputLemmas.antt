@@ -12,6 +12,7 @@ use Rattle.bd_extjson_text.specs.Text.{escape_byte, escaped, quoted, text}
 use Rattle.bd_cli_scan.specs.{declared.output.OutputFault.OutputFault, declared.output.Status.Status, declared.output.Status.TheVariants.Failed}
 use Rattle.bd_cli_scan.specs.declared.output.OutputFault.TheVariants.{NoMemory, Unwritten}
 use Rattle.bd_cli_scan.specs.Output.{lines, Transcript, error_line, no_memory, stop_words}
+use Rattle.bd_cli_scan.specs.inside.Output.{WritesSome, WritesText}
 use Rattle.bd_cli_scan.specs.Run.{Prints, ReportsMessage, StopsWithin, partial_run, run_after}
 use Rattle.json.specs.Print as printed
 
@@ -57,6 +58,12 @@ pub write_fails_piece : (old mid new : Writer) (prefix piece rest all : List ℕ
 write_fails_piece old mid new prefix piece rest all took failed_write splits =
     let whole = write_fails_first old new (prefix ++ piece) rest (write_fails_second old mid new prefix piece took failed_write) in
     subst (λ (x : List ℕ). WriteFailsWithin (between old new) x) (append_assoc prefix piece rest ∙ sym splits) whole
+
+-- a text was written, or writing it was stopped
+pub wrote_some : {A : Type 0} (Is : List ℕ → Type 0) (text : List ℕ) (out : Over Writer) (r : Result A OutputFault) → Is text → WritesText text out r → WritesSome Is out r
+wrote_some Is text out (Ok x) is wrote = (text, is, wrote)
+wrote_some Is text out (Err NoMemory) is same = same
+wrote_some Is text out (Err Unwritten) is failed_write = (text, is, failed_write)
 
 -- if standard output has everything and standard error the message, or that memory ran out,
 -- the run printed its output

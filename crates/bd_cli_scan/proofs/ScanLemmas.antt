@@ -14,7 +14,7 @@ use Rattle.bd_bson_check.specs.Dump.{frame_fault_under, frame_length, framed_und
 use Rattle.bd_bson_stream.specs.declared.doc_buffer.{DocBuffer.DocBuffer, DocFault.DocFault, FrameFault.FrameFault}
 use Rattle.bd_bson_stream.specs.Stream.{FailsToRead, FindsEnd, IsReason, ReadsDocument, ReadsToFault, buffered_bytes, AreFrames, EndsWithinOne, HasNoFrame, IsFrame, IsWithinOne}
 use Rattle.bd_bson_stream.proofs.StreamLemmas.{cut_short_within, frame_on, frame_within, frames_more}
-use Rattle.bd_cli_scan.specs.{Input.ReadsNoFurther, Input.StopsInside, Input.StreamsInput, inside.Output.StopsWriting, declared.input.InputFault.InputFault, declared.output.OutputFault.OutputFault}
+use Rattle.bd_cli_scan.specs.{Input.ReadsNoFurther, Input.StopsInside, Input.StreamsInput, inside.Output.StopsWriting, inside.Output.WritesSome, declared.input.InputFault.InputFault, declared.output.OutputFault.OutputFault}
 use Rattle.bd_cli_scan.specs.inside.Scan.{more_visited, none_visited}
 use Rattle.bd_cli_scan.specs.inside.Scan.{AreVisited, EndsScan, IsTextOf, StopsScan, Texts, ScansDocuments, text_at_end}
 use Rattle.bd_cli_scan.specs.declared.output.OutputFault.TheVariants.{NoMemory, Unwritten}
@@ -263,6 +263,12 @@ module _ {texts : Texts} {old mid : Reader} {out_old out_mid : Writer} {buffer :
     stops_by out_new v piece Unwritten is prints failed_write =
         let after = write_fails_after out_old out_mid out_new s.text piece s.wrote failed_write in
         (s.done, s.given, s.text, piece, s.visited, after, inl (v, part, is, next_of part v piece prints, at, g.no_failure ∙ s.no_failure))
+
+    -- it was stopped at a document without a fault
+    pub stops_visiting : (out_new : Writer) (stopped : OutputFault) → IsFrame part → fault_under texts.profile buffer.offset part ≡ None
+        → WritesSome {A = Unit {0}} (texts.IsGood part) (between out_mid out_new) (Err stopped) → StopsScan texts (between old new) (between out_old out_new) stopped
+    stops_visiting out_new NoMemory is none same = rw same runs_out
+    stops_visiting out_new Unwritten is none (piece, good, failed_write) = stops_by out_new None piece Unwritten is (none, good) failed_write
 
     -- the input is at its end
     pub ends_whole : part ≡ [] → IsAtEnd new.remaining → Ended new out_mid None

@@ -128,7 +128,10 @@ fn report_findings<E: Output>(
         (0, None) => Status::Done,
         _ => Status::Failed,
     };
-    status_of(write_findings(program, documents, faulty, message, err), wanted)
+    status_of(
+        write_findings(program, documents, faulty, message, err),
+        wanted,
+    )
 }
 
 /// Writes the text for standard error.

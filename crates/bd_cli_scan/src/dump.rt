@@ -1,8 +1,9 @@
 //! `dump`: the documents of an input, one per line.
 
-ghost use Rattle.std.specs.Prelude.{◌≡◌, ◌⊎◌, ◌++◌, Some, decimal, option_map};
+ghost use Rattle.std.specs.Prelude.{◌≡◌, ◌⊎◌, ◌++◌, ℕ, IfOk, None, Some, decimal, option_map};
 ghost use Rattle.bd_io_device.specs.Devices.{over};
-ghost use Rattle.bd_cli_scan.specs.Dump.{dump_run, objects_found};
+ghost use Rattle.bd_bson_check.specs.FirstFault.{fault_under};
+ghost use Rattle.bd_cli_scan.specs.Dump.{Form, IsLine, dump_run, dump_run_by, named, objects_found};
 ghost use Rattle.bd_cli_scan.specs.inside.Scan.{dump_texts};
 ghost use Rattle.bd_cli_scan.specs.Input.{ReadsNoFurther};
 ghost use Rattle.bd_cli_scan.specs.Output.{error_line, input_words, no_memory, wrong_line, wrong_status};
@@ -16,6 +17,7 @@ use bd_bson_check::{Fault, Profile};
 use bd_bson_view::RawDoc;
 use bd_extjson_text::TextBuffer;
 use bd_io_device::{Input, Output, write_all};
+use bd_value::NoMemory;
 use std::alloc::Global;
 
 /// After the number of documents.
@@ -34,28 +36,80 @@ pub fn dump<R: Input, O: Output, E: Output>(
     ensures stops_reading { ReadsNoFurther R.read_gives input.old input.new }
 {
     let buffer = TextBuffer::new(alloc);
-    match scan_documents(alloc, input, &mut Printer { buffer }, out) {
+    dump_by(alloc, program, NamedLines { buffer }, input, out, err)
+}
+
+/// What makes the lines of documents.
+pub trait Lines {
+    /// Which documents it reads, and how it prints them.
+    ghost form: { Form };
+
+    /// Which types the documents may have.
+    fn profile(&self) -> Profile
+        ensures { result ≡ form.profile };
+
+    /// The line of a document, with its newline.
+    ///
+    /// `NoMemory` if memory for it runs out.
+    fn line(&mut self, document: &[u8]) -> Result<&[u8], NoMemory>
+        requires { (base : ℕ) × (fault_under form.profile base document.now ≡ None) }
+        ensures { IfOk result (λ line. IsLine form document.now line.now) };
+}
+
+/// Reads an input document by document, and prints the line of each before the next is read.
+pub fn dump_by<L: Lines + Drop, R: Input, O: Output, E: Output>(
+    alloc: Global,
+    program: &str,
+    lines: L,
+    input: &mut R,
+    out: &mut O,
+    err: &mut E,
+) -> Status
+    ensures dumps { Prints program.now (dump_run_by L.form (over R.state input.old input.new))
+        (over O.state out.old out.new) (over E.state err.old err.new) result }
+    ensures stops_reading { ReadsNoFurther R.read_gives input.old input.new }
+{
+    match scan_documents(alloc, input, &mut Printer { lines }, out) {
         Ok(scan) => report_scan(alloc, program, &scan, err),
         Err(fault) => report_stop(program, fault, err),
     }
 }
 
-/// Writes the line of each document, up to the first fault.
+/// The lines of documents of the nineteen kinds.
 #[derive(Debug, Drop)]
-struct Printer {
-    /// The buffer for their lines.
+struct NamedLines {
+    /// The buffer for each of them.
     buffer: TextBuffer,
 }
 
-impl<O: Output> Visitor<O> for Printer {
-    ghost texts = { dump_texts };
+impl Lines for NamedLines {
+    ghost form = { named };
 
     fn profile(&self) -> Profile {
         Profile::Named
     }
 
+    #[inline(always)]
+    fn line(&mut self, document: &[u8]) -> Result<&[u8], NoMemory> {
+        self.buffer.line(RawDoc::whole(document).value())
+    }
+}
+
+/// Writes the line of each document, up to the first fault.
+#[derive(Drop)]
+struct Printer<L> {
+    lines: L,
+}
+
+impl<O: Output, L: Lines> Visitor<O> for Printer<L> {
+    ghost texts = { dump_texts L.form };
+
+    fn profile(&self) -> Profile {
+        self.lines.profile()
+    }
+
     fn visit(&mut self, document: &[u8], out: &mut O) -> Result<(), OutputFault> {
-        let line = self.buffer.line(RawDoc::whole(document).value())?;
+        let line = self.lines.line(document)?;
         Ok(write_all(out, line)?)
     }
 
@@ -69,12 +123,7 @@ impl<O: Output> Visitor<O> for Printer {
 }
 
 /// Reports the end of a scan on standard error, after its lines on standard output. Memory is taken only for the path of a fault.
-fn report_scan<E: Output>(
-    alloc: Global,
-    program: &str,
-    scan: &DumpScan,
-    err: &mut E,
-) -> Status
+fn report_scan<E: Output>(alloc: Global, program: &str, scan: &DumpScan, err: &mut E) -> Status
     ensures { ReportsMessage (over E.state err.old err.new)
         (wrong_line program.now (option_map input_words scan.now.fault) ++ (decimal scan.now.count
         ++ objects_found)) (wrong_status (option_map input_words scan.now.fault)) result

@@ -5,9 +5,9 @@ ghost use Rattle.bd_value.specs.Limits.{longest_input};
 ghost use Rattle.bd_io_device.specs.Devices.{over};
 ghost use Rattle.bd_bson_check.specs.Fault.{fault_view, Fault as DumpFault};
 ghost use Rattle.bd_bson_check.specs.FirstFault.{fault_under};
-ghost use Rattle.bd_cli_scan.specs.inside.Scan.{IsGoodText, ScansDocuments, StopsScan, Texts};
+ghost use Rattle.bd_cli_scan.specs.inside.Scan.{ScansDocuments, StopsScan, Texts};
 ghost use Rattle.bd_cli_scan.specs.Input.{ReadsNoFurther};
-ghost use Rattle.bd_cli_scan.specs.inside.Output.{WritesText};
+ghost use Rattle.bd_cli_scan.specs.inside.Output.{WritesSome, WritesText};
 
 use crate::input::{InputFault, LIMITS};
 use crate::output::{OutputFault, is_want_of_memory};
@@ -28,8 +28,7 @@ pub(crate) trait Visitor<O: Output> {
     /// Receives the bytes of a document without a fault.
     fn visit(&mut self, document: &[u8], out: &mut O) -> Result<(), OutputFault>
         requires { (base : ℕ) × (fault_under texts.profile base document.now ≡ None) }
-        ensures { (text : List ℕ) × IsGoodText texts.good document.now text
-            × WritesText text (over O.state out.old out.new) result };
+        ensures { WritesSome (texts.IsGood document.now) (over O.state out.old out.new) result };
 
     /// Whether the scan ends at the first document with a fault.
     fn ends_at_fault(&self) -> bool

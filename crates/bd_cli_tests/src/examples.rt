@@ -1,10 +1,10 @@
 //! The examples of use in the roots of `bd_cli`, `bd_cli_args`, `bd_cli_scan`, `bd_cli_files` and `bd_cli_find`.
 use bd_cli::run;
 use bd_cli_args::{FindOptions, Order, parse_words};
-use bd_cli_scan::Status;
-use bd_cli_scan::check::check;
 use bd_cli_files::pack::pack;
 use bd_cli_find::find::find;
+use bd_cli_scan::Status;
+use bd_cli_scan::check::check;
 use bd_io_device::{MemoryInput, MemoryOutput};
 use std::test::Fail;
 

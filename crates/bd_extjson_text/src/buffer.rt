@@ -8,10 +8,10 @@ use std::alloc::AllocError;
 const SPARE: usize = 512;
 
 /// More space than the text of a value takes that contains neither text nor bytes.
-pub(crate) const VALUE: usize = 80;
+pub const VALUE: usize = 80;
 
 /// Where the text ends after more of it is written.
-pub(crate) type End = Result<usize, NoMemory>;
+pub type End = Result<usize, NoMemory>;
 
 /// Makes space for `size` bytes after the text.
 #[inline(always)]

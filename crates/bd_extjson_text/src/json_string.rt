@@ -3,7 +3,7 @@ ghost use Rattle.std.specs.Prelude.{◌≡◌, ◌<◌, ◌≤◌, ◌+◌, ◌+
 ghost use Rattle.std.specs.Char.{digit_char};
 ghost use Rattle.std.specs.List.{list_any, position, join_with_byte};
 ghost use Rattle.std.specs.Simd.Lanes.{mask_l};
-ghost use Rattle.bd_extjson_text.specs.inside.Buffer.{Appends};
+ghost use Rattle.bd_extjson_text.specs.Buffer.{Appends};
 ghost use Rattle.bd_extjson_text.specs.Text.{needs_escape, escape_byte, escaped, quoted};
 
 use crate::buffer::{End, VALUE, grow_buffer, put, put_byte, put_byte_in, put_known, settle};
@@ -76,7 +76,7 @@ pub(crate) fn append_string(text: &str, out: &mut Vec<u8>, end: usize) -> End
 /// bytes.
 #[inline(always)]
 #[tactic(auto, unfolding(crate::specs::Text::quoted))]
-pub(crate) fn append_name(later: bool, name: &str, out: &mut Vec<u8>, end: usize) -> End
+pub fn append_name(later: bool, name: &str, out: &mut Vec<u8>, end: usize) -> End
     requires { end ≤ length out.old.items }
     ensures text { Appends out.old.items end result out.new.items
         ((if later then 44 ∷ [] else []) ++ (quoted name.now ++ 58 ∷ [])) }
@@ -108,9 +108,9 @@ fn put_separator(later: bool, separator: u8, buffer: &mut [u8], end: usize) -> u
     end
 }
 
-/// The same in a vector, which gets space for a value after the separator: `VALUE` bytes.
+/// Appends the separator, if `later`, and makes space for a value: `VALUE` bytes.
 #[inline(always)]
-pub(crate) fn append_separator(later: bool, separator: u8, out: &mut Vec<u8>, end: usize) -> End
+pub fn append_separator(later: bool, separator: u8, out: &mut Vec<u8>, end: usize) -> End
     requires { end ≤ length out.old.items }
     ensures text { Appends out.old.items end result out.new.items
         (if later then separator ∷ [] else []) }

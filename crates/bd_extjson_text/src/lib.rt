@@ -22,6 +22,7 @@ mod json_string;
 mod scalar;
 mod text;
 
-pub use json_string::{plain_length, write_path, write_string};
-pub use scalar::write_number;
-pub use text::{TextBuffer, write_doc, write_node, write_value};
+pub use buffer::{End, VALUE};
+pub use json_string::{append_name, append_separator, plain_length, write_path, write_string};
+pub use scalar::{append_few, append_led, write_number};
+pub use text::{TextBuffer, append_node, write_doc, write_node, write_value};

@@ -9,7 +9,7 @@ ghost use Rattle.bd_value.specs.View.{kind_of};
 ghost use Rattle.bd_value.specs.Tree as trees;
 ghost use Rattle.bd_value.specs.Tree.{leaf, int32, int64, binary, object_id, boolean, date, timestamp, regex, db_pointer};
 ghost use Rattle.bd_value.specs.declared.node.Kind.TheVariants as kinds;
-ghost use Rattle.bd_extjson_text.specs.inside.Buffer.{Appends};
+ghost use Rattle.bd_extjson_text.specs.Buffer.{Appends};
 ghost use Rattle.bd_extjson_text.specs.Text.{quoted, base64_text, hex_text, scalar_text, text};
 ghost use Rattle.bd_extjson_text.specs.inside.Text.{HasShortText};
 
@@ -218,7 +218,7 @@ fn append_one(lead: &[u8], text: &str, out: &mut Vec<u8>, end: usize) -> End
 }
 
 /// Appends the text before a string, and the string with its quotation marks.
-pub(crate) fn append_led(lead: &[u8], text: &str, out: &mut Vec<u8>, end: usize) -> End
+pub fn append_led(lead: &[u8], text: &str, out: &mut Vec<u8>, end: usize) -> End
     requires { (end ≤ length out.old.items) × (length lead.now ≤ 1000) }
     ensures { Appends out.old.items end result out.new.items (lead.now ++ quoted text.now) }
 {
@@ -227,8 +227,8 @@ pub(crate) fn append_led(lead: &[u8], text: &str, out: &mut Vec<u8>, end: usize)
     append_string(text, out, at)
 }
 
-/// Appends a few bytes.
-pub(crate) fn append_few(bytes: &[u8], out: &mut Vec<u8>, end: usize) -> End
+/// Appends a few bytes, and makes space for a value: `VALUE` bytes.
+pub fn append_few(bytes: &[u8], out: &mut Vec<u8>, end: usize) -> End
     requires { end ≤ length out.old.items }
     ensures text { Appends out.old.items end result out.new.items bytes.now }
     ensures capacity { IfOk result (λ e. e + VALUE ≤ length out.new.items) }

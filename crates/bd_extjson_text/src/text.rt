@@ -3,7 +3,7 @@ ghost use Rattle.std.specs.Prelude.{◌≡◌, ◌≢◌, ◌<◌, ◌≤◌, �
 ghost use Rattle.bd_value.specs.View.{kind_of, tree_of, pairs};
 ghost use Rattle.bd_value.specs.Tree.{values_of, doc, array, fields_of, items_of};
 ghost use Rattle.bd_value.specs.declared.node.Kind.TheVariants as kinds;
-ghost use Rattle.bd_extjson_text.specs.inside.Buffer.{Appends};
+ghost use Rattle.bd_extjson_text.specs.Buffer.{Appends};
 ghost use Rattle.bd_extjson_text.specs.inside.Text.{HasShortText};
 ghost use Rattle.bd_extjson_text.specs.Text.{text};
 
@@ -75,10 +75,10 @@ impl TextBuffer {
     }
 }
 
-/// Appends the text of a node. There is space for a short one.
+/// Appends the text of a node after the first `end` bytes. There is space for a short one. On `NoMemory` those bytes stay.
 #[cycle(text)]
 #[inline(always)]
-fn append_node<N: Reading>(node: N, out: &mut Vec<u8>, end: usize) -> End
+pub fn append_node<N: Reading>(node: N, out: &mut Vec<u8>, end: usize) -> End
     requires { end + VALUE ≤ length out.old.items }
     ensures { Appends out.old.items end result out.new.items (text (N.tree node)) }
 {

@@ -13,7 +13,7 @@ use Rattle.clap.specs.{Walk.Text, Walk.answers_to, Walk.finished, Walk.first_of,
 use Rattle.clap.specs.{Faults.fault_of, Faults.is_simple_and_free, Faults.level_fault, Takes.is_given, Takes.takes, declared.error.kind.ErrorKind.ErrorKind}
 use Rattle.clap.proofs.{WalkLemmas.first_value-rows, WalkLemmas.one_text-rows, WalkLemmas.raw_values-rows}
 use Rattle.bd_cli_args.specs.FileCommands.{file_app, explain_refusal}
-use Rattle.bd_wide_args.specs.CommandLine.{OrderView, wide_commands, check, wrap, order, fault_for, line_app, order_app, order_of, ordered_by, texts_in}
+use Rattle.bd_wide_args.specs.CommandLine.{OrderView, wide_commands, check, dump, wrap, order, fault_for, line_app, order_app, order_of, ordered_by, texts_in}
 use Rattle.bd_cli_args.specs.declared.order.WordsFault.TheVariants.{NoMemory}
 use Rattle.bd_cli_args.specs.declared.order.WordsFault.{WordsFault}
 use Rattle.bd_cli_args.proofs.LineLemmas.{refused, EachShape, found_shape, file_given, file_there, some_mapped, first_explained, names_read, pair_read}
@@ -49,7 +49,7 @@ order_orders words e =
 
 commands_order : EachShape HasOrders (built line_app).subs
 unfolding EachShape
-commands_order = (file_orders (codes "check") check (λ rows. refl), (file_orders (codes "wrap") wrap (λ rows. refl), (order_orders, tt)))
+commands_order = (file_orders (codes "dump") dump (λ rows. refl), (file_orders (codes "check") check (λ rows. refl), (file_orders (codes "wrap") wrap (λ rows. refl), (order_orders, tt))))
 
 -- arguments without a fault have an `Order`
 pub order_there : (words : List Text) → fault_of line_app words ≡ [] → is_some (order_of words) ≡ true

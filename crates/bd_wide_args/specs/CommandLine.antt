@@ -23,19 +23,21 @@ paths_rule = record (new_rule (codes "path")) {
 abbrev pub order_app : App
 order_app = with_rule (file_app (codes "order")) paths_rule
 
--- the command lines that `bsonwide` accepts: `check` or `wrap` with one file,
+-- the command lines that `bsonwide` accepts: `dump`, `check` or `wrap` with one file,
 -- and `order` with one file and any paths
 abbrev pub line_app : App
-line_app = program_app (codes "bsonwide") (codes "check" ∷ codes "wrap" ∷ []) order_app
+line_app = program_app (codes "bsonwide") (codes "dump" ∷ codes "check" ∷ codes "wrap" ∷ []) order_app
 
 -- a command: the meaning of the arguments, with texts as their bytes
 pub data OrderView : Type 0 where
+  dump : Text → OrderView
   check : Text → OrderView
   wrap : Text → OrderView
   order : Text → List Text → OrderView
 
 -- the command that an `Order` in memory represents
 abbrev pub meant : Order → OrderView
+meant (Order.Dump file) = dump (string_bytes file)
 meant (Order.Check file) = check (string_bytes file)
 meant (Order.Wrap file) = wrap (string_bytes file)
 meant (Order.Order file paths) = order (string_bytes file) (map string_bytes paths.items)
@@ -46,7 +48,7 @@ texts_in name rows = unwrap_or (all_of name rows) []
 
 -- what each command does with its FILE, by its name
 abbrev pub wide_commands : List Row → List (Text × (Text → OrderView))
-wide_commands rows = (codes "check", check) ∷ (codes "wrap", wrap)
+wide_commands rows = (codes "dump", dump) ∷ (codes "check", check) ∷ (codes "wrap", wrap)
     ∷ (codes "order", λ file. order file (texts_in (codes "path") rows)) ∷ []
 
 -- the command that a name and its parsed arguments mean

@@ -14,6 +14,8 @@ use std::alloc::Global;
 /// A command with its file and paths. The file `-` is standard input.
 #[derive(Debug, Drop)]
 pub enum Order {
+    /// Each document as canonical Extended JSON, one a line.
+    Dump { file: String },
     /// A line for each document that has a fault.
     Check { file: String },
     /// Doubles and decimal128 as documents that contain their texts.
@@ -22,7 +24,7 @@ pub enum Order {
     Order { file: String, paths: Vec<String> },
 }
 
-/// The command that the arguments mean, without the program's name. `check FILE`, `wrap FILE` and `order FILE [PATH..]` are
+/// The command that the arguments mean, without the program's name. `dump FILE`, `check FILE`, `wrap FILE` and `order FILE [PATH..]` are
 /// accepted. A file or a path whose name looks like a flag comes after `--`.
 ///
 /// # Errors
@@ -60,6 +62,7 @@ fn order_named(alloc: Global, name: &str, matches: &ArgMatches<'_>) -> Result<Or
     };
     let file = String::from_str(alloc, file)?;
     match name {
+        "dump" => Ok(Order::Dump { file }),
         "check" => Ok(Order::Check { file }),
         "wrap" => Ok(Order::Wrap { file }),
         "order" => {
@@ -121,4 +124,4 @@ fn paths_argument<'a>(alloc: Global) -> Arg<'a>
 }
 
 /// The commands that take only a file.
-const FILE_COMMANDS: [&str; 2] = ["check", "wrap"];
+const FILE_COMMANDS: [&str; 3] = ["dump", "check", "wrap"];

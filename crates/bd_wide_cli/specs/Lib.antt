@@ -1,3 +1,5 @@
+pub mod Command
+pub mod Dump
 pub mod Filtered
 pub mod Output
 pub mod inside

@@ -27,10 +27,10 @@ FiltersInput filter file out err status =
     ((kept : ℕ) × FiltersAll filter file out kept × ReportsMessage err (kept_line kept) Done status)
     ⊎ ((stop : Stop) × FiltersPartly filter file out stop × ReportsMessage err (error_line (codes "bsonwide") (stop_words stop)) Failed status)
 
--- the usage of `bsonwide`, three lines
+-- the usage of `bsonwide`, four lines
 abbrev pub usage_text : List ℕ
 usage_text =
-    codes "usage: bsonwide check FILE\n       bsonwide wrap FILE\n       bsonwide order FILE [PATH..]\n"
+    codes "usage: bsonwide dump FILE\n       bsonwide check FILE\n       bsonwide wrap FILE\n       bsonwide order FILE [PATH..]\n"
 
 -- Arguments that are not a command are reported: help on standard output, a refusal on standard error.
 -- If a write fails the status is 1.

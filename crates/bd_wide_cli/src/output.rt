@@ -62,7 +62,8 @@ fn write_kept<E: Output>(kept: u64, err: &mut E) -> Result<(), DeviceFault>
 }
 
 /// The answer to a request for help and to invalid arguments.
-pub const USAGE: &str = "usage: bsonwide check FILE
+pub const USAGE: &str = "usage: bsonwide dump FILE
+       bsonwide check FILE
        bsonwide wrap FILE
        bsonwide order FILE [PATH..]
 ";

@@ -1,4 +1,4 @@
-//! A whole run over devices.
+//! A filter over a whole file.
 
 ghost use Rattle.std.specs.Prelude.{◌≡◌, ◌≢◌, ◌≤◌, ◌+◌, length, IfOk, IfErr, OnOk, if◌then◌else◌};
 ghost use Rattle.bd_value.specs.Limits.{longest_input};
@@ -10,8 +10,8 @@ ghost use Rattle.bd_wide_cli.specs.Output.{FiltersInput};
 use crate::filter::{Filter, write_filtered};
 use crate::frame::{Next, next_frame};
 use crate::output::{report_kept, report_stop};
-use bd_cli_scan::Status;
 use crate::refusal::{Place, refused};
+use bd_cli_scan::Status;
 use bd_io_device::{Input, Limits, Output, ReadFault, write_all};
 use bd_value::{LONGEST_INPUT, MOST_READS};
 use bd_wide::Unfiltered;
@@ -31,7 +31,7 @@ pub enum Stop {
 }
 
 /// Filters an input document by document, and writes each before the next is read. It takes the memory of one document.
-pub fn run<R: Input, O: Output, E: Output>(
+pub(crate) fn filter_file<R: Input, O: Output, E: Output>(
     alloc: Global,
     filter: &Filter,
     input: &mut R,

@@ -1,8 +1,9 @@
 //! The examples of use in the roots of `bd_wide_number`, `bd_wide_text`, `bd_wide`, `bd_wide_args` and `bd_wide_cli`.
+use bd_cli_scan::Status;
 use bd_io_device::{MemoryInput, MemoryOutput};
 use bd_wide::write_wrapped;
 use bd_wide_args::{Order, parse_words};
-use bd_wide_cli::{Filter, Status, run};
+use bd_wide_cli::{Command, Filter, run};
 use bd_wide_number::{Number, code_of, whole_of};
 use bd_wide_text::write_double;
 use std::test::Fail;
@@ -29,8 +30,7 @@ fn wrapped(rt: HostRuntime) -> Result<(), Fail> {
     let alloc = rt.alloc();
     // {"d":1.0}, and {"d":{"$numberDouble":"1.0"}}
     let bytes = b"\x10\0\0\0\x01d\0\0\0\0\0\0\0\xf0\x3f\0";
-    let wanted =
-        b"\x24\0\0\0\x03d\0\x1c\0\0\0\x02$numberDouble\0\x04\0\0\01.0\0\0\0";
+    let wanted = b"\x24\0\0\0\x03d\0\x1c\0\0\0\x02$numberDouble\0\x04\0\0\01.0\0\0\0";
     let mut path = Vec::new(alloc);
     let mut out = Vec::new(alloc);
     assert!(rt; write_wrapped(bytes, &mut path, &mut out)?);
@@ -57,7 +57,13 @@ fn filtered(rt: HostRuntime) {
     let mut out = MemoryOutput::new(&mut buffer, 100, None);
     let mut reported = [0; 100];
     let mut err = MemoryOutput::new(&mut reported, 100, None);
-    let status = run(rt.alloc(), &Filter::Wrap, &mut input, &mut out, &mut err);
+    let status = run(
+        rt.alloc(),
+        &Command::Filter(Filter::Wrap),
+        &mut input,
+        &mut out,
+        &mut err,
+    );
     assert!(rt; status == Status::Done);
     assert!(rt; out.bytes() == b"\x05\0\0\0\0".as_slice());
 }

@@ -3,7 +3,6 @@
 
 use bd_cli_args::WordsFault;
 use bd_cli_scan::Status;
-use bd_cli_scan::check::check_all_types;
 use bd_cli_scan::output::CANNOT_WRITE;
 use bd_io_device::{BufferedInput, SystemOutput, write_all};
 use bd_io_stdout::{
@@ -11,7 +10,7 @@ use bd_io_stdout::{
 };
 use bd_wide::read_order;
 use bd_wide_args::{Order, parse_words};
-use bd_wide_cli::{Filter, PROGRAM, report};
+use bd_wide_cli::{Command, Filter, PROGRAM, report};
 use std::cell::RefCell;
 use std::io::{BufReader, Read, Stdout};
 use std::process::ExitCode;
@@ -31,18 +30,10 @@ fn order(rt: &HostRuntime) -> Result<Order, WordsFault> {
     parse_words(rt.alloc(), &words)
 }
 
-/// What is done with the documents of a file.
-#[derive(Drop)]
-enum Command {
-    /// A line for each document that has a fault.
-    Check,
-    /// Each document is written in another form.
-    Filter(Filter),
-}
-
 /// The command in the process's arguments, and its file.
 fn command_line(rt: &HostRuntime) -> Result<(Command, String), WordsFault> {
     match order(rt)? {
+        Order::Dump { file } => Ok((Command::Dump, file)),
         Order::Check { file } => Ok((Command::Check, file)),
         Order::Wrap { file } => Ok((Command::Filter(Filter::Wrap), file)),
         Order::Order { file, paths } => {
@@ -86,7 +77,7 @@ fn run<F: Read + Drop>(
         output_buffer,
     };
     let size = match command {
-        Command::Check => BUFFER,
+        Command::Check | Command::Dump => BUFFER,
         Command::Filter(_) => PIPE_BUFFER,
     };
     let Ok(file) = BufReader::with_capacity(alloc, size, file) else {
@@ -99,10 +90,7 @@ fn run<F: Read + Drop>(
         writer,
         output_buffer,
     });
-    match command {
-        Command::Check => check_all_types(alloc, PROGRAM, &mut file, &mut out, &mut err),
-        Command::Filter(filter) => bd_wide_cli::run(alloc, filter, &mut file, &mut out, &mut err),
-    }
+    bd_wide_cli::run(alloc, command, &mut file, &mut out, &mut err)
 }
 
 /// Reports an error, and of which file. If standard error fails too, only the status reports it.

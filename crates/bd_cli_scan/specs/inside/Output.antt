@@ -22,6 +22,12 @@ abbrev pub StopsWriting : List ℕ → Over Writer → OutputFault → Type 0
 StopsWriting text out NoMemory = out.after ≡ out.before
 StopsWriting text out Unwritten = WriteFailsWithin out text
 
+-- The writer took a text that has this property; or memory ran out before one was there, or writing it failed.
+abbrev pub WritesSome : {A : Type 0} → (List ℕ → Type 0) → Over Writer → Result A OutputFault → Type 0
+WritesSome Is out (Ok x) = (text : List ℕ) × Is text × TakesText out text
+WritesSome Is out (Err NoMemory) = out.after ≡ out.before
+WritesSome Is out (Err Unwritten) = (text : List ℕ) × Is text × WriteFailsWithin out text
+
 -- The writer took the text, or writing it was stopped.
 abbrev pub WritesText : {A : Type 0} → List ℕ → Over Writer → Result A OutputFault → Type 0
 WritesText text out (Ok x) = TakesText out text

@@ -5,7 +5,6 @@ use Rattle.std.specs.Prelude.{is_some, unwrap_or, Err}
 use Rattle.std.specs.{List.count_by}
 use Rattle.bd_value.specs.{Tree.Doc}
 use Rattle.bd_io_device.specs.Devices.{WriteFailsAfter, Over, Reader, TakesText, Writer}
-use Rattle.bd_bson_view.specs.Spelling.{IsDocument}
 use Rattle.bd_bson_check.specs.{Fault.fault_view, Fault.Fault, FirstFault.fault_under, declared.profile.Profile.Profile}
 use Rattle.bd_bson_check.specs.Dump.{frame_fault_under, frame_length}
 use Rattle.bd_bson_stream.specs.Stream.{IsCutShort, IsFrame}
@@ -14,18 +13,17 @@ use Rattle.bd_cli_scan.specs.{declared.output.OutputFault.OutputFault}
 use Rattle.bd_cli_scan.specs.{declared.output.OutputFault.TheVariants.NoMemory}
 use Rattle.bd_cli_scan.specs.{declared.output.OutputFault.TheVariants.Unwritten}
 use Rattle.bd_cli_scan.specs.Input.{StopsInside, StopsWithinOne, StreamsInput}
-use Rattle.bd_cli_scan.specs.Output.{lines}
 use Rattle.bd_bson_check.specs.declared.fault.Fault as reported
 use Rattle.bd_cli_scan.specs.declared.input.InputFault.TheVariants as faults
-use Rattle.bd_cli_scan.specs.Check.{check_result_line}
+use Rattle.bd_cli_scan.specs.{Check.check_result_line, Dump.Form, Dump.IsLine}
 
 -- ---- the scan of the documents
 
--- Under which profile a scan of a dump reads, and what it writes: for a document without a fault, by its pairs; None: nothing;
+-- Under which profile a scan of a dump reads, and what it writes: for the bytes of a document without a fault;
 -- for a fault by its document number; None: the scan ends at a fault.
-pub record Texts : Type 0 where
+pub record Texts : Type 1 where
   pub profile : Profile
-  pub good : Option (Doc → List ℕ)
+  pub IsGood : List ℕ → List ℕ → Type 0
   pub bad : ℕ → Fault → Option (List ℕ)
 
 -- the profile that reads all types, or not
@@ -34,23 +32,18 @@ profile_of true = Profile.All
 profile_of false = Profile.Named
 
 -- `dump` writes the line of each document, and ends at the first fault
-abbrev pub dump_texts : Texts
-dump_texts = record { profile = Profile.Named; good = Some (λ d. lines (d ∷ [])); bad = λ number f. None }
+abbrev pub dump_texts : Form → Texts
+dump_texts form = record { profile = form.profile; IsGood = IsLine form; bad = λ number f. None }
 
 -- `check` writes nothing for a document without a fault, and the line of each fault
 abbrev pub check_texts : Profile → Texts
-check_texts p = record { profile = p; good = None; bad = λ number f. Some (check_result_line number (Some f)) }
-
--- This is written for a document without a fault, which has these bytes.
-abbrev pub IsGoodText : Option (Doc → List ℕ) → List ℕ → List ℕ → Type 0
-IsGoodText None bytes text = text ≡ []
-IsGoodText (Some write) bytes text = (d : Doc) × IsDocument d bytes × (text ≡ write d)
+check_texts p = record { profile = p; IsGood = λ bytes text. text ≡ []; bad = λ number f. Some (check_result_line number (Some f)) }
 
 -- This is written for the document of that number, which has these bytes at that offset,
 -- and this fault or none.
 abbrev pub IsTextOf : Texts → ℕ → ℕ → List ℕ → Option Fault → List ℕ → Type 0
 IsTextOf texts number offset bytes None text =
-    (fault_under texts.profile offset bytes ≡ None) × IsGoodText texts.good bytes text
+    (fault_under texts.profile offset bytes ≡ None) × texts.IsGood bytes text
 IsTextOf texts number offset bytes (Some f) text =
     (fault_under texts.profile offset bytes ≡ Some f) × (texts.bad number f ≡ Some text)
 

@@ -35,4 +35,4 @@ returns g c =
     let o : IsOpenedOn q c.args.search.token (state_of c.open_first.new.session) (Err c.in-Err.refused) = rw c.in-Err.is at (rw c.new-session.ensures.dump at c.open_first.ensures.opened) in
     finds.refused_output c.args.program.now (g.O.Output.state c.args.out.now) (g.O.Output.state c.args.out.now) (g.E.Output.state c.args.err.now)
     (g.E.Output.state c.report_refused.new.err) _ c.args.size (request_view c.args.search.request, c.args.search.token) (bytes_of c.args.dump) (documents c.args.dump) c.in-Err.refused o
-    (explain_refusal (over g.E.Output.state c.args.err.now c.report_refused.new.err) (reason_of c.in-Err.refused) _ c.report_refused.ensures)
+    (explain_refusal c.args.program.now (over g.E.Output.state c.args.err.now c.report_refused.new.err) (reason_of c.in-Err.refused) _ c.report_refused.ensures)

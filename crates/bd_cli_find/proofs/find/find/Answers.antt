@@ -31,7 +31,7 @@ returns-in-Err-Refused-clause-found g c =
     let err = over g.E.Output.state c.args.err.now c.report_refused.new.err in
     finds.output_found c.args.options.now (over g.R.Input.state c.args.input.now c.args.input.now) [] (refusal_output message) (rw none refl) (rw none refl)
     (finds.refusal_is_output c.args.program.now (g.O.Output.state c.args.out.now) (g.O.Output.state c.args.out.now) (g.E.Output.state c.args.err.now)
-    (g.E.Output.state c.report_refused.new.err) _ message (explain_refusal err why c.report_refused.result c.report_refused.ensures))
+    (g.E.Output.state c.report_refused.new.err) _ message (explain_refusal c.args.program.now err why c.report_refused.result c.report_refused.ensures))
 
 pub print_found-requires-clause-within_limit : goal.print_found-requires-clause-within_limit
 print_found-requires-clause-within_limit g c =

@@ -36,9 +36,8 @@ returns-in_err-visit-in-Ok-clause-stops g c =
     let read = scans.document_read (c.read_next.ensures.reads (search rules)) c.bytes-bytes.ensures c.read_next.new.self.inside in
     let p = err_from_is_err_and c.from_residual.result c.from_residual.ensures.1 in
     let stopped = c.in_err-visit-in-Ok in
-    let good = stopped.ensures in
-    rw (p.1, p.2) (scans.stops_by l.invariant.so_far read.gives (g.O.Output.state c.visit.new.out) None good.0 stopped.field-0.0
-    read.frame (rw (c.profile-profile.ensures, c.offset-base.ensures) at c.in-Ok.ensures, good.1) good.2)
+    rw (p.1, p.2) (scans.stops_visiting l.invariant.so_far read.gives (g.O.Output.state c.visit.new.out) stopped.field-0.0
+    read.frame (rw (c.profile-profile.ensures, c.offset-base.ensures) at c.in-Ok.ensures) stopped.ensures)
 
 pub returns-then-is_want_of_memory-clause-stops : goal.returns-then-is_want_of_memory-clause-stops
 returns-then-is_want_of_memory-clause-stops g c =

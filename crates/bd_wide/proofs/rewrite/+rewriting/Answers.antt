@@ -62,7 +62,7 @@ elements-loop-typed-preserved g t c =
     let s = c.in-Some in
     let head : List ℕ = c.split_at.result.0.now in
     let after : List ℕ = c.split_at-in-Some.result.1.now in
-    let begun = c.put_run-in-Part.new.out.items in
+    let begun = c.put_run.new.out.items in
     let written = c.element.new.out.items in
     record {
       comes = runs.comes_anew (g.W.NumberWriter.is_written c.args.writer.now) (g.W.NumberWriter.others_of c.args.writer.now) (IsNested (g.W.NumberWriter.is_written c.args.writer.now) (g.W.NumberWriter.others_of c.args.writer.now) c.args.depth_left) (path_of c.args.in_array c.args.path.now.items) c.args.bytes.now after c.args.out.now.items written

@@ -1,0 +1,5 @@
+pub mod ElementLemmas
+pub mod ValueLemmas
+pub mod LineLemmas
+pub mod RawLemmas
+pub mod PlainLemmas

@@ -1,0 +1,185 @@
+-- Texts of documents and arrays, piece by piece.
+use Rattle.std.proofs.Common.{◌≡◌, ℕ, ◌+◌, Bool, true, false, List, [], ◌∷◌, ◌++◌, length, take, drop, None, Result, Ok, Err, refl, sym, ap, subst, ◌∙◌, append_assoc, arith}
+use Rattle.std.proofs.lemmas.List.{take_all}
+use Rattle.std.specs.Prelude.{IfOk, codes}
+use Rattle.std.specs.{List.join_with_byte, Result.result_err}
+use Rattle.bd_value.specs.Tree.{Tree, doc, array, code_scope, Fields, no_fields, field, Doc, fields_of}
+use Rattle.bd_bson_check.specs.Fault.{Fault}
+use Rattle.bd_bson_check.specs.FirstFault.{fault_under, skip_document}
+use Rattle.bd_bson_check.specs.declared.profile.Profile.TheVariants.{All}
+use Rattle.bd_bson_check.proofs.WideLemmas.{document_by_value}
+use Rattle.bd_extjson_text.specs.Text.{quoted, escape_byte, member, object, listed}
+use Rattle.bd_extjson_text.specs.Buffer.{Appends}
+use Rattle.bd_extjson_text.proofs.TextLemmas.{before, to_come, to_come-all, piece_step}
+use Rattle.bd_bson_view.specs.Spelling.{NumberKind, IsDocumentBy, valued}
+use Rattle.bd_bson_view.specs.Unique.{number_after}
+use Rattle.bd_wide_dump.specs.Raw.{raw}
+use Rattle.bd_wide_dump.specs.WideText.{AreBytes, IsLineOf, IsNumberText, IsTextOf, AreTexts, AreMembers}
+use Rattle.bd_bson_view.specs.declared.raw_parts.ElementType.{ElementType}
+use Rattle.bd_wide_dump.specs.inside.Begins.{values_in, HasElements, HasValue, IsElement, AppendsText, AppendsNumber}
+
+-- With the texts that remain, what is written is a whole text.
+abbrev pub Goes : Tree → (List (List ℕ) → Type 0) → Bool → ℕ → List ℕ → List ℕ → Type 0
+Goes tree Remain later close old out =
+    (ts : List (List ℕ)) → Remain ts → (text : List ℕ) × IsTextOf tree text × (out ++ (to_come later 44 ts ++ close ∷ []) ≡ old ++ text)
+
+begun : (open_ close : ℕ) (ts : List (List ℕ)) (old : List ℕ) → (old ++ open_ ∷ []) ++ (to_come false 44 ts ++ close ∷ []) ≡ old ++ open_ ∷ (join_with_byte 44 ts ++ close ∷ [])
+begun open_ close ts old = rw (to_come-all 44 ts) (append_assoc old (open_ ∷ []) (join_with_byte 44 ts ++ close ∷ []))
+
+pub fields_begun : (fs : Fields) (old out : List ℕ) → out ≡ old ++ 123 ∷ [] → Goes (doc fs) (AreMembers fs) false 125 old out
+fields_begun fs old out is = λ ts h. (object ts, (ts, h, refl), ap (λ (x : List ℕ). x ++ (to_come false 44 ts ++ 125 ∷ [])) is ∙ begun 123 125 ts old)
+
+pub items_begun : (fs : Fields) (old out : List ℕ) → out ≡ old ++ 91 ∷ [] → Goes (array (values_in fs)) (AreTexts (values_in fs)) false 93 old out
+items_begun fs old out is = λ ts h. (listed ts, (ts, h, refl), ap (λ (x : List ℕ). x ++ (to_come false 44 ts ++ 93 ∷ [])) is ∙ begun 91 93 ts old)
+
+step : (tree : Tree) (Remain Others : List (List ℕ) → Type 0) (later : Bool) (close : ℕ) (old out new x : List ℕ) → Goes tree Remain later close old out
+    → ((ts : List (List ℕ)) → Others ts → Remain (x ∷ ts)) → new ≡ (out ++ before later 44) ++ x → Goes tree Others true close old new
+step tree Remain Others later close old out new x goes more is = λ ts h.
+    let g = goes (x ∷ ts) (more ts h) in
+    (g.0, g.1, ap (λ (y : List ℕ). y ++ (to_come true 44 ts ++ close ∷ [])) is ∙ piece_step later 44 x (x ∷ ts) ts out (close ∷ []) (old ++ g.0) refl g.2)
+
+regroup : (a b n t : List ℕ) → (a ++ (b ++ (n ++ 58 ∷ []))) ++ t ≡ (a ++ b) ++ (n ++ 58 ∷ t)
+regroup a b n t = simp append_assoc
+
+pub field_goes : (tree t : Tree) (fs others : Fields) (n value : List ℕ) (later : Bool) (old out named new : List ℕ) → fs ≡ field n t others → IsTextOf t value
+    → Goes tree (AreMembers fs) later 125 old out → named ≡ out ++ (before later 44 ++ (quoted n ++ 58 ∷ [])) → new ≡ named ++ value → Goes tree (AreMembers others) true 125 old new
+field_goes tree t fs others n value later old out named new is has goes put is_new =
+    step tree (AreMembers fs) (AreMembers others) later 125 old out new (member n value) goes
+    (λ ts h. subst (λ (f : Fields). AreMembers f (member n value ∷ ts)) (sym is) (value, ts, has, h, refl))
+    (is_new ∙ ap (λ (x : List ℕ). x ++ value) put ∙ regroup out (before later 44) (quoted n) value)
+
+pub item_goes : (tree t : Tree) (fs others : Fields) (n value : List ℕ) (later : Bool) (old out named new : List ℕ) → fs ≡ field n t others → IsTextOf t value
+    → Goes tree (AreTexts (values_in fs)) later 93 old out → named ≡ out ++ before later 44 → new ≡ named ++ value → Goes tree (AreTexts (values_in others)) true 93 old new
+item_goes tree t fs others n value later old out named new is has goes put is_new =
+    step tree (AreTexts (values_in fs)) (AreTexts (values_in others)) later 93 old out new value goes
+    (λ ts h. subst (λ (f : Fields). AreTexts (values_in f) (value ∷ ts)) (sym is) (value, ts, has, h, refl))
+    (is_new ∙ ap (λ (x : List ℕ). x ++ value) put)
+
+-- nothing remains, and the last byte is written
+pub finished : {E : Type 0} (tree : Tree) (Remain : List (List ℕ) → Type 0) (later : Bool) (close : ℕ) (old mid new : List ℕ) (end at : ℕ) (r : Result ℕ E)
+    → Remain [] → Goes tree Remain later close (take end old) (take at mid) → Appends mid at r new (close ∷ []) → IfOk r (λ e. AppendsText tree old end e new)
+finished tree Remain later close old mid new end at (Ok e) none goes put =
+    let g = goes [] none in
+    record { text = g.0; is = g.1; written = put.0 ∙ g.2; inside = put.1 }
+finished tree Remain later close old mid new end at (Err e) none goes put = tt
+
+-- ---- code with scope
+
+code_whole : (s : List ℕ) (members : List (List ℕ))
+    → (((codes "{\"$code\":" ++ quoted s) ++ codes ",\"$scope\":") ++ object members) ++ 125 ∷ []
+    ≡ object (member (codes "$code") (quoted s) ∷ member (codes "$scope") (object members) ∷ [])
+unfolding quoted escape_byte
+code_whole s members = simp append_assoc
+
+pub code_text : (s : List ℕ) (fs : Fields) (text : List ℕ) → IsTextOf (doc fs) text
+    → IsTextOf (code_scope s fs) ((((codes "{\"$code\":" ++ quoted s) ++ codes ",\"$scope\":") ++ text) ++ 125 ∷ [])
+code_text s fs text h = (h.0, h.1, ap (λ (x : List ℕ). (((codes "{\"$code\":" ++ quoted s) ++ codes ",\"$scope\":") ++ x) ++ 125 ∷ []) h.2 ∙ code_whole s h.0)
+
+-- ---- the loops
+
+-- For all elements that there are from the start, what was written goes on with those from `next`.
+abbrev pub FieldsGo : List ℕ → ℕ → ℕ → Bool → List ℕ → List ℕ → Type 0
+FieldsGo bytes start next later old out =
+    (e : HasElements (drop start bytes)) → (f : HasElements (drop next bytes)) × Goes (doc e.fields) (AreMembers f.fields) later 125 old out
+
+abbrev pub ItemsGo : List ℕ → ℕ → ℕ → Bool → List ℕ → List ℕ → Type 0
+ItemsGo bytes start next later old out =
+    (e : HasElements (drop start bytes)) → (f : HasElements (drop next bytes)) × Goes (array (values_in e.fields)) (AreTexts (values_in f.fields)) later 93 old out
+
+pub fields_go : (bytes : List ℕ) (start : ℕ) (old out : List ℕ) → out ≡ old ++ 123 ∷ [] → FieldsGo bytes start start false old out
+fields_go bytes start old out is = λ e. (e, fields_begun e.fields old out is)
+
+pub items_go : (bytes : List ℕ) (start : ℕ) (old out : List ℕ) → out ≡ old ++ 91 ∷ [] → ItemsGo bytes start start false old out
+items_go bytes start old out is = λ e. (e, items_begun e.fields old out is)
+
+module _ (bytes : List ℕ) (start at begin next : ℕ) (type : ElementType) (name : List ℕ) (later : Bool) (old out mid new : List ℕ) (put to : ℕ)
+    (found : (f : HasElements (drop at bytes)) → IsElement bytes at f.fields type name begin next)
+    (written : (tree : Tree) → HasValue type (drop begin bytes) tree → AppendsText tree mid put to new) where
+  pub fields_go_on : FieldsGo bytes start at later old out → take put mid ≡ out ++ (before later 44 ++ (quoted name ++ 58 ∷ [])) → FieldsGo bytes start next true old (take to new)
+  fields_go_on so_far named = λ e.
+      let f = so_far e in
+      let x = found f.0 in
+      let w = written x.tree x.here in (
+        x.rest,
+        field_goes (doc e.fields) x.tree f.0.fields x.rest.fields name w.text later old out (take put mid) (take to new)
+            (x.is ∙ ap (λ (o : Fields). field name x.tree o) (sym x.rest_is)) w.is f.1 named w.written,
+      )
+
+  pub items_go_on : ItemsGo bytes start at later old out → take put mid ≡ out ++ before later 44 → ItemsGo bytes start next true old (take to new)
+  items_go_on so_far named = λ e.
+      let f = so_far e in
+      let x = found f.0 in
+      let w = written x.tree x.here in (
+        x.rest,
+        item_goes (array (values_in e.fields)) x.tree f.0.fields x.rest.fields name w.text later old out (take put mid) (take to new)
+            (x.is ∙ ap (λ (o : Fields). field name x.tree o) (sym x.rest_is)) w.is f.1 named w.written,
+      )
+
+module _ {E : Type 0} (bytes : List ℕ) (start at : ℕ) (later : Bool) (old mid new : List ℕ) (end put : ℕ) (r : Result ℕ E)
+    (ended : (f : HasElements (drop at bytes)) → f.fields ≡ no_fields) where
+  pub fields_done : FieldsGo bytes start at later (take end old) (take put mid) → Appends mid put r new (125 ∷ [])
+      → (e : HasElements (drop start bytes)) → IfOk r (λ to. AppendsText (doc e.fields) old end to new)
+  fields_done so_far last e =
+      let f = so_far e in
+      finished (doc e.fields) (AreMembers f.0.fields) later 125 old mid new end put r (subst (λ (fs : Fields). AreMembers fs []) (sym (ended f.0)) refl) f.1 last
+
+  pub items_done : ItemsGo bytes start at later (take end old) (take put mid) → Appends mid put r new (93 ∷ [])
+      → (e : HasElements (drop start bytes)) → IfOk r (λ to. AppendsText (array (values_in e.fields)) old end to new)
+  items_done so_far last e =
+      let f = so_far e in
+      finished (array (values_in e.fields)) (AreTexts (values_in f.0.fields)) later 93 old mid new end put r
+      (subst (λ (fs : Fields). AreTexts (values_in fs) []) (sym (ended f.0)) refl) f.1 last
+
+-- ---- a number, between what precedes it and what follows it
+
+pub number_done : {E : Type 0} (k : NumberKind) (bytes old mid new lead number tail : List ℕ) (end at : ℕ) (r : Result ℕ E) → mid ≡ (take end old ++ lead) ++ number → at ≡ length mid
+    → IsNumberText k bytes (lead ++ (number ++ tail)) → Appends mid at r new tail → IfOk r (λ e. AppendsNumber k bytes old end e new)
+number_done k bytes old mid new lead number tail end at (Ok e) is all text put =
+    let whole : take at mid ≡ (take end old ++ lead) ++ number = take_all at mid (omega (arith, all)) ∙ is in
+    record {
+      text = lead ++ (number ++ tail);
+      is = text;
+      written = put.0 ∙ ap (λ (x : List ℕ). x ++ tail) whole ∙ simp append_assoc;
+      inside = put.1;
+    }
+number_done k bytes old mid new lead number tail end at (Err e) is all text put = tt
+
+shift : (o a b x y : List ℕ) → (((o ++ a) ++ b) ++ x) ++ y ≡ o ++ (((a ++ b) ++ x) ++ y)
+shift o a b x y = simp append_assoc
+
+pub scope_done : {E : Type 0} (code : List ℕ) (tree : Tree) (fs : Fields) (old m1 m2 m3 new : List ℕ) (end a1 a2 a3 : ℕ) (r : Result ℕ E) → tree ≡ code_scope code fs
+    → take a1 m1 ≡ take end old ++ (codes "{\"$code\":" ++ quoted code) → take a2 m2 ≡ take a1 m1 ++ codes ",\"$scope\":" → AppendsText (doc fs) m2 a2 a3 m3
+    → Appends m3 a3 r new (125 ∷ []) → IfOk r (λ to. AppendsText tree old end to new)
+scope_done code tree fs old m1 m2 m3 new end a1 a2 a3 (Ok e) is one two w last =
+    let whole : List ℕ = (((codes "{\"$code\":" ++ quoted code) ++ codes ",\"$scope\":") ++ w.text) ++ 125 ∷ [] in
+    let P : Tree → Type 0 = λ t. IsTextOf t whole in
+    let pieces : take e new ≡ (((take end old ++ (codes "{\"$code\":" ++ quoted code)) ++ codes ",\"$scope\":") ++ w.text) ++ 125 ∷ [] =
+    last.0 ∙ ap (λ (x : List ℕ). x ++ 125 ∷ []) (w.written ∙ ap (λ (x : List ℕ). x ++ w.text) (two ∙ ap (λ (x : List ℕ). x ++ codes ",\"$scope\":") one)) in
+    record {
+      text = whole;
+      is = subst P (sym is) (code_text code fs w.text w.is);
+      written = pieces ∙ shift (take end old) (codes "{\"$code\":" ++ quoted code) (codes ",\"$scope\":") w.text (125 ∷ []);
+      inside = last.1;
+    }
+scope_done code tree fs old m1 m2 m3 new end a1 a2 a3 (Err e) is one two w last = tt
+
+-- ---- a whole document
+
+no_err : (r : Result (Unit {0}) Fault) → result_err r ≡ None → r ≡ Ok tt
+no_err (Ok tt) is = refl
+no_err (Err f) is = absurd cc
+
+-- bytes without a fault are a document
+pub document_of : (bytes : List ℕ) → AreBytes bytes → (base : ℕ) × (fault_under All base bytes ≡ None) → (d : Doc) × IsDocumentBy (valued raw) d bytes
+document_of bytes fits (base, is) = document_by_value raw (base + length bytes) bytes fits (no_err (skip_document All (base + length bytes) bytes) is)
+
+-- the elements of a document that is all of the bytes
+pub whole_elements : (d : Doc) (bytes : List ℕ) → IsDocumentBy (valued raw) d bytes → (e : HasElements (drop 4 bytes)) × (e.fields ≡ fields_of d)
+whole_elements d bytes is =
+    let body = is.spells.0 in
+    (record { fields = fields_of d; body = body; after = []; spell = is.spells.1; splits = ap (drop 4) is.spells.2 ∙ number_after (length body + 5) (body ++ 0 ∷ []) }, refl)
+
+pub line_is : (bytes old mid line : List ℕ) (at : ℕ) (d : Doc) (is : IsDocumentBy (valued raw) d bytes)
+    → AppendsText (doc (whole_elements d bytes is).0.fields) old 0 at mid → line ≡ take at mid ++ 10 ∷ [] → IsLineOf bytes line
+unfolding whole_elements
+line_is bytes old mid line at d is w put = (d, w.text, is, w.is, put ∙ ap (λ (x : List ℕ). x ++ 10 ∷ []) w.written)

@@ -1,0 +1,132 @@
+-- Bytes that begin with a value or with elements of a document of all types.
+use Rattle.std.specs.Prelude.{◌≡◌, ◌<◌, ◌≤◌, ℕ, ℤ, List, ◌∷◌, ◌++◌, length, take, drop, Bool, true, false}
+use Rattle.bd_value.specs.{Limits.longest_document, View.scalar_kind}
+use Rattle.bd_value.specs.declared.node.Kind.{Kind}
+use Rattle.bd_value.specs.declared.node.Kind.TheVariants as kinds
+use Rattle.bd_value.specs.Tree.{Scalar, int64, Tree, leaf, doc, array, code_scope, Items, no_items, item}
+use Rattle.bd_value.specs.Tree.{Fields, no_fields, field}
+use Rattle.bd_bson_view.specs.declared.raw_parts.ElementType.{ElementType}
+use Rattle.bd_bson_view.specs.declared.raw_parts.ElementType.TheVariants.{Kept, Double, Decimal128}
+use Rattle.bd_bson_view.specs.Spelling.{NumberKind, number_type, number_size, framed, scoped, IsText, IsScalar, AreFieldsBy, valued}
+use Rattle.bd_bson_view.specs.Sizes.{size_of, HasBytesOf}
+use Rattle.bd_extjson_text.specs.Text.{scalar_text}
+use Rattle.bd_wide_dump.specs.{Raw.raw, WideText.IsNumberText, WideText.IsScalarText, WideText.IsTextOf}
+
+-- the values of fields, in order
+abbrev pub values_in : Fields → Items
+values_in no_fields = no_items
+values_in (field n t fs) = item t (values_in fs)
+
+-- The bytes begin with elements of a document, or of an array, and the zero after them; other bytes may follow.
+pub record HasElements (bytes : List ℕ) : Type 0 where
+  pub fields : Fields
+  pub body : List ℕ
+  pub after : List ℕ
+  pub spell : AreFieldsBy (valued raw) fields body
+  pub splits : bytes ≡ body ++ 0 ∷ after
+
+-- whether it is one of the two kinds of whole numbers
+abbrev pub is_whole : Kind → Bool
+is_whole kinds.Int32 = true
+is_whole kinds.Int64 = true
+is_whole _ = false
+
+-- The bytes are those of a number of this type.
+pub record IsNumberOf (type : ElementType) (own : List ℕ) (tree : Tree) : Type 0 where
+  pub kind : NumberKind
+  pub z : ℤ
+  pub is : tree ≡ leaf (int64 z)
+  pub typed : type ≡ number_type kind
+  pub sized : length own ≡ number_size kind
+  pub worth : raw (number_type kind) own ≡ z
+
+-- The bytes are those of a scalar of this type that is no number.
+pub record IsScalarOf (type : ElementType) (own : List ℕ) (tree : Tree) : Type 0 where
+  pub scalar : Scalar
+  pub is : tree ≡ leaf scalar
+  pub typed : type ≡ Kept (scalar_kind scalar)
+  pub other : is_whole (scalar_kind scalar) ≡ false
+  pub spells : IsScalar scalar own
+  pub text_is : IsScalarText scalar (scalar_text scalar)
+
+-- The bytes are those of a document.
+pub record IsDocumentOf (type : ElementType) (own : List ℕ) (tree : Tree) : Type 0 where
+  pub fields : Fields
+  pub body : List ℕ
+  pub is : tree ≡ doc fields
+  pub typed : type ≡ Kept kinds.Doc
+  pub spell : AreFieldsBy (valued raw) fields body
+  pub frame : own ≡ framed body
+
+-- The bytes are those of an array.
+pub record IsArrayOf (type : ElementType) (own : List ℕ) (tree : Tree) : Type 0 where
+  pub fields : Fields
+  pub body : List ℕ
+  pub is : tree ≡ array (values_in fields)
+  pub typed : type ≡ Kept kinds.Array
+  pub spell : AreFieldsBy (valued raw) fields body
+  pub frame : own ≡ framed body
+
+-- The bytes are those of code with scope.
+pub record IsCodeOf (type : ElementType) (own : List ℕ) (tree : Tree) : Type 0 where
+  pub code : List ℕ
+  pub fields : Fields
+  pub body : List ℕ
+  pub is : tree ≡ code_scope code fields
+  pub typed : type ≡ Kept kinds.CodeScope
+  pub text_fits : IsText code
+  pub spell : AreFieldsBy (valued raw) fields body
+  pub frame : own ≡ scoped code (framed body)
+
+-- The bytes are those of a value of this type.
+pub data IsOwn (type : ElementType) (own : List ℕ) (tree : Tree) : Type 0 where
+  a_number : IsNumberOf type own tree → IsOwn type own tree
+  a_scalar : IsScalarOf type own tree → IsOwn type own tree
+  a_document : IsDocumentOf type own tree → IsOwn type own tree
+  an_array : IsArrayOf type own tree → IsOwn type own tree
+  a_code : IsCodeOf type own tree → IsOwn type own tree
+
+-- The bytes begin with this value, which has this type; other bytes may follow.
+pub record HasValue (type : ElementType) (bytes : List ℕ) (tree : Tree) : Type 0 where
+  pub own : List ℕ
+  pub after : List ℕ
+  pub spells : IsOwn type own tree
+  pub splits : bytes ≡ own ++ after
+  pub short : length own ≤ longest_document
+
+-- The element at an offset: its type, its name, the offset of its value and that of the next element.
+pub record IsElement (bytes : List ℕ) (at : ℕ) (fields : Fields) (type : ElementType) (name : List ℕ) (start next : ℕ) : Type 0 where
+  pub tree : Tree
+  pub others : Fields
+  pub is : fields ≡ field name tree others
+  pub here : HasValue type (drop start bytes) tree
+  pub rest : HasElements (drop next bytes)
+  pub rest_is : rest.fields ≡ others
+  pub inside : start ≤ length bytes
+  pub before : at < start
+  pub behind : start ≤ next
+
+-- how many bytes a value of this type takes at the start of bytes
+abbrev pub wide_size : ElementType → List ℕ → ℕ
+wide_size Double bytes = 8
+wide_size Decimal128 bytes = 16
+wide_size (Kept kind) bytes = size_of kind bytes
+
+-- The bytes begin with all that a read of the size of a value of this type needs.
+abbrev pub HasSize : ElementType → List ℕ → Type 0
+HasSize (Kept kind) bytes = HasBytesOf kind bytes
+HasSize _ bytes = Unit {0}
+
+-- The text of the value follows the first `end` bytes of `old`, up to e.
+pub record AppendsText (tree : Tree) (old : List ℕ) (end e : ℕ) (new : List ℕ) : Type 0 where
+  pub text : List ℕ
+  pub is : IsTextOf tree text
+  pub written : take e new ≡ take end old ++ text
+  pub inside : e ≤ length new
+
+-- The text of the number of this kind at the start of the bytes follows the first `end` bytes of `old`, up to e.
+pub record AppendsNumber (kind : NumberKind) (bytes old : List ℕ) (end e : ℕ) (new : List ℕ) : Type 0 where
+  pub text : List ℕ
+  pub is : IsNumberText kind bytes text
+  pub written : take e new ≡ take end old ++ text
+  pub inside : e ≤ length new

@@ -1,0 +1,20 @@
+//! Laws of lines. The body of each is empty: its contract is the law.
+
+ghost use Rattle.std.specs.Prelude.{◌≡◌, ◌<◌, ℕ, List, [], ◌∷◌, ◌++◌, length};
+ghost use Rattle.bd_value.specs.Tree.{Doc, doc, fields_of};
+ghost use Rattle.bd_bson_view.specs.Spelling.{IsDocument, NumberKind, number_size, number_type};
+ghost use Rattle.bd_extjson_text.specs.Text.{text};
+ghost use Rattle.bd_wide_dump.specs.Raw.{raw};
+ghost use Rattle.bd_wide_dump.specs.WideText.{AreBytes, IsLineOf};
+
+/// Numbers of different types or bits are different whole numbers.
+pub fn numbers_differ()
+    ensures { (k j : NumberKind) (v w : List ℕ) → AreBytes v → AreBytes w → length v ≡ number_size k →
+        length w ≡ number_size j → raw (number_type k) v ≡ raw (number_type j) w → (k ≡ j) × (v ≡ w) }
+{}
+
+/// The line of a document of the nineteen kinds is its text and a newline: what `bsonfind` prints.
+pub fn plain_lines()
+    ensures { (d : Doc) (bytes line : List ℕ) → IsDocument d bytes → IsLineOf bytes line
+        → line ≡ text (doc (fields_of d)) ++ 10 ∷ [] }
+{}

@@ -1,0 +1,25 @@
+//! The text of a document of all 21 types of BSON 1.1, from its bytes.
+//!
+//! What the text is: `specs/WideText.antt`. A number is its type and its bits: `specs/Raw.antt`.
+//!
+//! An example, which the tests of this crate prove and run as `line`:
+//!
+//! ```
+//! let mut lines = WideTextBuffer::new(alloc);
+//! let line = lines.line(b"\x10\0\0\0\x01d\0\0\0\0\0\0\0\xf8\x3f\0")?;
+//! assert!(rt; line == b"{\"d\":{\"$numberDouble\":\"1.5\"}}\n".as_slice());
+//! ```
+//!
+//! - `line`: `WideTextBuffer`, the buffer of a line for one document after the other.
+//! - `element`: the next element of a document, read without a check.
+//! - `number`: doubles and decimal128.
+//! - `laws`: different numbers differ; documents of the nineteen kinds are printed as `bd_extjson_text` prints them.
+#![tactic(auto)]
+
+mod element;
+mod laws;
+mod line;
+mod number;
+
+pub use laws::{numbers_differ, plain_lines};
+pub use line::WideTextBuffer;

@@ -1,0 +1,153 @@
+//! The line of a document: its text and a newline.
+
+ghost use Rattle.std.specs.Prelude.{◌≡◌, ◌≤◌, ◌+◌, ℕ, None, length, drop, IfOk};
+ghost use Rattle.bd_value.specs.Limits.{longest_document};
+ghost use Rattle.bd_value.specs.Tree.{Tree, array, doc};
+ghost use Rattle.bd_value.specs.declared.node.Kind.TheVariants as kinds;
+ghost use Rattle.bd_bson_view.specs.declared.raw_parts.ElementType.TheVariants.{Kept};
+ghost use Rattle.bd_bson_check.specs.FirstFault.{fault_under};
+ghost use Rattle.bd_bson_check.specs.declared.profile.Profile.TheVariants.{All};
+ghost use Rattle.bd_wide_dump.specs.WideText.{IsLineOf};
+ghost use Rattle.bd_wide_dump.specs.inside.Begins.{AppendsText, HasElements, HasValue, values_in};
+
+use crate::element::element_at;
+use crate::number::{append_decimal128, append_double};
+use bd_bson_view::{ElementType, RawValue, raw_parts as parts};
+use bd_extjson_text::{
+    End, VALUE, append_few, append_led, append_name, append_node, append_separator,
+};
+use bd_value::{Kind, NoMemory};
+use std::alloc::Global;
+
+/// A buffer for one line after the other, each over the one before. It is allocated once, and grows if a line is longer.
+#[derive(Debug, Drop)]
+pub struct WideTextBuffer {
+    buffer: Vec<u8>,
+}
+
+impl WideTextBuffer {
+    /// An empty buffer.
+    pub fn new(alloc: Global) -> WideTextBuffer {
+        WideTextBuffer {
+            buffer: Vec::new(alloc),
+        }
+    }
+
+    /// The line of a document of all types, whose bytes have no fault: its text, Extended JSON v2, canonical form, without
+    /// white space, and a newline.
+    ///
+    /// `NoMemory` if the line does not fit and memory runs out.
+    pub fn line(&mut self, bytes: &[u8]) -> Result<&[u8], NoMemory>
+        requires { (base : ℕ) × (fault_under All base bytes.now ≡ None) }
+        ensures { IfOk result (λ line. IsLineOf bytes.now line.now) }
+    {
+        let end = append_fields(bytes, 4, &mut self.buffer, 0)?;
+        let end = append_few(b"\n", &mut self.buffer, end)?;
+        Ok(&self.buffer[..end])
+    }
+}
+
+/// Appends the text of the document of the elements at an offset.
+#[cycle(wide)]
+#[inline(never)]
+fn append_fields(bytes: &[u8], start: usize, out: &mut Vec<u8>, end: usize) -> End
+    requires short { length bytes.now ≤ longest_document }
+    requires elements { HasElements (drop start bytes.now) }
+    requires buffer { end ≤ length out.old.items }
+    ensures { (e : HasElements (drop start bytes.now)) → IfOk result (λ to.
+        AppendsText (doc e.fields) out.old.items end to out.new.items) }
+{
+    let mut at = append_few(b"{", out, end)?;
+    let mut later = false;
+    let mut next = start;
+    while let Some(element) = element_at(bytes, next) {
+        at = append_name(later, element.name, out, at)?;
+        at = append_value(element.typed, bytes, element.start, out, at)?;
+        later = true;
+        next = element.next;
+    }
+    append_few(b"}", out, at)
+}
+
+/// Appends the text of the array of the elements at an offset.
+#[cycle(wide)]
+#[inline(never)]
+fn append_items(bytes: &[u8], start: usize, out: &mut Vec<u8>, end: usize) -> End
+    requires short { length bytes.now ≤ longest_document }
+    requires elements { HasElements (drop start bytes.now) }
+    requires buffer { end ≤ length out.old.items }
+    ensures { (e : HasElements (drop start bytes.now)) → IfOk result (λ to.
+        AppendsText (array (values_in e.fields)) out.old.items end to out.new.items) }
+{
+    let mut at = append_few(b"[", out, end)?;
+    let mut later = false;
+    let mut next = start;
+    while let Some(element) = element_at(bytes, next) {
+        at = append_separator(later, b',', out, at)?;
+        at = append_value(element.typed, bytes, element.start, out, at)?;
+        later = true;
+        next = element.next;
+    }
+    append_few(b"]", out, at)
+}
+
+/// Appends the text of the value of that type at an offset. There is space for a short one.
+#[cycle(wide)]
+#[inline(always)]
+fn append_value(
+    typed: ElementType,
+    bytes: &[u8],
+    start: usize,
+    out: &mut Vec<u8>,
+    end: usize,
+) -> End
+    requires short { length bytes.now ≤ longest_document }
+    requires inside { start ≤ length bytes.now }
+    requires value { (tree : Tree) × HasValue typed (drop start bytes.now) tree }
+    requires buffer { end + VALUE ≤ length out.old.items }
+    ensures { (tree : Tree) → HasValue typed (drop start bytes.now) tree → IfOk result (λ to.
+        AppendsText tree out.old.items end to out.new.items) }
+{
+    match typed {
+        ElementType::Double => append_double(bytes, start, out, end),
+        ElementType::Decimal128 => append_decimal128(bytes, start, out, end),
+        ElementType::Kept(kind) => append_kept(kind, bytes, start, out, end),
+    }
+}
+
+/// The same for a kind of value.
+#[cycle(wide)]
+#[inline(always)]
+fn append_kept(kind: Kind, bytes: &[u8], start: usize, out: &mut Vec<u8>, end: usize) -> End
+    requires short { length bytes.now ≤ longest_document }
+    requires inside { start ≤ length bytes.now }
+    requires value { (tree : Tree) × HasValue (Kept kind) (drop start bytes.now) tree }
+    requires buffer { end + VALUE ≤ length out.old.items }
+    ensures { (tree : Tree) → HasValue (Kept kind) (drop start bytes.now) tree →
+        IfOk result (λ to. AppendsText tree out.old.items end to out.new.items) }
+{
+    match kind {
+        Kind::Doc => append_fields(bytes, start + 4, out, end),
+        Kind::Array => append_items(bytes, start + 4, out, end),
+        Kind::CodeScope => append_scope(bytes, start, out, end),
+        _ => append_node(RawValue::there(kind, bytes, start), out, end),
+    }
+}
+
+/// Appends the text of the code with scope at an offset.
+#[cycle(wide)]
+#[inline(never)]
+fn append_scope(bytes: &[u8], start: usize, out: &mut Vec<u8>, end: usize) -> End
+    requires short { length bytes.now ≤ longest_document }
+    requires value { (tree : Tree) × HasValue (Kept kinds.CodeScope) (drop start bytes.now) tree }
+    requires buffer { end ≤ length out.old.items }
+    ensures { (tree : Tree) → HasValue (Kept kinds.CodeScope) (drop start bytes.now) tree →
+        IfOk result (λ to. AppendsText tree out.old.items end to out.new.items) }
+{
+    let (_, here) = bytes.split_at(start + 4);
+    let code = parts::text(here);
+    let at = append_led(b"{\"$code\":", code, out, end)?;
+    let at = append_few(b",\"$scope\":", out, at)?;
+    let at = append_fields(bytes, start + 13 + code.len(), out, at)?;
+    append_few(b"}", out, at)
+}

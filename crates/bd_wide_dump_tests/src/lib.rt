@@ -1,0 +1,5 @@
+//! Lines of documents of all types. The expected texts are worked by hand, by the conversion table of Extended JSON v2.
+#![tactic(auto)]
+
+#[cfg(test)]
+mod lines;

@@ -1,0 +1,92 @@
+//! Documents with doubles and decimal128, at each level.
+
+ghost use Rattle.std.specs.Prelude.{◌≤◌, length};
+
+use bd_bson_check::{Profile, check_bytes};
+use bd_wide_dump::WideTextBuffer;
+use std::alloc::Global;
+use std::process::Abort;
+use std::test::Fail;
+
+/// The document has this line.
+fn line_is(rt: &impl Abort, alloc: Global, bytes: &[u8], expected: &[u8]) -> Result<(), Fail>
+    requires { length bytes.now ≤ 1000 }
+{
+    check_bytes(alloc, Profile::All, bytes, 0, 0)?;
+    let mut lines = WideTextBuffer::new(alloc);
+    let line = lines.line(bytes)?;
+    assert!(rt; line == expected);
+    Ok(())
+}
+
+#[test]
+fn line(rt: HostRuntime) -> Result<(), Fail> {
+    let bytes = b"\x10\0\0\0\x01d\0\0\0\0\0\0\0\xf8\x3f\0";
+    line_is(
+        &rt,
+        rt.alloc(),
+        bytes,
+        b"{\"d\":{\"$numberDouble\":\"1.5\"}}\n",
+    )
+}
+
+#[test]
+fn decimal128(rt: HostRuntime) -> Result<(), Fail> {
+    // The coefficient 15, and the exponent -1, which is 6175 with its bias: 0x303e before the 48 bits below it.
+    let bytes = b"\x18\0\0\0\x13d\0\x0f\0\0\0\0\0\0\0\0\0\0\0\0\0\x3e\x30\0";
+    line_is(
+        &rt,
+        rt.alloc(),
+        bytes,
+        b"{\"d\":{\"$numberDecimal\":\"1.5\"}}\n",
+    )
+}
+
+#[test]
+fn names_with_escapes(rt: HostRuntime) -> Result<(), Fail> {
+    let bytes =
+        b"\x24\0\0\0\x02a\"b\0\x04\0\0\0x\ny\0\x10n\0\x07\0\0\0\x12l\0\xfe\xff\xff\xff\xff\xff\xff\xff\0";
+    line_is(
+        &rt,
+        rt.alloc(),
+        bytes,
+        b"{\"a\\\"b\":\"x\\ny\",\"n\":{\"$numberInt\":\"7\"},\"l\":{\"$numberLong\":\"-2\"}}\n",
+    )
+}
+
+#[test]
+fn nested_arrays(rt: HostRuntime) -> Result<(), Fail> {
+    let bytes =
+        b"\x2f\0\0\0\x04a\0\x27\0\0\0\x010\0\0\0\0\0\0\0\xf8\x3f\x041\0\x0c\0\0\0\x080\0\x01\x0a1\0\0\x032\0\x05\0\0\0\0\0\0";
+    line_is(
+        &rt,
+        rt.alloc(),
+        bytes,
+        b"{\"a\":[{\"$numberDouble\":\"1.5\"},[true,null],{}]}\n",
+    )
+}
+
+#[test]
+fn code_with_scope(rt: HostRuntime) -> Result<(), Fail> {
+    let bytes =
+        b"\x25\0\0\0\x0fc\0\x1a\0\0\0\x02\0\0\0f\0\x10\0\0\0\x01x\0\0\0\0\0\0\0\xf8\x3f\0\x0az\0\0";
+    line_is(
+        &rt,
+        rt.alloc(),
+        bytes,
+        b"{\"c\":{\"$code\":\"f\",\"$scope\":{\"x\":{\"$numberDouble\":\"1.5\"}}},\"z\":null}\n",
+    )
+}
+
+#[test]
+fn one_line_after_the_other(rt: HostRuntime) -> Result<(), Fail> {
+    let alloc = rt.alloc();
+    let first = b"\x10\0\0\0\x01d\0\0\0\0\0\0\0\xf8\x3f\0";
+    let second = b"\x08\0\0\0\x0ae\0\0";
+    check_bytes(alloc, Profile::All, first, 0, 0)?;
+    check_bytes(alloc, Profile::All, second, 0, 0)?;
+    let mut lines = WideTextBuffer::new(alloc);
+    lines.line(first)?;
+    assert!(rt; lines.line(second)? == b"{\"e\":null}\n".as_slice());
+    Ok(())
+}
