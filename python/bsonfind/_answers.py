@@ -90,19 +90,19 @@ class Answer(Iterator[T]):
 @overload
 def find(
     path: File, filter: Filter | None = None, *, sort: Sort | None = None, skip: int = 0, limit: int = 0,
-    batch_size: int | None = None, index: str | None = None, after: str | None = None, decode: Dicts = "dict",
+    page: int | None = None, batch_size: int = 0, index: str | None = None, after: str | None = None, decode: Dicts = "dict",
     program: str = "bsonfind", timeout: float | None = None,
 ) -> Answer[dict[str, Any]]: ...
 @overload
 def find(
     path: File, filter: Filter | None = None, *, sort: Sort | None = None, skip: int = 0, limit: int = 0,
-    batch_size: int | None = None, index: str | None = None, after: str | None = None, decode: Literal["bytes"],
+    page: int | None = None, batch_size: int = 0, index: str | None = None, after: str | None = None, decode: Literal["bytes"],
     program: str = "bsonfind", timeout: float | None = None,
 ) -> Answer[bytes]: ...
 @overload
 def find(
     path: File, filter: Filter | None = None, *, sort: Sort | None = None, skip: int = 0, limit: int = 0,
-    batch_size: int | None = None, index: str | None = None, after: str | None = None, decode: Callable[[bytes], T],
+    page: int | None = None, batch_size: int = 0, index: str | None = None, after: str | None = None, decode: Callable[[bytes], T],
     program: str = "bsonfind", timeout: float | None = None,
 ) -> Answer[T]: ...
 # fmt: on
@@ -113,7 +113,8 @@ def find(
     sort: Sort | None = None,
     skip: int = 0,
     limit: int = 0,
-    batch_size: int | None = None,
+    page: int | None = None,
+    batch_size: int = 0,
     index: str | None = None,
     after: str | None = None,
     decode: Decode[Any] = "dict",
@@ -122,12 +123,13 @@ def find(
 ) -> Answer[Any]:
     """Finds documents of a dump by one run of the program, which begins with the first document that is asked for.
 
-    `batch_size` gives the next so many documents of the answer in place of all, and `after` resumes after the documents that
-    were given with this token. `index` makes an index on a path, and changes no answer. Where the whole answer is not there
-    within `timeout` seconds, that is a `TimedOutError`.
+    `page` gives the next so many documents of the answer in place of all, and `after` resumes after the documents that were given
+    with this token. `batch_size`, which pymongo takes, changes nothing: documents come as they are found. `index` makes an index
+    on a path, and changes no answer. Where the whole answer is not there within `timeout` seconds, that is a `TimedOutError`.
     """
     request, group = Request.of(filter, sort, skip, limit), Group()
-    size = None if batch_size is None else whole("batch_size", batch_size)
+    whole("batch_size", batch_size)
+    size = None if page is None else whole("page", page)
     lines = AnyLines(name_of(path), request, program, is_bson=decode == "bson", size=size, index=index, after=after, group=group)
     return Answer(lines, group, decode, timeout)
 

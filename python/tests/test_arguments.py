@@ -42,7 +42,7 @@ NUMBERS = [-1, "1", 1.5, None, 1 << 63]
 BAD: Dict[str, List[Any]] = {
     **dict.fromkeys(("path", "good", "bad", "archive", "directory"), NAMES),
     **dict.fromkeys(("skip", "limit", "offset", "length", "first"), NUMBERS),
-    **dict.fromkeys(("batch_size", "jobs"), [-1, "1", 1.5, 1 << 63]),
+    **dict.fromkeys(("page", "batch_size", "jobs"), [-1, "1", 1.5, 1 << 63]),
     **dict.fromkeys(("workers", "most"), [0, *NUMBERS]),
     **dict.fromkeys(("say", "progress", "map"), [5]),
     "copy": [5, "a\0b", "\ud800"],

@@ -139,7 +139,7 @@ class Finds(Goods):
             self.assertEqual(session.count_documents({"cost": 1.5, "none": 2.5}), 0)
             token, found = None, []
             while True:
-                answer = find(self.path, filter, sort=sort, batch_size=1, after=token, decode="bson", program=PROGRAM)
+                answer = find(self.path, filter, sort=sort, page=1, after=token, decode="bson", program=PROGRAM)
                 found += [GOODS.index(it) for it in answer]
                 token = answer.token
                 rest = session.find(filter, sort=sort, after=token, decode="bson")

@@ -186,7 +186,7 @@ class LongFilters(Room):
     def test_pages(self) -> None:
         found, token, ends = [], None, []
         for _ in range(3):
-            page = find(PEOPLE, self.IDS, sort={"_id": -1}, batch_size=100, index="_id", after=token, decode="bytes", program=PROGRAM)
+            page = find(PEOPLE, self.IDS, sort={"_id": -1}, page=100, index="_id", after=token, decode="bytes", program=PROGRAM)
             found += page
             token = page.token
             ends.append(page.end)
@@ -303,7 +303,11 @@ class Pymongo(Room):
             self.session.find(hint="age", use="scan")
 
     def test_batch_size(self) -> None:
-        page = find(PEOPLE, OLD, batch_size=5, decode="bytes", program=PROGRAM)
+        """It cuts no answer, as in pymongo; a page does."""
+        for size in (0, 1, 5):
+            answer = find(PEOPLE, OLD, batch_size=size, decode="bytes", program=PROGRAM)
+            self.assertEqual((list(answer), answer.end), (OLD_LINES, True))
+        page = find(PEOPLE, OLD, page=5, batch_size=2, decode="bytes", program=PROGRAM)
         self.assertEqual((list(page), page.end), (OLD_LINES[:5], False))
         self.assertEqual(list(self.session.find(OLD, batch_size=5, decode="bytes")), OLD_LINES)
 
