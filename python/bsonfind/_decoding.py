@@ -7,7 +7,7 @@ from typing import Any, Callable, Generic, Literal, TypeVar, Union
 
 from ._errors import ArgumentError
 from ._replies import documents_in, junk
-from ._values import plain_document
+from ._values import Uuids, plain_document, uuids_of
 
 T = TypeVar("T")
 # What makes documents of lines by a name; each gives a dictionary for a line.
@@ -41,6 +41,13 @@ def decoder(decode: Decode[Any]) -> Callable[[bytes], Any]:
     if decode in ("bytes", "bson"):
         return bytes
     raise ArgumentError(f'decode is "dict", "plain", "json_util", "bytes", "bson" or a function, not {decode!r}')
+
+
+def with_uuids(decode: Decode[Any], uuids: Uuids) -> Decode[Any]:
+    """What decodes documents in which UUIDs are of a representation."""
+    if uuids_of(uuids) != "standard" and decode == "plain":
+        return lambda line: plain_document(_parsed(line), uuids)
+    return decode
 
 
 def _parsed(line: bytes) -> dict[str, Any]:

@@ -57,6 +57,7 @@ BAD: Dict[str, List[Any]] = {
     "program": [5, None, "a\0b"],
     "timeout": [-1, "1", float("nan"), float("inf")],
     "use": [object(), "name", {"age": 1}],
+    "uuid_representation": [5, None, [], "unspecified", "STANDARD"],
     "hint": [5, {}, [("age",)], ["age", "name"], {"age": 1, "name": 1}, {"$natural": -1}],
     "parts": [5, None, [5], "ab", Part(str(PEOPLE), 0, 5, 0)],
     **dict.fromkeys(("sparse", "with_crc"), [object(), "yes"]),

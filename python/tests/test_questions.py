@@ -1,5 +1,7 @@
 """Tests of how questions are asked: sources, names, long filters, and what a user of pymongo expects."""
 
+import asyncio
+import base64
 import gzip
 import inspect
 import json
@@ -10,9 +12,11 @@ import subprocess
 import sys
 import threading
 from datetime import datetime, timedelta, timezone
+from uuid import UUID
 
 import bsonfind
 from bsonfind import (
+    AsyncSession,
     CommandError,
     DumpError,
     ObjectId,
@@ -392,6 +396,56 @@ class Decoding(Room):
             zone = timezone(timedelta(hours=2))
             self.assertEqual(session.count_documents({"date": wanted["date"].astimezone(zone)}), 1)
             self.assertEqual(session.count_documents({"date": wanted["date"].replace(tzinfo=None)}), 1)
+
+    def test_uuids(self) -> None:
+        """Each representation, in the bytes that the specification of drivers gives for this UUID, finds its own document."""
+        uuid = UUID("00112233-4455-6677-8899-aabbccddeeff")
+        forms = {
+            "standard": (4, "00112233445566778899aabbccddeeff"),
+            "pythonLegacy": (3, "00112233445566778899aabbccddeeff"),
+            "javaLegacy": (3, "7766554433221100ffeeddccbbaa9988"),
+            "csharpLegacy": (3, "33221100554477668899aabbccddeeff"),
+        }
+        values = [field(5, "a", int32(16) + bytes([kind]) + bytes.fromhex(data)) for kind, data in forms.values()]
+        path = self.file(b"".join(document(field(16, "_id", int32(number)), it) for number, it in enumerate(values)))
+        parts = plan(path)
+        for number, name in enumerate(forms):
+            how = {"uuid_representation": name, "program": PROGRAM}
+            wanted = {"_id": number, "a": uuid}
+            self.assertEqual(list(find(path, {"a": uuid}, decode="plain", **how)), [wanted])
+            self.assertEqual(find_one(path, {"a": {"$in": [uuid]}}, decode="plain", **how), wanted)
+            self.assertEqual(count_documents(path, {"a": uuid}, **how), 1)
+            self.assertEqual(find_parts(parts, {"a": uuid}, decode="plain", **how), [wanted])
+            self.assertEqual(count_parts(parts, {"a": uuid}, **how), 1)
+            with Session(path, **how) as session:
+                self.assertEqual(list(session.find({"a": uuid}, decode="plain")), [wanted])
+                self.assertEqual((session.count_documents({"a": uuid}), session.explain({"a": uuid})["matches"]), (1, 1))
+                # Those of the other subtype stay as they are.
+                for other in (1, 2, 3) if number == 0 else (0,):
+                    subtype, data = list(forms.values())[other]
+                    binary = {"base64": base64.b64encode(bytes.fromhex(data)).decode(), "subType": f"{subtype:02}"}
+                    self.assertEqual(session.find_one({"_id": other}, decode="plain"), {"_id": other, "a": {"$binary": binary}})
+
+            async def ask() -> object:
+                async with AsyncSession(path, **how) as session:
+                    found = [it async for it in session.find({"a": uuid}, decode="plain")]
+                    return found, await session.count_documents({"a": uuid}), (await session.explain({"a": uuid}))["matches"]
+
+            self.assertEqual(asyncio.run(ask()), ([wanted], 1, 1))
+
+    def test_binary_data_keeps_its_subtype(self) -> None:
+        """That of pymongo's Binary, which is bytes with a subtype."""
+
+        class Binary(bytes):
+            subtype = 0
+
+        path = self.file(b"".join(document(field(5, "a", int32(2) + bytes([kind]) + b"ab")) for kind in (0, 4, 5, 128, 255)))
+        for kind in (0, 4, 5, 128, 255):
+            value = Binary(b"ab")
+            value.subtype = kind
+            found = list(find(path, {"a": value}, decode="bytes", program=PROGRAM))
+            self.assertEqual(found, [b'{"a":{"$binary":{"base64":"YWI=","subType":"%02x"}}}' % kind])
+        self.assertEqual(count_documents(path, {"a": b"ab"}, program=PROGRAM), 1)
 
     def test_documents_that_are_no_values(self) -> None:
         """The document of a dump itself is never a value."""
