@@ -3,7 +3,7 @@
 from __future__ import annotations
 
 import sys
-from dataclasses import dataclass
+from dataclasses import dataclass, replace
 from typing import Sequence
 
 from ._codes import read_query
@@ -52,8 +52,17 @@ class Finding:
             console.problem(str(error))
             return False
         except CommandError as error:
-            raise _Refused(_refusal(error)) from None
+            raise _Refused((error.layer == "json" and self._refused_sort(program)) or _refusal(error)) from None
         return True
+
+    def _refused_sort(self, program: str) -> str | None:
+        """What the program says of the sort, where it refuses that."""
+        with Run([program, "find", "-", *replace(self.request, filter="{}").words()]) as run:
+            try:
+                run.finish()
+            except CommandError:
+                return run.error_line()
+        return None
 
     def _print_own(self, path: str, program: str) -> bool:
         """Has the program print; False where it refuses the dump for a double or a decimal128."""
