@@ -8,6 +8,7 @@ import os
 import signal
 import sys
 import threading
+from contextlib import nullcontext
 from typing import Callable, NoReturn, Sequence
 
 from ._audit import MOST_FAULTS, Audit, audit_dumps
@@ -348,15 +349,16 @@ def run_ids(words: argparse.Namespace) -> int:
     ids = Ids(text_lines(words.ids), words.ids)
     if words.missing is not None:
         refuse_names(words.file, words.missing, words.ids)
-    missing = find_ids(words.file, ids, words.program, console.documents)
-    if words.missing is not None:
-        with Output(words.missing) as output:
+    # It is opened first: of one that cannot be written no document is printed.
+    with nullcontext() if words.missing is None else Output(words.missing) as output:
+        missing = find_ids(words.file, ids, words.program, console.documents)
+        if output:
             output.write("".join(f"{line}\n" for line in missing).encode(errors="surrogateescape"))
             output.complete()
             output.put_in_place()
-    else:
-        for line in missing:
-            console.note(f"missing: {line}")
+        else:
+            for line in missing:
+                console.note(f"missing: {line}")
     console.note(f"{len(ids) - len(missing)} of {len(ids)} ids found")
     return FAULTY if missing else GOOD
 

@@ -170,11 +170,14 @@ class AsksForIds(Room):
         self.assertEqual((run.returncode, run.stderr), (2, "bsonfind: /missing: No such file or directory\n"))
 
     def test_file_of_missing_ids(self) -> None:
-        """It is no other file of the command, and is written at the end."""
-        dump = self.file(SHOP.read_bytes())
+        """It is no other file of the command, and is written at the end; before that no document is printed if it cannot be."""
+        data = packed(['{"_id":1}'])
+        dump = self.file(data)
         for name, problem in ((str(dump), f"{dump} is the dump"), (str(self.room / "ids"), f"{self.room}/ids is named twice")):
             self.ids(["1"], "--missing", name, status=2, told=f"bsonfind: {problem}\n", path=dump)
-        self.assertEqual((dump.read_bytes(), self.list.read_text()), (SHOP.read_bytes(), "1\n"))
+        self.assertEqual((dump.read_bytes(), self.list.read_text()), (data, "1\n"))
+        told = "bsonfind: /none/m: No such file or directory\n"
+        self.assertEqual(self.ids(["1"], "--missing", "/none/m", status=2, told=told, path=dump), [])
         kept = self.file(b"kept", "kept")
         self.ids(["1"], "--missing", str(kept), status=2, told="bsonfind: /missing: No such file or directory\n", path="/missing")
         self.assertEqual(kept.read_bytes(), b"kept")
