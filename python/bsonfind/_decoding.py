@@ -83,8 +83,11 @@ class Texts(Generic[T]):
         """The next document."""
         try:
             document = self._document_of(self._texts[self.given])
-        except Exception:
+        except Exception as error:
             self._pass_one()
+            if isinstance(error, (StopIteration, StopAsyncIteration)):
+                # Whoever iterates would take it for the end of the answer.
+                raise RuntimeError(f"decode raised {type(error).__name__}") from error
             raise
         self._pass_one()
         return document

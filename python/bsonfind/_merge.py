@@ -20,7 +20,7 @@ from typing import Any, Callable, Iterable, Iterator, Literal, NamedTuple, Seque
 
 from . import _steps
 from ._connections import Connection
-from ._decoding import Decode, Dicts, decoder, refuse_bson, with_uuids
+from ._decoding import Decode, Dicts, Texts, decoder, refuse_bson, with_uuids
 from ._dumps import Dump
 from ._errors import ArgumentError, BsonfindError, DumpError, PartError, ProgramError
 from ._faults import Fault, faults_of, finish_check
@@ -91,7 +91,8 @@ def find_parts(
         asking.try_request(request)
         packed = asking.each(parts, partial(_packed_answer, request.of_part(), program))
         lines = _joined_answer(packed, request, program, asking.group)
-    return [document_of(line) for line in lines]
+    texts = Texts(lines, document_of)
+    return [texts.give() for _ in lines]
 
 
 def count_parts(

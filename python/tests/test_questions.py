@@ -344,6 +344,38 @@ class Decoding(Room):
         with Session(PEOPLE, PROGRAM) as session:
             self.assertEqual(list(session.find(OLD, decode=len)), wanted)
 
+    def test_functions_that_stop_an_iteration(self) -> None:
+        """Their error is one, and never the end of an answer; the next call gives the document after it."""
+        for kind in (StopIteration, StopAsyncIteration):
+
+            def decode(line: bytes, kind: type = kind) -> int:
+                if b'"_id":{"$numberInt":"2"}' in line:
+                    raise kind
+                return len(line)
+
+            few = {"_id": {"$lt": 4}}
+            wanted = [len(line) for line in PEOPLE_LINES[:4]]
+            told = f"decode raised {kind.__name__}"
+            with Session(PEOPLE, PROGRAM) as session:
+                for documents in (find(PEOPLE, few, decode=decode, program=PROGRAM), session.find(few, decode=decode)):
+                    given = [next(documents), next(documents)]
+                    with self.assertRaisesRegex(RuntimeError, told):
+                        next(documents)
+                    self.assertEqual([*given, *documents], [wanted[0], wanted[1], wanted[3]])
+            for ask in (
+                lambda: find_one(PEOPLE, {"_id": 2}, decode=decode, program=PROGRAM),
+                lambda: find_parts(plan(PEOPLE), {"_id": 2}, decode=decode, program=PROGRAM),
+            ):
+                with self.assertRaisesRegex(RuntimeError, told):
+                    ask()
+
+            async def read() -> object:
+                async with AsyncSession(PEOPLE, PROGRAM) as session:
+                    return [it async for it in session.find(few, decode=decode)]
+
+            with self.assertRaisesRegex(RuntimeError, told):
+                asyncio.run(read())
+
     def test_unknown_names(self) -> None:
         for ask in (find, find_one):
             with self.assertRaisesRegex(ValueError, '"plain"'):
