@@ -115,6 +115,29 @@ class AsksForIds(Room):
         found = self.ids(asked, status=1, told=told, path=path)
         self.assertEqual([packed([line]) for line in found], [packed([documents[at]]) for at in (0, 1, 2, 3, 4, 5, 6, 8)])
 
+    def test_forms_of_one_id(self) -> None:
+        """As `dump` prints it, and in each other form that is taken: it is found, is not missing, and is one."""
+        forms = [
+            ['{"$oid":"07bd00000000000000000abc"}', '{"$oid":"07BD00000000000000000ABC"}', "07BD00000000000000000abc"],
+            ['{"$binary":{"base64":"AAE=","subType":"0a"}}', '{"$binary":{"subType":"A","base64":"AAE="}}'],
+            ['{"$timestamp":{"t":2,"i":1}}', '{"$timestamp":{"i":1,"t":2}}'],
+            ['{"$dbPointer":{"$ref":"x","$id":{"$oid":"07bd00000000000000000abc"}}}', '{"$dbPointer":{"$id":{"$oid":"07BD00000000000000000ABC"},"$ref":"x"}}'],
+            ['{"$code":"x","$scope":{"a":{"$numberInt":"1"}}}', '{"$scope":{"a":1},"$code":"x"}'],
+            ['{"a":{"$regularExpression":{"pattern":"a","options":"i"}}}', '{"a": {"$regularExpression": {"options": "i", "pattern": "a"}}}'],
+        ]  # fmt: skip
+        path = self.file(packed(f'{{"_id":{form[0]}}}' for form in forms))
+        wanted = [f'{{"_id":{form[0]}}}' for form in forms]
+        for at in (0, 1, -1):
+            self.assertEqual(self.ids([form[at] for form in forms], status=0, told="6 of 6 ids found\n", path=path), wanted)
+        self.assertEqual(self.ids([it for form in forms for it in form], status=0, told="6 of 6 ids found\n", path=path), wanted)
+
+    def test_ids_that_are_not_one(self) -> None:
+        """A name that stands twice, parts in another order, and a list that looks like a number."""
+        ids = ['{"a":1,"a":2}', '{"a":2}', '{"a":2,"b":1}', '{"b":1,"a":2}', '{"a":["number","1"]}', '{"a":1}', '{"a":{"t":1,"i":2}}', '{"a":{"i":2,"t":1}}']
+        data = packed(f'{{"_id":{it}}}' for it in ids)
+        found = self.ids(ids, status=0, told="8 of 8 ids found\n", path=self.file(data))
+        self.assertEqual(packed(found), data)
+
     def test_many_ids(self) -> None:
         """More than are asked for at once, and more than an argument holds."""
         oids = [json.loads(line)["_id"]["$oid"] for line in SHOP_LINES]
