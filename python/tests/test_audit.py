@@ -15,7 +15,7 @@ from bsonfind import BsonfindError
 from bsonfind._audit import audit
 from bsonfind._console import progress_of
 
-from .support import DAMAGED, DOUBLE, PEOPLE, PROGRAM, SHOP, Room, environment, run_package
+from .support import DAMAGED, DOUBLE, PATIENCE, PEOPLE, PROGRAM, ROOT, SHOP, Room, environment, run_package
 
 LOG = """\
 2026-11-25T10:00:00.000+0000\twriting shop.orders to backup/shop/orders.bson
@@ -102,6 +102,26 @@ class Audits(Room):
         (line,) = self.audit(str(sound), "--json", status=0)
         (report,) = json.loads(line)["files"]
         self.assertEqual((report["documents"], report["doubles_or_decimal128"], report["faulty"]), (3, 3, 0))
+
+    def test_every_night(self) -> None:
+        """The script of the guide prints nothing of a good backup, and of another one nothing of its good files."""
+        guide = (ROOT / "docs/GUIDE.md").read_text(encoding="utf-8")
+        script = guide.partition("This is `nightly.sh`:\n\n")[2].partition("\n\n")[0]
+        path = self.file("".join(line[4:] + "\n" for line in script.split("\n")).encode(), "nightly.sh")
+        self.collection(DOUBLE * 12, "prices")
+        log = self.file(f"{LOG}done dumping club.prices (12 documents)\n".encode(), "log")
+        command = ["bash", str(path), str(log), self.backup]
+        run = subprocess.run(command, env=environment(), capture_output=True, text=True, timeout=PATIENCE)
+        self.assertEqual((run.returncode, run.stdout, run.stderr), (0, "", ""))
+        bad = self.collection(DOUBLE * 2 + DAMAGED, "bad")
+        run = subprocess.run(command, env=environment(), capture_output=True, text=True, timeout=PATIENCE)
+        lines = [
+            f"ALARM: status 1 for {self.backup}",
+            f'{bad}: document 2, byte 39, path "d": bad boolean',
+            f"{bad}: 3 documents, 1 faulty, 2 with doubles or decimal128",
+            f"{bad}: not in the log",
+        ]
+        self.assertEqual((run.returncode, run.stderr, run.stdout.splitlines()[:4]), (1, "", lines))
 
     def test_most_faults_of_a_file(self) -> None:
         data = bytearray(SHOP.read_bytes())
