@@ -262,6 +262,8 @@ def _print_audit(done: Audit, console: Console) -> None:
         console.line(f"{report.name}: {report.documents} documents in place of {report.expected}")
     for report in done.untold:
         console.line(f"{report.name}: not in the log")
+    for report in done.copies:
+        console.line(f"{report.name}: {report.copy}")
     for namespace, count in done.missing.items():
         console.line(f"{namespace}: missing, with {count} documents")
     _print_table(done.rows(), console)

@@ -83,8 +83,6 @@ def pairs_of(first: str, second: str) -> tuple[list[Pair], list[CompareError]]:
                 names[name] = dump.name
         found.append(names)
     a, b = found
-    if not (a or b or problems):
-        raise CompareError(f"no dump is below {first} and {second}")
     return [Pair(name, a.get(name), b.get(name)) for name in sorted({*a, *b})], problems
 
 

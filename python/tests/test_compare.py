@@ -172,7 +172,8 @@ class Compares(Room):
         for name in ("empty", "other"):
             (self.room / name).mkdir()
         empty, other = str(self.room / "empty"), str(self.room / "other")
-        self.compared(empty, other, status=2, told=f"bsonfind: no dump is below {empty} and {other}\n")
+        told = "".join(f"bsonfind: {name}: no dump is below this directory\n" for name in (empty, other))
+        self.compared(empty, other, status=2, told=told)
         run = run_package("--program", "no-such-program", "compare", one, two)
         self.assertEqual((run.returncode, run.stderr), (2, "bsonfind: cannot start no-such-program: No such file or directory\n"))
         half = self.file(gzip.compress(SHOP.read_bytes(), 0)[:50_000], "half.bson.gz")

@@ -41,6 +41,15 @@ class Queries(Room):
         lines = [f"{SHOP}\t{line.decode()}" for line in SHOP_LINES]
         self.assertEqual(self.query(str(SHOP), status=0, told="400 documents in 1 of 1 files\n"), lines)
 
+    def test_files_with_several_names(self) -> None:
+        """Each name has the documents."""
+        one, two, three = (self.room / f"a/{name}.bson" for name in ("one", "two", "three"))
+        self.file(packed(['{"_id":1}']), "a/one.bson")
+        os.link(one, two)
+        three.symlink_to("one.bson")
+        wanted = [f'{path}\t{{"_id":{{"$numberInt":"1"}}}}' for path in (one, three, two)]
+        self.assertEqual(self.query(str(self.room / "a"), str(one), status=0, told="3 documents in 3 of 3 files\n"), wanted)
+
     def test_files_that_are_refused(self) -> None:
         """The others are asked nevertheless."""
         bad, missing = self.file(PEOPLE.read_bytes() + DAMAGED, "bad.bson"), self.room / "missing.bson"
