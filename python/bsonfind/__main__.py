@@ -9,7 +9,7 @@ import signal
 import sys
 import threading
 from contextlib import nullcontext
-from typing import Callable, NoReturn, Sequence
+from typing import Callable, ContextManager, NoReturn, Sequence
 
 from ._audit import MOST_FAULTS, Audit, audit_dumps
 from ._backups import Dump, dumps_of, text_lines
@@ -352,7 +352,8 @@ def run_ids(words: argparse.Namespace) -> int:
     if words.missing is not None:
         refuse_names(words.file, words.missing, words.ids)
     # It is opened first: of one that cannot be written no document is printed.
-    with nullcontext() if words.missing is None else Output(words.missing) as output:
+    place: ContextManager[Output | None] = nullcontext() if words.missing is None else Output(words.missing)
+    with place as output:
         missing = find_ids(words.file, ids, words.program, console.documents)
         if output:
             output.write("".join(f"{line}\n" for line in missing).encode(errors="surrogateescape"))
