@@ -6,6 +6,7 @@ import sys
 from dataclasses import dataclass, replace
 from typing import Sequence
 
+from . import _messages
 from ._codes import read_query
 from ._console import Console
 from ._dumps import dump_of
@@ -58,11 +59,9 @@ class Finding:
     def _refused_sort(self, program: str) -> str | None:
         """What the program says of the sort, where it refuses that."""
         with Run([program, "find", "-", *replace(self.request, filter="{}").words()]) as run:
-            try:
-                run.finish()
-            except CommandError:
-                return run.error_line()
-        return None
+            run.wait()
+            told = _messages.error_line(run.messages())
+        return told if told and told.startswith("sort: ") else None
 
     def _print_own(self, path: str, program: str) -> bool:
         """Has the program print; False where it refuses the dump for a double or a decimal128."""

@@ -54,8 +54,8 @@ _NUMBERED = re.compile(rb'"~n":\{"\$numberLong":"([0-9]+)"\}\}$')
 _PIECE = 1 << 20
 # How many bytes of a field are read: more than the name of most, and its number.
 _FIELD = 1 << 10
-# The end of the name of a file that describes a copy, and how many bytes none has.
-_ABOUT, _LONGEST_ABOUT = ".json", 1 << 24
+# The end of the name of a file that describes a copy.
+_ABOUT = ".json"
 _NO_CODES = "no codes hold all numbers of this field: ask by other fields, or search the lines of dump"
 # At how many paths numbers are hidden at most, since each is found by some runs.
 _MOST_HIDDEN = 100
@@ -750,7 +750,7 @@ def _refuse_other(name: str) -> None:
         return
     try:
         # What is longer than any description is not read.
-        about = json.loads(Path(name).read_bytes()) if os.path.isfile(name) and os.path.getsize(name) < _LONGEST_ABOUT else {}
+        about = json.loads(Path(name).read_bytes()) if os.path.isfile(name) and os.path.getsize(name) < _PIECE << 4 else {}
     except (OSError, ValueError, RecursionError):
         about = {}
     if not (isinstance(about, dict) and {"dump", "copy", "levels"} <= about.keys()):
