@@ -120,14 +120,21 @@ class NewOutput(Output):
     def put_in_place(self) -> None:
         """Gives the file its name, unless something has it by now."""
         try:
+            self._rename()
+        except OSError as error:
+            raise self._named(error) from None
+        self._beside = self._path = self.name
+
+    def _rename(self) -> None:
+        try:
             os.link(self._beside, self.name)
-            os.unlink(self._beside)
         except OSError as error:
             if error.errno not in _NO_LINKS:
-                raise self._named(error) from None
+                raise
             refuse_there(self.name)
             os.rename(self._beside, self.name)
-        self._beside = self._path = self.name
+        else:
+            os.unlink(self._beside)
 
     def keep(self) -> None:
         """Leaves the file the name that it has, unless it gets its own."""
