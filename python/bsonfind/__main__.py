@@ -8,7 +8,8 @@ import os
 import signal
 import sys
 import threading
-from typing import Callable, NoReturn, Sequence
+from contextlib import nullcontext
+from typing import Callable, ContextManager, NoReturn, Sequence
 
 from ._audit import MOST_FAULTS, Audit, audit_dumps
 from ._backups import Dump, dumps_of, text_lines
@@ -81,6 +82,14 @@ class _Version(argparse.Action):
         command.exit()
 
 
+def _text(word: str) -> str:
+    """A text of the command line: its bytes as they were given, which are UTF-8 in every locale."""
+    try:
+        return os.fsencode(word).decode()
+    except UnicodeDecodeError as error:
+        raise argparse.ArgumentTypeError(f"not UTF-8 at byte {error.start}") from None
+
+
 def _add_check(command: argparse.ArgumentParser) -> None:
     command.epilog = "The status is 0 where all is good, 1 where a document has a fault, and else 2."
     _add_dumps(command)
@@ -100,15 +109,19 @@ def _add_dumps(command: argparse.ArgumentParser) -> None:
 def _add_find(command: argparse.ArgumentParser) -> None:
     command.epilog = "The status is 0 where the dump was asked, 1 where it has a fault, else 2. Unless it is 0, delete what it wrote."
     command.add_argument("file", metavar="FILE", help="a dump, one by mongodump --gzip, or - for standard input")
-    for name, metavar, text in (
-        ("query", "Q", "a query, in which numbers may have fractions"),
-        ("sort", "S", "the fields by which documents are sorted"),
-        ("index", "PATH", "find documents by an index on this path"),
-        ("after", "TOKEN", "resume after the documents that were printed with this token; one of --bson is for --bson"),
+    for name, default, metavar, text in (
+        ("query", "{}", "Q", "a query, in which numbers may have fractions"),
+        ("sort", "{}", "S", "the fields by which documents are sorted"),
+        ("index", None, "PATH", "find documents by an index on this path"),
+        ("after", None, "TOKEN", "resume after the documents that were printed with this token; one of --bson is for --bson"),
     ):
-        command.add_argument(f"--{name}", metavar=metavar, help=text)
-    for name, text in (("skip", "pass over so many documents"), ("limit", "print so many at most"), ("batch", "print the next so many")):
-        command.add_argument(f"--{name}", type=int, metavar="N", help=text)
+        command.add_argument(f"--{name}", default=default, type=_text, metavar=metavar, help=text)
+    for name, number, text in (
+        ("skip", 0, "pass over so many documents"),
+        ("limit", 0, "print so many at most"),
+        ("batch", None, "print the next so many"),
+    ):
+        command.add_argument(f"--{name}", default=number, type=int, metavar="N", help=text)
     command.add_argument("--bson", action="store_true", help="print the documents as they are, in BSON")
     command.add_argument("--copy", metavar="COPY", help="ask by this copy, which prepare made")
     command.set_defaults(run=run_find)
@@ -156,14 +169,14 @@ def _add_compare(command: argparse.ArgumentParser) -> None:
     command.epilog = "The status is 0 where both have the same documents, in whatever order, 1 where they differ, and else 2."
     command.add_argument("first", metavar="A", help="a dump, one by mongodump --gzip, or a directory of such files")
     command.add_argument("second", metavar="B", help="what it is compared with")
-    command.add_argument("--by", default="_id", metavar="PATH", help="the field by which documents belong together, not _id")
+    command.add_argument("--by", default="_id", type=_text, metavar="PATH", help="the field by which documents belong together, not _id")
     command.set_defaults(run=run_compare)
 
 
 def _add_query(command: argparse.ArgumentParser) -> None:
     command.epilog = "The status is 0 where all files were asked, 1 where one has a fault, and 2 where one was not read."
     _add_files(command)
-    command.add_argument("--query", default="{}", metavar="Q", help="a query as bsonfind find takes it")
+    command.add_argument("--query", default="{}", type=_text, metavar="Q", help="a query as bsonfind find takes it")
     command.add_argument("--jobs", type=int, default=processors(), metavar="N", help="ask so many files at once")
     command.set_defaults(run=run_query)
 
@@ -193,7 +206,7 @@ def run_each(words: argparse.Namespace, run: Callable[[str, str, Console, str], 
 
 def run_find(words: argparse.Namespace) -> int:
     """Asks a dump, and gives the status."""
-    request = Request(words.query or "{}", words.sort or "{}", words.skip or 0, words.limit or 0)
+    request = Request(words.query, words.sort, words.skip, words.limit)
     finding = Finding(words.file, request, words.batch, words.index, words.after, words.bson, words.copy)
     return GOOD if finding.print(words.program, Console()) else FAULTY
 
@@ -249,6 +262,8 @@ def _print_audit(done: Audit, console: Console) -> None:
         console.line(f"{report.name}: {report.documents} documents in place of {report.expected}")
     for report in done.untold:
         console.line(f"{report.name}: not in the log")
+    for report in done.copies:
+        console.line(f"{report.name}: {report.copy}")
     for namespace, count in done.missing.items():
         console.line(f"{namespace}: missing, with {count} documents")
     _print_table(done.rows(), console)
@@ -336,15 +351,17 @@ def run_ids(words: argparse.Namespace) -> int:
     ids = Ids(text_lines(words.ids), words.ids)
     if words.missing is not None:
         refuse_names(words.file, words.missing, words.ids)
-    missing = find_ids(words.file, ids, words.program, console.documents)
-    if words.missing is not None:
-        with Output(words.missing) as output:
+    # It is opened first: of one that cannot be written no document is printed.
+    place: ContextManager[Output | None] = nullcontext() if words.missing is None else Output(words.missing)
+    with place as output:
+        missing = find_ids(words.file, ids, words.program, console.documents)
+        if output:
             output.write("".join(f"{line}\n" for line in missing).encode(errors="surrogateescape"))
             output.complete()
             output.put_in_place()
-    else:
-        for line in missing:
-            console.note(f"missing: {line}")
+        else:
+            for line in missing:
+                console.note(f"missing: {line}")
     console.note(f"{len(ids) - len(missing)} of {len(ids)} ids found")
     return FAULTY if missing else GOOD
 

@@ -6,13 +6,14 @@ import os
 from typing import Any, Callable, Iterator, Literal, TypeVar, overload
 
 from . import _steps
-from ._decoding import Decode, Dicts, Texts, decoder
+from ._decoding import Decode, Dicts, Texts, decoder, with_uuids
 from ._dumps import File, name_of
 from ._errors import CancelledError, CursorStateError
 from ._lines import Lines
 from ._ordered import AnyLines, Questions
 from ._processes import Group, check_owner
 from ._requests import Filter, Request, Sort, seconds, whole
+from ._values import Uuids
 
 T = TypeVar("T")
 
@@ -90,20 +91,20 @@ class Answer(Iterator[T]):
 @overload
 def find(
     path: File, filter: Filter | None = None, *, sort: Sort | None = None, skip: int = 0, limit: int = 0,
-    batch_size: int | None = None, index: str | None = None, after: str | None = None, decode: Dicts = "dict",
-    program: str = "bsonfind", timeout: float | None = None,
+    page: int | None = None, batch_size: int = 0, index: str | None = None, after: str | None = None, decode: Dicts = "dict",
+    uuid_representation: Uuids = "standard", program: str = "bsonfind", timeout: float | None = None,
 ) -> Answer[dict[str, Any]]: ...
 @overload
 def find(
     path: File, filter: Filter | None = None, *, sort: Sort | None = None, skip: int = 0, limit: int = 0,
-    batch_size: int | None = None, index: str | None = None, after: str | None = None, decode: Literal["bytes"],
-    program: str = "bsonfind", timeout: float | None = None,
+    page: int | None = None, batch_size: int = 0, index: str | None = None, after: str | None = None, decode: Literal["bytes"],
+    uuid_representation: Uuids = "standard", program: str = "bsonfind", timeout: float | None = None,
 ) -> Answer[bytes]: ...
 @overload
 def find(
     path: File, filter: Filter | None = None, *, sort: Sort | None = None, skip: int = 0, limit: int = 0,
-    batch_size: int | None = None, index: str | None = None, after: str | None = None, decode: Callable[[bytes], T],
-    program: str = "bsonfind", timeout: float | None = None,
+    page: int | None = None, batch_size: int = 0, index: str | None = None, after: str | None = None, decode: Callable[[bytes], T],
+    uuid_representation: Uuids = "standard", program: str = "bsonfind", timeout: float | None = None,
 ) -> Answer[T]: ...
 # fmt: on
 def find(
@@ -113,40 +114,44 @@ def find(
     sort: Sort | None = None,
     skip: int = 0,
     limit: int = 0,
-    batch_size: int | None = None,
+    page: int | None = None,
+    batch_size: int = 0,
     index: str | None = None,
     after: str | None = None,
     decode: Decode[Any] = "dict",
+    uuid_representation: Uuids = "standard",
     program: str = "bsonfind",
     timeout: float | None = None,
 ) -> Answer[Any]:
     """Finds documents of a dump by one run of the program, which begins with the first document that is asked for.
 
-    `batch_size` gives the next so many documents of the answer in place of all, and `after` resumes after the documents that
-    were given with this token. `index` makes an index on a path, and changes no answer. Where the whole answer is not there
-    within `timeout` seconds, that is a `TimedOutError`.
+    `page` gives the next so many documents of the answer in place of all, and `after` resumes after the documents that were given
+    with this token. `batch_size`, which pymongo takes, changes nothing: documents come as they are found. `index` makes an index
+    on a path, and changes no answer. `uuid_representation` says, by pymongo's names, how a `UUID` is asked for, and which values
+    are one for `decode="plain"`. Where the whole answer is not there within `timeout` seconds, that is a `TimedOutError`.
     """
-    request, group = Request.of(filter, sort, skip, limit), Group()
-    size = None if batch_size is None else whole("batch_size", batch_size)
+    request, group = Request.of(filter, sort, skip, limit, uuid_representation), Group()
+    whole("batch_size", batch_size)
+    size = None if page is None else whole("page", page)
     lines = AnyLines(name_of(path), request, program, is_bson=decode == "bson", size=size, index=index, after=after, group=group)
-    return Answer(lines, group, decode, timeout)
+    return Answer(lines, group, with_uuids(decode, uuid_representation), timeout)
 
 
 # fmt: off
 @overload
 def find_one(
     path: File, filter: Filter | None = None, *, sort: Sort | None = None, skip: int = 0, decode: Dicts = "dict",
-    program: str = "bsonfind", timeout: float | None = None,
+    uuid_representation: Uuids = "standard", program: str = "bsonfind", timeout: float | None = None,
 ) -> dict[str, Any] | None: ...
 @overload
 def find_one(
     path: File, filter: Filter | None = None, *, sort: Sort | None = None, skip: int = 0, decode: Literal["bytes"],
-    program: str = "bsonfind", timeout: float | None = None,
+    uuid_representation: Uuids = "standard", program: str = "bsonfind", timeout: float | None = None,
 ) -> bytes | None: ...
 @overload
 def find_one(
     path: File, filter: Filter | None = None, *, sort: Sort | None = None, skip: int = 0, decode: Callable[[bytes], T],
-    program: str = "bsonfind", timeout: float | None = None,
+    uuid_representation: Uuids = "standard", program: str = "bsonfind", timeout: float | None = None,
 ) -> T | None: ...
 # fmt: on
 def find_one(
@@ -156,17 +161,25 @@ def find_one(
     sort: Sort | None = None,
     skip: int = 0,
     decode: Decode[Any] = "dict",
+    uuid_representation: Uuids = "standard",
     program: str = "bsonfind",
     timeout: float | None = None,
 ) -> Any:
     """The first document of an answer, None where it has none."""
-    with find(path, filter, sort=sort, skip=skip, limit=1, decode=decode, program=program, timeout=timeout) as answer:
+    how: dict[str, Any] = {"uuid_representation": uuid_representation, "program": program, "timeout": timeout}
+    with find(path, filter, sort=sort, skip=skip, limit=1, decode=decode, **how) as answer:
         return next(answer, None)
 
 
 def count_documents(
-    path: File, filter: Filter | None = None, *, program: str = "bsonfind", timeout: float | None = None
+    path: File,
+    filter: Filter | None = None,
+    *,
+    uuid_representation: Uuids = "standard",
+    program: str = "bsonfind",
+    timeout: float | None = None,
 ) -> int:
     """How many documents of a dump match."""
+    request = Request.of(filter, uuids=uuid_representation)
     with Questions(path, program, timeout) as questions:
-        return questions.do(_steps.count, Request.of(filter))
+        return questions.do(_steps.count, request)

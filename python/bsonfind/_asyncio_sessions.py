@@ -11,7 +11,7 @@ from typing import Any, AsyncIterator, BinaryIO, Callable, ContextManager, Liter
 
 from . import _steps
 from ._codes import Query
-from ._decoding import Decode, Dicts, Texts, decoder
+from ._decoding import Decode, Dicts, Texts, decoder, with_uuids
 from ._dumps import Dump, File, dump_of
 from ._errors import BsonfindError, CancelledError, CommandError, DumpError, SessionEndedError, TimedOutError
 from ._messages import error_of
@@ -19,6 +19,7 @@ from ._ordered import Codes, Original, can_be_read_again, places, query_of, refu
 from ._processes import Descriptor, Feeder, Group, check_owner, file_for_messages, start_error
 from ._requests import Filter, Request, Sort, seconds
 from ._steps import Command, Hint, Reading, Steps, Use, kill, use_of
+from ._values import Uuids, uuids_of
 from ._wide import is_wide
 
 T = TypeVar("T")
@@ -34,7 +35,10 @@ class AsyncSession:
     doubles is written by a thread, and so are documents in place of those of a copy. A pipe with such a dump is refused.
     """
 
-    def __init__(self, path: File, program: str = "bsonfind", *, timeout: float | None = None) -> None:
+    def __init__(
+        self, path: File, program: str = "bsonfind", *, timeout: float | None = None, uuid_representation: Uuids = "standard"
+    ) -> None:
+        self._uuids = uuids_of(uuid_representation)
         self._questions = _Questions(path, program, timeout)
 
     async def open(self) -> AsyncSession:
@@ -73,7 +77,8 @@ class AsyncSession:
         decode: Decode[Any] = "dict",
     ) -> AsyncCursor[Any]:
         """A cursor over an answer, or over what follows a token, for `async for`. It is opened by its first document."""
-        request, how = Request.of(filter, sort, skip, limit), (use_of(use, hint), batch_size, after, decode)
+        request = Request.of(filter, sort, skip, limit, self._uuids)
+        how = use_of(use, hint), batch_size, after, with_uuids(decode, self._uuids)
         return AsyncCursor(self._questions, request, how, Reading(request, *how))
 
     # fmt: off
@@ -111,7 +116,7 @@ class AsyncSession:
 
     async def count_documents(self, filter: Filter | None = None) -> int:
         """How many documents match."""
-        return await self._questions.do(_steps.count, Request.of(filter))
+        return await self._questions.do(_steps.count, Request.of(filter, uuids=self._uuids))
 
     async def create_index(self, path: str, sparse: bool = False) -> dict[str, Any]:
         """Makes an index on a path: how many `entries` it has, and whether a document has more than one (`multikey`)."""
@@ -132,7 +137,8 @@ class AsyncSession:
         hint: Hint | None = None,
     ) -> dict[str, Any]:
         """How an answer is found: the `plan`, the path of the `index`, and how many `entries`, `documents` and `matches`."""
-        return await self._questions.do(_steps.explain, Request.of(filter, sort, skip, limit), use_of(use, hint))
+        request = Request.of(filter, sort, skip, limit, self._uuids)
+        return await self._questions.do(_steps.explain, request, use_of(use, hint))
 
     def cancel(self) -> None:
         """Ends the session at once: a call that waits for a reply gets a `CancelledError` of this package."""
@@ -397,7 +403,7 @@ class _Connection:
         """Starts the program."""
         pipe, how = asyncio.subprocess.PIPE, {"stderr": self._stderr, "start_new_session": True, "limit": _BUFFER}
         with Descriptor(self._dump) as descriptor:
-            words, passed = (self._program, "serve", descriptor.word), descriptor.passed
+            words, passed = (self._program, "serve", descriptor.word.encode()), descriptor.passed
             try:
                 self._process = await asyncio.create_subprocess_exec(*words, stdin=pipe, stdout=pipe, pass_fds=passed, **how)
             except (OSError, TypeError, ValueError) as error:

@@ -6,11 +6,21 @@ import json
 import os
 from collections import Counter
 from concurrent.futures import ThreadPoolExecutor, as_completed
-from dataclasses import dataclass, field
+from dataclasses import dataclass, field, replace
 from typing import Any, Callable, Iterable, NamedTuple
 
 from ._archive import Archive, Namespace
-from ._backups import Dump, Log, dumps_of, fault_of_listed, fault_of_metadata, is_oplog, namespace_of, read_log, text_lines
+from ._backups import (
+    Dump,
+    dumps_of,
+    fault_of_listed,
+    fault_of_metadata,
+    is_inside,
+    namespace_of,
+    place_of,
+    read_log,
+    text_lines,
+)
 from ._console import Console, Progress
 from ._dumps import File, is_whole_archive, name_in, name_of
 from ._errors import ArgumentError, BsonfindError, DumpError
@@ -44,11 +54,14 @@ class Report:
     metadata: str | None = None
     # Whether the error is a fault of the backup: a file of gzip that is cut or damaged, or metadata without its dump.
     is_fault: bool = False
-    # The collections of which the log must speak, none for the oplog; and what it says of the first that it names.
-    namespaces: list[str] = field(default_factory=list)
+    # The collection that it is of, where that is known, and below a directory the place that has those of the databases.
+    namespace: str | None = None
+    place: str | None = None
+    # What the log says of the collection, and why the file does not stand for it.
     expected: int | None = None
     is_miscounted: bool = False
     is_untold: bool = False
+    copy: str | None = None
 
     @property
     def faulty(self) -> int:
@@ -60,13 +73,11 @@ class Report:
         """How many documents have a fault that is no damage."""
         return sum(self.kinds[kind] for kind in NO_DAMAGE)
 
-    def compare(self, log: Log, is_oplog: bool) -> None:
-        """Compares the count with those in the log."""
-        counts = [log.oplog] if is_oplog else [log.documents.get(namespace) for namespace in self.namespaces]
-        known = [count for count in counts if count is not None]
-        self.expected = known[0] if known else None
-        self.is_miscounted = any(count != self.documents for count in known)
-        self.is_untold = len(known) < len(counts) and not is_oplog
+    def compare(self, counts: dict[str, int]) -> None:
+        """Compares the count with that in the log, which may say nothing of the oplog."""
+        self.expected = counts.get(self.namespace or "")
+        self.is_miscounted = self.expected not in (None, self.documents)
+        self.is_untold = self.expected is None and self.namespace != "oplog"
 
     def as_json(self) -> dict[str, Any]:
         """The report as an object of JSON."""
@@ -115,6 +126,11 @@ class Audit(NamedTuple):
         return [it for it in self.reports if it.is_untold]
 
     @property
+    def copies(self) -> list[Report]:
+        """The files that stand for no collection of the log, since another one does, or they are in another backup inside of this."""
+        return [it for it in self.reports if it.copy]
+
+    @property
     def without_metadata(self) -> list[Report]:
         """The files whose metadata is missing or cannot be read."""
         return [it for it in self.reports if it.metadata]
@@ -122,7 +138,8 @@ class Audit(NamedTuple):
     @property
     def is_good(self) -> bool:
         """Whether all files are there, whole and without faults."""
-        return not (self.kinds or self.unread or self.miscounted or self.untold or self.without_metadata or self.missing)
+        findings = self.kinds, self.unread, self.miscounted, self.untold, self.copies, self.without_metadata, self.missing
+        return not any(findings)
 
     def rows(self) -> list[tuple[str, int]]:
         """The table; the kinds of faults that are no damage come last."""
@@ -133,6 +150,7 @@ class Audit(NamedTuple):
             ("not read", self.unread),
             ("other counts than expected", self.miscounted),
             ("not in the log", self.untold),
+            ("other copies", self.copies),
             ("without metadata", self.without_metadata),
             ("missing", self.missing),
         )
@@ -157,6 +175,7 @@ class Audit(NamedTuple):
                 "kinds": self.kinds,
                 "miscounted": [it.name for it in self.miscounted],
                 "untold": [it.name for it in self.untold],
+                "copies": [it.name for it in self.copies],
                 "missing": self.missing,
             }
         )
@@ -192,33 +211,47 @@ def audit_dumps(
     """Checks dumps; the console gets the lines of faults as they come, and those of each file as it ends."""
     log = read_log(text_lines(expect)) if expect is not None else None
     try_program(program)
-    with Progress(console, len(dumps), sum(it.size or 0 for it in dumps)) as progress:
+    sizes = {it.file: it.size or 0 for it in dumps}
+    with Progress(console, len(dumps), sum(sizes.values())) as progress:
         reports = _check_all(dumps, _Checker(max_faults, program, console, progress), jobs or processors())
     missing: dict[str, int] = {}
     if log:
-        there = {it for report in reports for it in report.namespaces}
-        missing = {namespace: count for namespace, count in log.documents.items() if namespace not in there}
-        for report in reports:
-            if report.namespaces:
-                report.compare(log, is_oplog(report.name))
-        if log.oplog is not None and not any(is_oplog(report.name) for report in reports):
-            missing["oplog"] = log.oplog
+        counts = {**log.documents, **({} if log.oplog is None else {"oplog": log.oplog})}
+        there = _collections(reports, counts)
+        for report in there.values():
+            report.compare(counts)
+        missing = {namespace: count for namespace, count in counts.items() if namespace not in there}
     return Audit(reports, missing)
 
 
+def _collections(reports: list[Report], counts: dict[str, int]) -> dict[str, Report]:
+    """The file that stands for each collection; others of it are noted, and those of a backup inside of this one."""
+    there: dict[str, Report] = {}
+    places = {it.place for it in reports if it.place and it.namespace in counts}
+    for report in reports:
+        if report.place and is_inside(report.place, places):
+            report.copy = "in a directory below that of the other dumps, so it stands for none of them"
+        elif report.namespace and there.setdefault(report.namespace, report) is not report:
+            report.copy = f"{report.namespace} is in {there[report.namespace].name} too"
+    return there
+
+
 def _check_all(dumps: list[Dump], checker: _Checker, jobs: int) -> list[Report]:
-    """The reports of all dumps, in their order; the largest is checked first."""
+    """The reports of all dumps, in their order; the largest is checked first, and a file with several names once."""
+    files: dict[object, list[Dump]] = {}
+    for dump in dumps:
+        files.setdefault(dump.file or id(dump), []).append(dump)
+    reports: dict[int, list[Report]] = {}
     with ThreadPoolExecutor(jobs) as pool:
         try:
-            largest = sorted(dumps, key=lambda dump: -(dump.size or 0))
-            futures = {id(dump): pool.submit(checker.check, dump) for dump in largest}
-            for future in as_completed(futures.values()):
-                future.result()
+            largest = sorted(files.values(), key=lambda names: -(names[0].size or 0))
+            for future in as_completed([pool.submit(checker.check, names) for names in largest]):
+                reports.update(future.result())
         except BaseException:
             checker.group.end()
             pool.shutdown(cancel_futures=True)
             raise
-    return [report for dump in dumps for report in futures[id(dump)].result()]
+    return [report for dump in dumps for report in reports[id(dump)]]
 
 
 class _Checker:
@@ -229,31 +262,43 @@ class _Checker:
         self._max_faults, self._program = max_faults, program
         self._console, self._progress = console, progress
 
-    def check(self, dump: Dump) -> list[Report]:
-        """Checks a file, or each collection of an archive."""
+    def check(self, names: list[Dump]) -> dict[int, list[Report]]:
+        """Checks a file, or each collection of an archive; the reports are those of each of its names."""
+        first = names[0]
+        is_archive = not first.error and is_whole_archive(first.name)
+        found = self._check_file(first, is_archive)
+        reports: dict[int, list[Report]] = {}
+        for dump in names:
+            these = [replace(it, name=dump.name + it.name[len(first.name) :]) for it in found]
+            reports[id(dump)] = these
+            for it in these:
+                self._name(it, dump, is_archive)
+            self._progress.add_file()
+        return reports
+
+    def _check_file(self, dump: Dump, is_archive: bool) -> list[Report]:
         report = Report(dump.name, error=dump.error, is_fault=dump.is_fault)
-        reports = [report]
         if not dump.error:
-            report.namespaces = [namespace_of(name) for name in dump.names]
-            faults = [fault_of_metadata(name, dump.is_below) for name in dump.names]
-            report.metadata = faults[0] if all(faults) else None
             try:
                 with Source(dump.name) as source, self._progress.over(source):
-                    if is_whole_archive(dump.name):
-                        report.namespaces, report.metadata = [], None
-                        reports = self._check_archive(source)
-                    else:
-                        self._check_documents(report, source)
+                    if is_archive:
+                        return self._check_archive(source)
+                    self._check_documents(report, source)
             except (BsonfindError, OSError) as error:
                 self._note(report, error)
-        for it in reports:
-            say = self._saying(it)
-            wide = f", {it.wide} with {_WIDE}" if it.wide else ""
-            say(it.error or f"{it.documents} documents, {it.faulty} faulty{wide}")
-            if it.metadata:
-                say(f"metadata: {it.metadata}")
-        self._progress.add_file()
-        return reports
+        return [report]
+
+    def _name(self, report: Report, dump: Dump, is_archive: bool) -> None:
+        """Notes what a report has by the name of its file, and prints it."""
+        if dump.is_below and not dump.error:
+            report.place = os.path.abspath(dump.name) if is_archive else place_of(dump.name)
+        if not (dump.error or is_archive):
+            report.namespace, report.metadata = namespace_of(dump.name), fault_of_metadata(dump.name, dump.is_below)
+        say = self._saying(report)
+        wide = f", {report.wide} with {_WIDE}" if report.wide else ""
+        say(report.error or f"{report.documents} documents, {report.faulty} faulty{wide}")
+        if report.metadata:
+            say(f"metadata: {report.metadata}")
 
     def _note(self, report: Report, error: BsonfindError | OSError) -> None:
         """Notes why a file was not read to its end; where all was ended, that is raised."""
@@ -273,7 +318,7 @@ class _Checker:
         def report_of(namespace: Namespace) -> Report:
             if namespace not in reports:
                 name = name_in(source.name, namespace)
-                reports[namespace] = Report(name, namespaces=[namespace_of(name)])
+                reports[namespace] = Report(name, namespace=namespace_of(name))
             return reports[namespace]
 
         def note_damage(namespace: Namespace, error: str) -> None:

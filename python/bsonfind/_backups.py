@@ -7,13 +7,14 @@ import os
 import re
 import stat
 from base64 import urlsafe_b64encode
-from dataclasses import dataclass, field
+from dataclasses import dataclass
 from hashlib import sha1
+from pathlib import PurePath
 from typing import Any, Iterable, Iterator, NamedTuple
 from urllib.parse import quote, unquote
 
 from ._archive import Listed, Namespace
-from ._dumps import File, file_of, member_of, name_of
+from ._dumps import File, file_of, is_whole_archive, member_of, name_of
 from ._errors import DumpError, FileError
 from ._unpacking import unpacked
 
@@ -25,6 +26,8 @@ _OPLOG_DUMPED = re.compile(r"dumped (\d+) oplog entr(?:y|ies)")
 _BESIDE = re.compile(r"(\.metadata|^prelude)\.json(\.gz)?$")
 # The names of dumps that mongodump writes without a file of metadata beside them.
 _BARE = re.compile(r"^(\$admin\..*|system\.(indexes|buckets\..*))\.bson")
+# The names that archives have by custom; below a directory each is known by its first bytes.
+_ARCHIVE = re.compile(r"\.archive(\.gz)?$")
 # A file that is not whole, as `unpack` leaves it.
 _HALF = re.compile(r"\.bson\.part$")
 # What mongodump does not escape in the name of a collection beside letters, digits and "_.-~"; its longest name of a file without
@@ -35,7 +38,7 @@ _OPLOG = Namespace("", "oplog")
 
 @dataclass
 class Dump:
-    """A dump by its name, the other names by which it was met, and its size; or what could not be seen, and why."""
+    """A dump by its name, with its size; or what could not be seen, and why."""
 
     name: str
     is_below: bool = False
@@ -43,12 +46,8 @@ class Dump:
     error: str | None = None
     # Whether that is damage of the backup, as where only the metadata is there.
     is_fault: bool = False
-    others: list[str] = field(default_factory=list)
-
-    @property
-    def names(self) -> list[str]:
-        """All names of the file."""
-        return [self.name, *self.others]
+    # What it has in common with other names of the same bytes, None where it was not seen.
+    file: tuple[object, ...] | None = None
 
 
 class Log(NamedTuple):
@@ -59,22 +58,20 @@ class Log(NamedTuple):
 
 
 def dumps_of(names: Iterable[str]) -> list[Dump]:
-    """The files of these names, and in place of a directory the dumps below it. A file that is met twice stands there once.
+    """The files of these names, and in place of a directory the dumps below it. A name that is met twice stands there once.
 
-    What cannot be seen below a directory stands there with its error, so that nothing is passed over in silence.
+    Each name of a file with several ones, such as a link, is that of a dump. What cannot be seen below a directory stands there with
+    its error, so that nothing is passed over in silence.
     """
-    dumps: list[Dump] = []
-    known: dict[tuple[object, ...], Dump] = {}
+    dumps: dict[tuple[str, str | None], Dump] = {}
     for name in names:
-        for dump in _below_or_none(name) if os.path.isdir(name) else [_named(name)]:
-            first = dump if dump.error else _first_of(dump, known)
-            if first is dump:
-                dumps.append(dump)
-            else:
-                first.is_below |= dump.is_below
-                if os.path.abspath(dump.name) not in map(os.path.abspath, first.names):
-                    first.others.append(dump.name)
-    return dumps
+        for dump in dumps_below(name) if os.path.isdir(name) else [_named(name)]:
+            directory, base = os.path.split(dump.name)
+            first = dumps.setdefault((os.path.join(os.path.realpath(directory), base), dump.error), dump)
+            first.is_below |= dump.is_below
+            if first is dump and not dump.error:
+                _look_at(dump)
+    return list(dumps.values())
 
 
 def _named(name: str) -> Dump:
@@ -82,37 +79,39 @@ def _named(name: str) -> Dump:
     return Dump(name, error="no dump: mongodump writes it beside dumps" if _BESIDE.search(os.path.basename(name)) else None)
 
 
-def _below_or_none(directory: str) -> Iterator[Dump]:
-    """The dumps below a directory that was named; one without any is an error, such as where a disk is missing."""
-    is_empty = True
-    for dump in dumps_below(directory):
-        is_empty = False
-        yield dump
-    if is_empty:
-        yield Dump(directory, error="no dump is below this directory")
-
-
-def _first_of(dump: Dump, known: dict[tuple[object, ...], Dump]) -> Dump:
-    """The dump by which the same file was met before, or this one, of which the size is read."""
+def _look_at(dump: Dump) -> None:
+    """Notes the size of a file, and what it is."""
     try:
         status = os.stat(file_of(dump.name))
     except OSError as error:
         dump.error = error.strerror
-        return dump
-    if stat.S_ISREG(status.st_mode):
-        dump.size = status.st_size
+        return
+    dump.size = status.st_size if stat.S_ISREG(status.st_mode) else None
     member = member_of(dump.name)
-    return known.setdefault((status.st_dev, status.st_ino, member and member.namespace), dump)
+    dump.file = status.st_dev, status.st_ino, member and member.namespace
 
 
 def dumps_below(directory: str) -> Iterator[Dump]:
-    """The dumps below a directory, in the order of their names, and what cannot be seen there or is missing."""
+    """The dumps and archives below a directory, in the order of their names, and what cannot be seen there or is missing.
+
+    A directory without any is an error, such as where a disk is missing; that of a database may have views alone.
+    """
     try:
         with os.scandir(directory) as listed:
             entries = sorted(listed, key=lambda entry: entry.name)
     except OSError as error:
         yield Dump(directory, error=f"cannot read the directory: {error.strerror}")
         return
+    is_empty = not any(_METADATA.search(entry.name) for entry in entries)
+    for dump in _dumps_among(entries, directory):
+        is_empty = False
+        yield dump
+    if is_empty:
+        yield Dump(directory, error="no dump is below this directory")
+
+
+def _dumps_among(entries: list[os.DirEntry[str]], directory: str) -> Iterator[Dump]:
+    """The dumps and archives among the entries of a directory, and below them."""
     stems = {it.sub("", entry.name) for entry in entries for it in (_ENDING, _HALF) if it.search(entry.name)}
     for entry in entries:
         try:
@@ -132,6 +131,10 @@ def dumps_below(directory: str) -> Iterator[Dump]:
                 if stem is not None and stem not in stems:
                     name = os.path.join(directory, f"{stem}.bson")
                     yield Dump(name, error=f"missing: only {entry.name} is there", is_fault=True)
+            elif is_whole_archive(entry.path):
+                yield Dump(entry.path, is_below=True)
+            elif _ARCHIVE.search(entry.name):
+                yield Dump(entry.path, error="no archive, by its first bytes", is_fault=True)
         except OSError as error:
             yield Dump(entry.path, error=error.strerror)
 
@@ -177,6 +180,8 @@ def namespace_of(name: str) -> str:
 
     mongodump shortens the name of a file whose collection has a long name, so the name in the metadata decides.
     """
+    if is_oplog(name):
+        return str(_OPLOG)
     member = member_of(name)
     directory, base = os.path.split(os.path.abspath(name))
     stem = member.namespace.collection if member else _ENDING.sub("", base)
@@ -187,6 +192,20 @@ def namespace_of(name: str) -> str:
     metadata, _ = _read_metadata(name)
     collection = (metadata or {}).get("collectionName")
     return f"{os.path.basename(directory)}.{collection if isinstance(collection, str) else unquote(stem)}"
+
+
+def place_of(name: str) -> str | None:
+    """The directory that has those of the databases, one of which has a dump, or the oplog; None where that is not known."""
+    directory, base = os.path.split(name)
+    directory = os.path.realpath(directory)
+    if is_oplog(name):
+        return directory
+    return None if base.startswith("$") else os.path.dirname(directory)
+
+
+def is_inside(place: str, places: set[str]) -> bool:
+    """Whether a place is below one of others."""
+    return any(str(it) in places for it in PurePath(place).parents)
 
 
 def stem_of(namespace: Namespace) -> str:

@@ -3,16 +3,18 @@
 from __future__ import annotations
 
 import os
-from collections import Counter
+from collections import Counter, deque
 from hashlib import blake2b
-from typing import Callable, Iterator, NamedTuple, Sequence
+from typing import Callable, Iterable, Iterator, NamedTuple, Sequence
 
 from ._backups import dumps_below
 from ._dumps import is_whole_archive
 from ._errors import BsonfindError
 from ._fields import field_of, id_of
+from ._framing import LONGEST, is_length
 from ._printing import Printing
 from ._sorting import Sorter
+from ._sources import Source
 
 # How documents differ, in the order in which they are counted.
 KINDS = ("same", "changed", "removed", "added")
@@ -81,15 +83,13 @@ def pairs_of(first: str, second: str) -> tuple[list[Pair], list[CompareError]]:
                 names[name] = dump.name
         found.append(names)
     a, b = found
-    if not (a or b or problems):
-        raise CompareError(f"no dump is below {first} and {second}")
     return [Pair(name, a.get(name), b.get(name)) for name in sorted({*a, *b})], problems
 
 
 def compare(pair: Pair, path: str, program: str, say: Callable[[str], None]) -> Comparison:
     """Compares the documents of two dumps, which belong together by the value at a path; `say` gets what differs.
 
-    Documents are the same where their lines of `dump` are. The order of documents does not count, that of fields does.
+    Documents are the same where their bytes are. The order of documents does not count, that of fields does.
     """
     if pair.first is None or pair.second is None:
         return _one_alone(pair, program, say)
@@ -98,12 +98,11 @@ def compare(pair: Pair, path: str, program: str, say: Callable[[str], None]) -> 
     with Sorter() as sorter:
         for side, name in enumerate((pair.first, pair.second)):
             mark = b"\t%d\n" % side
-            for lines in _lines(name, program):
-                documents[side] += len(lines)
-                for line in lines:
+            for batch in _documents(name, program):
+                documents[side] += len(batch)
+                for line, digest in batch:
                     key = id_of(line) if path == "_id" else field_of(line, names)
                     # Texts of JSON have no tab. Documents without a key come first.
-                    digest = blake2b(line, digest_size=16).hexdigest().encode()
                     sorter.add(b"%s\t%s%s" % (key or b"", digest, mark))
         return _compare_sorted(sorter.all(), (documents[0], documents[1]), path, say)
 
@@ -164,17 +163,41 @@ def _one_alone(pair: Pair, program: str, say: Callable[[str], None]) -> Comparis
     """The counts of a dump that only one of two directories has."""
     name, kind = (pair.first, "removed") if pair.second is None else (pair.second, "added")
     assert name is not None
-    count = sum(map(len, _lines(name, program)))
+    count = sum(map(len, _documents(name, program)))
     say(f"{kind} with all of its {count} documents")
     return Comparison((count, 0) if kind == "removed" else (0, count), Counter({kind: count}), alone=1)
 
 
-def _lines(name: str, program: str) -> Iterator[list[bytes]]:
-    """The documents of a dump as lines. What is wrong with it is raised with its name."""
+def _documents(name: str, program: str) -> Iterator[list[tuple[bytes, bytes]]]:
+    """The lines of the documents of a dump, each with a digest of its bytes. What is wrong with it is raised with its name.
+
+    A line alone does not do: it may be that of two documents, as the double 1.5 and {"$numberDouble":"1.5"} have one text.
+    """
+    digests: deque[bytes] = deque()
     try:
-        yield from Printing(program).lines(name)
+        with Source(name) as source:
+            for lines in Printing(program).of_pieces(_digested(source.pieces(), digests)):
+                yield [(line, digests.popleft()) for line in lines]
     except (BsonfindError, OSError) as error:
         raise CompareError(f"{name}: {getattr(error, 'strerror', None) or error}") from None
+
+
+def _digested(pieces: Iterable[bytes], digests: deque[bytes]) -> Iterator[bytes]:
+    """The pieces as they pass, with the digests of their documents. After a wrong length, which is refused, there is none."""
+    held, is_wrong = bytearray(), False
+    for piece in pieces:
+        held += piece
+        at = 0
+        with memoryview(held) as view:
+            while not is_wrong and at + 4 <= len(view):
+                length = int.from_bytes(view[at : at + 4], "little")
+                is_wrong = not is_length(length, LONGEST)
+                if is_wrong or at + length > len(view):
+                    break
+                digests.append(blake2b(view[at : at + length], digest_size=16).hexdigest().encode())
+                at += length
+        del held[: len(held) if is_wrong else at]
+        yield piece
 
 
 def rows(done: Comparison, names: Sequence[str], path: str) -> list[tuple[str, int]]:

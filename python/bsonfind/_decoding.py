@@ -7,7 +7,7 @@ from typing import Any, Callable, Generic, Literal, TypeVar, Union
 
 from ._errors import ArgumentError
 from ._replies import documents_in, junk
-from ._values import plain_document
+from ._values import Uuids, plain_document, uuids_of
 
 T = TypeVar("T")
 # What makes documents of lines by a name; each gives a dictionary for a line.
@@ -43,6 +43,13 @@ def decoder(decode: Decode[Any]) -> Callable[[bytes], Any]:
     raise ArgumentError(f'decode is "dict", "plain", "json_util", "bytes", "bson" or a function, not {decode!r}')
 
 
+def with_uuids(decode: Decode[Any], uuids: Uuids) -> Decode[Any]:
+    """What decodes documents in which UUIDs are of a representation."""
+    if uuids_of(uuids) != "standard" and decode == "plain":
+        return lambda line: plain_document(_parsed(line), uuids)
+    return decode
+
+
 def _parsed(line: bytes) -> dict[str, Any]:
     """The document of a line; of what is none the program is no bsonfind."""
     try:
@@ -76,8 +83,11 @@ class Texts(Generic[T]):
         """The next document."""
         try:
             document = self._document_of(self._texts[self.given])
-        except Exception:
+        except Exception as error:
             self._pass_one()
+            if isinstance(error, (StopIteration, StopAsyncIteration)):
+                # Whoever iterates would take it for the end of the answer.
+                raise RuntimeError(f"decode raised {type(error).__name__}") from error
             raise
         self._pass_one()
         return document

@@ -58,11 +58,11 @@ def dump_of(path: File) -> Dump:
     if name.startswith(_DESCRIPTORS):
         return Dump(path=name)
     try:
-        os.fsencode(name).decode("utf-8")
+        word = os.fsencode(name).decode("utf-8")
     except UnicodeDecodeError:
         return Dump(path=name)
     # A name that begins with a hyphen would be an option.
-    return Dump(os.path.join(os.curdir, name) if name.startswith("-") else name)
+    return Dump(os.path.join(os.curdir, word) if word.startswith("-") else word)
 
 
 class Member(NamedTuple):

@@ -3,9 +3,10 @@
 from __future__ import annotations
 
 import sys
-from dataclasses import dataclass
+from dataclasses import dataclass, replace
 from typing import Sequence
 
+from . import _messages
 from ._codes import read_query
 from ._console import Console
 from ._dumps import dump_of
@@ -52,8 +53,15 @@ class Finding:
             console.problem(str(error))
             return False
         except CommandError as error:
-            raise _Refused(_refusal(error)) from None
+            raise _Refused((error.layer == "json" and self._refused_sort(program)) or _refusal(error)) from None
         return True
+
+    def _refused_sort(self, program: str) -> str | None:
+        """What the program says of the sort, where it refuses that."""
+        with Run([program, "find", "-", *replace(self.request, filter="{}").words()]) as run:
+            run.wait()
+            told = _messages.error_line(run.messages())
+        return told if told and told.startswith("sort: ") else None
 
     def _print_own(self, path: str, program: str) -> bool:
         """Has the program print; False where it refuses the dump for a double or a decimal128."""

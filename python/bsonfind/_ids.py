@@ -6,6 +6,7 @@ import json
 import re
 from decimal import Decimal
 from fractions import Fraction
+from operator import itemgetter
 from typing import Any, Callable, Iterator
 
 from . import _steps
@@ -25,6 +26,8 @@ from ._wide import is_wide
 _AT_ONCE = 1000
 _OID = re.compile(r"[0-9a-fA-F]{24}")
 _WHOLE = re.compile(r"-?[0-9]+")
+# Names of values whose parts may stand in any order: in an object of their own, or beside one another.
+_PARTS, _CODE = ("$binary", "$timestamp", "$regularExpression", "$dbPointer"), ("$code", "$scope")
 
 
 class IdError(BsonfindError):
@@ -85,22 +88,30 @@ def _request(texts: list[str]) -> Request:
 
 
 def _key(text: str) -> str:
-    """What ids that are equal have in common: numbers of one value are equal, whatever their types, and so are a text and a symbol."""
-    return json.dumps(json.loads(text, object_hook=_plain, parse_int=_number, parse_float=_number))
+    """What ids that are equal have in common, and no others: numbers of one value are equal, whatever their types, and so are a text
+    and a symbol."""
+    return json.dumps(json.loads(text, object_pairs_hook=_value_of, parse_int=_number, parse_float=_number))
 
 
-def _plain(value: dict[str, Any]) -> Any:
-    if len(value) == 1:
-        ((name, inner),) = value.items()
-        if not isinstance(inner, str):
-            return value
+def _value_of(pairs: list[tuple[str, Any]]) -> Any:
+    """What the fields of an object come to: a number, a text, a document of all its fields, or another value in a form of its own."""
+    name, inner = pairs[0] if pairs else ("", None)
+    if len(pairs) == 1 and isinstance(inner, str):
         if name == "$symbol":
             return inner
-        if name in ("$numberInt", "$numberLong", "$numberDouble"):
-            return _number(inner)
-        if name == "$numberDecimal":
-            return _exact(Decimal(inner))
-    return value
+        if name == "$oid":
+            return {name: inner.lower()}
+        try:
+            if name in ("$numberInt", "$numberLong", "$numberDouble"):
+                return _number(inner)
+            if name == "$numberDecimal":
+                return _exact(Decimal(inner))
+        except (ValueError, ArithmeticError):
+            pass  # No number, which the program refuses in a query.
+    if name in _PARTS and isinstance(inner, dict) and "document" in inner:
+        parts = ((part, it.lower().zfill(2) if part == "subType" and isinstance(it, str) else it) for part, it in inner["document"])
+        pairs = [(name, sorted(parts, key=itemgetter(0))), *pairs[1:]]
+    return {"document": sorted(pairs, key=itemgetter(0)) if name in _CODE else pairs}
 
 
 def _number(text: str) -> Any:
@@ -109,7 +120,7 @@ def _number(text: str) -> Any:
 
 
 def _exact(value: Decimal) -> Any:
-    return ["number", str(Fraction(value) if value.is_finite() else value)]
+    return {"number": "%x/%x" % Fraction(value).as_integer_ratio() if value.is_finite() else str(value)}
 
 
 def find_ids(path: str, ids: Ids, program: str, take: Callable[[list[bytes]], None]) -> list[str]:

@@ -20,7 +20,7 @@ from typing import Any, Callable, Iterable, Iterator, Literal, NamedTuple, Seque
 
 from . import _steps
 from ._connections import Connection
-from ._decoding import Decode, Dicts, decoder, refuse_bson
+from ._decoding import Decode, Dicts, Texts, decoder, refuse_bson, with_uuids
 from ._dumps import Dump
 from ._errors import ArgumentError, BsonfindError, DumpError, PartError, ProgramError
 from ._faults import Fault, faults_of, finish_check
@@ -31,6 +31,7 @@ from ._plain import plain_pieces
 from ._processes import Group, Run
 from ._requests import Filter, Request, Sort, seconds, whole
 from ._sources import Input
+from ._values import Uuids
 from ._wide import WIDE, Filtered, is_wide
 
 T = TypeVar("T")
@@ -48,18 +49,20 @@ class Check(NamedTuple):
 @overload
 def find_parts(
     parts: Sequence[Part], filter: Filter | None = None, *, sort: Sort | None = None, skip: int = 0, limit: int = 0,
-    workers: int = 1, map: Map | None = None, decode: Dicts = "dict", program: str = "bsonfind", timeout: float | None = None,
+    workers: int = 1, map: Map | None = None, decode: Dicts = "dict", uuid_representation: Uuids = "standard",
+    program: str = "bsonfind", timeout: float | None = None,
 ) -> list[dict[str, Any]]: ...
 @overload
 def find_parts(
     parts: Sequence[Part], filter: Filter | None = None, *, sort: Sort | None = None, skip: int = 0, limit: int = 0,
-    workers: int = 1, map: Map | None = None, decode: Literal["bytes"], program: str = "bsonfind", timeout: float | None = None,
+    workers: int = 1, map: Map | None = None, decode: Literal["bytes"], uuid_representation: Uuids = "standard",
+    program: str = "bsonfind", timeout: float | None = None,
 ) -> list[bytes]: ...
 @overload
 def find_parts(
     parts: Sequence[Part], filter: Filter | None = None, *, sort: Sort | None = None, skip: int = 0, limit: int = 0,
-    workers: int = 1, map: Map | None = None, decode: Callable[[bytes], T], program: str = "bsonfind",
-    timeout: float | None = None,
+    workers: int = 1, map: Map | None = None, decode: Callable[[bytes], T], uuid_representation: Uuids = "standard",
+    program: str = "bsonfind", timeout: float | None = None,
 ) -> list[T]: ...
 # fmt: on
 def find_parts(
@@ -72,6 +75,7 @@ def find_parts(
     workers: int = 1,
     map: Map | None = None,
     decode: Decode[Any] = "dict",
+    uuid_representation: Uuids = "standard",
     program: str = "bsonfind",
     timeout: float | None = None,
 ) -> list[Any]:
@@ -81,13 +85,14 @@ def find_parts(
     `PartError`, and at once ends the others that run in this process; so does a `timeout`, in seconds, for all of it.
     """
     refuse_bson(decode)
-    document_of = decoder(decode)
-    request = Request.of(filter, sort, skip, limit)
+    document_of = decoder(with_uuids(decode, uuid_representation))
+    request = Request.of(filter, sort, skip, limit, uuid_representation)
     with _Asking(program, workers, map, timeout) as asking:
         asking.try_request(request)
         packed = asking.each(parts, partial(_packed_answer, request.of_part(), program))
         lines = _joined_answer(packed, request, program, asking.group)
-    return [document_of(line) for line in lines]
+    texts = Texts(lines, document_of)
+    return [texts.give() for _ in lines]
 
 
 def count_parts(
@@ -96,11 +101,12 @@ def count_parts(
     *,
     workers: int = 1,
     map: Map | None = None,
+    uuid_representation: Uuids = "standard",
     program: str = "bsonfind",
     timeout: float | None = None,
 ) -> int:
     """How many documents of the parts match a filter."""
-    request = Request.of(filter)
+    request = Request.of(filter, uuids=uuid_representation)
     with _Asking(program, workers, map, timeout) as asking:
         asking.try_request(request)
         return sum(asking.each(parts, partial(_count, request, program)))

@@ -24,6 +24,7 @@ from array import array
 from contextlib import ExitStack, contextmanager
 from dataclasses import asdict, dataclass, field, replace
 from itertools import islice
+from pathlib import Path
 from typing import Any, BinaryIO, Callable, ContextManager, Iterable, Iterator, NamedTuple, Sequence, TypeVar
 
 from . import _framing, _steps
@@ -31,7 +32,7 @@ from ._codes import Probe, Query, Value, level_after, number_in, read_json, read
 from ._connections import Connection
 from ._decoding import Decode, Texts, decoder
 from ._dumps import Dump, File, dump_of, file_of, is_packed, name_of, opened, pieces_of, refuse_archive, unpacked
-from ._errors import CancelledError, CommandError, DumpError, ProgramError
+from ._errors import ArgumentError, CancelledError, CommandError, DumpError, ProgramError
 from ._hiding import hide
 from ._lines import Batches, Lines, lines_of
 from ._messages import error_of
@@ -718,6 +719,7 @@ def prepare(path: File, copy: File, *, program: str = "bsonfind") -> list[str]:
     """
     names = [name_of(copy), f"{name_of(copy)}{_ABOUT}"]
     refuse_names(name_of(path), *names)
+    _refuse_other(names[1])
     refuse_archive(name_of(path))
     before, codes = _state_of(path), Codes()
     original = Original.of(path)
@@ -740,6 +742,19 @@ def prepare(path: File, copy: File, *, program: str = "bsonfind") -> list[str]:
     finally:
         original.close()
     return [word_of(it, level) for it, level in sorted(codes.levels.items())]
+
+
+def _refuse_other(name: str) -> None:
+    """Refuses a file that is there and describes no copy: it would be replaced."""
+    if not os.path.lexists(name):
+        return
+    try:
+        # What is longer than any description is not read.
+        about = json.loads(Path(name).read_bytes()) if os.path.isfile(name) and os.path.getsize(name) < _PIECE << 4 else {}
+    except (OSError, ValueError, RecursionError):
+        about = {}
+    if not (isinstance(about, dict) and {"dump", "copy", "levels"} <= about.keys()):
+        raise ArgumentError(f"{name} is there, and describes no copy: give the copy another name")
 
 
 def codes_of_copy(path: File | None, copy: File) -> Codes:

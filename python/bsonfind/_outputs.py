@@ -9,14 +9,22 @@ import stat
 from ._dumps import file_of
 from ._errors import ArgumentError, FileError
 
+# What a file system says that has no second names of files.
+_NO_LINKS = (errno.EPERM, errno.EOPNOTSUPP, errno.ENOSYS)
+
 
 def refuse_names(dump: str, good: str, bad: str) -> None:
     """Refuses files that are the dump, or one another, by whatever names."""
     for name in (good, bad):
-        if is_same(name, file_of(dump)):
+        if _is_dump(name, dump):
             raise ArgumentError(f"{name} is the dump")
     if is_same(good, bad) and not (os.path.exists(good) and stat.S_ISCHR(os.stat(good).st_mode)):
         raise ArgumentError(f"{good} is named twice")
+
+
+def _is_dump(name: str, dump: str) -> bool:
+    """Whether a name is that of the dump, which for `-` is the file that standard input has open."""
+    return os.path.exists(name) and os.path.samefile(name, 0) if dump == "-" else is_same(name, file_of(dump))
 
 
 def is_same(one: str, other: str) -> bool:
@@ -110,12 +118,26 @@ class NewOutput(Output):
         self._file.close()
 
     def put_in_place(self) -> None:
-        """Gives the file its name."""
-        refuse_there(self._path)
-        super().put_in_place()
+        """Gives the file its name, unless something has it by now."""
+        try:
+            self._rename()
+        except OSError as error:
+            raise self._named(error) from None
+        self._beside = self._path = self.name
+
+    def _rename(self) -> None:
+        try:
+            os.link(self._beside, self.name)
+        except OSError as error:
+            if error.errno not in _NO_LINKS:
+                raise
+            refuse_there(self.name)
+            os.rename(self._beside, self.name)
+        else:
+            os.unlink(self._beside)
 
     def keep(self) -> None:
-        """Leaves the file the name that it has."""
+        """Leaves the file the name that it has, unless it gets its own."""
         self._path = self._beside
 
 

@@ -34,6 +34,10 @@ class Printing:
             else:
                 yield from self._of_pieces(source.pieces())
 
+    def of_pieces(self, pieces: Iterable[bytes]) -> Batches:
+        """The lines of some bytes, as they come."""
+        return self._of_pieces(pieces)
+
     def _of_file(self, path: str) -> Batches:
         """Those of one run over a file; from the first document on that this refuses for a double or a decimal128 by others."""
         try:

@@ -32,12 +32,12 @@ class Group:
         self.error: BsonfindError | None = None
 
     def start(self, words: Sequence[str], **streams: Any) -> subprocess.Popen[bytes]:
-        """Starts a program."""
+        """Starts a program. What follows its name is UTF-8 in every locale."""
         with self._lock:
             if self.is_ended:
                 raise self.error or ProgramError("not started: what it is for was ended")
             try:
-                process = subprocess.Popen(words, **streams)
+                process = subprocess.Popen([words[0], *(it.encode() for it in words[1:])], **streams)
             except (OSError, TypeError, ValueError) as error:
                 raise start_error(words[0], error) from error
             self._processes.add(process)

@@ -7,10 +7,11 @@ import math
 import operator
 import threading
 from dataclasses import dataclass, replace
+from functools import partial
 from typing import Any, Iterable, Mapping, Sequence, Union
 
 from ._errors import ArgumentError
-from ._values import extended
+from ._values import Uuids, extended, uuids_of
 
 Filter = Mapping[str, Any]
 Sort = Union[Mapping[str, int], Sequence["tuple[str, int]"]]
@@ -52,20 +53,20 @@ def _named(value: Any) -> Any:
     return [_named(it) for it in value] if isinstance(value, (list, tuple)) else value
 
 
-def _json(value: Any) -> str:
-    return json.dumps(value, separators=(",", ":"), default=extended, allow_nan=False)
+def _json(value: Any, uuids: Uuids) -> str:
+    return json.dumps(value, separators=(",", ":"), default=partial(extended, uuids=uuids), allow_nan=False)
 
 
-def text_of(value: Any) -> str:
-    """The JSON of a value. An `ObjectId`, a date, bytes, and by pymongo its own types, are written in canonical form, and so is
-    a float that is no number of JSON."""
+def text_of(value: Any, uuids: Uuids = "standard") -> str:
+    """The JSON of a value. An `ObjectId`, a date, bytes, a UUID, and by pymongo its own types, are written in canonical form, and so
+    is a float that is no number of JSON."""
     try:
         try:
-            return _json(value)
+            return _json(value, uuids)
         except ValueError as error:
             if "JSON compliant" not in str(error):
                 raise
-            return _json(_named(value))
+            return _json(_named(value), uuids)
     except (TypeError, ValueError, OverflowError, RecursionError) as error:
         raise ArgumentError(str(error)) from None
 
@@ -95,12 +96,15 @@ class Request:
     limit: int = 0
 
     @classmethod
-    def of(cls, filter: Filter | None = None, sort: Sort | None = None, skip: int = 0, limit: int = 0) -> Request:
+    def of(
+        cls, filter: Filter | None = None, sort: Sort | None = None, skip: int = 0, limit: int = 0, uuids: Uuids = "standard"
+    ) -> Request:
         """The request for what pymongo's `Collection.find` is asked by."""
         if not (filter is None or isinstance(filter, Mapping)):
             raise ArgumentError(f'filter is a mapping such as {{"age": 7}}, not {filter!r}')
         sort_text = text_of_pairs((path, text_of(way)) for path, way in _pairs_of(sort))
-        return cls(text_of({} if filter is None else filter), sort_text, whole("skip", skip), whole("limit", limit))
+        filter_text = text_of({} if filter is None else filter, uuids_of(uuids))
+        return cls(filter_text, sort_text, whole("skip", skip), whole("limit", limit))
 
     def of_part(self) -> Request:
         """What each part is asked, so that the documents of the answer are among those of the parts."""

@@ -7,11 +7,12 @@ from typing import Any, Callable, Iterator, Literal, TypeVar, overload
 
 from . import _steps
 from ._connections import Connection
-from ._decoding import Decode, Dicts
+from ._decoding import Decode, Dicts, with_uuids
 from ._dumps import File
 from ._ordered import Questions
 from ._requests import Filter, Request, Sort
 from ._steps import Hint, Reading, Use, use_of
+from ._values import Uuids, uuids_of
 
 T = TypeVar("T")
 
@@ -27,9 +28,16 @@ class Session:
     """
 
     def __init__(
-        self, path: File, program: str = "bsonfind", *, timeout: float | None = None, copy: File | None = None
+        self,
+        path: File,
+        program: str = "bsonfind",
+        *,
+        timeout: float | None = None,
+        copy: File | None = None,
+        uuid_representation: Uuids = "standard",
     ) -> None:
-        """Opens a dump, of which a `copy` by `prepare` may be given."""
+        """Opens a dump, of which a `copy` by `prepare` may be given. UUIDs are those of `find`."""
+        self._uuids = uuids_of(uuid_representation)
         self._questions = Questions(path, program, timeout, copy)
 
     # fmt: off
@@ -68,7 +76,8 @@ class Session:
         or {"index": PATH}. `hint` says the same as pymongo does: the path of an index, [(PATH, 1)], or {"$natural": 1} for a
         scan.
         """
-        asked = self._questions.asked(Request.of(filter, sort, skip, limit), is_bson=decode == "bson")
+        decode = with_uuids(decode, self._uuids)
+        asked = self._questions.asked(Request.of(filter, sort, skip, limit, self._uuids), is_bson=decode == "bson")
         reading = Reading(asked.request, use_of(use, hint), batch_size, after, decode, asked.documents_of(decode))
         with asked.places():
             return Cursor(asked.connection, reading)
@@ -106,7 +115,7 @@ class Session:
 
     def count_documents(self, filter: Filter | None = None) -> int:
         """How many documents match."""
-        return self._questions.do(_steps.count, Request.of(filter))
+        return self._questions.do(_steps.count, Request.of(filter, uuids=self._uuids))
 
     def create_index(self, path: str, sparse: bool = False) -> dict[str, Any]:
         """Makes an index on a path: how many `entries` it has, and whether a document has more than one (`multikey`)."""
@@ -127,7 +136,8 @@ class Session:
         hint: Hint | None = None,
     ) -> dict[str, Any]:
         """How an answer is found: the `plan`, the path of the `index`, and how many `entries`, `documents` and `matches`."""
-        return self._questions.do(_steps.explain, Request.of(filter, sort, skip, limit), use_of(use, hint))
+        request = Request.of(filter, sort, skip, limit, self._uuids)
+        return self._questions.do(_steps.explain, request, use_of(use, hint))
 
     def cancel(self) -> None:
         """Ends the session at once, from any thread: a call that waits for a reply gets a `CancelledError`."""

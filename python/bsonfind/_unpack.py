@@ -24,8 +24,8 @@ _METADATA = ".metadata.json", ".metadata.part"
 class Collection:
     """A collection of an archive: where its documents and its metadata were written, and how many documents and bytes these are.
 
-    One that is not whole has an `error`, and its file a name that ends in `.part`. What was not written is None, such as the file
-    of a view, which has metadata alone.
+    One that is not whole has an `error`, and its file a name that ends in `.part`. So does one that is whole, but whose name something
+    else has by now. What was not written is None, such as the file of a view, which has metadata alone.
     """
 
     name: str
@@ -60,7 +60,7 @@ def unpack(
 
     The archive is read once; `-` is standard input. It may be one by `--gzip`. The end of each collection is checked, and its
     CRC-64 unless `with_crc` is false. Files get their names at the end, when all was read. One of a collection that is not whole
-    keeps the ending `.part`. Nothing that is there is replaced. `say` gets what the command prints of each collection.
+    keeps the ending `.part`. Nothing that is there is replaced. `say` gets what the command prints of each collection, at the end.
 
     What is no archive is a `DumpError`, and so is one whose list of collections is damaged. A file that is there, or that cannot be
     written, is a `FileError`. Then nothing is left behind.
@@ -76,10 +76,11 @@ def unpack(
             work.write_all()
         except DumpError as error:
             raise DumpError(f"{name}: {error}", error.fault) from error
+        done = work.finish()
         if say:
             for line in work.lines():
                 say(line)
-        return work.finish()
+        return done
 
 
 class _Unpacking:
@@ -88,9 +89,10 @@ class _Unpacking:
     def __init__(self, archive: Archive, directory: str, stack: ExitStack) -> None:
         self._archive, self._directory, self._stack = archive, directory, stack
         self._collections: dict[Namespace, Collection] = {}
-        # The files of documents, and all files that are whole.
+        # The files of documents and of metadata, and those of them that are whole.
         self._files: dict[Namespace, NewOutput] = {}
-        self._whole: list[NewOutput] = []
+        self._metadata: dict[Namespace, NewOutput] = {}
+        self._whole: list[tuple[NewOutput, Collection]] = []
         self._error: str | None = None
 
     def write_all(self) -> None:
@@ -122,11 +124,10 @@ class _Unpacking:
     def _write_metadata(self, listed: Listed) -> None:
         collection = self._collection(listed.namespace)
         if listed.metadata:
-            file = self._new(listed.namespace, _METADATA)
+            self._metadata[listed.namespace] = file = self._new(listed.namespace, _METADATA)
             file.write(listed.metadata.encode())
             file.complete()
-            self._whole.append(file)
-            collection.metadata = file.name
+            self._whole.append((file, collection))
 
     def _end(self, end: End) -> None:
         file = self._file(end.namespace)
@@ -134,8 +135,7 @@ class _Unpacking:
         if end.error:
             self._collection(end.namespace).error = end.error
         else:
-            self._whole.append(file)
-            self._collection(end.namespace).path = file.name
+            self._whole.append((file, self._collection(end.namespace)))
 
     def _collection(self, namespace: Namespace) -> Collection:
         return self._collections.setdefault(namespace, Collection(str(namespace)))
@@ -143,8 +143,8 @@ class _Unpacking:
     def _file(self, namespace: Namespace) -> NewOutput:
         """The file of the documents of a collection."""
         if namespace not in self._files:
-            self._files[namespace] = file = self._new(namespace, _DOCUMENTS)
-            self._collection(namespace).path = file.path
+            self._files[namespace] = self._new(namespace, _DOCUMENTS)
+            self._collection(namespace)
         return self._files[namespace]
 
     def _name(self, namespace: Namespace) -> str:
@@ -176,11 +176,20 @@ class _Unpacking:
                 yield f"{it.name}: {error}no documents"
 
     def finish(self) -> Unpacked:
-        """Gives all files that are whole their names, and leaves the others."""
-        for file in self._whole:
-            file.put_in_place()
-        for file in self._files.values():
+        """Gives all files that are whole their names, and leaves the others: from here on none is deleted.
+
+        A name that something else has by now is noted, and the file keeps the one that it has.
+        """
+        for file in (*self._files.values(), *self._metadata.values()):
             file.keep()
+        for file, collection in self._whole:
+            try:
+                file.put_in_place()
+            except FileError as error:
+                collection.error = collection.error or str(error)
+        for namespace, collection in self._collections.items():
+            collection.path = self._files[namespace].path if namespace in self._files else None
+            collection.metadata = self._metadata[namespace].path if namespace in self._metadata else None
         return Unpacked(list(self._collections.values()), self._error)
 
 

@@ -15,8 +15,8 @@ class Answers(Room):
         self.assertEqual(list(find(PEOPLE, decode="bytes", program=PROGRAM)), PEOPLE_LINES)
         self.assertEqual(list(find(str(PEOPLE), limit=3, program=PROGRAM)), list(map(json.loads, PEOPLE_LINES[:3])))
 
-    def test_batches_and_tokens(self) -> None:
-        first = find(PEOPLE, OLD, sort={"name": 1}, batch_size=5, index="age", decode="bytes", program=PROGRAM)
+    def test_pages_and_tokens(self) -> None:
+        first = find(PEOPLE, OLD, sort={"name": 1}, page=5, index="age", decode="bytes", program=PROGRAM)
         self.assertEqual((first.token, first.end), (None, False))
         given = list(first)
         self.assertFalse(first.end)
@@ -49,7 +49,7 @@ class Answers(Room):
             self.assertEqual((error.layer, error.number, error.text, error.place), wanted)
 
     def test_token_of_another_request(self) -> None:
-        answer = find(PEOPLE, OLD, batch_size=1, program=PROGRAM)
+        answer = find(PEOPLE, OLD, page=1, program=PROGRAM)
         list(answer)
         with self.assertRaises(CommandError) as raised:
             list(find(PEOPLE, after=answer.token, program=PROGRAM))

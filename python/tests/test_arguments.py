@@ -42,7 +42,7 @@ NUMBERS = [-1, "1", 1.5, None, 1 << 63]
 BAD: Dict[str, List[Any]] = {
     **dict.fromkeys(("path", "good", "bad", "archive", "directory"), NAMES),
     **dict.fromkeys(("skip", "limit", "offset", "length", "first"), NUMBERS),
-    **dict.fromkeys(("batch_size", "jobs"), [-1, "1", 1.5, 1 << 63]),
+    **dict.fromkeys(("page", "batch_size", "jobs"), [-1, "1", 1.5, 1 << 63]),
     **dict.fromkeys(("workers", "most"), [0, *NUMBERS]),
     **dict.fromkeys(("say", "progress", "map"), [5]),
     "copy": [5, "a\0b", "\ud800"],
@@ -57,6 +57,7 @@ BAD: Dict[str, List[Any]] = {
     "program": [5, None, "a\0b"],
     "timeout": [-1, "1", float("nan"), float("inf")],
     "use": [object(), "name", {"age": 1}],
+    "uuid_representation": [5, None, [], "unspecified", "STANDARD"],
     "hint": [5, {}, [("age",)], ["age", "name"], {"age": 1, "name": 1}, {"$natural": -1}],
     "parts": [5, None, [5], "ab", Part(str(PEOPLE), 0, 5, 0)],
     **dict.fromkeys(("sparse", "with_crc"), [object(), "yes"]),

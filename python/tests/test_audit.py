@@ -5,6 +5,7 @@ import gzip
 import hashlib
 import json
 import os
+import shutil
 import socket
 import subprocess
 import sys
@@ -15,7 +16,8 @@ from bsonfind import BsonfindError
 from bsonfind._audit import audit
 from bsonfind._console import progress_of
 
-from .support import DAMAGED, DOUBLE, PEOPLE, PROGRAM, SHOP, Room, environment, run_package
+from .archives import archive
+from .support import DAMAGED, DOUBLE, PATIENCE, PEOPLE, PROGRAM, ROOT, SHOP, Room, environment, run_package
 
 LOG = """\
 2026-11-25T10:00:00.000+0000\twriting shop.orders to backup/shop/orders.bson
@@ -103,6 +105,26 @@ class Audits(Room):
         (report,) = json.loads(line)["files"]
         self.assertEqual((report["documents"], report["doubles_or_decimal128"], report["faulty"]), (3, 3, 0))
 
+    def test_every_night(self) -> None:
+        """The script of the guide prints nothing of a good backup, and of another one nothing of its good files."""
+        guide = (ROOT / "docs/GUIDE.md").read_text(encoding="utf-8")
+        script = guide.partition("This is `nightly.sh`:\n\n")[2].partition("\n\n")[0]
+        path = self.file("".join(line[4:] + "\n" for line in script.split("\n")).encode(), "nightly.sh")
+        self.collection(DOUBLE * 12, "prices")
+        log = self.file(f"{LOG}done dumping club.prices (12 documents)\n".encode(), "log")
+        command = ["bash", str(path), str(log), self.backup]
+        run = subprocess.run(command, env=environment(), capture_output=True, text=True, timeout=PATIENCE)
+        self.assertEqual((run.returncode, run.stdout, run.stderr), (0, "", ""))
+        bad = self.collection(DOUBLE * 2 + DAMAGED, "bad")
+        run = subprocess.run(command, env=environment(), capture_output=True, text=True, timeout=PATIENCE)
+        lines = [
+            f"ALARM: status 1 for {self.backup}",
+            f'{bad}: document 2, byte 39, path "d": bad boolean',
+            f"{bad}: 3 documents, 1 faulty, 2 with doubles or decimal128",
+            f"{bad}: not in the log",
+        ]
+        self.assertEqual((run.returncode, run.stderr, run.stdout.splitlines()[:4]), (1, "", lines))
+
     def test_most_faults_of_a_file(self) -> None:
         data = bytearray(SHOP.read_bytes())
         at, bad = 0, []
@@ -133,20 +155,134 @@ class Audits(Room):
         self.audit("--list", str(names), status=2, told=told)
 
     def test_files_that_are_named_twice(self) -> None:
-        """By other spellings, a link or a second name."""
-        one, two = self.room / "one.bson", self.room / "two.bson"
-        one.symlink_to(self.orders)
-        os.link(self.orders, two)
-        words = self.orders, self.backup, f"{self.backup}/../backup/shop/orders.bson", f"{self.backup}/shop", one, two
-        lines = self.audit(*map(str, words), status=0)
+        """By other spellings, or below a link to a directory."""
+        (self.room / "latest").symlink_to(self.backup)
+        spelled = f"{self.backup}/../backup/shop/orders.bson", f"{self.backup}/shop", f"{self.room}/latest/", f"{self.room}/latest/shop"
+        lines = self.audit(str(self.orders), self.backup, *spelled, status=0)
         self.assertEqual(lines[2:], self.table(("files", 2), ("documents", 900), ("faulty", 0)))
+        none = str(self.room / "none.bson")
+        self.assertEqual(self.audit(none, none, status=2)[0], f"{none}: No such file or directory")
+        self.assertEqual(len(self.audit(none, none, status=2)), 5)
+
+    def test_collections_that_share_a_file(self) -> None:
+        """Each name, of a hard link or a link, is a collection, with its own metadata and count; the bytes are read once."""
+        shop = self.room / "backup/shop"
+        os.link(self.orders, shop / "a.bson")
+        (shop / "z.bson").symlink_to("orders.bson")
+        os.link(self.people, self.room / "backup/club/twin.bson.gz")
+        self.file(b"{}", "backup/shop/z.metadata.json")
+        self.file(b"{}", "backup/club/twin.metadata.json")
+        counts = ("shop.a", 401), ("shop.z", 400), ("club.twin", 499)
+        log = self.file((LOG + "".join(f"done dumping {name} ({count} documents)\n" for name, count in counts)).encode(), "log")
+        lines = self.audit(self.backup, "--expect", str(log), "--program", self.counting(), status=1)
+        wanted = [f"{shop}/{name}.bson: 400 documents, 0 faulty" for name in ("a", "orders", "z")]
+        wanted += [f"{self.room}/backup/club/{name}.bson.gz: 500 documents, 0 faulty" for name in ("people", "twin")]
+        wanted += [f"{shop}/a.bson: metadata: no a.metadata.json beside it"]
+        self.assertEqual(sorted(lines[:6]), sorted(wanted))
+        miscounted = [f"{self.room}/backup/club/twin.bson.gz: 500 documents in place of 499", f"{shop}/a.bson: 400 documents in place of 401"]
+        self.assertEqual(lines[6:8], miscounted)
+        rows = ("files", 5), ("documents", 2200), ("faulty", 0), ("other counts than expected", 2), ("without metadata", 1)
+        self.assertEqual(lines[8:], self.table(*rows))
+        self.assertEqual(len(self.starts()), 1 + 2)
+        # The faults of a file are those of each of its names.
+        self.orders.write_bytes(SHOP.read_bytes() + DAMAGED)
+        (line,) = self.audit(str(shop), "--json", status=1)
+        self.assertEqual([(it["documents"], it["faulty"], len(it["faults"])) for it in json.loads(line)["files"]], [(401, 1, 1)] * 3)
+
+    def test_archives_that_share_a_file(self) -> None:
+        data = archive([("club", "people", PEOPLE.read_bytes()), ("shop", "orders", SHOP.read_bytes())])
+        one, two = self.file(data, "one.archive"), self.room / "two.archive"
+        two.symlink_to(one)
+        lines = self.audit(str(two), str(one), f"{two}::shop.orders", f"{one}::shop.orders", status=0)
+        found = [f"{it}::{name} documents, 0 faulty" for it in (two, one) for name in ("club.people: 500", "shop.orders: 400")]
+        found += [f"{it}::shop.orders: 400 documents, 0 faulty" for it in (two, one)]
+        self.assertEqual(sorted(lines[:6]), sorted(found))
+        self.assertEqual(lines[6:8], self.table(("files", 6), ("documents", 2600)))
+
+    def test_directories_without_dumps(self) -> None:
+        """Each is reported, but for one with views alone."""
+        for name in ("none", "deep/empty", "club/inside"):
+            (self.room / "backup" / name).mkdir(parents=True)
+        self.file(b'{"type":"view"}', "backup/seen/view.metadata.json")
+        self.file(b"5", "backup/notes/readme.txt")
+        lines = self.audit(self.backup, status=2)
+        for name in ("none", "deep/empty", "club/inside", "notes"):
+            self.assertIn(f"{self.backup}/{name}: no dump is below this directory", lines)
+        self.assertEqual(lines[-4:], self.table(("files", 6), ("documents", 900), ("faulty", 0), ("not read", 4)))
+
+    def test_archives_below_a_directory(self) -> None:
+        """They are checked: known by their first bytes, or by their names where these are lost."""
+        data = archive([("club", "people", PEOPLE.read_bytes())])
+        whole, packed = self.file(data, "all/of.it"), self.file(gzip.compress(data), "all/packed.archive.gz")
+        lines = self.audit(str(self.room / "all"), status=0)
+        self.assertEqual(sorted(lines[:2]), [f"{it}::club.people: 500 documents, 0 faulty" for it in (whole, packed)])
+        cut = self.file(data[:50_000], "all/night.archive")
+        empty, other = self.file(b"", "all/empty.archive"), self.file(PEOPLE.read_bytes(), "all/other.archive.gz")
+        lines = self.audit(str(self.room / "all"), status=1)
+        self.assertIn(f"{cut}: byte 50000: the archive ends inside a block", lines)
+        for path in (empty, other):
+            self.assertIn(f"{path}: no archive, by its first bytes", lines)
+        run = run_package("query", str(self.room / "all"))
+        self.assertEqual((run.returncode, run.stdout), (2, ""))
+        self.assertIn(f"bsonfind: {whole}: an archive: name one of its collections", run.stderr)
+
+    def test_copies_in_place_of_dumps(self) -> None:
+        """With the log, a dump of another backup inside of this one stands for none, nor does a second one of a collection."""
+        log = self.file(LOG.encode(), "log")
+        old = self.room / "backup/old/shop/orders.bson"
+        old.parent.mkdir(parents=True)
+        self.orders.rename(old)
+        (self.room / "backup/shop/orders.metadata.json.gz").rename(old.parent / "orders.metadata.json.gz")
+        (self.room / "backup/shop").rmdir()
+        deeper = f"{old}: in a directory below that of the other dumps, so it stands for none of them"
+        lines = self.audit(self.backup, "--expect", str(log), status=1)
+        self.assertEqual(lines[2:4], [deeper, "shop.orders: missing, with 400 documents"])
+        rows = ("files", 2), ("documents", 900), ("faulty", 0), ("other copies", 1), ("missing", 1)
+        self.assertEqual(lines[4:], self.table(*rows))
+        (line,) = self.audit(self.backup, "--json", "--expect", str(log), status=1)
+        found = json.loads(line)
+        self.assertEqual((found["copies"], found["missing"]), ([str(old)], {"shop.orders": 400}))
+        self.audit(self.backup, status=0)
+        # Two backups beside one another, and files that are named.
+        self.orders.parent.mkdir()
+        old.rename(self.orders)
+        (old.parent / "orders.metadata.json.gz").rename(self.room / "backup/shop/orders.metadata.json.gz")
+        shutil.rmtree(self.room / "backup/old")
+        shutil.copytree(self.backup, self.room / "both/mon")
+        shutil.copytree(self.backup, self.room / "both/tue")
+        lines = self.audit(str(self.room / "both"), "--expect", str(log), status=1)
+        mon, tue = (f"{self.room}/both/{day}" for day in ("mon", "tue"))
+        twice = [f"{tue}/{name}: {it} is in {mon}/{name} too" for name, it in (("club/people.bson.gz", "club.people"), ("shop/orders.bson", "shop.orders"))]
+        self.assertEqual(lines[4:6], twice)
+        self.audit(f"{mon}/shop", f"{tue}/club", "--expect", str(log), status=0)
+        # A file that the log does not name, above all the others.
+        stray = self.file(b"", "backup/stray.bson")
+        self.file(b"{}", "backup/stray.metadata.json")
+        lines = self.audit(self.backup, "--expect", str(log), status=1)
+        self.assertEqual(lines[3:4] + lines[-1:], [f"{stray}: not in the log", self.table(("not in the log", 1), ("documents", 0))[0]])
+        stray.unlink()
+        (self.room / "backup/stray.metadata.json").unlink()
+        # An archive beside the dumps, one beside no dumps, and an oplog that is deeper.
+        data = archive([("club", "people", PEOPLE.read_bytes()), ("shop", "orders", SHOP.read_bytes())])
+        night = self.file(data, "backup/night.archive")
+        lines = self.audit(self.backup, "--expect", str(log), status=1)
+        self.assertEqual(len([it for it in lines if it.startswith(f"{night}::") and "below that of the other dumps" in it]), 2)
+        self.audit(str(self.file(data, "alone/night.archive").parent), "--expect", str(log), status=0)
+        night.unlink()
+        self.file(b"", "backup/old/oplog.bson")
+        self.file(b"", "backup/old/shop/x.bson")
+        self.file(b"{}", "backup/old/shop/x.metadata.json")
+        log.write_text(f"{LOG}dumped 0 oplog entries\ndone dumping shop.x (0 documents)\n")
+        lines = self.audit(self.backup, "--expect", str(log), status=1)
+        self.assertIn("oplog: missing, with 0 documents", lines)
+        self.assertIn("shop.x: missing, with 0 documents", lines)
 
     def test_second_names_are_collections(self) -> None:
         """As a program leaves them that links equal files."""
         os.link(self.orders, self.room / "backup/shop/copies.bson")
         self.file(b"{}", "backup/shop/copies.metadata.json")
         log = self.file(f"{LOG}done dumping shop.copies (400 documents)\n".encode(), "log")
-        self.assertEqual(len(self.audit(self.backup, "--expect", str(log), status=0)), 5)
+        self.assertEqual(len(self.audit(self.backup, "--expect", str(log), status=0)), 6)
         log.write_text(LOG)
         lines = self.audit(self.backup, "--expect", str(log), status=1)
         self.assertIn(f"{self.backup}/shop/copies.bson: not in the log", lines)
@@ -186,7 +322,8 @@ class Audits(Room):
             ("shop/loop", "Too many levels of symbolic links"),
         ):
             self.assertIn(f"{self.backup}/{name}: {problem}", lines)
-        self.assertEqual(lines[-4:], self.table(("files", 8), ("documents", 900), ("faulty", 0), ("not read", 6)))
+        rows = ("files", 9), ("documents", 1300), ("faulty", 0), ("not read", 6), ("without metadata", 1)
+        self.assertEqual(lines[-5:], self.table(*rows))
         self.assertIn(f"{club}/linked/: no dump is below this directory", self.audit(f"{club}/linked/", status=2))
 
     def test_directory_that_cannot_be_read(self) -> None:
@@ -232,7 +369,8 @@ class Audits(Room):
         (self.room / "backup/club/folder.metadata.json").mkdir()
         half = self.file(b"", "backup/club/half.bson")
         self.file(gzip.compress(b"{}")[:-3], "backup/club/half.metadata.json.gz")
-        lines = self.audit(self.backup, status=1)
+        lines = self.audit(self.backup, status=2)
+        self.assertIn(f"{folder.parent}/folder.metadata.json: no dump is below this directory", lines)
         problems = [
             f"{folder}: metadata: folder.metadata.json: Is a directory",
             f"{gone}: metadata: no gone.metadata.json beside it",
@@ -242,7 +380,8 @@ class Audits(Room):
             f"{bare}: metadata: no bare.metadata.json beside it",
         ]
         self.assertEqual(sorted(line for line in lines if ": metadata: " in line), problems)
-        self.assertEqual(lines[-4:], self.table(("files", 10), ("documents", 900), ("faulty", 0), ("without metadata", 6)))
+        rows = ("files", 11), ("documents", 900), ("faulty", 0), ("not read", 1), ("without metadata", 6)
+        self.assertEqual(lines[-5:], self.table(*rows))
         self.audit(str(bare), status=0)  # A file by itself may have none.
 
     def test_file_larger_than_what_a_run_reads(self) -> None:
@@ -394,7 +533,7 @@ class Audits(Room):
         ]
         wanted = {
             "good": False, "files": files, "documents": 1174, "faulty": 1, "kinds": {"bad length": 1},
-            "miscounted": [str(self.people)], "untold": [cut], "missing": {},
+            "miscounted": [str(self.people)], "untold": [cut], "copies": [], "missing": {},
         }  # fmt: skip
         self.assertEqual(json.loads(line), wanted)
         (line,) = self.audit(str(self.orders), "--json", status=0)

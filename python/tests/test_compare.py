@@ -14,6 +14,7 @@ from bsonfind._fields import field_of, id_of
 from bsonfind._sorting import Sorter
 
 from .archives import archive
+from .bson import document, field, int32, text
 from .support import DAMAGED, PEOPLE, PEOPLE_LINES, PROGRAM, SHOP, SHOP_LINES, Room, packed, run_package
 
 Rows = Tuple[Tuple[str, int], ...]
@@ -121,6 +122,33 @@ class Compares(Room):
         self.assertEqual(found[:6], [f'changed {{"$numberInt":"{place}"}}' for place in range(6)])
         self.assertEqual(found[6:], self.rows(one, other, (6, 6), 0, 6, 0, 0))
 
+    def test_documents_like_values(self) -> None:
+        """A value, and a document that has the same text, are not the same, wherever they stand."""
+        double, like = field(1, "v", struct.pack("<d", 1.5)), document(field(2, "$numberDouble", text("1.5")))
+        oid, like_oid = field(7, "v", bytes(12)), document(field(2, "$oid", text("0" * 24)))
+        pairs = [(double, field(3, "v", like)), (oid, field(3, "v", like_oid))]
+        ids = [field(16, "_id", int32(number)) for number in range(4)]
+        one = [document(id_, value) for id_, (value, _) in zip(ids, pairs)]
+        two = [document(id_, other) for id_, (_, other) in zip(ids, pairs)]
+        # One and the same text, and as many bytes.
+        one += [document(ids[2], double, field(3, "w", like)), document(ids[3], double)]
+        two += [document(ids[2], field(3, "v", like), field(1, "w", struct.pack("<d", 1.5))), document(ids[3], double)]
+        names = [str(self.file(b"".join(it), name)) for it, name in ((one, "one.bson"), (two, "two.bson"))]
+        found = self.compared(*names, status=1)
+        self.assertEqual(found[:3], [f'changed {{"$numberInt":"{number}"}}' for number in range(3)])
+        self.assertEqual(found[3:], self.rows(*names, (4, 4), 1, 3, 0, 0))
+        for name in names:
+            self.assertEqual(self.compared(name, name, status=0), self.rows(name, name, (4, 4), 4, 0, 0, 0))
+
+    def test_pieces_of_any_size(self) -> None:
+        """Documents are told where they are cut by what is read at once, a long one among them."""
+        data = SHOP.read_bytes() + packed(['{"_id":1,"text":"%s"}' % ("x" * 3000)])
+        one, two = str(self.file(data, "one.bson")), str(self.file(data, "two.bson"))
+        for size in (7, 1000):
+            with mock.patch("bsonfind._sources._PIECE", size), mock.patch("bsonfind._wide._AT_ONCE", 5000):
+                done = compare(Pair("", one, two), "_id", PROGRAM, self.fail)
+            self.assertEqual((done.documents, done.kinds["same"]), ((401, 401), 401))
+
     def test_what_cannot_be_compared(self) -> None:
         bad = str(self.file(PEOPLE.read_bytes() + DAMAGED, "a/club/people.bson"))
         self.file(PEOPLE.read_bytes(), "b/club/people.bson")
@@ -144,7 +172,8 @@ class Compares(Room):
         for name in ("empty", "other"):
             (self.room / name).mkdir()
         empty, other = str(self.room / "empty"), str(self.room / "other")
-        self.compared(empty, other, status=2, told=f"bsonfind: no dump is below {empty} and {other}\n")
+        told = "".join(f"bsonfind: {name}: no dump is below this directory\n" for name in (empty, other))
+        self.compared(empty, other, status=2, told=told)
         run = run_package("--program", "no-such-program", "compare", one, two)
         self.assertEqual((run.returncode, run.stderr), (2, "bsonfind: cannot start no-such-program: No such file or directory\n"))
         half = self.file(gzip.compress(SHOP.read_bytes(), 0)[:50_000], "half.bson.gz")
@@ -165,7 +194,7 @@ class Compares(Room):
         peaks = []
         for count in (3000, 12_000):
             path = self.dump(*(f'{{"_id":{number},"text":"{"x" * 50}"}}' for number in range(count)), name=f"{count}.bson")
-            with mock.patch("bsonfind._sorting._MOST_LINES", 500):
+            with mock.patch("bsonfind._sorting._MOST_LINES", 500), mock.patch("bsonfind._wide._AT_ONCE", 50_000):
                 tracemalloc.start()
                 compare(Pair("", path, path), "_id", PROGRAM, self.fail)
                 peaks.append(tracemalloc.get_traced_memory()[1])

@@ -139,7 +139,7 @@ class Finds(Goods):
             self.assertEqual(session.count_documents({"cost": 1.5, "none": 2.5}), 0)
             token, found = None, []
             while True:
-                answer = find(self.path, filter, sort=sort, batch_size=1, after=token, decode="bson", program=PROGRAM)
+                answer = find(self.path, filter, sort=sort, page=1, after=token, decode="bson", program=PROGRAM)
                 found += [GOODS.index(it) for it in answer]
                 token = answer.token
                 rest = session.find(filter, sort=sort, after=token, decode="bson")
@@ -613,8 +613,8 @@ class Copies(Goods):
         for change in (
             lambda: self.path.write_bytes(b"".join(GOODS[1:])),
             lambda: (prepare(self.path, copy, program=PROGRAM), copy.write_bytes(GOODS[5])),
-            lambda: (prepare(self.path, copy, program=PROGRAM), (self.room / "copy.bson.json").write_text("{}")),
             lambda: (self.room / "copy.bson.json").unlink(),
+            lambda: (prepare(self.path, copy, program=PROGRAM), (self.room / "copy.bson.json").write_text("{}")),
         ):
             change()
             with self.assertRaisesRegex(DumpError, text):
@@ -630,6 +630,12 @@ class Copies(Goods):
         with self.assertRaisesRegex(ValueError, "is the dump"):
             prepare(self.path, self.path, program=PROGRAM)
         self.assertEqual(copy.read_bytes(), b"as it was")
+        for about in ('{"name":"Ada"}\n{"name":"Luís"}\n', "{}", "[]", '{"dump":[5,5]}'):
+            text = self.file(about.encode(), "copy.bson.json")
+            with self.assertRaisesRegex(ValueError, "copy.bson.json is there, and describes no copy"):
+                prepare(self.path, copy, program=PROGRAM)
+            self.assertEqual((text.read_text(), copy.read_bytes()), (about, b"as it was"))
+        text.unlink()
         self.assertEqual(sorted(os.listdir(self.room)), ["bad.bson", "copy.bson", "dump.bson"])
 
 

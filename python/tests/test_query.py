@@ -41,6 +41,15 @@ class Queries(Room):
         lines = [f"{SHOP}\t{line.decode()}" for line in SHOP_LINES]
         self.assertEqual(self.query(str(SHOP), status=0, told="400 documents in 1 of 1 files\n"), lines)
 
+    def test_files_with_several_names(self) -> None:
+        """Each name has the documents."""
+        one, two, three = (self.room / f"a/{name}.bson" for name in ("one", "two", "three"))
+        self.file(packed(['{"_id":1}']), "a/one.bson")
+        os.link(one, two)
+        three.symlink_to("one.bson")
+        wanted = [f'{path}\t{{"_id":{{"$numberInt":"1"}}}}' for path in (one, three, two)]
+        self.assertEqual(self.query(str(self.room / "a"), str(one), status=0, told="3 documents in 3 of 3 files\n"), wanted)
+
     def test_files_that_are_refused(self) -> None:
         """The others are asked nevertheless."""
         bad, missing = self.file(PEOPLE.read_bytes() + DAMAGED, "bad.bson"), self.room / "missing.bson"
@@ -115,6 +124,29 @@ class AsksForIds(Room):
         found = self.ids(asked, status=1, told=told, path=path)
         self.assertEqual([packed([line]) for line in found], [packed([documents[at]]) for at in (0, 1, 2, 3, 4, 5, 6, 8)])
 
+    def test_forms_of_one_id(self) -> None:
+        """As `dump` prints it, and in each other form that is taken: it is found, is not missing, and is one."""
+        forms = [
+            ['{"$oid":"07bd00000000000000000abc"}', '{"$oid":"07BD00000000000000000ABC"}', "07BD00000000000000000abc"],
+            ['{"$binary":{"base64":"AAE=","subType":"0a"}}', '{"$binary":{"subType":"A","base64":"AAE="}}'],
+            ['{"$timestamp":{"t":2,"i":1}}', '{"$timestamp":{"i":1,"t":2}}'],
+            ['{"$dbPointer":{"$ref":"x","$id":{"$oid":"07bd00000000000000000abc"}}}', '{"$dbPointer":{"$id":{"$oid":"07BD00000000000000000ABC"},"$ref":"x"}}'],
+            ['{"$code":"x","$scope":{"a":{"$numberInt":"1"}}}', '{"$scope":{"a":1},"$code":"x"}'],
+            ['{"a":{"$regularExpression":{"pattern":"a","options":"i"}}}', '{"a": {"$regularExpression": {"options": "i", "pattern": "a"}}}'],
+        ]  # fmt: skip
+        path = self.file(packed(f'{{"_id":{form[0]}}}' for form in forms))
+        wanted = [f'{{"_id":{form[0]}}}' for form in forms]
+        for at in (0, 1, -1):
+            self.assertEqual(self.ids([form[at] for form in forms], status=0, told="6 of 6 ids found\n", path=path), wanted)
+        self.assertEqual(self.ids([it for form in forms for it in form], status=0, told="6 of 6 ids found\n", path=path), wanted)
+
+    def test_ids_that_are_not_one(self) -> None:
+        """A name that stands twice, parts in another order, and a list that looks like a number."""
+        ids = ['{"a":1,"a":2}', '{"a":2}', '{"a":2,"b":1}', '{"b":1,"a":2}', '{"a":["number","1"]}', '{"a":1}', '{"a":{"t":1,"i":2}}', '{"a":{"i":2,"t":1}}']
+        data = packed(f'{{"_id":{it}}}' for it in ids)
+        found = self.ids(ids, status=0, told="8 of 8 ids found\n", path=self.file(data))
+        self.assertEqual(packed(found), data)
+
     def test_many_ids(self) -> None:
         """More than are asked for at once, and more than an argument holds."""
         oids = [json.loads(line)["_id"]["$oid"] for line in SHOP_LINES]
@@ -170,11 +202,14 @@ class AsksForIds(Room):
         self.assertEqual((run.returncode, run.stderr), (2, "bsonfind: /missing: No such file or directory\n"))
 
     def test_file_of_missing_ids(self) -> None:
-        """It is no other file of the command, and is written at the end."""
-        dump = self.file(SHOP.read_bytes())
+        """It is no other file of the command, and is written at the end; before that no document is printed if it cannot be."""
+        data = packed(['{"_id":1}'])
+        dump = self.file(data)
         for name, problem in ((str(dump), f"{dump} is the dump"), (str(self.room / "ids"), f"{self.room}/ids is named twice")):
             self.ids(["1"], "--missing", name, status=2, told=f"bsonfind: {problem}\n", path=dump)
-        self.assertEqual((dump.read_bytes(), self.list.read_text()), (SHOP.read_bytes(), "1\n"))
+        self.assertEqual((dump.read_bytes(), self.list.read_text()), (data, "1\n"))
+        told = "bsonfind: /none/m: No such file or directory\n"
+        self.assertEqual(self.ids(["1"], "--missing", "/none/m", status=2, told=told, path=dump), [])
         kept = self.file(b"kept", "kept")
         self.ids(["1"], "--missing", str(kept), status=2, told="bsonfind: /missing: No such file or directory\n", path="/missing")
         self.assertEqual(kept.read_bytes(), b"kept")

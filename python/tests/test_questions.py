@@ -1,5 +1,7 @@
 """Tests of how questions are asked: sources, names, long filters, and what a user of pymongo expects."""
 
+import asyncio
+import base64
 import gzip
 import inspect
 import json
@@ -10,9 +12,11 @@ import subprocess
 import sys
 import threading
 from datetime import datetime, timedelta, timezone
+from uuid import UUID
 
 import bsonfind
 from bsonfind import (
+    AsyncSession,
     CommandError,
     DumpError,
     ObjectId,
@@ -186,7 +190,7 @@ class LongFilters(Room):
     def test_pages(self) -> None:
         found, token, ends = [], None, []
         for _ in range(3):
-            page = find(PEOPLE, self.IDS, sort={"_id": -1}, batch_size=100, index="_id", after=token, decode="bytes", program=PROGRAM)
+            page = find(PEOPLE, self.IDS, sort={"_id": -1}, page=100, index="_id", after=token, decode="bytes", program=PROGRAM)
             found += page
             token = page.token
             ends.append(page.end)
@@ -303,7 +307,11 @@ class Pymongo(Room):
             self.session.find(hint="age", use="scan")
 
     def test_batch_size(self) -> None:
-        page = find(PEOPLE, OLD, batch_size=5, decode="bytes", program=PROGRAM)
+        """It cuts no answer, as in pymongo; a page does."""
+        for size in (0, 1, 5):
+            answer = find(PEOPLE, OLD, batch_size=size, decode="bytes", program=PROGRAM)
+            self.assertEqual((list(answer), answer.end), (OLD_LINES, True))
+        page = find(PEOPLE, OLD, page=5, batch_size=2, decode="bytes", program=PROGRAM)
         self.assertEqual((list(page), page.end), (OLD_LINES[:5], False))
         self.assertEqual(list(self.session.find(OLD, batch_size=5, decode="bytes")), OLD_LINES)
 
@@ -335,6 +343,38 @@ class Decoding(Room):
         self.assertEqual(find_one(PEOPLE, OLD, decode=len, program=PROGRAM), wanted[0])
         with Session(PEOPLE, PROGRAM) as session:
             self.assertEqual(list(session.find(OLD, decode=len)), wanted)
+
+    def test_functions_that_stop_an_iteration(self) -> None:
+        """Their error is one, and never the end of an answer; the next call gives the document after it."""
+        for kind in (StopIteration, StopAsyncIteration):
+
+            def decode(line: bytes, kind: type = kind) -> int:
+                if b'"_id":{"$numberInt":"2"}' in line:
+                    raise kind
+                return len(line)
+
+            few = {"_id": {"$lt": 4}}
+            wanted = [len(line) for line in PEOPLE_LINES[:4]]
+            told = f"decode raised {kind.__name__}"
+            with Session(PEOPLE, PROGRAM) as session:
+                for documents in (find(PEOPLE, few, decode=decode, program=PROGRAM), session.find(few, decode=decode)):
+                    given = [next(documents), next(documents)]
+                    with self.assertRaisesRegex(RuntimeError, told):
+                        next(documents)
+                    self.assertEqual([*given, *documents], [wanted[0], wanted[1], wanted[3]])
+            for ask in (
+                lambda: find_one(PEOPLE, {"_id": 2}, decode=decode, program=PROGRAM),
+                lambda: find_parts(plan(PEOPLE), {"_id": 2}, decode=decode, program=PROGRAM),
+            ):
+                with self.assertRaisesRegex(RuntimeError, told):
+                    ask()
+
+            async def read() -> object:
+                async with AsyncSession(PEOPLE, PROGRAM) as session:
+                    return [it async for it in session.find(few, decode=decode)]
+
+            with self.assertRaisesRegex(RuntimeError, told):
+                asyncio.run(read())
 
     def test_unknown_names(self) -> None:
         for ask in (find, find_one):
@@ -388,6 +428,56 @@ class Decoding(Room):
             zone = timezone(timedelta(hours=2))
             self.assertEqual(session.count_documents({"date": wanted["date"].astimezone(zone)}), 1)
             self.assertEqual(session.count_documents({"date": wanted["date"].replace(tzinfo=None)}), 1)
+
+    def test_uuids(self) -> None:
+        """Each representation, in the bytes that the specification of drivers gives for this UUID, finds its own document."""
+        uuid = UUID("00112233-4455-6677-8899-aabbccddeeff")
+        forms = {
+            "standard": (4, "00112233445566778899aabbccddeeff"),
+            "pythonLegacy": (3, "00112233445566778899aabbccddeeff"),
+            "javaLegacy": (3, "7766554433221100ffeeddccbbaa9988"),
+            "csharpLegacy": (3, "33221100554477668899aabbccddeeff"),
+        }
+        values = [field(5, "a", int32(16) + bytes([kind]) + bytes.fromhex(data)) for kind, data in forms.values()]
+        path = self.file(b"".join(document(field(16, "_id", int32(number)), it) for number, it in enumerate(values)))
+        parts = plan(path)
+        for number, name in enumerate(forms):
+            how = {"uuid_representation": name, "program": PROGRAM}
+            wanted = {"_id": number, "a": uuid}
+            self.assertEqual(list(find(path, {"a": uuid}, decode="plain", **how)), [wanted])
+            self.assertEqual(find_one(path, {"a": {"$in": [uuid]}}, decode="plain", **how), wanted)
+            self.assertEqual(count_documents(path, {"a": uuid}, **how), 1)
+            self.assertEqual(find_parts(parts, {"a": uuid}, decode="plain", **how), [wanted])
+            self.assertEqual(count_parts(parts, {"a": uuid}, **how), 1)
+            with Session(path, **how) as session:
+                self.assertEqual(list(session.find({"a": uuid}, decode="plain")), [wanted])
+                self.assertEqual((session.count_documents({"a": uuid}), session.explain({"a": uuid})["matches"]), (1, 1))
+                # Those of the other subtype stay as they are.
+                for other in (1, 2, 3) if number == 0 else (0,):
+                    subtype, data = list(forms.values())[other]
+                    binary = {"base64": base64.b64encode(bytes.fromhex(data)).decode(), "subType": f"{subtype:02}"}
+                    self.assertEqual(session.find_one({"_id": other}, decode="plain"), {"_id": other, "a": {"$binary": binary}})
+
+            async def ask() -> object:
+                async with AsyncSession(path, **how) as session:
+                    found = [it async for it in session.find({"a": uuid}, decode="plain")]
+                    return found, await session.count_documents({"a": uuid}), (await session.explain({"a": uuid}))["matches"]
+
+            self.assertEqual(asyncio.run(ask()), ([wanted], 1, 1))
+
+    def test_binary_data_keeps_its_subtype(self) -> None:
+        """That of pymongo's Binary, which is bytes with a subtype."""
+
+        class Binary(bytes):
+            subtype = 0
+
+        path = self.file(b"".join(document(field(5, "a", int32(2) + bytes([kind]) + b"ab")) for kind in (0, 4, 5, 128, 255)))
+        for kind in (0, 4, 5, 128, 255):
+            value = Binary(b"ab")
+            value.subtype = kind
+            found = list(find(path, {"a": value}, decode="bytes", program=PROGRAM))
+            self.assertEqual(found, [b'{"a":{"$binary":{"base64":"YWI=","subType":"%02x"}}}' % kind])
+        self.assertEqual(count_documents(path, {"a": b"ab"}, program=PROGRAM), 1)
 
     def test_documents_that_are_no_values(self) -> None:
         """The document of a dump itself is never a value."""

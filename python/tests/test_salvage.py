@@ -308,6 +308,20 @@ class BadInput(Room):
             self.assertEqual(sorted(os.listdir(self.room)), there)
         self.kept(path, people, good, bad)
 
+    def test_standard_input_that_is_written(self) -> None:
+        """A file that standard input has open, by two names, is not replaced."""
+        data = PEOPLE.read_bytes() + DAMAGED
+        path, other = self.file(data), str(self.room / "other")
+        (self.room / "link").symlink_to(path)
+        for name in (str(path), str(self.room / "link")):
+            for words in (("--good", name, "--bad", other), ("--good", other, "--bad", name)):
+                for dump in ("-", "/dev/stdin"):
+                    command = [sys.executable, "-m", "bsonfind", "--program", PROGRAM, "salvage", dump, *words]
+                    with open(path, "rb") as file:
+                        ran = subprocess.run(command, env=environment(), stdin=file, capture_output=True, text=True)
+                    self.assertEqual((ran.returncode, ran.stdout, ran.stderr), (2, "", f"bsonfind: {name} is the dump\n"))
+        self.assertEqual((path.read_bytes(), sorted(os.listdir(self.room))), (data, ["dump.bson", "link"]))
+
     def kept(self, path: str, data: bytes, good: str, bad: str) -> None:
         """The files are as they were."""
         for name, wanted in ((path, data), (good, b"good"), (bad, b"bad")):

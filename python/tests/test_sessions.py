@@ -99,7 +99,7 @@ class Sessions(Room):
             self.assertIsNone(cursor.token())
             for given in range(1, 9):
                 next(cursor)
-                with find(PEOPLE, OLD, sort=BY_NAME, batch_size=given, program=PROGRAM) as page:
+                with find(PEOPLE, OLD, sort=BY_NAME, page=given, program=PROGRAM) as page:
                     self.assertEqual(len(list(page)), given)
                 self.assertEqual(cursor.token(), page.token)
                 self.assertEqual(list(self.session.find(OLD, sort=BY_NAME, after=cursor.token(), decode="bytes")), wanted[given:])

@@ -2,10 +2,10 @@
 
 import json
 import random
+import re
 import sys
 import types
 import unittest
-import uuid
 from unittest import mock
 
 from bsonfind import CommandError, DumpError, Fault, ProgramError
@@ -34,18 +34,17 @@ class Requests(unittest.TestCase):
             self.assertEqual(part, Request('{"a":1}', '{"b":1}', 0, wanted))
 
     def test_types_of_pymongo(self) -> None:
-        key = uuid.UUID(int=5)
+        key = re.compile("5")
         with mock.patch.dict(sys.modules, {"bson": None}), self.assertRaises(TypeError) as raised:
             Request.of({"a": key})
-        self.assertIn("UUID", str(raised.exception))
+        self.assertIn("Pattern", str(raised.exception))
         json_util = types.ModuleType("bson.json_util")
         json_util.CANONICAL_JSON_OPTIONS = "canonical"
-        json_util.default = lambda value, options: {"$uuid": [str(value), options]}
+        json_util.default = lambda value, options: {"$regex": [value.pattern, options]}
         bson = types.ModuleType("bson")
         bson.json_util = json_util
         with mock.patch.dict(sys.modules, {"bson": bson, "bson.json_util": json_util}):
-            text = '{"a":{"$uuid":["00000000-0000-0000-0000-000000000005","canonical"]}}'
-            self.assertEqual(Request.of({"a": key}).filter, text)
+            self.assertEqual(Request.of({"a": key}).filter, '{"a":{"$regex":["5","canonical"]}}')
 
 
 class Told(unittest.TestCase):

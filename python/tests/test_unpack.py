@@ -1,6 +1,7 @@
 """Tests of the command `unpack`, and of collections of an archive in place of a file."""
 
 import asyncio
+import errno
 import gzip
 import os
 import signal
@@ -259,7 +260,7 @@ class Unpacks(Room):
         self.assertFalse((self.room / "out").exists())
 
     def test_file_that_comes_meanwhile(self) -> None:
-        """It appears while the archive is read, and stays."""
+        """It appears while the archive is read, and stays; each file that was written is kept."""
         pipe, out = self.room / "pipe", self.room / "out"
         os.mkfifo(pipe)
 
@@ -268,29 +269,58 @@ class Unpacks(Room):
                 file.write(TWO[:-300])
                 file.flush()
                 wait_for((out / "shop/orders.bson.part").exists)
-                self.file(b"there", "out/shop/orders.bson")
+                for name in ("shop/orders.bson", "club/people.metadata.json"):
+                    self.file(b"there", f"out/{name}")
                 file.write(TWO[-300:])
 
         writer = threading.Thread(target=write)
         writer.start()
         run = run_package("unpack", str(pipe), str(out))
         writer.join()
-        self.assertEqual((run.returncode, self.named(run.stderr)), (2, "bsonfind: O/shop/orders.bson: File exists\n"))
-        self.assertEqual((out / "shop/orders.bson").read_bytes(), b"there")
-        self.assertEqual([name for name in self.files() if name.endswith(".part")], [])
+        told = ["shop.orders: O/shop/orders.bson: File exists: 400 documents to O/shop/orders.bson.part"]
+        told += ["club.people: O/club/people.metadata.json: File exists: 500 documents to O/club/people.bson"]
+        self.assertEqual((run.returncode, run.stderr), (1, ""))
+        self.assertEqual(self.named(run.stdout).splitlines(), [*told, *self.table(2, 900, 2)])
+        wanted = {
+            "club/people.bson": PEOPLE_DATA,
+            "club/people.metadata.json": b"there",
+            "club/people.metadata.part": (METADATA % "people").encode(),
+            "shop/orders.bson": b"there",
+            "shop/orders.bson.part": SHOP_DATA,
+            "shop/orders.metadata.json": (METADATA % "orders").encode(),
+        }
+        self.assertEqual(self.files(), wanted)
+
+    def test_file_system_without_links(self) -> None:
+        """Files are renamed there, where nothing has their names."""
+        with mock.patch("os.link", side_effect=OSError(errno.EPERM, "no links")):
+            done = unpack(self.file(TWO, "a"), self.room / "out")
+            self.assertTrue(done.is_good)
+            self.assertEqual(self.files()["shop/orders.bson"], SHOP_DATA)
+            rename = os.rename
+
+            def come(*names: str) -> None:
+                rename(*names)
+                self.file(b"there", "new/shop/orders.bson")
+
+            with mock.patch("os.rename", side_effect=come):
+                done = unpack(self.room / "a", self.room / "new")
+        self.assertEqual([it.path for it in done.collections], [f"{self.room}/new/{it}" for it in ("shop/orders.bson.part", "club/people.bson")])
+        self.assertEqual((self.files("new")["shop/orders.bson"], self.files("new")["shop/orders.bson.part"]), (b"there", SHOP_DATA))
 
     def test_full_device(self) -> None:
-        """No file may have more than 100,000 bytes here; standard output may be full too. Then nothing is left."""
+        """No file may have more than 100,000 bytes here, and then nothing is left. If standard output is full, the files are there."""
         path = str(self.file(TWO, "a"))
         command = [sys.executable, "-m", "bsonfind", "unpack", path, str(self.room / "out")]
         limited = ["bash", "-c", 'ulimit -f 100; exec "$@"', "bash", *command]
         run = subprocess.run(limited, env=environment(), stdout=subprocess.PIPE, stderr=subprocess.PIPE, text=True)
         told = f"bsonfind: {self.room}/out/shop/orders.bson: File too large\n"
         self.assertEqual((run.returncode, run.stdout, run.stderr), (2, "", told))
+        self.assertEqual(os.listdir(self.room), ["a"])
         with open("/dev/full", "wb") as full:
             run = run_package("unpack", path, str(self.room / "out"), stdout=full)
         self.assertEqual((run.returncode, run.stderr), (2, "bsonfind: cannot write: No space left on device\n"))
-        self.assertEqual(os.listdir(self.room), ["a"])
+        self.assertEqual((self.files()["shop/orders.bson"], self.files()["club/people.bson"]), (SHOP_DATA, PEOPLE_DATA))
 
     def test_directory_that_cannot_be(self) -> None:
         path = str(self.file(TWO, "a"))

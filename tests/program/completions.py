@@ -21,7 +21,7 @@ from support import ROOT
 
 COMPLETIONS = ROOT / "completions"
 COMMANDS = {"dump", "check", "pack", "find", "serve"}
-FILTERS = {"check", "wrap", "order"}
+FILTERS = {"dump", "check", "wrap", "order"}
 OPTIONS = {"--query", "--sort", "--skip", "--limit", "--batch", "--index", "--after"}
 DUMPS = {"one.bson", "two.bson", "room/"}
 OTHERS = {"lines.jsonl"}

@@ -242,14 +242,15 @@ def talk(program: Program, row: Members) -> int:
 
 
 def judge(program: Program, data: bytes, documents: list, faults: list[str], count: int, wide: list[str]) -> None:
-    """Wants the documents before the first fault of dump, all faults of check, of find the documents or the first fault, and of the
-    check of `bsonwide` its faults."""
+    """Wants the documents before the first fault of dump, all faults of check, of find the documents or the first fault, and of
+    `bsonwide` its faults; if these are the same, the documents too."""
     shown = "".join(f"{text_of(it)}\n" for it in documents)
-    first = "".join(f"bsonfind: {it}\n" for it in faults[:1])
     status = 1 if faults else 0
-    ran = program.run("dump", "-", given=data)
-    want(ran.stdout.decode(), shown, "dump")
-    want((ran.returncode, ran.stderr.decode()), (status, f"{first}{len(documents)} objects found\n"), "the end of dump")
+    for dumping, name in ((program, "bsonfind"), (program.beside(), "bsonwide"))[: 2 if wide == faults else 1]:
+        first = "".join(f"{name}: {it}\n" for it in faults[:1])
+        ran = dumping.run("dump", "-", given=data)
+        want(ran.stdout.decode(), shown, f"dump of {name}")
+        want((ran.returncode, ran.stderr.decode()), (status, f"{first}{len(documents)} objects found\n"), f"the end of dump of {name}")
     for checking, found in ((program, faults), (program.beside(), wide)):
         ran = checking.run("check", "-", given=data)
         want(ran.stdout.decode(), "".join(f"{it}\n" for it in found), f"check of {checking.path.name}")
@@ -258,6 +259,7 @@ def judge(program: Program, data: bytes, documents: list, faults: list[str], cou
     ran = program.run("find", "-", given=data)
     want(ran.stdout.decode(), "" if faults else shown, "find")
     told = re.sub(r", token \S+$", "", ran.stderr.decode())
+    first = "".join(f"bsonfind: {it}\n" for it in faults[:1])
     want((ran.returncode, told), (status, first or f"{len(documents)} documents, end\n"), "the end of find")
 
 

@@ -1,7 +1,7 @@
 #!/usr/bin/env python3
-"""The texts of doubles and decimal128 that `bsonwide wrap` and `bsonfind dump` print, beside those of others.
+"""The texts of doubles and decimal128 that `bsonwide dump` prints, beside those of others.
 
-usage: tests/wide/others.py [--program PATH] [--wide PATH] [--count N] [--seed N]     The last line is 'N passed, M failed'.
+usage: tests/wide/others.py [--program PATH] [--count N] [--seed N]     The last line is 'N passed, M failed'.
 
 First the drivers' corpus (corpus.jsonl): its canonical texts, and what it refuses. Then N random doubles and N random decimal128, 20,000
 without it, beside Python (`repr` and `decimal`) and, where Debian's golang-mongodb-mongo-driver-dev is installed, beside Go's driver.
@@ -24,38 +24,32 @@ sys.path[:0] = [str(Path(__file__).resolve().parents[1]), str(Path(__file__).res
 
 from model.wide import decimal_text, double_text
 from peers import go_driver
-from support import PROGRAM, ROOT, Tests
+from support import ROOT, Tests
 
 CORPUS = Path(__file__).resolve().with_name("corpus.jsonl")
 # Coefficients at which digits are added or refused: 10^34 is the first of too many digits.
 COEFFICIENTS = [0, 1, 5, 10, (1 << 64) - 1, 1 << 64, 10**33, 10**34 - 1, 10**34, (1 << 113) - 1]
 
 
-class Programs:
-    """The two programs that print a dump with doubles."""
-
-    def __init__(self, program: str, wide: str) -> None:
-        self.program, self.wide = program, wide
-
-    def check(self, data: bytes) -> subprocess.CompletedProcess:
-        return subprocess.run([self.wide, "check", "-"], input=data, capture_output=True, check=False)
-
-    def lines(self, data: bytes) -> list[bytes]:
-        wrapped = subprocess.run([self.wide, "wrap", "-"], input=data, stdout=subprocess.PIPE, check=True)
-        return subprocess.run([self.program, "dump", "-"], input=wrapped.stdout, capture_output=True, check=False).stdout.split(b"\n")[:-1]
+def run(program: str, command: str, data: bytes) -> subprocess.CompletedProcess:
+    return subprocess.run([program, command, "-"], input=data, capture_output=True, check=False)
 
 
-def try_corpus(tests: Tests, programs: Programs) -> None:
+def lines_of(program: str, data: bytes) -> list[bytes]:
+    return run(program, "dump", data).stdout.split(b"\n")[:-1]
+
+
+def try_corpus(tests: Tests, program: str) -> None:
     _, *cases = map(json.loads, CORPUS.read_text(encoding="utf-8").splitlines())
     good = [it for it in cases if "text" in it]
-    lines = programs.lines(b"".join(bytes.fromhex(it["bytes"]) for it in good))
+    lines = lines_of(program, b"".join(bytes.fromhex(it["bytes"]) for it in good))
     tests.want("corpus: lines", len(lines) == len(good), len(lines))
     for case, line in zip(good, lines):
         text = json.dumps(case["text"], ensure_ascii=False, separators=(",", ":")).encode()
         tests.want(f"corpus: {case['case']}", line == text, (line, text))
     for case in cases:
         if "text" not in case:
-            made = programs.check(bytes.fromhex(case["bytes"]))
+            made = run(program, "check", bytes.fromhex(case["bytes"]))
             tests.want(f"corpus, refused: {case['case']}", made.returncode == 1 and made.stdout.startswith(b"document 0, "), made)
 
 
@@ -96,13 +90,13 @@ def is_too_long(value: bytes) -> bool:
     return len(value) == 16 and bits >> 125 & 3 != 3 and bits & (1 << 113) - 1 >= 10**34
 
 
-def try_random(tests: Tests, programs: Programs, go: list[str], count: int, kind: int, a_number: Callable[[], bytes], text_of: Callable[[bytes], bytes]) -> None:
+def try_random(tests: Tests, program: str, go: list[str], count: int, kind: int, a_number: Callable[[], bytes], text_of: Callable[[bytes], bytes]) -> None:
     """Wants the texts of random numbers of a type."""
     name = {0x01: "$numberDouble", 0x13: "$numberDecimal"}[kind]
     values = [a_number() for _ in range(count)]
     head = bytes([8 + len(values[0]), 0, 0, 0, kind]) + b"a\0"
     data = b"".join(head + value + b"\0" for value in values)
-    lines = programs.lines(data)
+    lines = lines_of(program, data)
     others = {"Python": [f'{{"a":{{"{name}":"{text_of(value).decode()}"}}}}'.encode() for value in values]}
     if go:
         with tempfile.NamedTemporaryFile() as dump:
@@ -119,20 +113,19 @@ def try_random(tests: Tests, programs: Programs, go: list[str], count: int, kind
 
 def main() -> int:
     read = argparse.ArgumentParser(usage=__doc__)
-    read.add_argument("--program", default=str(PROGRAM))
-    read.add_argument("--wide", default=str(ROOT / "bsonwide"))
+    read.add_argument("--program", default=str(ROOT / "bsonwide"))
     read.add_argument("--count", type=int, default=20_000)
     read.add_argument("--seed", type=int, default=57)
     words = read.parse_args()
-    tests, programs = Tests(), Programs(words.program, words.wide)
-    try_corpus(tests, programs)
+    tests = Tests()
+    try_corpus(tests, words.program)
     random.seed(words.seed)
     with tempfile.TemporaryDirectory() as room:
         go = go_driver(room)
         if not go:
             print("skipped: Go's driver is not installed (Debian's golang-mongodb-mongo-driver-dev)")
-        try_random(tests, programs, go, words.count, 0x01, a_double, double_text)
-        try_random(tests, programs, go, words.count, 0x13, a_decimal, decimal_text)
+        try_random(tests, words.program, go, words.count, 0x01, a_double, double_text)
+        try_random(tests, words.program, go, words.count, 0x13, a_decimal, decimal_text)
     print(f"{tests.passed} passed, {tests.failed} failed")
     return int(tests.failed > 0)
 

@@ -14,6 +14,7 @@ use Rattle.bd_bson_view.specs.Unique.{number_length, number_prefix, zero_offset,
 use Rattle.bd_bson_view.specs.Unique.{binary_subtype, regex_whole, scalar_size, same_kind, framed_after}
 use Rattle.bd_bson_view.specs.Sound.{Sound, extent, extent_is, meaning, meaning_is}
 
+-- a `string` can be read where it is spelled
 pub text_reads : (s rest : List ℕ) → IsText s → TextAt (string s ++ rest)
 text_reads s rest h = record {
   some = omega (arith, string_number s rest h.1);
@@ -21,6 +22,7 @@ text_reads s rest h = record {
   utf8 = subst IsUtf8 (sym (string_text s rest h.1)) h.0;
 }
 
+-- a `cstring` can be read where it is spelled
 pub name_reads : (name rest : List ℕ) → IsName name → NameAt (name ++ 0 ∷ rest)
 name_reads name rest h = record {
   inside = omega (arith, zero_offset name rest h.1, length-append name (0 ∷ rest));
@@ -43,6 +45,7 @@ binary_reads k s r lt =
 sized : (a : Scalar) (v r : List ℕ) → IsScalar a v → size_of (scalar_kind a) (v ++ r) ≤ length (v ++ r)
 sized a v r h = omega (arith, scalar_size a v r h, length-append v r)
 
+-- a scalar can be read where it is spelled
 pub scalar_reads : (a : Scalar) (v r : List ℕ) → IsScalar a v → HasBytesOf (scalar_kind a) (v ++ r)
 scalar_reads (trees.text s) v r h = subst (λ (x : List ℕ). TextAt (x ++ r)) (sym h.1) (text_reads s r h.0)
 scalar_reads (trees.symbol s) v r h = subst (λ (x : List ℕ). TextAt (x ++ r)) (sym h.1) (text_reads s r h.0)
@@ -67,11 +70,13 @@ framed_length body = omega (arith, length-append (number (length body + 5)) (bod
 pub scoped_length : (s d : List ℕ) → length (scoped s d) ≡ length (string s ++ d) + 4
 scoped_length s d = omega (arith, length-append (number (length (string s ++ d) + 4)) (string s ++ d), number_length (length (string s ++ d) + 4))
 
+-- the length that a document states counts all of its bytes
 pub framed_size : (body v r : List ℕ) → v ≡ framed body → length v ≤ longest_document → number_of (v ++ r) ≡ length v
 framed_size body v r e short =
     let len : length v ≡ length body + 5 = ap length e ∙ framed_length body in
     ap (λ (x : List ℕ). number_of (x ++ r)) e ∙ ap number_of (framed_after body r) ∙ number_prefix (length body + 5) (body ++ 0 ∷ r) (omega arith) ∙ sym len
 
+-- the length that code with scope states counts all of its bytes
 pub scoped_size : (s d v r : List ℕ) → v ≡ scoped s d → length v ≤ longest_document → number_of (v ++ r) ≡ length v
 scoped_size s d v r e short =
     let n = length (string s ++ d) + 4 in
@@ -100,6 +105,7 @@ pub reads_at : (kind : Kind) (bytes : List ℕ) (s : Sound kind bytes) → HasBy
 reads_at kind bytes s = subst (HasBytesOf kind) (sym s.begins.splits)
     (subst (λ (k : Kind). HasBytesOf k (s.begins.value ++ s.begins.after)) (kind_is kind bytes s) (value_reads s.tree s.begins.value s.begins.after s.begins.spells))
 
+-- the size that bytes state is that of the value there
 pub size_at : (kind : Kind) (bytes : List ℕ) (s : Sound kind bytes) → size_of kind bytes ≡ extent s
 size_at kind bytes s = ap (size_of kind) s.begins.splits
     ∙ ap (λ (k : Kind). size_of k (s.begins.value ++ s.begins.after)) (sym (kind_is kind bytes s))

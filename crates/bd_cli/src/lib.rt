@@ -30,6 +30,5 @@ mod serve;
 
 pub use bd_cli_args::{FindOptions, Order, USAGE, WordsFault, parse_words};
 pub use bd_cli_scan::Status;
-pub use bd_cli_scan::output::CANNOT_WRITE;
 pub use laws::{check_has_the_status_of_dump, prints_a_prefix, prints_one_thing};
 pub use runs::{PROGRAM, report, run};

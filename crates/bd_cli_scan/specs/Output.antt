@@ -9,7 +9,7 @@ use Rattle.bd_cli_scan.specs.{declared.input.InputFault.InputFault}
 use Rattle.bd_cli_scan.specs.{declared.output.OutputFault.OutputFault, declared.output.Status.Status}
 use Rattle.bd_cli_scan.specs.{declared.output.OutputFault.TheVariants.NoMemory}
 use Rattle.bd_cli_scan.specs.{declared.output.OutputFault.TheVariants.Unwritten, declared.output.Status.TheVariants.Done}
-use Rattle.bd_cli_scan.specs.{declared.output.Status.TheVariants.Failed}
+use Rattle.bd_cli_scan.specs.declared.output.Status.TheVariants.{Failed, Usage}
 use Rattle.bd_cli_scan.specs.declared.input.InputFault.TheVariants as faults
 
 -- the output of a run: the text on standard output, the text on standard error by the name of the program,
@@ -18,6 +18,12 @@ pub record Transcript : Type 0 where
   pub out : List ℕ
   pub err : List ℕ → List ℕ
   pub status : Status
+
+-- the exit status of the process
+abbrev pub status_code : Status → ℕ
+status_code Done = 0
+status_code Failed = 1
+status_code Usage = 2
 
 -- ---- the texts
 
@@ -53,6 +59,10 @@ no_memory = codes "no memory"
 -- the message of a run whose write to standard output failed
 abbrev pub cannot_write : List ℕ
 cannot_write = codes "cannot write"
+
+-- the message for a file that does not open
+abbrev pub open_words : List ℕ → List ℕ
+open_words file = codes "cannot open " ++ file
 
 -- the message of a run that could not write all of its output
 abbrev pub stop_words : OutputFault → List ℕ

@@ -7,7 +7,7 @@ ghost use Rattle.bd_bson_check.specs.Fault.{fault_view};
 ghost use Rattle.bd_bson_check.specs.declared.fault.FaultKind.TheVariants as kinds;
 ghost use Rattle.bd_extjson_text.specs.Text.{quoted};
 ghost use Rattle.bd_cli_scan.specs.Run.{ReportsMessage};
-ghost use Rattle.bd_cli_scan.specs.Output.{cannot_write, error_line, fault_text, input_words, no_memory, location_text, stop_words, wrong_line, wrong_status};
+ghost use Rattle.bd_cli_scan.specs.Output.{cannot_write, error_line, fault_text, input_words, no_memory, location_text, open_words, status_code, stop_words, wrong_line, wrong_status};
 ghost use Rattle.bd_cli_scan.specs.inside.Output.{reported_bytes};
 ghost use Rattle.bd_cli_scan.specs.declared.output.OutputFault.TheVariants.{NoMemory as memory, Unwritten};
 ghost use Rattle.bd_cli_scan.specs.declared.output.Status.TheVariants.{Failed};
@@ -24,11 +24,24 @@ use std::alloc::AllocError;
 #[derive(Clone, Copy, Debug, PartialEq, Eq)]
 pub enum Status {
     /// All was done.
-    Done = 0,
+    Done,
     /// A fault of the input, of a query, a sort, the path of an index or a token, or of a device, or out of memory.
-    Failed = 1,
+    Failed,
     /// The arguments are invalid.
-    Usage = 2,
+    Usage,
+}
+
+impl Status {
+    /// The exit status of the process: 0, 1 or 2.
+    pub fn code(self) -> u8
+        ensures { result ≡ status_code self.entry }
+    {
+        match self {
+            Status::Done => 0,
+            Status::Failed => 1,
+            Status::Usage => 2,
+        }
+    }
 }
 
 /// Why a text was not written completely.
@@ -162,6 +175,27 @@ pub fn report_error<E: Output>(program: &str, message: &str, err: &mut E) -> Sta
     ensures { ReportsMessage (over E.state err.old err.new) (error_line program.now message.now) Failed result }
 {
     status_of(write_error(program, message, err), Status::Failed)
+}
+
+/// Reports that a file does not open. It takes no memory.
+pub fn report_open_fault<E: Output>(program: &str, file: &str, err: &mut E) -> Status
+    ensures { ReportsMessage (over E.state err.old err.new)
+        (error_line program.now (open_words file.now)) Failed result }
+{
+    status_of(write_open_fault(program, file, err), Status::Failed)
+}
+
+/// Writes the line of a file that does not open.
+#[tactic(auto, using(crate::proofs::OutputLemmas::taking))]
+fn write_open_fault<E: Output>(program: &str, file: &str, err: &mut E) -> Result<(), DeviceFault>
+    ensures ok { OnOk result (TakesText (over E.state err.old err.new)
+        (error_line program.now (open_words file.now))) }
+    ensures err { OnErr result (WriteFailsWithin (over E.state err.old err.new)
+        (error_line program.now (open_words file.now))) }
+{
+    write_pair(program, ": ", err)?;
+    write_pair("cannot open ", file, err)?;
+    write_all(err, b"\n")
 }
 
 /// Reports that memory ran out. It takes no memory itself.

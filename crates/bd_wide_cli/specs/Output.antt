@@ -4,7 +4,7 @@ use Rattle.bd_io_device.specs.Devices.{WriteFailsWithin, Over, Reader, TakesText
 use Rattle.bd_cli_args.specs.declared.order.WordsFault.{WordsFault}
 use Rattle.bd_cli_args.specs.declared.order.WordsFault.TheVariants as words
 use Rattle.bd_wide_cli.specs.declared.filter.Filter.{Filter}
-use Rattle.bd_cli_scan.specs.{Output.error_line, Run.ReportsMessage, declared.output.Status.Status}
+use Rattle.bd_cli_scan.specs.{Output.Transcript, Output.error_line, Run.ReportsMessage, declared.output.Status.Status}
 use Rattle.bd_cli_scan.specs.declared.output.Status.TheVariants.{Done, Failed, Usage}
 use Rattle.bd_wide_cli.specs.declared.running.Stop.{Stop}
 use Rattle.bd_wide_cli.specs.declared.running.Stop.TheVariants as stops
@@ -26,6 +26,10 @@ abbrev pub FiltersInput : Filter → Over Reader → Over Writer → Over Writer
 FiltersInput filter file out err status =
     ((kept : ℕ) × FiltersAll filter file out kept × ReportsMessage err (kept_line kept) Done status)
     ⊎ ((stop : Stop) × FiltersPartly filter file out stop × ReportsMessage err (error_line (codes "bsonwide") (stop_words stop)) Failed status)
+
+-- the output for `--version`
+abbrev pub version_output : Transcript
+version_output = record { out = codes "bsonwide 0.1.0\n"; err = λ program. []; status = Done }
 
 -- the usage of `bsonwide`, four lines
 abbrev pub usage_text : List ℕ

@@ -34,5 +34,5 @@ mod running;
 
 pub use command::{Command, run};
 pub use filter::Filter;
-pub use output::{PROGRAM, report, write_error};
+pub use output::{PROGRAM, report, report_version, write_error};
 pub use running::Stop;

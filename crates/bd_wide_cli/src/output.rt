@@ -2,14 +2,14 @@
 
 ghost use Rattle.std.specs.Prelude.{◌≡◌, OnErr, OnOk, codes};
 ghost use Rattle.bd_io_device.specs.Devices.{WriteFailsWithin, TakesText, over};
-ghost use Rattle.bd_cli_scan.specs.{Output.error_line, Run.ReportsMessage};
+ghost use Rattle.bd_cli_scan.specs.{Output.error_line, Run.Prints, Run.ReportsMessage, Run.run_of};
 ghost use Rattle.bd_cli_scan.specs.declared.output.Status.TheVariants.{Done, Failed, Usage};
-ghost use Rattle.bd_wide_cli.specs.Output.{ReportsFault, kept_line, stop_words, usage_text};
+ghost use Rattle.bd_wide_cli.specs.Output.{ReportsFault, kept_line, stop_words, usage_text, version_output};
 
 use crate::running::Stop;
 use bd_cli_args::WordsFault;
 use bd_cli_scan::Status;
-use bd_cli_scan::output::{CANNOT_WRITE, NO_MEMORY, status_of, write_count};
+use bd_cli_scan::output::{CANNOT_WRITE, NO_MEMORY, report_unwritten, status_of, write_count};
 use bd_io_device::{DeviceFault, Output, write_all};
 
 /// The name of the program, before each message.
@@ -67,6 +67,20 @@ pub const USAGE: &str = "usage: bsonwide dump FILE
        bsonwide wrap FILE
        bsonwide order FILE [PATH..]
 ";
+
+/// The answer to `--version`.
+const VERSION: &str = "bsonwide 0.1.0\n";
+
+/// Prints the name of the program and its version on `out`, and returns the exit status. It takes no memory.
+pub fn report_version<O: Output, E: Output>(out: &mut O, err: &mut E) -> Status
+    ensures { Prints (codes "bsonwide") (run_of version_output) (over O.state out.old out.new)
+        (over E.state err.old err.new) result }
+{
+    match write_all(out, VERSION.as_bytes()) {
+        Ok(()) => Status::Done,
+        Err(_) => report_unwritten(PROGRAM, err),
+    }
+}
 
 /// Reports why arguments are not a command, and returns the exit status. It takes no memory.
 ///

@@ -77,7 +77,7 @@ code_text s fs text h = (h.0, h.1, ap (λ (x : List ℕ). (((codes "{\"$code\":"
 
 -- ---- the loops
 
--- For all elements that there are from the start, what was written goes on with those from `next`.
+-- For all elements that there are from the start, what was written continues with those from `next`.
 abbrev pub FieldsGo : List ℕ → ℕ → ℕ → Bool → List ℕ → List ℕ → Type 0
 FieldsGo bytes start next later old out =
     (e : HasElements (drop start bytes)) → (f : HasElements (drop next bytes)) × Goes (doc e.fields) (AreMembers f.fields) later 125 old out

@@ -24,7 +24,7 @@ use Rattle.bd_extjson_text.specs.Buffer.{Appends}
 use Rattle.bd_wide_text.specs.{Double.IsDoubleText, Decimal128.decimal128_text}
 use Rattle.bd_wide_dump.specs.Raw.{raw}
 use Rattle.bd_wide_dump.specs.WideText.{AreBytes, IsNumberText, IsRawText, IsTextOf}
-use Rattle.bd_wide_dump.specs.inside.Begins.{values_in, HasElements, IsNumberOf, IsOwn, a_number, a_scalar, a_document, an_array, a_code, HasValue, AppendsText, AppendsNumber}
+use Rattle.bd_wide_dump.specs.inside.Begins.{values_in, HasElements, IsNumberOf, IsTyped, a_number, a_scalar, a_document, an_array, a_code, HasValue, AppendsText, AppendsNumber}
 
 -- ---- numbers
 
@@ -45,52 +45,52 @@ double_is_wide kind h = cc
 pub decimal128_is_wide : IsWide as_decimal128
 decimal128_is_wide kind h = cc
 
-of_number : (k : NumberKind) (own : List ℕ) (tree : Tree) → IsWide k → IsOwn (number_type k) own tree → IsNumberOf (number_type k) own tree
-of_number k own tree wide (a_number n) = n
-of_number k own tree wide (a_scalar s) = absurd (wide _ s.typed)
-of_number k own tree wide (a_document d) = absurd (wide _ d.typed)
-of_number k own tree wide (an_array d) = absurd (wide _ d.typed)
-of_number k own tree wide (a_code d) = absurd (wide _ d.typed)
+of_number : (k : NumberKind) (content : List ℕ) (tree : Tree) → IsWide k → IsTyped (number_type k) content tree → IsNumberOf (number_type k) content tree
+of_number k content tree wide (a_number n) = n
+of_number k content tree wide (a_scalar s) = absurd (wide _ s.typed)
+of_number k content tree wide (a_document d) = absurd (wide _ d.typed)
+of_number k content tree wide (an_array d) = absurd (wide _ d.typed)
+of_number k content tree wide (a_code d) = absurd (wide _ d.typed)
 
-own_size : (k : NumberKind) (own : List ℕ) (tree : Tree) (n : IsNumberOf (number_type k) own tree) → length own ≡ number_size k
-own_size k own tree n = n.sized ∙ ap number_size (sym (same_number k n.kind n.typed))
+content_size : (k : NumberKind) (content : List ℕ) (tree : Tree) (n : IsNumberOf (number_type k) content tree) → length content ≡ number_size k
+content_size k content tree n = n.sized ∙ ap number_size (sym (same_number k n.kind n.typed))
 
 pub wide_long : (k : NumberKind) (bytes : List ℕ) (tree : Tree) → IsWide k → HasValue (number_type k) bytes tree → number_size k ≤ length bytes
 wide_long k bytes tree wide v =
-    let n = of_number k v.own tree wide v.spells in
-    omega (arith, own_size k v.own tree n, ap (λ (x : List ℕ). length x) v.splits, length-append v.own v.after)
+    let n = of_number k v.content tree wide v.spells in
+    omega (arith, content_size k v.content tree n, ap (λ (x : List ℕ). length x) v.splits, length-append v.content v.after)
 
-long_same : (own after : List ℕ) → 8 ≤ length own → long_of (own ++ after) ≡ long_of own
-long_same own after le = ap (from_le_bytes w64) (take-append-le 8 own after le)
+long_same : (content after : List ℕ) → 8 ≤ length content → long_of (content ++ after) ≡ long_of content
+long_same content after le = ap (from_le_bytes w64) (take-append-le 8 content after le)
 
-drop_own : (n : ℕ) (own after : List ℕ) → n ≤ length own → drop n (own ++ after) ≡ drop n own ++ after
-drop_own n own after le = drop-append-le n own after le
+drop_content : (n : ℕ) (content after : List ℕ) → n ≤ length content → drop n (content ++ after) ≡ drop n content ++ after
+drop_content n content after le = drop-append-le n content after le
 
--- the text of a number depends on its own bytes alone
-narrow : (k : NumberKind) (own after text : List ℕ) → length own ≡ number_size k → IsNumberText k (own ++ after) text → IsNumberText k own text
-narrow as_double own after text s h = (h.0, subst (λ (n : ℕ). IsDoubleText n h.0) (long_same own after (omega (arith, s))) h.1, h.2)
-narrow as_decimal128 own after text s h = h ∙ ap₂ (λ (low high : ℕ). codes "{\"$numberDecimal\":\"" ++ (decimal128_text low high ++ codes "\"}")) (long_same own after (omega (arith, s)))
-    (ap long_of (drop_own 8 own after (omega (arith, s))) ∙ long_same (drop 8 own) after (omega (arith, s, length-drop 8 own)))
-narrow as_int32 own after text s h = h ∙ ap (λ (x : List ℕ). scalar_text (trees.int32 (cast_signed w32 (from_le_bytes w32 x)))) (take-append-le 4 own after (omega (arith, s)))
-narrow as_int64 own after text s h = h ∙ ap (λ (n : ℕ). scalar_text (trees.int64 (cast_signed w64 n))) (long_same own after (omega (arith, s)))
+-- the text of a number depends on its content alone
+narrow : (k : NumberKind) (content after text : List ℕ) → length content ≡ number_size k → IsNumberText k (content ++ after) text → IsNumberText k content text
+narrow as_double content after text s h = (h.0, subst (λ (n : ℕ). IsDoubleText n h.0) (long_same content after (omega (arith, s))) h.1, h.2)
+narrow as_decimal128 content after text s h = h ∙ ap₂ (λ (low high : ℕ). codes "{\"$numberDecimal\":\"" ++ (decimal128_text low high ++ codes "\"}")) (long_same content after (omega (arith, s)))
+    (ap long_of (drop_content 8 content after (omega (arith, s))) ∙ long_same (drop 8 content) after (omega (arith, s, length-drop 8 content)))
+narrow as_int32 content after text s h = h ∙ ap (λ (x : List ℕ). scalar_text (trees.int32 (cast_signed w32 (from_le_bytes w32 x)))) (take-append-le 4 content after (omega (arith, s)))
+narrow as_int64 content after text s h = h ∙ ap (λ (n : ℕ). scalar_text (trees.int64 (cast_signed w64 n))) (long_same content after (omega (arith, s)))
 
-own_bytes : (bytes own after : List ℕ) → AreBytes bytes → bytes ≡ own ++ after → AreBytes own
-own_bytes bytes own after fits is =
-    subst AreBytes (ap (take (length own)) is ∙ take_at own after (length own) refl) (IsBytes-take (length own) bytes fits)
+content_bytes : (bytes content after : List ℕ) → AreBytes bytes → bytes ≡ content ++ after → AreBytes content
+content_bytes bytes content after fits is =
+    subst AreBytes (ap (take (length content)) is ∙ take_at content after (length content) refl) (IsBytes-take (length content) bytes fits)
 
-raw_text : (type : ElementType) (own text : List ℕ) (tree : Tree) (n : IsNumberOf type own tree) → AreBytes own → IsNumberText n.kind own text → IsTextOf tree text
-raw_text type own text tree n fits h =
-    let r : IsRawText n.z text = record { kind = n.kind; value = own; fits = fits; sized = n.sized; is = n.worth; written = h } in
+raw_text : (type : ElementType) (content text : List ℕ) (tree : Tree) (n : IsNumberOf type content tree) → AreBytes content → IsNumberText n.kind content text → IsTextOf tree text
+raw_text type content text tree n fits h =
+    let r : IsRawText n.z text = record { kind = n.kind; value = content; fits = fits; sized = n.sized; is = n.worth; written = h } in
     subst (λ (t : Tree). IsTextOf t text) (sym n.is) r
 
 wide_text : (k : NumberKind) (bytes : List ℕ) (tree : Tree) → IsWide k → AreBytes bytes → HasValue (number_type k) bytes tree
     → (text : List ℕ) → IsNumberText k bytes text → IsTextOf tree text
 wide_text k bytes tree wide fits v text h =
-    let n = of_number k v.own tree wide v.spells in
+    let n = of_number k v.content tree wide v.spells in
     let P : List ℕ → Type 0 = λ x. IsNumberText k x text in
-    let mine : IsNumberText k v.own text = narrow k v.own v.after text (own_size k v.own tree n) (subst P v.splits h) in
-    let Q : NumberKind → Type 0 = λ j. IsNumberText j v.own text in
-    raw_text (number_type k) v.own text tree n (own_bytes bytes v.own v.after fits v.splits) (subst Q (same_number k n.kind n.typed) mine)
+    let mine : IsNumberText k v.content text = narrow k v.content v.after text (content_size k v.content tree n) (subst P v.splits h) in
+    let Q : NumberKind → Type 0 = λ j. IsNumberText j v.content text in
+    raw_text (number_type k) v.content text tree n (content_bytes bytes v.content v.after fits v.splits) (subst Q (same_number k n.kind n.typed) mine)
 
 pub wide_appended : {E : Type 0} (k : NumberKind) (type : ElementType) (bytes old : List ℕ) (end : ℕ) (new : List ℕ) (tree : Tree) (r : Result ℕ E) → IsWide k → type ≡ number_type k → AreBytes bytes
     → HasValue type bytes tree → IfOk r (λ e. AppendsNumber k bytes old end e new) → IfOk r (λ e. AppendsText tree old end e new)
@@ -101,75 +101,75 @@ wide_appended k type bytes old end new tree (Err e) wide is fits v a = tt
 
 -- ---- scalars of the nineteen kinds
 
-whole32 : (own : List ℕ) → AreBytes own → length own ≡ 4 → IsScalar (trees.int32 (cast_signed w32 (number_of own))) own
+whole32 : (content : List ℕ) → AreBytes content → length content ≡ 4 → IsScalar (trees.int32 (cast_signed w32 (number_of content))) content
 unfolding number
-whole32 own b size =
-    let same : take 4 own ≡ own = take_all 4 own (omega (arith, size)) in
-    let n = from_le_bytes w32 own in
-    let below : from_le_bytes w32 own < 2 ^ 32 = omega (arith, b 0, b 1, b 2, b 3) in
-    let back : number (cast_unsigned w32 (cast_signed w32 n)) ≡ own = ap number (of_z-to_z w32 n below) ∙ le_bytes_4 own _ size b refl in
+whole32 content b size =
+    let same : take 4 content ≡ content = take_all 4 content (omega (arith, size)) in
+    let n = from_le_bytes w32 content in
+    let below : from_le_bytes w32 content < 2 ^ 32 = omega (arith, b 0, b 1, b 2, b 3) in
+    let back : number (cast_unsigned w32 (cast_signed w32 n)) ≡ content = ap number (of_z-to_z w32 n below) ∙ le_bytes_4 content _ size b refl in
     rw same (search (arith, ints), sym back)
 
-whole64 : (own : List ℕ) → AreBytes own → length own ≡ 8 → IsScalar (trees.int64 (cast_signed w64 (long_of own))) own
+whole64 : (content : List ℕ) → AreBytes content → length content ≡ 8 → IsScalar (trees.int64 (cast_signed w64 (long_of content))) content
 unfolding long
-whole64 own b size =
-    let same : take 8 own ≡ own = take_all 8 own (omega (arith, size)) in
-    let n = from_le_bytes w64 own in
-    let below : from_le_bytes w64 own < 2 ^ 64 = omega (arith, b 0, b 1, b 2, b 3, b 4, b 5, b 6, b 7) in
-    let back : long (cast_unsigned w64 (cast_signed w64 n)) ≡ own = ap long (of_z-to_z w64 n below) ∙ le_bytes_8 own _ size b refl in
+whole64 content b size =
+    let same : take 8 content ≡ content = take_all 8 content (omega (arith, size)) in
+    let n = from_le_bytes w64 content in
+    let below : from_le_bytes w64 content < 2 ^ 64 = omega (arith, b 0, b 1, b 2, b 3, b 4, b 5, b 6, b 7) in
+    let back : long (cast_unsigned w64 (cast_signed w64 n)) ≡ content = ap long (of_z-to_z w64 n below) ∙ le_bytes_8 content _ size b refl in
     rw same (search (arith, ints), sym back)
 
 -- a scalar of this kind in today's sense, whose text is that of the value
-pub record Plain (kind : Kind) (own : List ℕ) (tree : Tree) : Type 0 where
+pub record Plain (kind : Kind) (content : List ℕ) (tree : Tree) : Type 0 where
   pub scalar : Scalar
   pub kinded : scalar_kind scalar ≡ kind
-  pub spells : IsScalar scalar own
+  pub spells : IsScalar scalar content
   pub text_is : IsTextOf tree (scalar_text scalar)
 
-number_plain : (kind : Kind) (own : List ℕ) (tree : Tree) (k : NumberKind) (z : ℤ) → tree ≡ leaf (trees.int64 z) → Kept kind ≡ number_type k → length own ≡ number_size k
-    → raw (number_type k) own ≡ z → AreBytes own → Plain kind own tree
-number_plain kind own tree as_double z is typed size worth fits = absurd cc
-number_plain kind own tree as_decimal128 z is typed size worth fits = absurd cc
-number_plain kind own tree as_int32 z is typed size worth fits =
-    let s = trees.int32 (cast_signed w32 (number_of own)) in
-    let r : IsRawText z (scalar_text s) = record { kind = as_int32; value = own; fits = fits; sized = size; is = worth; written = refl } in
-    record { scalar = s; kinded = cc; spells = whole32 own fits size; text_is = subst (λ (t : Tree). IsTextOf t (scalar_text s)) (sym is) r }
-number_plain kind own tree as_int64 z is typed size worth fits =
-    let s = trees.int64 (cast_signed w64 (long_of own)) in
-    let r : IsRawText z (scalar_text s) = record { kind = as_int64; value = own; fits = fits; sized = size; is = worth; written = refl } in
-    record { scalar = s; kinded = cc; spells = whole64 own fits size; text_is = subst (λ (t : Tree). IsTextOf t (scalar_text s)) (sym is) r }
+number_plain : (kind : Kind) (content : List ℕ) (tree : Tree) (k : NumberKind) (z : ℤ) → tree ≡ leaf (trees.int64 z) → Kept kind ≡ number_type k → length content ≡ number_size k
+    → raw (number_type k) content ≡ z → AreBytes content → Plain kind content tree
+number_plain kind content tree as_double z is typed size worth fits = absurd cc
+number_plain kind content tree as_decimal128 z is typed size worth fits = absurd cc
+number_plain kind content tree as_int32 z is typed size worth fits =
+    let s = trees.int32 (cast_signed w32 (number_of content)) in
+    let r : IsRawText z (scalar_text s) = record { kind = as_int32; value = content; fits = fits; sized = size; is = worth; written = refl } in
+    record { scalar = s; kinded = cc; spells = whole32 content fits size; text_is = subst (λ (t : Tree). IsTextOf t (scalar_text s)) (sym is) r }
+number_plain kind content tree as_int64 z is typed size worth fits =
+    let s = trees.int64 (cast_signed w64 (long_of content)) in
+    let r : IsRawText z (scalar_text s) = record { kind = as_int64; value = content; fits = fits; sized = size; is = worth; written = refl } in
+    record { scalar = s; kinded = cc; spells = whole64 content fits size; text_is = subst (λ (t : Tree). IsTextOf t (scalar_text s)) (sym is) r }
 
-plain_there : (kind : Kind) (own : List ℕ) (tree : Tree) → (kind ≡ kinds.Doc → ⊥) → (kind ≡ kinds.Array → ⊥) → (kind ≡ kinds.CodeScope → ⊥) → AreBytes own → IsOwn (Kept kind) own tree
-    → Plain kind own tree
-plain_there kind own tree d a c fits (a_number n) = number_plain kind own tree n.kind n.z n.is n.typed n.sized n.worth fits
-plain_there kind own tree d a c fits (a_scalar s) = record {
+plain_there : (kind : Kind) (content : List ℕ) (tree : Tree) → (kind ≡ kinds.Doc → ⊥) → (kind ≡ kinds.Array → ⊥) → (kind ≡ kinds.CodeScope → ⊥) → AreBytes content → IsTyped (Kept kind) content tree
+    → Plain kind content tree
+plain_there kind content tree d a c fits (a_number n) = number_plain kind content tree n.kind n.z n.is n.typed n.sized n.worth fits
+plain_there kind content tree d a c fits (a_scalar s) = record {
   scalar = s.scalar;
   kinded = cc (s.typed);
   spells = s.spells;
   text_is = subst (λ (t : Tree). IsTextOf t (scalar_text s.scalar)) (sym s.is) s.text_is;
 }
-plain_there kind own tree d a c fits (a_document x) = absurd (d (cc (x.typed)))
-plain_there kind own tree d a c fits (an_array x) = absurd (a (cc (x.typed)))
-plain_there kind own tree d a c fits (a_code x) = absurd (c (cc (x.typed)))
+plain_there kind content tree d a c fits (a_document x) = absurd (d (cc (x.typed)))
+plain_there kind content tree d a c fits (an_array x) = absurd (a (cc (x.typed)))
+plain_there kind content tree d a c fits (a_code x) = absurd (c (cc (x.typed)))
 
 module _ (kind : Kind) (bytes : List ℕ) (d : kind ≡ kinds.Doc → ⊥) (a : kind ≡ kinds.Array → ⊥) (c : kind ≡ kinds.CodeScope → ⊥) (fits : AreBytes bytes) where
-  pub plain_of : (tree : Tree) (v : HasValue (Kept kind) bytes tree) → Plain kind v.own tree
-  plain_of tree v = plain_there kind v.own tree d a c (own_bytes bytes v.own v.after fits v.splits) v.spells
+  pub plain_of : (tree : Tree) (v : HasValue (Kept kind) bytes tree) → Plain kind v.content tree
+  plain_of tree v = plain_there kind v.content tree d a c (content_bytes bytes v.content v.after fits v.splits) v.spells
 
   abbrev pub sound_here : (tree : Tree) → HasValue (Kept kind) bytes tree → Sound kind bytes
   sound_here tree v = let p = plain_of tree v in
       record {
         tree = leaf p.scalar;
-        begins = record { value = v.own; after = v.after; spells = p.spells; typed = ap type_byte p.kinded; splits = v.splits; short = v.short };
+        begins = record { value = v.content; after = v.after; spells = p.spells; typed = ap type_byte p.kinded; splits = v.splits; short = v.short };
       }
 
-  pub plain_appended : {E : Type 0} (seen : Tree) (old : List ℕ) (end : ℕ) (new : List ℕ) (r : Result ℕ E) → ((s : Sound kind bytes) → seen ≡ meaning s)
-      → Appends old end r new (text seen) → (tree : Tree) → HasValue (Kept kind) bytes tree → IfOk r (λ e. AppendsText tree old end e new)
-  plain_appended seen old end new (Ok e) is h tree v =
+  pub plain_appended : {E : Type 0} (viewed : Tree) (old : List ℕ) (end : ℕ) (new : List ℕ) (r : Result ℕ E) → ((s : Sound kind bytes) → viewed ≡ meaning s)
+      → Appends old end r new (text viewed) → (tree : Tree) → HasValue (Kept kind) bytes tree → IfOk r (λ e. AppendsText tree old end e new)
+  plain_appended viewed old end new (Ok e) is h tree v =
       let p = plain_of tree v in
-      let same : text seen ≡ scalar_text p.scalar = ap text (is (sound_here tree v) ∙ meaning_is (sound_here tree v) (sound_here tree v)) in
-      record { text = text seen; is = subst (IsTextOf tree) (sym same) p.text_is; written = h.0; inside = h.1 }
-  plain_appended seen old end new (Err e) is h tree v = tt
+      let same : text viewed ≡ scalar_text p.scalar = ap text (is (sound_here tree v) ∙ meaning_is (sound_here tree v) (sound_here tree v)) in
+      record { text = text viewed; is = subst (IsTextOf tree) (sym same) p.text_is; written = h.0; inside = h.1 }
+  plain_appended viewed old end new (Err e) is h tree v = tt
 
 -- ---- values that contain values
 
@@ -183,28 +183,28 @@ number_no_holder as_int32 kind h e = let same : kind ≡ kinds.Int32 = cc in let
 number_no_holder as_int64 kind h e = let same : kind ≡ kinds.Int64 = cc in let f : false ≡ true = sym (ap is_holder same) ∙ h in cc
 
 module _ (bytes : List ℕ) (start : ℕ) (tree : Tree) where
-  body_splits : (own body after : List ℕ) → drop start bytes ≡ own ++ after → own ≡ framed body → drop (start + 4) bytes ≡ body ++ 0 ∷ after
-  body_splits own body after splits frame =
+  body_splits : (content body after : List ℕ) → drop start bytes ≡ content ++ after → content ≡ framed body → drop (start + 4) bytes ≡ body ++ 0 ∷ after
+  body_splits content body after splits frame =
       sym (drop-drop 4 start bytes) ∙ ap (drop 4) (splits ∙ ap (λ (x : List ℕ). x ++ after) frame ∙ framed_after body after) ∙ number_after (length body + 5) (body ++ 0 ∷ after)
 
   pub document_here : HasValue (Kept kinds.Doc) (drop start bytes) tree → (e : HasElements (drop (start + 4) bytes)) × (tree ≡ doc e.fields)
   document_here v = go v.spells
     where
-      go : IsOwn (Kept kinds.Doc) v.own tree → (e : HasElements (drop (start + 4) bytes)) × (tree ≡ doc e.fields)
+      go : IsTyped (Kept kinds.Doc) v.content tree → (e : HasElements (drop (start + 4) bytes)) × (tree ≡ doc e.fields)
       go (a_number n) = absurd (number_no_holder n.kind kinds.Doc refl n.typed)
       go (a_scalar s) = absurd (no_holder s.scalar kinds.Doc (cc (s.typed)) refl)
-      go (a_document d) = (record { fields = d.fields; body = d.body; after = v.after; spell = d.spell; splits = body_splits v.own d.body v.after v.splits d.frame }, d.is)
+      go (a_document d) = (record { fields = d.fields; body = d.body; after = v.after; spell = d.spell; splits = body_splits v.content d.body v.after v.splits d.frame }, d.is)
       go (an_array d) = absurd (cc (d.typed))
       go (a_code d) = absurd (cc (d.typed))
 
   pub array_here : HasValue (Kept kinds.Array) (drop start bytes) tree → (e : HasElements (drop (start + 4) bytes)) × (tree ≡ array (values_in e.fields))
   array_here v = go v.spells
     where
-      go : IsOwn (Kept kinds.Array) v.own tree → (e : HasElements (drop (start + 4) bytes)) × (tree ≡ array (values_in e.fields))
+      go : IsTyped (Kept kinds.Array) v.content tree → (e : HasElements (drop (start + 4) bytes)) × (tree ≡ array (values_in e.fields))
       go (a_number n) = absurd (number_no_holder n.kind kinds.Array refl n.typed)
       go (a_scalar s) = absurd (no_holder s.scalar kinds.Array (cc (s.typed)) refl)
       go (a_document d) = absurd (cc (d.typed))
-      go (an_array d) = (record { fields = d.fields; body = d.body; after = v.after; spell = d.spell; splits = body_splits v.own d.body v.after v.splits d.frame }, d.is)
+      go (an_array d) = (record { fields = d.fields; body = d.body; after = v.after; spell = d.spell; splits = body_splits v.content d.body v.after v.splits d.frame }, d.is)
       go (a_code d) = absurd (cc (d.typed))
 
 -- the parts of code with scope
@@ -217,9 +217,9 @@ pub record CodeHere (bytes : List ℕ) (start : ℕ) (tree : Tree) : Type 0 wher
   pub inside : start + 13 + length code ≤ length bytes
 
 module _ (bytes : List ℕ) (start : ℕ) (tree : Tree) where
-  code_splits : (own code body after : List ℕ) → drop start bytes ≡ own ++ after → own ≡ scoped code (framed body)
+  code_splits : (content code body after : List ℕ) → drop start bytes ≡ content ++ after → content ≡ scoped code (framed body)
       → drop (start + 4) bytes ≡ string code ++ (number (length body + 5) ++ (body ++ 0 ∷ after))
-  code_splits own code body after splits frame =
+  code_splits content code body after splits frame =
       let n = length (string code ++ framed body) + 4 in
       sym (drop-drop 4 start bytes) ∙ ap (drop 4) (splits ∙ ap (λ (x : List ℕ). x ++ after) frame ∙ append_assoc (number n) (string code ++ framed body) after)
       ∙ number_after n ((string code ++ framed body) ++ after) ∙ append_assoc (string code) (framed body) after
@@ -235,13 +235,13 @@ module _ (bytes : List ℕ) (start : ℕ) (tree : Tree) where
   pub code_here : HasValue (Kept kinds.CodeScope) (drop start bytes) tree → CodeHere bytes start tree
   code_here v = go v.spells
     where
-      go : IsOwn (Kept kinds.CodeScope) v.own tree → CodeHere bytes start tree
+      go : IsTyped (Kept kinds.CodeScope) v.content tree → CodeHere bytes start tree
       go (a_number n) = absurd (number_no_holder n.kind kinds.CodeScope refl n.typed)
       go (a_scalar s) = absurd (no_holder s.scalar kinds.CodeScope (cc (s.typed)) refl)
       go (a_document d) = absurd (cc (d.typed))
       go (an_array d) = absurd (cc (d.typed))
       go (a_code d) =
-          let there = code_splits v.own d.code d.body v.after v.splits d.frame in
+          let there = code_splits v.content d.code d.body v.after v.splits d.frame in
           let more = scope_splits d.code d.body v.after there in
           let rest = number (length d.body + 5) ++ (d.body ++ 0 ∷ v.after) in
           record {

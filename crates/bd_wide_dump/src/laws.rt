@@ -1,6 +1,6 @@
 //! Laws of lines. The body of each is empty: its contract is the law.
 
-ghost use Rattle.std.specs.Prelude.{◌≡◌, ◌<◌, ℕ, List, [], ◌∷◌, ◌++◌, length};
+ghost use Rattle.std.specs.Prelude.{◌≡◌, ℕ, List, [], ◌∷◌, ◌++◌, length};
 ghost use Rattle.bd_value.specs.Tree.{Doc, doc, fields_of};
 ghost use Rattle.bd_bson_view.specs.Spelling.{IsDocument, NumberKind, number_size, number_type};
 ghost use Rattle.bd_extjson_text.specs.Text.{text};
@@ -9,8 +9,9 @@ ghost use Rattle.bd_wide_dump.specs.WideText.{AreBytes, IsLineOf};
 
 /// Numbers of different types or bits are different whole numbers.
 pub fn numbers_differ()
-    ensures { (k j : NumberKind) (v w : List ℕ) → AreBytes v → AreBytes w → length v ≡ number_size k →
-        length w ≡ number_size j → raw (number_type k) v ≡ raw (number_type j) w → (k ≡ j) × (v ≡ w) }
+    ensures { (k j : NumberKind) (v w : List ℕ) → AreBytes v → AreBytes w →
+        length v ≡ number_size k → length w ≡ number_size j →
+        raw (number_type k) v ≡ raw (number_type j) w → (k ≡ j) × (v ≡ w) }
 {}
 
 /// The line of a document of the nineteen kinds is its text and a newline: what `bsonfind` prints.

@@ -4,8 +4,8 @@
 use bd_cli::{PROGRAM, report};
 use bd_cli_args::{Order, WordsFault, parse_words};
 use bd_cli_scan::Status;
-use bd_cli_scan::output::CANNOT_WRITE;
-use bd_io_device::{BufferedInput, ReadFault, SystemInput, SystemOutput, write_all};
+use bd_cli_scan::output::{report_open_fault, report_read_fault, report_unwritten};
+use bd_io_device::{BufferedInput, ReadFault, SystemInput, SystemOutput};
 use bd_io_stdout::{
     BufferedOutput, FlushingError, FlushingInput, OutputBuffer, WriteState, hand_on,
 };
@@ -77,17 +77,6 @@ fn run<F: Read + Drop>(
     bd_cli::run(alloc, order, &mut file, &mut commands, &mut out, &mut err)
 }
 
-/// Reports an error, and of which file. If standard error fails too, only the status reports it.
-fn report_error(rt: &HostRuntime, message: &str, file: &str) -> Status {
-    let mut err = SystemOutput::new(rt.stderr());
-    for part in [PROGRAM, ": ", message, file, "\n"] {
-        if write_all(&mut err, part.as_bytes()).is_err() {
-            break;
-        }
-    }
-    Status::Failed
-}
-
 /// Runs a command over its file, which is opened here.
 fn run_order(rt: &HostRuntime, order: &Order, output_buffer: &Waiting) -> Status {
     let (Order::Dump { file }
@@ -99,11 +88,12 @@ fn run_order(rt: &HostRuntime, order: &Order, output_buffer: &Waiting) -> Status
         return run(rt, order, rt.reader(), output_buffer);
     }
     let Ok(opened) = fs::open(rt, file) else {
-        return report_error(rt, "cannot open ", file);
+        return report_open_fault(PROGRAM, file, &mut SystemOutput::new(rt.stderr()));
     };
     // This is the file number of standard input, which was closed: commands would be read from the end of the file.
     if opened.as_raw_fd() == 0 && matches!(order, Order::Serve { .. }) {
-        return report_error(rt, ReadFault::Device.words(), "");
+        let mut err = SystemOutput::new(rt.stderr());
+        return report_read_fault(PROGRAM, ReadFault::Device, &mut err);
     }
     run(rt, order, opened, output_buffer)
 }
@@ -123,11 +113,11 @@ fn status(rt: &HostRuntime) -> Status {
     let output_buffer = RefCell::new(OutputBuffer::new(rt.alloc(), system));
     let status = execute(rt, &output_buffer);
     if hand_on(&output_buffer) == WriteState::Lost {
-        return report_error(rt, CANNOT_WRITE, "");
+        return report_unwritten(PROGRAM, &mut SystemOutput::new(rt.stderr()));
     }
     status
 }
 
 fn main(rt: HostRuntime) -> ExitCode {
-    ExitCode::from(status(&rt) as u8)
+    ExitCode::from(status(&rt).code())
 }

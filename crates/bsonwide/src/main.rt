@@ -3,21 +3,21 @@
 
 use bd_cli_args::WordsFault;
 use bd_cli_scan::Status;
-use bd_cli_scan::output::CANNOT_WRITE;
-use bd_io_device::{BufferedInput, SystemOutput, write_all};
+use bd_cli_scan::output::{report_open_fault, report_unwritten};
+use bd_io_device::{BufferedInput, SystemOutput};
 use bd_io_stdout::{
     BufferedOutput, FlushingError, FlushingInput, OutputBuffer, WriteState, hand_on,
 };
 use bd_wide::read_order;
 use bd_wide_args::{Order, parse_words};
-use bd_wide_cli::{Command, Filter, PROGRAM, report};
+use bd_wide_cli::{Command, Filter, PROGRAM, report, report_version};
 use std::cell::RefCell;
 use std::io::{BufReader, Read, Stdout};
 use std::process::ExitCode;
 use std::{env, fs, io};
 
-/// The command in the process's arguments, without the name of the program.
-fn order(rt: &HostRuntime) -> Result<Order, WordsFault> {
+/// The process's arguments, without the name of the program.
+fn arguments(rt: &HostRuntime) -> Result<Vec<String>, WordsFault> {
     let words = match env::args(rt) {
         Ok(words) => words,
         Err(error) if error.kind() == io::ErrorKind::OutOfMemory => {
@@ -26,13 +26,12 @@ fn order(rt: &HostRuntime) -> Result<Order, WordsFault> {
         // An argument that is not UTF-8 is never accepted.
         Err(_) => return Err(WordsFault::Usage),
     };
-    let words: Vec<String> = words.skip(1).collect(rt.alloc())?;
-    parse_words(rt.alloc(), &words)
+    Ok(words.skip(1).collect(rt.alloc())?)
 }
 
-/// The command in the process's arguments, and its file.
-fn command_line(rt: &HostRuntime) -> Result<(Command, String), WordsFault> {
-    match order(rt)? {
+/// The command in arguments, and its file.
+fn command_line(rt: &HostRuntime, words: &[String]) -> Result<(Command, String), WordsFault> {
+    match parse_words(rt.alloc(), words)? {
         Order::Dump { file } => Ok((Command::Dump, file)),
         Order::Check { file } => Ok((Command::Check, file)),
         Order::Wrap { file } => Ok((Command::Filter(Filter::Wrap), file)),
@@ -93,31 +92,46 @@ fn run<F: Read + Drop>(
     bd_wide_cli::run(alloc, command, &mut file, &mut out, &mut err)
 }
 
-/// Reports an error, and of which file. If standard error fails too, only the status reports it.
-fn report_error(rt: &HostRuntime, message: &str, file: &str) -> Status {
-    let mut err = SystemOutput::new(rt.stderr());
-    for part in [PROGRAM, ": ", message, file, "\n"] {
-        if write_all(&mut err, part.as_bytes()).is_err() {
-            break;
-        }
-    }
-    Status::Failed
-}
-
 /// Runs a command over its file, which is opened here.
 fn run_command(rt: &HostRuntime, command: &Command, file: &str, output_buffer: &Waiting) -> Status {
     if file == "-" {
         return run(rt, command, rt.reader(), output_buffer);
     }
     let Ok(opened) = fs::open(rt, file) else {
-        return report_error(rt, "cannot open ", file);
+        return report_open_fault(PROGRAM, file, &mut SystemOutput::new(rt.stderr()));
     };
     run(rt, command, opened, output_buffer)
 }
 
+/// Whether the version is requested, and nothing else.
+fn requests_version(words: &[String]) -> bool {
+    match words {
+        [word] => word.as_str() == "--version",
+        _ => false,
+    }
+}
+
+/// Prints the version.
+fn print_version(rt: &HostRuntime, output_buffer: &Waiting) -> Status {
+    let writer = rt.stderr();
+    let mut out = SystemOutput::new(BufferedOutput { output_buffer });
+    let mut err = SystemOutput::new(FlushingError {
+        writer,
+        output_buffer,
+    });
+    report_version(&mut out, &mut err)
+}
+
 /// Runs the command in the process's arguments.
 fn execute(rt: &HostRuntime, output_buffer: &Waiting) -> Status {
-    match command_line(rt) {
+    let words = match arguments(rt) {
+        Ok(words) => words,
+        Err(fault) => return refuse(rt, fault, output_buffer),
+    };
+    if requests_version(&words) {
+        return print_version(rt, output_buffer);
+    }
+    match command_line(rt, &words) {
         Ok((command, file)) => run_command(rt, &command, &file, output_buffer),
         Err(fault) => refuse(rt, fault, output_buffer),
     }
@@ -130,11 +144,11 @@ fn status(rt: &HostRuntime) -> Status {
     let output_buffer = RefCell::new(OutputBuffer::new(rt.alloc(), system));
     let status = execute(rt, &output_buffer);
     if hand_on(&output_buffer) == WriteState::Lost {
-        return report_error(rt, CANNOT_WRITE, "");
+        return report_unwritten(PROGRAM, &mut SystemOutput::new(rt.stderr()));
     }
     status
 }
 
 fn main(rt: HostRuntime) -> ExitCode {
-    ExitCode::from(status(&rt) as u8)
+    ExitCode::from(status(&rt).code())
 }

@@ -32,43 +32,43 @@ is_whole kinds.Int64 = true
 is_whole _ = false
 
 -- The bytes are those of a number of this type.
-pub record IsNumberOf (type : ElementType) (own : List ℕ) (tree : Tree) : Type 0 where
+pub record IsNumberOf (type : ElementType) (content : List ℕ) (tree : Tree) : Type 0 where
   pub kind : NumberKind
   pub z : ℤ
   pub is : tree ≡ leaf (int64 z)
   pub typed : type ≡ number_type kind
-  pub sized : length own ≡ number_size kind
-  pub worth : raw (number_type kind) own ≡ z
+  pub sized : length content ≡ number_size kind
+  pub worth : raw (number_type kind) content ≡ z
 
 -- The bytes are those of a scalar of this type that is no number.
-pub record IsScalarOf (type : ElementType) (own : List ℕ) (tree : Tree) : Type 0 where
+pub record IsScalarOf (type : ElementType) (content : List ℕ) (tree : Tree) : Type 0 where
   pub scalar : Scalar
   pub is : tree ≡ leaf scalar
   pub typed : type ≡ Kept (scalar_kind scalar)
   pub other : is_whole (scalar_kind scalar) ≡ false
-  pub spells : IsScalar scalar own
+  pub spells : IsScalar scalar content
   pub text_is : IsScalarText scalar (scalar_text scalar)
 
 -- The bytes are those of a document.
-pub record IsDocumentOf (type : ElementType) (own : List ℕ) (tree : Tree) : Type 0 where
+pub record IsDocumentOf (type : ElementType) (content : List ℕ) (tree : Tree) : Type 0 where
   pub fields : Fields
   pub body : List ℕ
   pub is : tree ≡ doc fields
   pub typed : type ≡ Kept kinds.Doc
   pub spell : AreFieldsBy (valued raw) fields body
-  pub frame : own ≡ framed body
+  pub frame : content ≡ framed body
 
 -- The bytes are those of an array.
-pub record IsArrayOf (type : ElementType) (own : List ℕ) (tree : Tree) : Type 0 where
+pub record IsArrayOf (type : ElementType) (content : List ℕ) (tree : Tree) : Type 0 where
   pub fields : Fields
   pub body : List ℕ
   pub is : tree ≡ array (values_in fields)
   pub typed : type ≡ Kept kinds.Array
   pub spell : AreFieldsBy (valued raw) fields body
-  pub frame : own ≡ framed body
+  pub frame : content ≡ framed body
 
 -- The bytes are those of code with scope.
-pub record IsCodeOf (type : ElementType) (own : List ℕ) (tree : Tree) : Type 0 where
+pub record IsCodeOf (type : ElementType) (content : List ℕ) (tree : Tree) : Type 0 where
   pub code : List ℕ
   pub fields : Fields
   pub body : List ℕ
@@ -76,23 +76,23 @@ pub record IsCodeOf (type : ElementType) (own : List ℕ) (tree : Tree) : Type 0
   pub typed : type ≡ Kept kinds.CodeScope
   pub text_fits : IsText code
   pub spell : AreFieldsBy (valued raw) fields body
-  pub frame : own ≡ scoped code (framed body)
+  pub frame : content ≡ scoped code (framed body)
 
 -- The bytes are those of a value of this type.
-pub data IsOwn (type : ElementType) (own : List ℕ) (tree : Tree) : Type 0 where
-  a_number : IsNumberOf type own tree → IsOwn type own tree
-  a_scalar : IsScalarOf type own tree → IsOwn type own tree
-  a_document : IsDocumentOf type own tree → IsOwn type own tree
-  an_array : IsArrayOf type own tree → IsOwn type own tree
-  a_code : IsCodeOf type own tree → IsOwn type own tree
+pub data IsTyped (type : ElementType) (content : List ℕ) (tree : Tree) : Type 0 where
+  a_number : IsNumberOf type content tree → IsTyped type content tree
+  a_scalar : IsScalarOf type content tree → IsTyped type content tree
+  a_document : IsDocumentOf type content tree → IsTyped type content tree
+  an_array : IsArrayOf type content tree → IsTyped type content tree
+  a_code : IsCodeOf type content tree → IsTyped type content tree
 
 -- The bytes begin with this value, which has this type; other bytes may follow.
 pub record HasValue (type : ElementType) (bytes : List ℕ) (tree : Tree) : Type 0 where
-  pub own : List ℕ
+  pub content : List ℕ
   pub after : List ℕ
-  pub spells : IsOwn type own tree
-  pub splits : bytes ≡ own ++ after
-  pub short : length own ≤ longest_document
+  pub spells : IsTyped type content tree
+  pub splits : bytes ≡ content ++ after
+  pub short : length content ≤ longest_document
 
 -- The element at an offset: its type, its name, the offset of its value and that of the next element.
 pub record IsElement (bytes : List ℕ) (at : ℕ) (fields : Fields) (type : ElementType) (name : List ℕ) (start next : ℕ) : Type 0 where

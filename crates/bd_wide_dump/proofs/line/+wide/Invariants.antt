@@ -17,7 +17,7 @@ decreases-append_fields l = 4 * (length l.bytes.now - l.start) + 3
 abbrev pub decreases-append_items : goal.decreases-append_items
 decreases-append_items l = 4 * (length l.bytes.now - l.start) + 3
 
--- what is written goes on with the elements that remain
+-- what is written continues with the elements that remain
 abbrev pub invariant-append_fields-loop-element : goal.invariant-append_fields-loop-element
 invariant-append_fields-loop-element l = record {
   goes : FieldsGo l.bytes l.start l.next l.later (take l.end l.fn.out.items) (take l.at l.out.items);
