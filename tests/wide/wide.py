@@ -5,7 +5,8 @@ with each growth of memory, each read and each write failed in turn.
 usage: tests/wide/wide.py [PROGRAM] [DOCUMENTS]     The last line is 'N passed, M failed'. It needs ./bsonfind too.
 
 What `bsonfind check` reports of a masked dump is what a reader that passes doubles and decimal128 reports of the dump; of an ordered
-one too, but for the byte. Only of a damaged document it may report one of them: a decimal128 that is cut short, and what is in code with scope of a wrong length, stay.
+one too, but for the byte. Only of a damaged document it may report one of them: a decimal128 that is cut short, and what is in code
+with scope of a wrong length, stay.
 """
 
 import random
