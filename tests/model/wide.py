@@ -1,4 +1,4 @@
-"""What `bsonwide` writes of a dump, by Python: `check`, `wrap` with the texts of doubles and decimal128, and `order` with the codes."""
+"""What `bsonwide` writes of a dump, by Python: `check`, the end of `dump`, `wrap` with texts of numbers, `order` with their codes."""
 
 import json
 import re
@@ -109,6 +109,13 @@ def check(data: bytes) -> tuple[bytes, bytes, int]:
     read = read_dump(data, is_wide=True)
     faults = read.faults()
     return "".join(faults).encode(), f"{len(read.documents)} documents, {len(faults)} faulty\n".encode(), int(faults != [])
+
+
+def end_of_dump(data: bytes) -> tuple[int, bytes, int]:
+    """How many lines `dump` writes, the first fault and the line of counts, and the status."""
+    read = read_dump(data, is_wide=True)
+    faults, count = read.faults(), len(read.front())
+    return count, "".join([*(f"bsonwide: {it}" for it in faults[:1]), f"{count} objects found\n"]).encode(), int(faults != [])
 
 
 def double_text(bits: bytes) -> bytes:

@@ -18,7 +18,7 @@ from pathlib import Path
 sys.path.insert(0, str(Path(__file__).resolve().parents[1]))
 
 from model.dumps import LONGEST
-from model.wide import check, decimal_text, double_text, frames, order, wrap
+from model.wide import check, decimal_text, double_text, end_of_dump, frames, order, wrap
 from support import ROOT, Tests
 
 PROGRAM = Path(sys.argv[1]).resolve() if len(sys.argv) > 1 else ROOT / "bsonwide"
@@ -313,6 +313,8 @@ def main() -> int:
     for name, data in inputs.items():
         made = ran("check", data)
         tests.want(f"check, {name}", made == check(data), made[1:])
+        made = ran("dump", data)
+        tests.want(f"dump, {name}", (made[0].count(b"\n"), *made[1:]) == end_of_dump(data), made[1:])
         wanted, kept = wrap(data)
         message = f"{kept} documents too long or too deep to wrap\n".encode() if kept else b""
         made = ran("wrap", data)
