@@ -136,10 +136,6 @@ class Wide(NamedTuple):
     wide: str
     dump: str
 
-    def through(self) -> str:
-        """The words for a shell that print the dump."""
-        return f"{shlex.quote(self.wide)} wrap {shlex.quote(self.dump)} | {shlex.quote(self.program)} dump -"
-
     def file_tasks(self, lines: str, paths: list[str], room: str) -> list[Task]:
         """The whole file, `check` first; `pack` is by other programs alone. And each filter by itself."""
         others = peers.of_files({"check": self.dump, "dump": self.dump, "pack": lines}, room)
@@ -147,7 +143,7 @@ class Wide(NamedTuple):
         filters = {"wrap": [], "order": paths}
         return [
             Task("check", {OWN: [self.wide, "check", self.dump], **others["check"]}),
-            Task("dump", {OWN: ["sh", "-c", self.through()], **others["dump"]}, alike=["cat", lines]),
+            Task("dump", {OWN: [self.wide, "dump", self.dump], **others["dump"]}, alike=["cat", lines]),
             Task("pack", others["pack"]),
             *(Task(f"{it} alone", {OWN: [self.wide, it, self.dump, *of]}) for it, of in filters.items() if f"bsonwide {it}" in known),
         ]
@@ -159,7 +155,7 @@ class Wide(NamedTuple):
         tasks = []
         for query in peers.queries(order)[:2]:
             own = {OWN: [*package, "--program", self.program, "find", self.dump, *query.words()]} if does_find else {}
-            others = peers.of_query(query, self.through(), self.dump)
+            others = peers.of_query(query, f"{shlex.quote(self.wide)} dump {shlex.quote(self.dump)}", self.dump)
             tasks.append(Task(f"find {query.name}", own | others, alike=others.get("dump, jq", []) if own else []))
         return tasks
 
