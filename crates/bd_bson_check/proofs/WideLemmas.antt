@@ -47,14 +47,14 @@ module _ (worth : ElementType → List ℕ → ℤ) where
   abbrev NestedWide : ℕ → Nested → Type 0
   NestedWide depth_left nested = (holder : Holder) (q e : ℕ) (bytes rest : List ℕ) → IsBytes bytes → nested holder q e bytes ≡ Ok rest → WideHolder holder depth_left bytes rest
 
-  -- a value that was skipped: its tree, the bytes that spell it, and its own bytes, which come after the name
+  -- a value that was skipped: its tree, the bytes that spell it, and those of them that come after the name
   record WideValue (depth_left : ℕ) (type : ElementType) (bytes rest : List ℕ) : Type 0 where
     pub tree : Tree
     pub value : List ℕ
-    pub own : List ℕ
+    pub after_name : List ℕ
     pub spells : IsValueBy (valued worth) tree value
-    pub placed : (name : List ℕ) → written_typed tree name value ≡ byte_stated type ∷ (name ++ 0 ∷ own)
-    pub takes : Takes bytes own rest
+    pub spelled_as : (name : List ℕ) → written_typed tree name value ≡ byte_stated type ∷ (name ++ 0 ∷ after_name)
+    pub takes : Takes bytes after_name rest
     pub shallow : depth tree ≤ depth_left
 
   record WideElement (depth_left : ℕ) (bytes rest : List ℕ) : Type 0 where
@@ -100,15 +100,15 @@ module _ (worth : ElementType → List ℕ → ℤ) where
   module _ (depth_left : ℕ) (nested : Nested) (below : NestedWide depth_left nested) where
     plain : (kind : Kind) (q e : ℕ) (bytes rest : List ℕ) → IsBytes bytes → is_holder kind ≡ false → is_number kind ≡ false
         → skip_value refused kind q e bytes ≡ Ok rest → WideValue depth_left (types.Kept kind) bytes rest
-    plain kind q e bytes rest fits holds counts is =
+    plain kind q e bytes rest fits scalar counts is =
         let v = value_takes 0 refused refused_takes kind q e bytes rest fits is in
-        let s = stays v.tree v.value (ap is_holder v.kinded ∙ holds) (ap is_number v.kinded ∙ counts) v.spells in
+        let s = stays v.tree v.value (ap is_holder v.kinded ∙ scalar) (ap is_number v.kinded ∙ counts) v.spells in
         record {
           tree = v.tree;
           value = v.value;
-          own = v.value;
+          after_name = v.value;
           spells = s.0;
-          placed = λ name. s.1 name ∙ ap (λ (k : Kind). type_byte k ∷ (name ++ 0 ∷ v.value)) v.kinded;
+          spelled_as = λ name. s.1 name ∙ ap (λ (k : Kind). type_byte k ∷ (name ++ 0 ∷ v.value)) v.kinded;
           takes = v.takes;
           shallow = omega (arith, v.shallow);
         }
@@ -122,9 +122,9 @@ module _ (worth : ElementType → List ℕ → ℤ) where
         record {
           tree = leaf (trees.int64 z);
           value = number_byte k ∷ f.prefix;
-          own = f.prefix;
+          after_name = f.prefix;
           spells = n;
-          placed = λ name. ap (λ (b : ℕ). b ∷ (name ++ 0 ∷ f.prefix)) (sym byte);
+          spelled_as = λ name. ap (λ (b : ℕ). b ∷ (name ++ 0 ∷ f.prefix)) (sym byte);
           takes = f.takes;
           shallow = omega arith;
         }
@@ -136,15 +136,15 @@ module _ (worth : ElementType → List ℕ → ℤ) where
     typed_wide (types.Kept kinds.Int64) q e bytes rest fits is = counted as_int64 e bytes rest fits refl is
     typed_wide (types.Kept kinds.Doc) q e bytes rest fits is =
         let d = below holders.Document q e bytes rest fits is in
-        record { tree = doc d.fields; value = framed d.body; own = framed d.body; spells = (d.body, d.spell, refl); placed = λ name. refl; takes = d.takes; shallow = omega (arith, d.shallow) }
+        record { tree = doc d.fields; value = framed d.body; after_name = framed d.body; spells = (d.body, d.spell, refl); spelled_as = λ name. refl; takes = d.takes; shallow = omega (arith, d.shallow) }
     typed_wide (types.Kept kinds.Array) q e bytes rest fits is =
         let d = below holders.Array q e bytes rest fits is in
         let items = items_from_fields (valued worth) d.fields d.body d.spell in
-        record { tree = array (items_in d.fields); value = framed d.body; own = framed d.body; spells = (d.body, items, refl); placed = λ name. refl; takes = d.takes; shallow = omega (arith, d.shallow, items_depth_is d.fields) }
+        record { tree = array (items_in d.fields); value = framed d.body; after_name = framed d.body; spells = (d.body, items, refl); spelled_as = λ name. refl; takes = d.takes; shallow = omega (arith, d.shallow, items_depth_is d.fields) }
     typed_wide (types.Kept kinds.CodeScope) q e bytes rest fits is =
         let d = below holders.CodeScope q e bytes rest fits is in
         let value = scoped d.text_bytes (framed d.body) in
-        record { tree = code_scope d.text_bytes d.fields; value = value; own = value; spells = (d.body, d.spell, refl, d.text_fits); placed = λ name. refl; takes = d.takes; shallow = omega (arith, d.shallow) }
+        record { tree = code_scope d.text_bytes d.fields; value = value; after_name = value; spells = (d.body, d.spell, refl, d.text_fits); spelled_as = λ name. refl; takes = d.takes; shallow = omega (arith, d.shallow) }
     typed_wide (types.Kept kinds.MinKey) q e bytes rest fits is = plain kinds.MinKey q e bytes rest fits refl refl is
     typed_wide (types.Kept kinds.Undefined) q e bytes rest fits is = plain kinds.Undefined q e bytes rest fits refl refl is
     typed_wide (types.Kept kinds.Null) q e bytes rest fits is = plain kinds.Null q e bytes rest fits refl refl is
@@ -173,11 +173,11 @@ module _ (worth : ElementType → List ℕ → ℤ) where
         let name = x.0.0 in
         let n = name_takes NameUnended e bytes x.0 (IsBytes-drop 1 (b ∷ bytes) fits) x.1 in
         let v = typed_wide f.0 q e x.0.1 rest n.0.rest_fits (within_ok (label index name) (skip_typed All nested f.0 q e x.0.1) rest x.2) in
-        let whole : written_typed v.tree name v.value ≡ b ∷ (name ++ 0 ∷ v.own) =
-        v.placed name ∙ ap (λ (k : ℕ). k ∷ (name ++ 0 ∷ v.own)) (sym (type_takes unknown b f.0 f.1)) in
+        let whole : written_typed v.tree name v.value ≡ b ∷ (name ++ 0 ∷ v.after_name) =
+        v.spelled_as name ∙ ap (λ (k : ℕ). k ∷ (name ++ 0 ∷ v.after_name)) (sym (type_takes unknown b f.0 f.1)) in
         let joined = Takes-then n.0 v.takes in
         let parts : b ∷ bytes ≡ written_typed v.tree name v.value ++ rest =
-        ap (λ (x : List ℕ). b ∷ x) (joined.parts ∙ ap (λ (x : List ℕ). x ++ rest) (append_assoc name (0 ∷ []) v.own)) ∙ ap (λ (x : List ℕ). x ++ rest) (sym whole) in
+        ap (λ (x : List ℕ). b ∷ x) (joined.parts ∙ ap (λ (x : List ℕ). x ++ rest) (append_assoc name (0 ∷ []) v.after_name)) ∙ ap (λ (x : List ℕ). x ++ rest) (sym whole) in
         record {
           name = name;
           tree = v.tree;

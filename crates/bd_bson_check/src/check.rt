@@ -283,7 +283,8 @@ fn nested(
     bytes: &[u8],
 ) -> Skipped<'_>
     requires { length bytes.now ≤ e }
-    ensures gives { GivesItem (λ x. x.now) result (skip_nested profile depth_left holder q e bytes.now) }
+    ensures gives { GivesItem (λ x.
+        x.now) result (skip_nested profile depth_left holder q e bytes.now) }
     ensures after { IfOk result (λ x. length x.now ≤ length bytes.now) }
 {
     if depth_left == 0 {

@@ -57,6 +57,7 @@ pub fn documents_have_no_fault()
 
 /// Bytes without a fault under all types are a document by value, whatever a number is worth.
 pub fn sound_bytes_are_documents()
-    ensures { (worth : ElementType → List ℕ → ℤ) (base : ℕ) (bytes : List ℕ) → ((i : ℕ) → slice_index bytes i < 256)
-        → fault_under All base bytes ≡ None → (d : Doc) × IsDocumentBy (valued worth) d bytes }
+    ensures { (worth : ElementType → List ℕ → ℤ) (base : ℕ) (bytes : List ℕ) →
+        ((i : ℕ) → slice_index bytes i < 256) → fault_under All base bytes ≡ None →
+        (d : Doc) × IsDocumentBy (valued worth) d bytes }
 {}

@@ -25,7 +25,8 @@ pub fn is_sound(profile: Profile, bytes: &[u8]) -> bool
 #[cycle(quick)]
 fn are_sound(profile: Profile, depth_left: u32, bytes: &[u8]) -> bool
     ensures { IsTrue result → (index : Option ℕ) (e : ℕ) →
-        skip_elements profile (skip_nested profile depth_left) index (length bytes.now) e bytes.now ≡ Ok tt }
+        skip_elements profile (skip_nested profile depth_left) index (length bytes.now) e bytes.now
+        ≡ Ok tt }
 {
     let mut rest = bytes;
     while !rest.is_empty() {

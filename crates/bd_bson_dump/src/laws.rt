@@ -18,7 +18,8 @@ pub fn checks_in_turn()
         frame_length bytes ≡ Ok (Some n) → check_results_at p base bytes
         ≡ fault_under p base (take n bytes) ∷ check_results_at p (base + n) (drop n bytes) }
     ensures last { (p : Profile) (base : ℕ) (bytes : List ℕ) (kind : Kind) →
-        frame_length bytes ≡ Err kind → check_results_at p base bytes ≡ Some (record { kind = kind; offset = base; path = [] }) ∷ [] }
+        frame_length bytes ≡ Err kind → check_results_at p base bytes
+        ≡ Some (record { kind = kind; offset = base; path = [] }) ∷ [] }
 {}
 
 /// The first document with a fault is the one at which a scan ends, and its fault is the scan's. So bytes are documents

@@ -158,7 +158,7 @@ CanSpell _ = Unit {0}
 abbrev pub IsScalar : Scalar → List ℕ → Type 0
 IsScalar s bytes = CanSpell s × (bytes ≡ scalar_bytes s)
 
--- The grammar of a document, but for its scalars: which bytes spell a scalar, and how these stand in an element.
+-- The grammar of a document, but for its scalars: which bytes spell a scalar, and where these are in an element.
 pub record Grammar : Type 1 where
   -- The bytes spell the scalar.
   pub Spells : Scalar → List ℕ → Type 0
@@ -227,7 +227,7 @@ pub record IsNumber (worth : ElementType → List ℕ → ℤ) (z : ℤ) (bytes 
   pub sized : length value ≡ number_size kind
   pub is_worth : worth (number_type kind) value ≡ z
 
--- Of a number the type byte comes first, and stands before the name in the element.
+-- Of a number the type byte comes first, and is before the name in the element.
 abbrev pub written_typed : Tree → List ℕ → List ℕ → List ℕ
 written_typed (leaf (trees.int64 z)) name (type ∷ value) = type ∷ (name ++ 0 ∷ value)
 written_typed t name value = element t name value

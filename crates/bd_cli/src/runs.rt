@@ -32,7 +32,8 @@ pub fn run<F: Input, C: Input, O: Output, E: Output>(
     out: &mut O,
     err: &mut E,
 ) -> Status
-    ensures ran { Prints (codes "bsonfind") (order_run C.state C.read_gives commands.old commands.new
+    ensures ran { Prints (codes "bsonfind")
+        (order_run C.state C.read_gives commands.old commands.new
         order.now (over F.state file.old file.new)) (over O.state out.old out.new)
         (over E.state err.old err.new) result }
     // After a failed read, or at the end, the file is read no more.
@@ -59,8 +60,8 @@ pub fn run<F: Input, C: Input, O: Output, E: Output>(
 /// A request for help prints the usage on `out`, with status 0; invalid arguments print it on `err`, with
 /// status 2; out of memory is reported on `err`, with status 1. A device that fails makes the status 1.
 pub fn report<O: Output, E: Output>(fault: &WordsFault, out: &mut O, err: &mut E) -> Status
-    ensures output { Prints (codes "bsonfind") (run_of (report_output fault.now)) (over O.state out.old out.new)
-        (over E.state err.old err.new) result }
+    ensures output { Prints (codes "bsonfind") (run_of (report_output fault.now))
+        (over O.state out.old out.new) (over E.state err.old err.new) result }
     ensures failed { WriterFails (over O.state out.old out.new) (over E.state err.old err.new) →
         result ≡ Status.Failed }
 {

@@ -92,7 +92,8 @@ fn write_packing<O: Output, E: Output>(
     err: &mut E,
 ) -> Status
     ensures { (text : List ℕ) → ArePacked (text_lines text) packing.now →
-        (output : Transcript) × IsOutputOfPack (Ok text) output × Prints program.now (partial_run output)
+        (output : Transcript) × IsOutputOfPack (Ok text) output
+        × Prints program.now (partial_run output)
         (over O.state out.old out.new) (over E.state err.old err.new) result }
 {
     match write_all(out, &packing.bytes) {
@@ -200,9 +201,11 @@ impl Packing {
 /// Reports how lines were packed, after the bytes on standard output.
 fn report_packing<E: Output>(alloc: Global, program: &str, packing: &Packing, err: &mut E) -> Status
     ensures { ReportsMessage (over E.state err.old err.new)
-        (wrong_line program.now (option_map bad_line_text packing.now.bad) ++ (decimal packing.now.count
-        ++ objects_packed)) (wrong_status (option_map bad_line_text packing.now.bad)) result
-        ⊎ ReportsMessage (over E.state err.old err.new) (error_line program.now no_memory) Failed result }
+        (wrong_line program.now (option_map bad_line_text packing.now.bad)
+        ++ (decimal packing.now.count ++ objects_packed))
+        (wrong_status (option_map bad_line_text packing.now.bad)) result
+        ⊎ ReportsMessage (over E.state err.old err.new)
+        (error_line program.now no_memory) Failed result }
 {
     match &packing.bad {
         None => report_end(program, None, packing.count, OBJECTS_PACKED, err),

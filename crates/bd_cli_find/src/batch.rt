@@ -107,7 +107,8 @@ fn print_batch<O: Output, E: Output>(
     requires ready { IsReady (state_of session.now) id (length (documents (dump_of session.now))) }
     requires fits { fits_batch size ≡ true }
     ensures { (cursor : OpenCursor) → cursor_of id (state_of session.old).cursors ≡ Some cursor →
-        Prints program.now (partial_run (batch_output size (documents (dump_of session.old)) cursor))
+        Prints program.now
+        (partial_run (batch_output size (documents (dump_of session.old)) cursor))
         (over O.state out.old out.new) (over E.state err.old err.new) result }
 {
     let Ok(batch) = session.next(id, most_of(size)) else {
@@ -155,7 +156,8 @@ fn report_batch<E: Output>(alloc: Global, program: &str, batch: &Batch, err: &mu
     ensures { ReportsMessage (over E.state err.old err.new)
         (find_count_line (length batch.now.places.items) batch.now.end
         (option_map positioned_token batch.now.token)) Done result
-        ⊎ ReportsMessage (over E.state err.old err.new) (error_line program.now no_memory) Failed result }
+        ⊎ ReportsMessage (over E.state err.old err.new)
+        (error_line program.now no_memory) Failed result }
 {
     match count_line(alloc, batch) {
         Ok(line) => status_of(write_all(err, line.as_bytes()), Status::Done),

@@ -225,7 +225,8 @@ pub(crate) fn report_refused<E: Output>(
     refused: &Refused,
     err: &mut E,
 ) -> Status
-    ensures { ReportsRefusal program.now (over E.state err.old err.new) (reason_of refused.now) result }
+    ensures { ReportsRefusal program.now (over E.state err.old err.new)
+        (reason_of refused.now) result }
 {
     match refused {
         Refused::BadFilter(fault) => match filter_message(alloc, fault) {

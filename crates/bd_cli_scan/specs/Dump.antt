@@ -46,7 +46,7 @@ IsLine form bytes line = (d : Doc) × form.Spells d bytes × AreLines form (d �
 abbrev pub objects_found : List ℕ
 objects_found = codes " objects found" ++ 10 ∷ []
 
--- the output of `dump` for the lines of so many documents and for what is wrong after them, if anything is
+-- the output of `dump` for the lines of n documents and for what is wrong after them, if anything is
 abbrev pub dump_output : List ℕ → ℕ → Option (List ℕ) → Transcript
 dump_output lines count wrong = output_before lines wrong (decimal count ++ objects_found)
 

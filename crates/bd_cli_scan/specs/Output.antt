@@ -1,6 +1,6 @@
 -- The output of a run: the text on standard output, the text on standard error, and the exit status.
 use Rattle.std.specs.Prelude.{ℕ, List, [], ◌∷◌, ◌++◌, codes, decimal, Option, Some, None}
-use Rattle.std.specs.{List.join_with_byte}
+use Rattle.std.specs.{Borrow.Bor, List.join_with_byte}
 use Rattle.bd_value.specs.Tree.{Doc, doc, fields_of}
 use Rattle.bd_io_device.specs.{Devices.read_words}
 use Rattle.bd_bson_check.specs.Fault.{Fault, fault_view, fault_words}
@@ -68,6 +68,11 @@ open_words file = codes "cannot open " ++ file
 abbrev pub stop_words : OutputFault → List ℕ
 stop_words NoMemory = no_memory
 stop_words Unwritten = cannot_write
+
+-- the bytes of a borrowed text, if any
+abbrev pub reported_bytes : Option (Bor (List ℕ)) → Option (List ℕ)
+reported_bytes None = None
+reported_bytes (Some text) = Some text.now
 
 -- ---- the output
 

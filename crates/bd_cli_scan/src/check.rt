@@ -3,7 +3,8 @@
 ghost use Rattle.std.specs.Prelude.{OnErr, OnOk};
 ghost use Rattle.bd_io_device.specs.Devices.{WriteFailsWithin, TakesText, over};
 ghost use Rattle.bd_cli_scan.specs.Check.{check_message, check_run, check_run_under, check_status};
-ghost use Rattle.bd_cli_scan.specs.{inside.Output.reported_bytes, inside.Scan.check_texts, inside.Scan.profile_of};
+ghost use Rattle.bd_cli_scan.specs.Output.{reported_bytes};
+ghost use Rattle.bd_cli_scan.specs.inside.Scan.{check_texts, profile_of};
 ghost use Rattle.bd_bson_check.specs.declared.profile.Profile.TheVariants.{All};
 ghost use Rattle.bd_cli_scan.specs.Input.{ReadsNoFurther};
 ghost use Rattle.bd_cli_scan.specs.Run.{Prints, ReportsMessage};
@@ -62,7 +63,8 @@ fn check_by<const ALL: bool, R: Input, O: Output, E: Output>(
     out: &mut O,
     err: &mut E,
 ) -> Status
-    ensures checks { Prints program.now (check_run_under (profile_of ALL) (over R.state input.old input.new))
+    ensures checks { Prints program.now
+        (check_run_under (profile_of ALL) (over R.state input.old input.new))
         (over O.state out.old out.new) (over E.state err.old err.new) result }
     ensures stops_reading { ReadsNoFurther R.read_gives input.old input.new }
 {

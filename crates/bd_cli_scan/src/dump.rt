@@ -128,7 +128,8 @@ fn report_scan<E: Output>(alloc: Global, program: &str, scan: &DumpScan, err: &m
         (wrong_line program.now (option_map input_words scan.now.fault) ++ (decimal scan.now.count
         ++ objects_found)) (wrong_status (option_map input_words scan.now.fault)) result
         ⊎ ((fault : Fault) × (scan.now.fault ≡ Some (InputFault.Faulty fault))
-        × ReportsMessage (over E.state err.old err.new) (error_line program.now no_memory) Failed result) }
+        × ReportsMessage (over E.state err.old err.new)
+        (error_line program.now no_memory) Failed result) }
 {
     let count = u64::from(scan.count);
     match &scan.fault {

@@ -7,8 +7,7 @@ ghost use Rattle.bd_bson_check.specs.Fault.{fault_view};
 ghost use Rattle.bd_bson_check.specs.declared.fault.FaultKind.TheVariants as kinds;
 ghost use Rattle.bd_extjson_text.specs.Text.{quoted};
 ghost use Rattle.bd_cli_scan.specs.Run.{ReportsMessage};
-ghost use Rattle.bd_cli_scan.specs.Output.{cannot_write, error_line, fault_text, input_words, no_memory, location_text, open_words, status_code, stop_words, wrong_line, wrong_status};
-ghost use Rattle.bd_cli_scan.specs.inside.Output.{reported_bytes};
+ghost use Rattle.bd_cli_scan.specs.Output.{cannot_write, error_line, fault_text, input_words, no_memory, location_text, open_words, reported_bytes, status_code, stop_words, wrong_line, wrong_status};
 ghost use Rattle.bd_cli_scan.specs.declared.output.OutputFault.TheVariants.{NoMemory as memory, Unwritten};
 ghost use Rattle.bd_cli_scan.specs.declared.output.Status.TheVariants.{Failed};
 
@@ -85,7 +84,8 @@ pub fn is_want_of_memory(fault: &Fault) -> bool
 /// Writes the line of an error: the name of the program, and the message.
 #[tactic(auto, using(crate::proofs::OutputLemmas::taking))]
 pub fn write_error<E: Output>(program: &str, message: &str, err: &mut E) -> Result<(), DeviceFault>
-    ensures ok { OnOk result (TakesText (over E.state err.old err.new) (error_line program.now message.now)) }
+    ensures ok { OnOk result (TakesText (over E.state err.old err.new)
+        (error_line program.now message.now)) }
     ensures err { OnErr result
         (WriteFailsWithin (over E.state err.old err.new) (error_line program.now message.now)) }
 {
@@ -172,7 +172,8 @@ pub fn report_end<E: Output>(
 
 /// Reports an error. It takes no memory.
 pub fn report_error<E: Output>(program: &str, message: &str, err: &mut E) -> Status
-    ensures { ReportsMessage (over E.state err.old err.new) (error_line program.now message.now) Failed result }
+    ensures { ReportsMessage (over E.state err.old err.new)
+        (error_line program.now message.now) Failed result }
 {
     status_of(write_error(program, message, err), Status::Failed)
 }
@@ -200,7 +201,8 @@ fn write_open_fault<E: Output>(program: &str, file: &str, err: &mut E) -> Result
 
 /// Reports that memory ran out. It takes no memory itself.
 pub fn report_no_memory<E: Output>(program: &str, err: &mut E) -> Status
-    ensures { ReportsMessage (over E.state err.old err.new) (error_line program.now no_memory) Failed result }
+    ensures { ReportsMessage (over E.state err.old err.new)
+        (error_line program.now no_memory) Failed result }
 {
     report_error(program, NO_MEMORY, err)
 }

@@ -29,22 +29,22 @@ rewritten_some Is others bytes new some h =
     ] in
     cases (nat_lt (length bytes) 5) (to_whole Is others bytes new h)
 
--- the document at the end of the output, after room for its number
-pub has_start : (paths : List OrderPath) (at : ℕ) (bytes old room begun mid : List ℕ) → at ≡ length old → begun ≡ old ++ room → length room ≡ 12 → 5 ≤ length bytes
+-- the document at the end of the output, after space for its number
+pub has_start : (paths : List OrderPath) (at : ℕ) (bytes old space begun mid : List ℕ) → at ≡ length old → begun ≡ old ++ space → length space ≡ 12 → 5 ≤ length bytes
     → Adds (IsRewritten (IsOrdered paths) (λ others. others) bytes) begun mid → at + 16 ≤ length mid
-has_start paths at bytes old room begun mid here begins twelve some h =
+has_start paths at bytes old space begun mid here begins twelve some h =
     let five = rewritten_some (IsOrdered paths) (λ others. others) bytes h.0 some h.1 in
-    omega (arith, five, ap (λ xs. length xs) h.2, length-append begun h.0, ap (λ xs. length xs) begins, length-append old room)
+    omega (arith, five, ap (λ xs. length xs) h.2, length-append begun h.0, ap (λ xs. length xs) begins, length-append old space)
 
 -- it gets its number
-pub numbered_here : (paths : List OrderPath) (n at : ℕ) (bytes old room begun mid out : List ℕ) → at ≡ length old → begun ≡ old ++ room → length room ≡ 12
+pub numbered_here : (paths : List OrderPath) (n at : ℕ) (bytes old space begun mid out : List ℕ) → at ≡ length old → begun ≡ old ++ space → length space ≡ 12
     → Adds (IsRewritten (IsOrdered paths) (λ others. others) bytes) begun mid
     → out ≡ take at mid ++ (start (length mid - at) n ++ drop (at + 16) mid) → Adds (IsNumbered paths n bytes) old out
 unfolding numbered
-numbered_here paths n at bytes old room begun mid out here begins twelve h is =
-    let size : length begun ≡ at + 12 = omega (arith, ap (λ xs. length xs) begins, length-append old room) in
-    let whole : mid ≡ old ++ (room ++ h.0) = h.2 ∙ ap (λ xs. xs ++ h.0) begins ∙ append_assoc old room h.0 in
-    let prefix : take at mid ≡ old = ap (take at) whole ∙ take_at old (room ++ h.0) at (sym here) in
+numbered_here paths n at bytes old space begun mid out here begins twelve h is =
+    let size : length begun ≡ at + 12 = omega (arith, ap (λ xs. length xs) begins, length-append old space) in
+    let whole : mid ≡ old ++ (space ++ h.0) = h.2 ∙ ap (λ xs. xs ++ h.0) begins ∙ append_assoc old space h.0 in
+    let prefix : take at mid ≡ old = ap (take at) whole ∙ take_at old (space ++ h.0) at (sym here) in
     let count : length mid - at ≡ length h.0 + 12 = omega (arith, ap (λ xs. length xs) h.2, length-append begun h.0) in
     let written : drop (at + 12) mid ≡ h.0 = ap (drop (at + 12)) h.2 ∙ drop_at begun h.0 (at + 12) size in
     let back : drop (at + 16) mid ≡ drop 4 h.0 = ap (λ k. drop k mid) {x = at + 16} (omega arith) ∙ sym (drop-drop 4 (at + 12) mid) ∙ ap (drop 4) written in

@@ -12,7 +12,8 @@ use Rattle.bd_value.specs.declared.node.Kind.TheVariants as kinds
 use Rattle.bd_bson_view.specs.declared.raw_parts.ElementType.TheVariants.{Kept}
 use Rattle.bd_wide.specs.declared.element.Part.{Part}
 use Rattle.bd_wide.specs.declared.element.Part.TheVariants as parts
-use Rattle.bd_wide.specs.Rewritten.{Writes, Others, Nested, Adds, first_element, least, holder_least, part_of, name_in, path_of, IsPart, IsElement, AreElements, IsBody, IsScoped, IsNested, scope_at, ◌>>=◌, first_zero, size_at}
+use Rattle.bd_wide.specs.Rewritten.{Writes, Others, Nested, Adds, first_element, least, part_of, name_in, path_of, IsPart, IsElement, AreElements, IsBody, IsScoped, IsNested, scope_at, ◌>>=◌, first_zero, size_at}
+use Rattle.bd_wide.specs.inside.Rewritten.{holder_least}
 
 -- ---- the first element
 

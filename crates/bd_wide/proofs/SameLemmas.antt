@@ -8,7 +8,8 @@ use Rattle.bd_bson_view.specs.declared.raw_parts.ElementType.TheVariants.{Kept, 
 use Rattle.bd_bson_view.specs.declared.raw_parts.Holder.{Holder}
 use Rattle.bd_bson_view.specs.declared.raw_parts.Holder.TheVariants as holders
 use Rattle.bd_bson_view.specs.{Spelling.type_at, Spelling.number, Sizes.number_of}
-use Rattle.bd_wide.specs.Rewritten.{◌>>=◌, Writes, Others, Nested, counted, first_zero, size_at, first_element, least, holder_least, part_of, path_of, separator, scope_at, IsElement, AreElements, IsBody, IsScoped, IsNested, IsRewritten}
+use Rattle.bd_wide.specs.Rewritten.{◌>>=◌, Writes, Others, Nested, counted, first_zero, size_at, first_element, least, part_of, path_of, separator, scope_at, IsElement, AreElements, IsBody, IsScoped, IsNested, IsRewritten}
+use Rattle.bd_wide.specs.inside.Rewritten.{holder_least}
 use Rattle.bd_wide.specs.Refused.{Refused, Refuses, Element, first_of_two, first_refused, refused_body, refused_element, refused_elements, refused_nested, refused_scope}
 use Rattle.bd_wide.proofs.RewriteLemmas.{Turn, to_turn, none_only, no_turn, ScopeTurn, to_scope}
 use Rattle.bd_wide.proofs.FindLemmas.{turned}

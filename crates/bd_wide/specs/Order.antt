@@ -83,7 +83,7 @@ refuses_unordered paths depth_left path type value = refusal_in (outcome_at path
 unfoldable pub start : ℕ → ℕ → List ℕ
 start count n = number count ++ (18 ∷ (codes "~n" ++ 0 ∷ long n))
 
--- the document with one more field, its number n; it stands first, so that a value that is cut short stays cut short
+-- the document with one more field, its number n; it is first, so that a value that is cut short stays cut short
 unfoldable pub numbered : ℕ → List ℕ → List ℕ
 numbered n document = start (length document + 12) n ++ drop 4 document
 

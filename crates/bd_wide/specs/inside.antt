@@ -1,3 +1,4 @@
 pub mod Changes
 pub mod Refused
+pub mod Rewritten
 pub mod Wrap

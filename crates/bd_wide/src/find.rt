@@ -4,7 +4,8 @@ ghost use Rattle.std.specs.Prelude.{◌≡◌, ◌≤◌, ◌<◌, ◌+◌, ◌^
 ghost use Rattle.std.specs.Io.{StartsWith};
 ghost use Rattle.bd_bson_view.specs.declared.raw_parts.ElementType as element_type;
 ghost use Rattle.bd_bson_view.specs.declared.raw_parts.Holder.TheVariants as holders;
-ghost use Rattle.bd_wide.specs.Rewritten.{holder_least, least, part_of, path_of};
+ghost use Rattle.bd_wide.specs.Rewritten.{least, part_of, path_of};
+ghost use Rattle.bd_wide.specs.inside.Rewritten.{holder_least};
 ghost use Rattle.bd_wide.specs.declared.element.Part as parts;
 ghost use Rattle.bd_wide.specs.Refused.{Finds, first_refused, refused_at, refused_body, refused_element, refused_elements, refused_part, refused_nested, refused_scope};
 ghost use Rattle.bd_wide.specs.inside.Refused.{FindsLocated};
@@ -53,7 +54,7 @@ pub trait Refuser {
 }
 
 /// The first refused number of the document that all of the bytes are. `path` is empty, and gets the number's path.
-#[tactic(auto, unfolding(crate::specs::Refused::first_refused, crate::specs::Rewritten::holder_least))]
+#[tactic(auto, unfolding(crate::specs::Refused::first_refused, crate::specs::inside::Rewritten::holder_least))]
 pub fn find_refused<R: Refuser>(
     refuser: &R,
     bytes: &[u8],
@@ -199,7 +200,7 @@ fn number<R: Refuser>(
 
 /// The first refused number in a document, an array or code with scope, with `depth_left` levels left for it.
 #[cycle(finding)]
-#[tactic(auto, unfolding(crate::specs::Refused::refused_nested, crate::specs::Rewritten::holder_least))]
+#[tactic(auto, unfolding(crate::specs::Refused::refused_nested, crate::specs::inside::Rewritten::holder_least))]
 fn nested<R: Refuser>(
     refuser: &R,
     depth_left: u32,

@@ -7,8 +7,7 @@
 //! ```
 //! // {"d":1.0}, and {"d":{"$numberDouble":"1.0"}}
 //! let bytes = b"\x10\0\0\0\x01d\0\0\0\0\0\0\0\xf0\x3f\0";
-//! let wanted =
-//!     b"\x24\0\0\0\x03d\0\x1c\0\0\0\x02$numberDouble\0\x04\0\0\01.0\0\0\0";
+//! let wanted = b"\x24\0\0\0\x03d\0\x1c\0\0\0\x02$numberDouble\0\x04\0\0\01.0\0\0\0";
 //! let mut path = Vec::new(alloc);
 //! let mut out = Vec::new(alloc);
 //! assert!(rt; write_wrapped(bytes, &mut path, &mut out)?);

@@ -5,7 +5,8 @@ ghost use Rattle.std.specs.Io.{StartsWith};
 ghost use Rattle.bd_bson_view.specs.Spelling.{number};
 ghost use Rattle.bd_wide.specs.Changes.{IgnoresPaths, Leaves};
 ghost use Rattle.bd_wide.specs.inside.Changes.{Allows, ServesAs};
-ghost use Rattle.bd_wide.specs.Rewritten.{least, holder_least, Adds, IsElement, IsPart, AreElements, IsBody, IsScoped, IsNested, IsRewritten, part_of, path_of, separator as separator_of, scope_at as scope_at_of};
+ghost use Rattle.bd_wide.specs.Rewritten.{least, Adds, IsElement, IsPart, AreElements, IsBody, IsScoped, IsNested, IsRewritten, part_of, path_of, separator as separator_of, scope_at as scope_at_of};
+ghost use Rattle.bd_wide.specs.inside.Rewritten.{holder_least};
 ghost use Rattle.bd_wide.specs.declared.element.Part.TheVariants as parts;
 ghost use Rattle.bd_bson_view.specs.declared.raw_parts.ElementType as element_type;
 ghost use Rattle.bd_bson_view.specs.declared.raw_parts.Holder.TheVariants as holders;
@@ -266,7 +267,7 @@ fn entered<W: NumberWriter>(
 
 /// Appends a document, an array or code with scope, with `depth_left` levels left for it.
 #[cycle(rewriting)]
-#[tactic(auto, using(bd_value::proofs::PrefixLemmas::prefixes), unfolding(crate::specs::Rewritten::IsNested, crate::specs::Rewritten::holder_least))]
+#[tactic(auto, using(bd_value::proofs::PrefixLemmas::prefixes), unfolding(crate::specs::Rewritten::IsNested, crate::specs::inside::Rewritten::holder_least))]
 fn nested<W: NumberWriter>(
     writer: &W,
     depth_left: u32,

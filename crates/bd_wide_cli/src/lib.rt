@@ -10,7 +10,13 @@
 //! let mut out = MemoryOutput::new(&mut buffer, 100, None);
 //! let mut reported = [0; 100];
 //! let mut err = MemoryOutput::new(&mut reported, 100, None);
-//! let status = run(rt.alloc(), &Command::Filter(Filter::Wrap), &mut input, &mut out, &mut err);
+//! let status = run(
+//!     rt.alloc(),
+//!     &Command::Filter(Filter::Wrap),
+//!     &mut input,
+//!     &mut out,
+//!     &mut err,
+//! );
 //! assert!(rt; status == Status::Done);
 //! assert!(rt; out.bytes() == b"\x05\0\0\0\0".as_slice());
 //! ```

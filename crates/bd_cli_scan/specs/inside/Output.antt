@@ -1,21 +1,10 @@
--- What a run writes: the text on standard output, the text on standard error, and the exit status.
-use Rattle.std.specs.Prelude.{◌≡◌, ℕ, List, Option, Some, None, Result, Ok}
+-- What was written of a text.
+use Rattle.std.specs.Prelude.{◌≡◌, ℕ, List, Result, Ok}
 use Rattle.std.specs.Prelude.{Err}
-use Rattle.std.specs.{Borrow.Bor}
 use Rattle.bd_io_device.specs.Devices.{WriteFailsWithin, Over, TakesText, Writer}
-use Rattle.bd_extjson_text.specs.Text.{text}
 use Rattle.bd_cli_scan.specs.{declared.output.OutputFault.OutputFault}
 use Rattle.bd_cli_scan.specs.{declared.output.OutputFault.TheVariants.NoMemory}
 use Rattle.bd_cli_scan.specs.{declared.output.OutputFault.TheVariants.Unwritten}
-
--- ---- the output
-
--- the bytes of a borrowed text, if any
-abbrev pub reported_bytes : Option (Bor (List ℕ)) → Option (List ℕ)
-reported_bytes None = None
-reported_bytes (Some text) = Some text.now
-
--- ---- what was written
 
 -- Nothing of the text was written, because memory ran out; or a write failed after a prefix of it.
 abbrev pub StopsWriting : List ℕ → Over Writer → OutputFault → Type 0

@@ -1,5 +1,5 @@
 use Rattle.std.proofs.Common.{ℕ, List, ◌++◌, Option, codes, decimal, [], ◌∷◌}
-use Rattle.bd_cli_scan.specs.{Output.wrong_line, inside.Output.reported_bytes}
+use Rattle.bd_cli_scan.specs.{Output.reported_bytes, Output.wrong_line}
 use Rattle.bd_io_device.proofs.DevicesLemmas.{write_fails_first}
 use Rattle.bd_cli_scan.proofs.OutputLemmas.{on_err, second_err, second_ok}
 use Rattle.bd_cli_scan.proofs.check.write_findings.Goals as goal

@@ -1,6 +1,7 @@
 use Rattle.std.proofs.Common.{◌≡◌, ◌-◌, length, arith, rules, sym, ap, ◌∙◌, length-drop, not, refl, List, ℕ, Option, None, Some}
 use Rattle.bd_wide.specs.Refused.{Refused, refused_element, refused_nested, refused_part}
-use Rattle.bd_wide.specs.Rewritten.{holder_least, path_of}
+use Rattle.bd_wide.specs.Rewritten.{path_of}
+use Rattle.bd_wide.specs.inside.Rewritten.{holder_least}
 use Rattle.bd_wide.proofs.RewriteLemmas as rewrites
 use Rattle.bd_wide.proofs.FindLemmas as finds
 use Rattle.bd_wide.proofs.find.+finding.Goals as goal

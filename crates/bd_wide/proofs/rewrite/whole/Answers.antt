@@ -1,4 +1,4 @@
-use Rattle.bd_wide.specs.Rewritten.{holder_least}
+use Rattle.bd_wide.specs.inside.Rewritten.{holder_least}
 use Rattle.bd_wide.proofs.rewrite.whole.Goals as goal
 
 pub nested-requires : goal.nested-requires
