@@ -33,7 +33,7 @@ pub enum Status {
 impl Status {
     /// The exit status of the process: 0, 1 or 2.
     pub fn code(self) -> u8
-        ensures { result ≡ status_code self.entry }
+        ensures { result ≡ status_code self }
     {
         match self {
             Status::Done => 0,
