@@ -7,7 +7,7 @@ from typing import NoReturn
 
 from ._console import Console
 from ._dumps import dump_of, file_of
-from ._errors import DumpError, ProgramError
+from ._errors import DumpError
 from ._printing import Printing
 from ._processes import Run
 from ._sources import Source
@@ -19,7 +19,7 @@ def check_file(name: str, program: str, console: Console, front: str = "") -> bo
     faulty = 0
     if not (front or _can_open(name)):
         _run_own("check", name, program)
-    checking, is_sound = Checking(program, is_counting=False), True
+    checking, is_sound = Checking(program), True
     with Source(name) as source:
         try:
             for fault in checking.faults(source):
@@ -65,5 +65,4 @@ def _can_open(name: str) -> bool:
 def _run_own(command: str, name: str, program: str) -> NoReturn:
     """Has the program itself say what is wrong with a name."""
     with Run.over(dump_of(name), program, command) as run:
-        run.finish()
-    raise ProgramError(f"cannot open {name}")
+        raise run.error()

@@ -10,6 +10,7 @@ from ._codes import read_query
 from ._console import Console
 from ._dumps import dump_of
 from ._errors import BsonfindError, CommandError, DumpError
+from ._lines import counted
 from ._ordered import AnyLines, can_be_read_again, paths_of
 from ._processes import Run
 from ._requests import Request
@@ -60,7 +61,7 @@ class Finding:
         sys.stdout.flush()
         with Run.over(dump_of(path), program, "find", self.words(), stdout=sys.stdout.fileno()) as run:
             try:
-                run.finish()
+                counted(run)
             except DumpError as error:
                 if is_wide(error):
                     return False

@@ -33,21 +33,20 @@ from ._decoding import Decode, Texts, decoder
 from ._dumps import Dump, File, dump_of, file_of, is_packed, name_of, opened, pieces_of, refuse_archive, unpacked
 from ._errors import CancelledError, CommandError, DumpError, ProgramError
 from ._hiding import hide
-from ._lines import Batches, Lines, lines_of
+from ._lines import Batches, Lines, counted, lines_of
 from ._messages import error_of
 from ._outputs import Output, refuse_names
 from ._parts import FileState
+from ._printing import finish_dump, refuse_other
 from ._processes import Group, Run
 from ._replies import documents_in
 from ._requests import Request
 from ._sources import Input, Source, up_to_error
 from ._steps import Steps
-from ._wide import Filtered, begins_wide, fault_of, faults_in, filter_beside, is_wide
+from ._wide import NOT_READ, Filtered, begins_wide, fault_of, faults_in, filter_beside, is_wide
 
 T = TypeVar("T")
 _REFUSED = re.compile(r'document (\d+), byte (\d+), path (".*"): (?:not a whole number of 64 bits|no double equals it)')
-# What a run says that is read no more.
-_NOT_READ = "bsonwide: cannot write"
 # The number of a document at the end of its line.
 _NUMBERED = re.compile(rb'"~n":\{"\$numberLong":"([0-9]+)"\}\}$')
 _PIECE = 1 << 20
@@ -67,6 +66,7 @@ class Original:
         self._file, self._state = file, FileState.of(file)
         # Where documents end, as far as that was asked for.
         self._ends, self._lock = array("Q"), threading.Lock()
+        self._count: int | None = None
         # How many documents and bytes of a larger dump stand before them.
         self.first = self.offset = 0
 
@@ -115,7 +115,7 @@ class Original:
         with Filtered([program, "dump", "-"], "wrap", Input(0, 0, None, iter(documents)), group=group) as run:
             lines = [line for batch in lines_of(run.stdout) for line in batch]
             try:
-                run.finish()
+                refuse_other(finish_dump(run), len(documents))
             except DumpError as error:
                 if error.fault:
                     at = error.fault.document
@@ -124,6 +124,12 @@ class Original:
                     raise DumpError(str(fault), fault) from None
                 raise
         return lines
+
+    def count(self) -> int:
+        """How many documents there are, by their lengths."""
+        if self._count is None:
+            self._count = sum(1 for _ in _framing.walk(self._file))
+        return self._count
 
     def number_at(self, place: int) -> Value | None:
         """The value of the number whose field begins at a place, None where it is not seen."""
@@ -136,7 +142,7 @@ class Original:
 
     def fault(self, program: str, group: Group | None) -> DumpError | None:
         """The first damage, where there is some."""
-        for fault in faults_in(Input(0, 0, self.rewound(), None), program, group):
+        for fault in faults_in(Input(0, 0, self.rewound(), None), self.count, program, group):
             return DumpError(str(fault), fault)
         return None
 
@@ -310,19 +316,28 @@ class Ordering:
         stdin = self._hidden or self._original.rewound()
         return Run([filter_beside(self._program), *words], stdin=stdin, stdout=stdout, group=self._group)
 
-    def is_whole(self, run: Run) -> bool:
-        """Whether a run has written a whole copy, and no other one is needed; raises why there is none."""
-        status = run.wait()
+    def is_last(self, run: Run) -> bool:
+        """Whether a run refused no number, so that no other one is needed; raises why there is no copy for another reason."""
+        status, told = run.wait(), run.messages().strip()
         if status < 0:
             raise run.error()
-        if status == 0:
+        if not (status or told):
             return True
         try:
-            is_new = self._codes.raise_level(run.messages().strip(), self._query, self._original)
+            is_new = self._codes.raise_level(told, self._query, self._original)
         except DumpError as error:
             raise self.damage(error) from None
         self._is_hidden = self._is_hidden and not is_new
         return False
+
+    def refuse_part(self, count: Callable[[], int]) -> None:
+        """Refuses a copy that has not all documents. A run says nothing where it was killed, and its status may be lost."""
+        try:
+            found, wanted = count(), self._original.count()
+        except DumpError as error:
+            raise self.damage(error) from None
+        if found != wanted:
+            raise ProgramError(f"bsonwide wrote {found} documents in place of {wanted}")
 
     def damage(self, error: DumpError) -> DumpError:
         """What is wrong with the dump, of which a copy has this error: a damaged number may have no name that can be asked for."""
@@ -358,13 +373,15 @@ def write_copy(
 ) -> None:
     """Writes a copy of a dump to a file, or nowhere; the codes become those of all paths that need some, found by asking for it."""
     with _ordering(original, query, codes, program, group) as ordering:
-        is_whole = False
-        while not is_whole:
+        is_last = False
+        while not is_last:
             if copy:
                 copy.seek(0)
                 copy.truncate()
             with ordering.run(copy.fileno() if copy else subprocess.DEVNULL) as run:
-                is_whole = ordering.is_whole(run)
+                is_last = ordering.is_last(run)
+        if copy:
+            ordering.refuse_part(Original(copy).count)
 
 
 def connect_copy(
@@ -374,18 +391,20 @@ def connect_copy(
     with _ordering(original, query, codes, program, group) as ordering:
         while True:
             with ordering.run() as run, ExitStack() as ends:
-                if not _is_writing(run) and not ordering.is_whole(run):
+                if not _is_writing(run) and not ordering.is_last(run):
                     continue
                 try:
                     connection = ends.enter_context(connect(Dump(path=f"/dev/fd/{run.stdout.fileno()}")))
                 except DumpError as error:
                     run.stdout.close()
-                    if run.wait() == 0 or run.messages().strip() == _NOT_READ:
+                    status, told = run.wait(), run.messages().strip()
+                    if told == NOT_READ or not (status or told):
                         raise (ordering.damage(error) if error.fault else error) from None
                     # It read a part of a copy, of which a number was refused.
-                    ordering.is_whole(run)
+                    ordering.is_last(run)
                 else:
-                    if ordering.is_whole(run):
+                    if ordering.is_last(run):
+                        ordering.refuse_part(lambda: connection.do(_steps.count(Request())))
                         ends.pop_all()
                         return connection
 
@@ -597,7 +616,7 @@ def _unread(request: Request, program: str) -> CommandError:
     try:
         if not request.is_long:
             with Run([program, "find", "-", *request.words()]) as run:
-                run.finish()
+                counted(run)
     except CommandError as error:
         return error
     return refused("the text of the query is not read")

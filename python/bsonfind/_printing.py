@@ -13,7 +13,7 @@ from ._processes import Run
 from ._sources import Source
 from ._wide import Chunk, Filtered, chunks, end_of, fault_of, is_wide
 
-_FOUND = re.compile(r"(\d+) objects found")
+_FOUND = re.compile(r"(\d+) objects found\n")
 _PIECE = 1 << 20
 
 
@@ -39,7 +39,7 @@ class Printing:
         try:
             with Run.over(dump_of(path), *self._words, stdout=self._stdout) as run:
                 yield from self._told(run)
-                self.documents = _found(run)
+                self.documents = finish_dump(run)
         except DumpError as error:
             self.documents = error.fault.document if error.fault else 0
             if not is_wide(error):
@@ -79,7 +79,9 @@ class Printing:
         try:
             with run:
                 yield from self._told(run)
-                self.documents = chunk.first + _found(run)
+                found = finish_dump(run)
+                refuse_other(found, chunk.documents())
+                self.documents = chunk.first + found
         except DumpError as error:
             if not error.fault:
                 raise
@@ -99,9 +101,12 @@ class Printing:
             yield from lines_of(run.stdout)
 
 
-def _found(run: Run) -> int:
-    """How many documents a run printed."""
-    found = _FOUND.fullmatch(run.finish())
-    if not found:
-        raise ProgramError("no count was printed")
-    return int(found.group(1))
+def finish_dump(run: Run) -> int:
+    """Waits for the end of a run of `dump`, and gives the number of documents; raises the error of a run that did not end well."""
+    return int(run.finish(_FOUND).group(1))
+
+
+def refuse_other(documents: int, wanted: int) -> None:
+    """Refuses another number of documents than was given to the filter, as after one that was killed."""
+    if documents != wanted:
+        raise ProgramError(f"dump printed {documents} documents in place of {wanted}")

@@ -63,7 +63,7 @@ def _answer(dump: Dump, request: Request, program: str, group: Group, is_copied:
                     for lines in lines_of(run.stdout):
                         yield Found(name, lines)
                     try:
-                        counted(run.finish())
+                        counted(run)
                     except DumpError as error:
                         if not is_wide(error) or not can_be_read_again(name):
                             raise moved(error, part) from None
