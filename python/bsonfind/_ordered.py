@@ -1,6 +1,6 @@
 """Questions about dumps with doubles and decimal128: they are asked of a copy, in which `bsonwide order` writes numbers by codes.
 
-A copy has the documents of the dump in the same order, each with its number as its last field. What is given back are the
+A copy has the documents of the dump in the same order, each with its number as its first field. What is given back are the
 documents of the dump. The program reads a copy through a pipe while it is written, and nothing is believed that it says before
 the whole of it was written; only one that is kept is a file.
 
@@ -47,8 +47,8 @@ from ._wide import NOT_READ, Filtered, begins_wide, fault_of, faults_in, filter_
 
 T = TypeVar("T")
 _REFUSED = re.compile(r'document (\d+), byte (\d+), path (".*"): (?:not a whole number of 64 bits|no double equals it)')
-# The number of a document at the end of its line.
-_NUMBERED = re.compile(rb'"~n":\{"\$numberLong":"([0-9]+)"\}\}$')
+# The number of a document at the start of its line.
+_NUMBERED = re.compile(rb'\{"~n":\{"\$numberLong":"([0-9]+)"\}')
 _PIECE = 1 << 20
 # How many bytes of a field are read: more than the name of most, and its number.
 _FIELD = 1 << 10
@@ -218,7 +218,7 @@ def numbers_in(lines: Iterable[bytes]) -> list[int]:
     """The numbers of the documents of a copy, by their lines."""
     numbers = []
     for line in lines:
-        found = _NUMBERED.search(line)
+        found = _NUMBERED.match(line)
         if not found:
             raise ProgramError("a document of the copy has no number")
         numbers.append(int(found.group(1)))

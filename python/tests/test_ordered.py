@@ -208,6 +208,8 @@ class Finds(Goods):
             (DAMAGED + data * 3000, 7, 'path "d": bad boolean'),  # The filter writes on, and is not read.
             (GOODS[0][:20], 0, 'path "": bad length'),
             (nameless, 5, 'path "": not UTF-8'),
+            (document(b"\x07a\0"), 7, 'path "a": value cut short'),
+            (document(double("price", 1.5), b"\x02item\0\x10\0\0\0pen\0"), 25, 'path "item": bad string length'),
         ):
             path = self.file(data + bad, "bad.bson")
             byte += len(data)

@@ -82,8 +82,8 @@ def elements(data: bytes, place: Place, is_array: bool, element: Element, others
 
 
 def document(data: bytes, place: Place, is_array: bool, element: Element, others: Others, more: bytes = b"") -> bytes:
-    """A document or an array, with more elements at its end."""
-    made = elements(data[4:-1], place.inside(4, levels=0), is_array, element, others) + more
+    """A document or an array, after more elements."""
+    made = more + elements(data[4:-1], place.inside(4, levels=0), is_array, element, others)
     return (len(made) + 5).to_bytes(4, "little") + made + data[-1:]
 
 

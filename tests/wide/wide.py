@@ -4,11 +4,12 @@ with each growth of memory, each read and each write failed in turn.
 
 usage: tests/wide/wide.py [PROGRAM] [DOCUMENTS]     The last line is 'N passed, M failed'. It needs ./bsonfind too.
 
-What `bsonfind check` reports of a masked dump is what a reader that passes doubles and decimal128 reports of the dump. Only of a
-damaged document it may report one of them: a decimal128 that is cut short, and what is in code with scope of a wrong length, stay.
+What `bsonfind check` reports of a masked dump is what a reader that passes doubles and decimal128 reports of the dump; of an ordered
+one too, but for the byte. Only of a damaged document it may report one of them: a decimal128 that is cut short, and what is in code with scope of a wrong length, stay.
 """
 
 import random
+import re
 import shutil
 import struct
 import subprocess
@@ -186,14 +187,14 @@ def order_numbers(tests: Tests) -> None:
     for (kind, value), code in CODES.items():
         data = document(bytes([kind]) + b"a\0" + value)
         refused = b'bsonwide: document 0, byte 4, path "a": no double equals it\n'
-        wanted = (document(int64(b"a", code) + int64(b"~n", 0)), b"", 0) if code is not None else (b"", refused, 1)
+        wanted = (document(int64(b"~n", 0) + int64(b"a", code)), b"", 0) if code is not None else (b"", refused, 1)
         tests.want(f"order, the code of {kind}, {value.hex()}", ran("order", data, b"a") == wanted == ordered(data, b"a"), ran("order", data, b"a"))
     for ((kind, value), power), whole in WHOLES.items():
         element = bytes([kind]) + b"a\0" + value
         data = document(b"\x04l\0" + document(b"\x030\0" + document(element)))
         refused = b'bsonwide: document 0, byte 18, path "l.a": not a whole number of 64 bits\n'
         inner = b"\x04l\0" + document(b"\x030\0" + document(int64(b"a", whole or 0)))
-        wanted = (document(inner + int64(b"~n", 0)), b"", 0) if whole is not None else (b"", refused, 1)
+        wanted = (document(int64(b"~n", 0) + inner), b"", 0) if whole is not None else (b"", refused, 1)
         paths = [b"l.a" + power] if power else [b"l"]
         tests.want(f"order, {kind}, {value.hex()} {power.decode()}", ran("order", data, *paths) == wanted == ordered(data, *paths), ran("order", data, *paths))
 
@@ -213,7 +214,7 @@ def order_paths(tests: Tests) -> None:
         for other in (b"b", path + b".", path + b"*1", b"*1" + path):
             tests.want(f"order, path {path!r} by {other!r}", ran("order", data, other) == ordered(data, other), ran("order", data, other))
     for paths, code in (((b"a*10", b"a"), 5), ((b"a", b"a*10"), 0x3FE0 << 48), ((b"b", b"a*100", b"a*10"), 50)):
-        wanted = (document(int64(b"a", code) + int64(b"~n", 0)), b"", 0)
+        wanted = (document(int64(b"~n", 0) + int64(b"a", code)), b"", 0)
         tests.want(f"order, {paths}", ran("order", document(half % b"a"), *paths) == wanted)
     for name, shown in ((b'"\\', b'"\\"\\\\"'), (b"\n\t\x01\x1f\x7f", b'"\\n\\t\\u0001\\u001f\x7f"'), (b"\xff\xc3", b'"\xff\xc3"')):
         data = document(b"") + document(b"\x10i\0" + four(1) + half % name)
@@ -225,6 +226,20 @@ def order_paths(tests: Tests) -> None:
         told = b"bsonwide: document 0: document too long\n" if over else b""
         made = ran("order", data, b"b")
         tests.want(f"order, {len(data)} bytes", made == ordered(data, b"b") and made[1:] == (told, over), made[1:])
+
+
+def order_damage(tests: Tests) -> None:
+    """A last value that goes past the end of its document has the same fault in the copy, 12 bytes later."""
+    price = b"\x01price\0" + struct.pack("<d", 1.5)
+    for body, fault in (
+        (b"\x07a\0", 'byte 19, path "a": value cut short'),
+        (price + b"\x02item\0" + four(16) + b"pen\0", 'byte 37, path "item": bad string length'),
+        (b"\x05a\0" + four(15) + b"\0xyz", 'byte 19, path "a": bad binary length'),
+        (b"\x0ca\0" + four(2) + b"x\0", 'byte 25, path "a": value cut short'),
+    ):
+        made = ran("order", document(body), b"price")
+        checked = subprocess.run([BSONFIND, "check", "-"], input=made[0], capture_output=True, check=False).stdout.decode()
+        tests.want(f"order, {fault}", made[1:] == (b"", 0) and checked.splitlines()[:1] == [f"document 0, {fault}"], (made[1:], checked))
 
 
 def fail_each(tests: Tests, command: str, data: bytes, whole: bytes, *paths: bytes) -> None:
@@ -262,10 +277,11 @@ def fail_each(tests: Tests, command: str, data: bytes, whole: bytes, *paths: byt
             tests.want(f"{command}: {name}, some failed", failed > 0)
 
 
-def wrong_faults(data: bytes, masked: bytes) -> list[str]:
-    """The lines of `bsonfind check` over a masked dump that are not those of the dump, and those that are missing."""
-    checked = subprocess.run([BSONFIND, "check", "-"], input=masked, capture_output=True, check=False).stdout.decode()
-    shown, wanted = ({it.partition(",")[0]: it for it in lines} for lines in (checked.splitlines(True), read_dump(data, True).faults()))
+def wrong_faults(data: bytes, made: bytes, without: str = "") -> list[str]:
+    """The lines of `bsonfind check` over a masked or an ordered dump that are not those of the dump, and those that are missing."""
+    checked = subprocess.run([BSONFIND, "check", "-"], input=made, capture_output=True, check=False).stdout.decode()
+    both = (checked.splitlines(True), read_dump(data, True).faults())
+    shown, wanted = ({it.partition(",")[0]: re.sub(without, "", it) for it in lines} for lines in both)
     stay = {it for it in shown if it in wanted and shown[it].endswith((": double\n", ": decimal128\n"))}
     return [shown.get(it, f"missing: {wanted.get(it)}") for it in shown | wanted if it not in stay and shown.get(it) != wanted.get(it)]
 
@@ -311,13 +327,16 @@ def main() -> int:
             tests.want(f"order, {name}, {len(paths)} paths", made == ordered(data, *paths), made[1:])
     order_numbers(tests)
     order_paths(tests)
+    order_damage(tests)
     orders = {
-        paths: b"".join(it for it in (a_document(random.choice([0, 1, 2, 4])) for _ in range(DOCUMENTS)) if not order(it, list(paths))[1])
+        paths: b"".join(it for it in (damaged(a_document(random.choice([0, 1, 2, 4]))) for _ in range(DOCUMENTS)) if not order(it, list(paths))[1])
         for paths in ((), PATHS, (b"*1000", b"a", b"b*10", b"c", b"$", b".", b"~", b"a.", b"b.a", b"c.c"))
     }
     for paths, data in orders.items():
         made = ran("order", data, *paths)
         tests.want(f"order, documents that are taken, {len(paths)} paths", made == ordered(data, *paths) and made[2] == 0 and data, made[1:])
+        wrong = wrong_faults(data, made[0], r"byte \d+, ")
+        tests.want(f"order and check, {len(paths)} paths", not wrong, wrong[:3])
 
     if shutil.which("cc") is None:
         print("there is no C compiler: nothing was made to fail")

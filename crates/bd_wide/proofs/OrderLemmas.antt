@@ -1,44 +1,12 @@
 -- Documents with their numbers in the dump.
-use Rattle.std.proofs.Common.{◌≡◌, ℕ, zero, suc, ◌+◌, ◌-◌, ◌≤◌, List, [], ◌∷◌, ◌++◌, length, take, drop, codes, sym, ap, ap₂, ◌∙◌, refl, arith, append_assoc, length-append, length-drop, drop-drop, take_at, drop_at, Bool, true, false, nat_lt, ◌<◌, Some, Result, Ok, Err, OnOk, OnErr, subst, if◌then◌else◌}
-use Rattle.std.specs.Io.{StartsWith}
-use Rattle.std.proofs.lemmas.List.{take-append-le, drop-append-le}
+use Rattle.std.proofs.Common.{◌≡◌, ℕ, zero, suc, ◌+◌, ◌-◌, ◌≤◌, List, [], ◌++◌, length, take, drop, sym, ap, ◌∙◌, refl, arith, append_assoc, length-append, length-drop, drop-drop, take_at, drop_at, Bool, true, false, nat_lt, ◌<◌, Some, if◌then◌else◌}
 use Rattle.bd_bson_view.specs.declared.raw_parts.Holder.TheVariants as holders
-use Rattle.bd_bson_view.specs.{Spelling.long, Spelling.number, Unique.number_length}
-use Rattle.bd_wide.specs.Order.{IsNumbered, IsOrdered, numbered}
+use Rattle.bd_bson_view.specs.{Spelling.number, Unique.number_length}
+use Rattle.bd_wide.specs.Order.{IsNumbered, IsOrdered, numbered, start}
 use Rattle.bd_wide.specs.Paths.{ends_with_power, path_read}
 use Rattle.bd_wide.specs.declared.paths.OrderPath.{OrderPath}
 use Rattle.bd_wide.specs.Rewritten.{Adds, Writes, Others, Nested, IsBody, IsNested, IsRewritten}
 use Rattle.bd_wide.proofs.LengthLemmas.{to_whole, WholeTurn}
-
--- the field, up to its value
-abbrev tag : List ℕ
-tag = 18 ∷ (codes "~n" ++ 0 ∷ [])
-
-long_length : (n : ℕ) → length (long n) ≡ 8
-unfolding long
-long_length n = refl
-
-numbered_split : (n : ℕ) (i t : List ℕ) → length t ≡ 1 → numbered n (i ++ t) ≡ number (length i + 13) ++ (drop 4 i ++ ((tag ++ long n) ++ t))
-unfolding numbered
-numbered_split n i t one =
-    let less : length (i ++ t) - 1 ≡ length i = omega (arith, length-append i t, one) in
-    let more : length (i ++ t) + 12 ≡ length i + 13 = omega (arith, length-append i t, one) in
-    (λ k. number (more k) ++ (drop 4 (take (less k) (i ++ t)) ++ ((tag ++ long n) ++ drop (less k) (i ++ t))))
-    ∙ ap₂ (λ (a b : List ℕ). number (length i + 13) ++ (drop 4 a ++ ((tag ++ long n) ++ b))) (take_at i t (length i) refl) (drop_at i t (length i) refl)
-
-pub numbered_ok : (P one two three four out t : List ℕ) (n at : ℕ) → P ≡ one ++ t → length t ≡ 1 → at + 4 ≤ length one
-    → two ≡ one ++ tag → three ≡ two ++ long n → four ≡ three ++ t → out ≡ take at four ++ (number (length four - at) ++ drop (at + 4) four)
-    → out ≡ take at P ++ numbered n (drop at P)
-numbered_ok P one two three four out t n at P_is single fits p q r is =
-    let F : List ℕ = tag ++ long n in
-    let i : List ℕ = drop at one in
-    let whole : four ≡ one ++ (F ++ t) = r ∙ ap (λ x. x ++ t) (q ∙ ap (λ x. x ++ long n) p ∙ append_assoc one tag (long n)) ∙ append_assoc one F t in
-    let prefix : take at four ≡ take at P = ap (take at) whole ∙ take-append-le at one (F ++ t) (omega (arith, fits)) ∙ sym (ap (take at) P_is ∙ take-append-le at one t (omega (arith, fits))) in
-    let deep : drop (at + 4) one ≡ drop 4 i = ap (λ n. drop n one) {x = at + 4} (omega arith) ∙ sym (drop-drop 4 at one) in
-    let back : drop (at + 4) four ≡ drop 4 i ++ (F ++ t) = ap (drop (at + 4)) whole ∙ drop-append-le (at + 4) one (F ++ t) fits ∙ ap (λ x. x ++ (F ++ t)) deep in
-    let count : length four - at ≡ length i + 13 = omega (arith, ap (λ xs. length xs) whole, length-append one (F ++ t), length-append F t, length-append tag (long n), long_length n, single, fits, length-drop at one) in
-    let document : drop at P ≡ i ++ t = ap (drop at) P_is ∙ drop-append-le at one t (omega (arith, fits)) in
-    is ∙ (λ k. prefix k ++ (number (count k) ++ back k)) ∙ sym (ap (λ d. take at P ++ numbered n d) document ∙ ap (λ x. take at P ++ x) (numbered_split n i t single))
 
 -- ---- the result is still a document
 
@@ -61,27 +29,26 @@ rewritten_some Is others bytes new some h =
     ] in
     cases (nat_lt (length bytes) 5) (to_whole Is others bytes new h)
 
--- the document at the end of the output gets its number
-pub numbered_here : (paths : List OrderPath) (n at : ℕ) (bytes old mid out : List ℕ) → at ≡ length old → Adds (IsRewritten (IsOrdered paths) (λ others. others) bytes) old mid
-    → out ≡ take at mid ++ numbered n (drop at mid) → Adds (IsNumbered paths n bytes) old out
-numbered_here paths n at bytes old mid out here h is =
-    let prefix : take at mid ≡ old = ap (take at) h.2 ∙ take_at old h.0 at (sym here) in
-    let back : drop at mid ≡ h.0 = ap (drop at) h.2 ∙ drop_at old h.0 at (sym here) in
-    (numbered n h.0, (h.0, h.1, refl), is ∙ ap₂ (λ (a d : List ℕ). a ++ numbered n d) prefix back)
-
-pub depth_left_for_number : (paths : List OrderPath) (bytes old mid : List ℕ) (at : ℕ) → at ≡ length old → 5 ≤ length bytes → Adds (IsRewritten (IsOrdered paths) (λ others. others) bytes) old mid → at + 5 ≤ length mid
-depth_left_for_number paths bytes old mid at here some h =
+-- the document at the end of the output, after room for its number
+pub has_start : (paths : List OrderPath) (at : ℕ) (bytes old room begun mid : List ℕ) → at ≡ length old → begun ≡ old ++ room → length room ≡ 12 → 5 ≤ length bytes
+    → Adds (IsRewritten (IsOrdered paths) (λ others. others) bytes) begun mid → at + 16 ≤ length mid
+has_start paths at bytes old room begun mid here begins twelve some h =
     let five = rewritten_some (IsOrdered paths) (λ others. others) bytes h.0 some h.1 in
-    omega (arith, here, five, ap (λ xs. length xs) h.2, length-append old h.0)
+    omega (arith, five, ap (λ xs. length xs) h.2, length-append begun h.0, ap (λ xs. length xs) begins, length-append old room)
 
-pub ok_numbered : {A B : Type 0} (r : Result A B) (paths : List OrderPath) (n at : ℕ) (bytes old mid out : List ℕ) → at ≡ length old → Adds (IsRewritten (IsOrdered paths) (λ others. others) bytes) old mid
-    → OnOk r (out ≡ take at mid ++ numbered n (drop at mid)) → OnOk r (Adds (IsNumbered paths n bytes) old out)
-ok_numbered (Err e) paths n at bytes old mid out here h is = _
-ok_numbered (Ok x) paths n at bytes old mid out here h is = numbered_here paths n at bytes old mid out here h is
-
-pub err_numbered : {A B : Type 0} (r : Result A B) (at : ℕ) (old mid out new : List ℕ) → at ≡ length old → mid ≡ old ++ new → OnErr r (StartsWith out (take at mid)) → OnErr r (StartsWith out old)
-err_numbered (Ok x) at old mid out new here h is = _
-err_numbered (Err e) at old mid out new here h is = subst (λ (x : List ℕ). StartsWith out x) (ap (take at) h ∙ take_at old new at (sym here)) is
+-- it gets its number
+pub numbered_here : (paths : List OrderPath) (n at : ℕ) (bytes old room begun mid out : List ℕ) → at ≡ length old → begun ≡ old ++ room → length room ≡ 12
+    → Adds (IsRewritten (IsOrdered paths) (λ others. others) bytes) begun mid
+    → out ≡ take at mid ++ (start (length mid - at) n ++ drop (at + 16) mid) → Adds (IsNumbered paths n bytes) old out
+unfolding numbered
+numbered_here paths n at bytes old room begun mid out here begins twelve h is =
+    let size : length begun ≡ at + 12 = omega (arith, ap (λ xs. length xs) begins, length-append old room) in
+    let whole : mid ≡ old ++ (room ++ h.0) = h.2 ∙ ap (λ xs. xs ++ h.0) begins ∙ append_assoc old room h.0 in
+    let prefix : take at mid ≡ old = ap (take at) whole ∙ take_at old (room ++ h.0) at (sym here) in
+    let count : length mid - at ≡ length h.0 + 12 = omega (arith, ap (λ xs. length xs) h.2, length-append begun h.0) in
+    let written : drop (at + 12) mid ≡ h.0 = ap (drop (at + 12)) h.2 ∙ drop_at begun h.0 (at + 12) size in
+    let back : drop (at + 16) mid ≡ drop 4 h.0 = ap (λ k. drop k mid) {x = at + 16} (omega arith) ∙ sym (drop-drop 4 (at + 12) mid) ∙ ap (drop 4) written in
+    (numbered n h.0, (h.0, h.1, refl), is ∙ (λ k. prefix k ++ (start (count k) n ++ back k)))
 
 -- ---- the power of ten at the end of an argument
 

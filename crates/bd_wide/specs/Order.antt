@@ -1,5 +1,5 @@
 -- Numbers as whole numbers in the same order: by their codes at the requested paths, otherwise unchanged.
-use Rattle.std.specs.Prelude.{◌≡◌, ◌<◌, ◌≤◌, ℕ, ◌+◌, ◌-◌, List, ◌∷◌, ◌++◌, length, take, drop, Option, Some, None, codes, ℤ}
+use Rattle.std.specs.Prelude.{◌≡◌, ◌<◌, ◌≤◌, ℕ, ◌+◌, List, ◌∷◌, ◌++◌, length, drop, Option, Some, None, codes, ℤ}
 use Rattle.std.specs.Int.{w32, w64, cast_signed, cast_unsigned}
 use Rattle.bd_value.specs.declared.node.Kind.TheVariants as kinds
 use Rattle.bd_value.specs.Limits.{longest_document}
@@ -79,10 +79,13 @@ refuses_unordered paths depth_left path type value = refusal_in (outcome_at path
 
 -- ---- a document
 
--- the document with one more field at its end: `~n`, an int64, its number n in the dump
+-- the start of a document of this length: its length, and its first field `~n`, an int64, its number n in the dump
+unfoldable pub start : ℕ → ℕ → List ℕ
+start count n = number count ++ (18 ∷ (codes "~n" ++ 0 ∷ long n))
+
+-- the document with one more field, its number n; it stands first, so that a value that is cut short stays cut short
 unfoldable pub numbered : ℕ → List ℕ → List ℕ
-numbered n document = number (length document + 12)
-    ++ (drop 4 (take (length document - 1) document) ++ (18 ∷ (codes "~n" ++ 0 ∷ long n) ++ drop (length document - 1) document))
+numbered n document = start (length document + 12) n ++ drop 4 document
 
 -- This may be written for the document with number n, however long it is.
 abbrev pub IsNumbered : List OrderPath → ℕ → List ℕ → List ℕ → Type 0

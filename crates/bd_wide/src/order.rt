@@ -1,14 +1,14 @@
 //! Numbers as whole numbers in the same order.
 
-ghost use Rattle.std.specs.Prelude.{◌≡◌, ◌≤◌, ◌+◌, ◌++◌, ◌∷◌, List, ℕ, length, take, drop, IfErr, OnErr, OnOk};
+ghost use Rattle.std.specs.Prelude.{◌≡◌, ◌≤◌, ◌+◌, ◌-◌, ◌++◌, ◌∷◌, List, ℕ, length, take, drop, IfErr, OnErr, OnOk};
 ghost use Rattle.std.specs.Io.{StartsWith};
 ghost use Rattle.bd_bson_view.specs.Spelling.{long as long_bytes};
 ghost use Rattle.bd_wide.specs.Rewritten.{Adds, least};
-ghost use Rattle.bd_wide.specs.Order.{IsNumbered, IsOrdered, IsOrderedDocument, IsUnfiltered, IsUnordered, became, code_at, coded as coded_as, int64_element, number_at, numbered, outcome_at, refusal_in, refuses_unordered, whole_at};
+ghost use Rattle.bd_wide.specs.Order.{IsNumbered, IsOrdered, IsOrderedDocument, IsUnfiltered, IsUnordered, became, code_at, coded as coded_as, int64_element, number_at, outcome_at, refusal_in, refuses_unordered, start as start_of, whole_at};
 
 use crate::find::{Found, Refusal, Refuser, find_refused};
 use crate::paths::{OrderPath, requested};
-use crate::rewrite::{NumberWriter, seal, write_rewritten};
+use crate::rewrite::{NumberWriter, low_bytes, write_rewritten};
 use crate::wrap::long;
 use bd_bson_view::{ElementType, raw_parts as raw};
 use bd_value::{Kind, LONGEST_DOCUMENT, NoMemory};
@@ -194,7 +194,7 @@ fn write_long(n: u64, out: &mut Vec<u8>) -> Result<(), NoMemory>
     out.extend_from_slice(&n.to_le_bytes())
 }
 
-/// Appends a document whose numbers are ordered, with its own number as one more field. `path` is a buffer, and gets the path of
+/// Appends a document whose numbers are ordered, with its own number as its first field. `path` is a buffer, and gets the path of
 /// a refused number.
 ///
 /// # Errors
@@ -232,6 +232,7 @@ pub fn write_ordered(
 }
 
 /// Appends the same, whatever its numbers and its length.
+#[tactic(auto, using(bd_value::proofs::PrefixLemmas::prefixes))]
 fn write_numbered(
     order: &Order,
     number: u64,
@@ -245,23 +246,32 @@ fn write_numbered(
     ensures prefix { OnErr result (StartsWith out.new.items out.old.items) }
 {
     let at = out.len();
+    out.extend_from_slice(&[0; 12])?;
     write_rewritten(order, bytes, path, out)?;
-    put_document_number(at, number, out)
+    put_start(at, number, out);
+    Ok(())
 }
 
-/// Adds the number of a document to the document at an offset, as one more field at its end.
-fn put_document_number(at: usize, n: u64, out: &mut Vec<u8>) -> Result<(), NoMemory>
-    requires { at + 5 ≤ length out.old.items }
-    ensures ok { OnOk result
-        (out.new.items ≡ take at out.old.items ++ numbered n (drop at out.old.items)) }
-    ensures prefix { OnErr result (StartsWith out.new.items (take at out.old.items)) }
+/// Writes the start of a document with its number over the 16 bytes at an offset.
+fn put_start(at: usize, number: u64, out: &mut Vec<u8>)
+    requires { at + 16 ≤ length out.old.items }
+    ensures { out.new.items ≡ take at out.old.items ++ (start_of (length out.old.items - at) number
+        ++ drop (at + 16) out.old.items) }
 {
-    let Some(last) = out.pop() else {
-        unreachable!()
-    };
-    out.extend_from_slice(b"\x12~n\0")?;
-    write_long(n, out)?;
-    out.push(last)?;
-    seal(at, out);
-    Ok(())
+    let start = start((out.len() - at) as u64, number);
+    let bytes: &mut [u8] = out;
+    bytes[at..at + 16].copy_from_slice(&start);
+}
+
+/// The start of a document of this length: its length, and the field with its number.
+#[tactic(auto, unfolding(bd_bson_view::specs::Spelling::number, bd_bson_view::specs::Spelling::long, crate::specs::Order::start))]
+fn start(count: u64, number: u64) -> [u8; 16]
+    ensures { result ≡ start_of count number }
+{
+    let count = low_bytes(count);
+    let bytes = number.to_le_bytes();
+    [
+        count[0], count[1], count[2], count[3], 0x12, b'~', b'n', 0, bytes[0], bytes[1], bytes[2],
+        bytes[3], bytes[4], bytes[5], bytes[6], bytes[7],
+    ]
 }
