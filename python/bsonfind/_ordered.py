@@ -54,6 +54,8 @@ _PIECE = 1 << 20
 _FIELD = 1 << 10
 # The end of the name of a file that describes a copy.
 _ABOUT = ".json"
+# What the file says of the form of the copy, in which numbers stand first.
+_VERSION = 1
 _NO_CODES = "no codes hold all numbers of this field: ask by other fields, or search the lines of dump"
 # At how many paths numbers are hidden at most, since each is found by some runs.
 _MOST_HIDDEN = 100
@@ -753,7 +755,7 @@ def prepare(path: File, copy: File, *, program: str = "bsonfind") -> list[str]:
             data.put_in_place()
             if _state_of(path) != before:
                 raise DumpError("the file was written to meanwhile")
-            about.write(json.dumps({"dump": before, "copy": _state_of(names[0]), **asdict(codes)}).encode())
+            about.write(json.dumps({"version": _VERSION, "dump": before, "copy": _state_of(names[0]), **asdict(codes)}).encode())
             about.complete()
             about.put_in_place()
     finally:
@@ -768,9 +770,11 @@ def codes_of_copy(path: File | None, copy: File) -> Codes:
     try:
         with open(f"{name}{_ABOUT}", encoding="utf-8") as file:
             about = json.load(file)
+        if about.get("version") != _VERSION:
+            raise DumpError(f"{name} is no copy of this version of bsonfind: make it again")
         if about["dump"] == _state_of(path) and about["copy"] == _state_of(name):
             return Codes(dict(about["levels"]), dict(about["hidden"]))
-    except (OSError, ValueError, KeyError, TypeError):
+    except (OSError, ValueError, KeyError, TypeError, AttributeError):
         pass
     raise DumpError(f"{name} is no copy of {name_of(path)} as it is now: prepare it again")
 
