@@ -16,12 +16,11 @@ import json
 import os
 import re
 import select
-import stat
 import subprocess
 import tempfile
 import threading
 from array import array
-from contextlib import ExitStack, contextmanager
+from contextlib import ExitStack, closing, contextmanager
 from dataclasses import asdict, dataclass, field, replace
 from itertools import islice
 from typing import Any, BinaryIO, Callable, ContextManager, Iterable, Iterator, NamedTuple, Sequence, TypeVar
@@ -30,13 +29,12 @@ from . import _framing, _steps
 from ._codes import Probe, Query, Value, level_after, number_in, read_json, read_query, refused, word_of
 from ._connections import Connection
 from ._decoding import Decode, Texts, decoder
-from ._dumps import Dump, File, dump_of, file_of, is_packed, name_of, opened, pieces_of, refuse_archive, unpacked
+from ._dumps import Dump, File, FileState, name_of, name_of_file, refuse_archive
 from ._errors import CancelledError, CommandError, DumpError, ProgramError
 from ._hiding import hide
 from ._lines import Batches, Lines, counted, lines_of
 from ._messages import error_of
 from ._outputs import Output, refuse_names
-from ._parts import FileState
 from ._printing import finish_dump, refuse_other
 from ._processes import Group, Run
 from ._replies import documents_in
@@ -64,8 +62,9 @@ _MOST_HIDDEN = 100
 class Original:
     """The documents of a dump in an open file, and where each of them ends."""
 
-    def __init__(self, file: BinaryIO) -> None:
-        self._file, self._state = file, FileState.of(file)
+    def __init__(self, file: BinaryIO, is_own: bool = True) -> None:
+        """A file that is not its own stays open."""
+        self._file, self._is_own, self._state = file, is_own, FileState.of(file)
         # Where documents end, as far as that was asked for.
         self._ends, self._lock = array("Q"), threading.Lock()
         self._count: int | None = None
@@ -73,15 +72,9 @@ class Original:
         self.first = self.offset = 0
 
     @classmethod
-    def of(cls, path: File) -> Original:
-        """Those of a file. What is packed, or can be read only once, is written to a file without a name."""
-        if is_packed(path):
-            return cls.of_pieces(unpacked(path))
-        file = opened(path)
-        if stat.S_ISREG(os.fstat(file.fileno()).st_mode):
-            return cls(file)
-        with file:
-            return cls.of_pieces(iter(lambda: file.read(_PIECE), b""))
+    def of(cls, source: Source) -> Original:
+        """Those of a dump. What is packed, or can be read only once, is written to a file without a name."""
+        return cls(source.file, is_own=False) if source.is_plain else cls.of_pieces(source.pieces())
 
     @classmethod
     def of_pieces(cls, pieces: Iterable[bytes]) -> Original:
@@ -91,7 +84,7 @@ class Original:
     @property
     def dump(self) -> Dump:
         """What a run reads."""
-        return Dump(path=f"/dev/fd/{self._file.fileno()}")
+        return Dump(file=self.rewound())
 
     def rewound(self) -> BinaryIO:
         """The file, from its beginning on."""
@@ -105,8 +98,7 @@ class Original:
         for number in numbers:
             start, end = self._place(number)
             found.append(_framing.read_at(self._file, start, end - start, end - start))
-        if FileState.of(self._file) != self._state:
-            raise _written_to()
+        self._state.refuse_other(self._file)
         return found
 
     def lines(self, numbers: Sequence[int], program: str, group: Group | None = None) -> list[bytes]:
@@ -154,18 +146,15 @@ class Original:
             ends = self._ends
             ends.extend(islice(_framing.walk(self._file, ends[-1] if ends else 0), max(0, number + 1 - len(ends))))
             if number >= len(ends):
-                raise _written_to()
+                raise DumpError("the file was written to since it was opened")
 
     def _place(self, number: int) -> tuple[int, int]:
         return self._ends[number - 1] if number else 0, self._ends[number]
 
     def close(self) -> None:
         """Closes the file."""
-        self._file.close()
-
-
-def _written_to() -> DumpError:
-    return DumpError("the file was written to since it was opened")
+        if self._is_own:
+            self._file.close()
 
 
 class Spool:
@@ -174,11 +163,6 @@ class Spool:
     def __init__(self, pieces: Iterable[bytes]) -> None:
         self._file = temporary_file()
         self.pieces = self._kept(pieces)
-
-    @classmethod
-    def of(cls, path: File) -> Spool:
-        """Those of a pipe, which is opened once they are asked for."""
-        return cls(unpacked(path) if is_packed(path) else _pieces_of(path))
 
     def _kept(self, pieces: Iterable[bytes]) -> Iterator[bytes]:
         for piece in pieces:
@@ -197,11 +181,6 @@ class Spool:
             self._file.close()
             raise
         return Original(self._file)
-
-
-def _pieces_of(path: File) -> Iterator[bytes]:
-    with opened(path) as file:
-        yield from pieces_of(file, path)
 
 
 def temporary_file() -> BinaryIO:
@@ -396,7 +375,7 @@ def connect_copy(
                 if not _is_writing(run) and not ordering.is_last(run):
                     continue
                 try:
-                    connection = ends.enter_context(connect(Dump(path=f"/dev/fd/{run.stdout.fileno()}")))
+                    connection = ends.enter_context(connect(Dump(file=run.stdout)))
                 except DumpError as error:
                     run.stdout.close()
                     status, told = run.wait(), run.messages().strip()
@@ -477,8 +456,8 @@ class Questions:
         """A dump whose original is given is known to need a copy. With a timeout each connection has a group of its own."""
         self._program, self._timeout, self._shared = program, timeout, group
         self.group, self._lock = group or Group(), threading.RLock()
-        self._path, self._original = ("", path) if isinstance(path, Original) else (path, None)
-        self._is_owner = self._original is None
+        self._source = None if isinstance(path, Original) else Source(name_of_file(path), is_named=True)
+        self._original = path if isinstance(path, Original) else None
         self._copies: dict[frozenset[object], Connection] = {}
         self._indexes: list[tuple[str, bool]] = []
         # The probes of which it is known that no document matches, each with its connection.
@@ -493,17 +472,17 @@ class Questions:
 
     def _open(self, copy: File | None) -> None:
         """Opens a copy that was kept, the dump, or where the program refuses this for its numbers another copy."""
-        if copy is not None:
-            self._codes = codes_of_copy(self._path, copy)
-            self._copies[self._codes.key] = Connection(dump_of(copy), self._program, self._timeout)
+        source = self._source
+        if source and copy is not None:
+            with kept_copy(source, copy) as (dump, self._codes):
+                self._copies[self._codes.key] = self._connect(dump)
             return
-        if not self._is_owner or begins_wide(self._path, self._program, self.group):
+        if source is None or begins_wide(source, self._program, self.group):
             self._connection_by(Query("{}"), self._codes)
             return
-        spool = None if can_be_read_again(self._path) else Spool.of(self._path)
-        dump = Dump(pieces=spool.pieces) if spool else dump_of(self._path)
+        spool = Spool(source.pieces()) if source.size is None else None
         try:
-            self.own = Connection(dump, self._program, self._timeout)
+            self.own = self._connect(Dump(spool.pieces) if spool else source.dump())
             self._original = spool and spool.original()
         except DumpError as error:
             if not is_wide(error):
@@ -521,7 +500,8 @@ class Questions:
         """The documents of the dump."""
         with self._lock:
             if self._original is None:
-                self._original = Original.of(self._path)
+                assert self._source
+                self._original = Original.of(self._source)
             return self._original
 
     def do(self, steps: Callable[..., Steps[T]], request: Request, *more: Any) -> T:
@@ -566,7 +546,8 @@ class Questions:
         return connection
 
     def _connect(self, dump: Dump) -> Connection:
-        return Connection(dump, self._program, self._timeout, self._shared)
+        check = self._source.check if self._source else lambda: None
+        return Connection(dump, self._program, self._timeout, self._shared, check)
 
     def create_index(self, path: str, sparse: bool) -> dict[str, Any]:
         """Makes an index on a path, also for copies that come later. One that would reach hidden numbers is refused."""
@@ -591,8 +572,10 @@ class Questions:
         """Ends all connections."""
         for connection in self.connections:
             connection.close()
-        if self._original and self._is_owner:
-            self._original.close()
+        if self._source:
+            if self._original:
+                self._original.close()
+            self._source.close()
 
     def __enter__(self) -> Questions:
         return self
@@ -642,21 +625,12 @@ def refused_by(probe: Probe) -> CommandError:
     return refused(probe.why, probe.place)
 
 
-def can_be_read_again(path: File) -> bool:
-    """Whether a file can be read as often as needed, unlike a pipe; one that is not there is for the program to tell."""
-    try:
-        mode = os.stat(file_of(path)).st_mode
-    except OSError:
-        return True
-    return not (stat.S_ISFIFO(mode) or stat.S_ISCHR(mode) or stat.S_ISSOCK(mode))
-
-
 class AnyLines(Lines):
     """The lines that answer a request over any dump, or with `is_bson` the documents as they are."""
 
     def __init__(
         self,
-        path: File | Original,
+        path: File | Source | Original,
         request: Request,
         program: str,
         *,
@@ -668,44 +642,62 @@ class AnyLines(Lines):
         after: str | None = None,
         group: Group | None = None,
     ) -> None:
-        """Where it is known that the program refuses the dump for its numbers, or a copy was kept, the dump is not asked."""
-        self._path, self._original = (None, path) if isinstance(path, Original) else (path, None)
-        dump = self._original.dump if self._path is None else dump_of(self._path)
-        super().__init__(dump, request, program, size=size, index=index, after=after, group=group)
+        """A file is opened once lines are asked for. Where it is known that the program refuses the dump for its numbers, or a copy
+        was kept, the dump is not asked.
+        """
+        super().__init__(Dump(), request, program, size=size, index=index, after=after, group=group)
+        self._path = path
+        self._original = path if isinstance(path, Original) else None
+        self._source = path if isinstance(path, Source) else None
         self._is_bson, self._is_copied, self._copy = is_bson, is_bson or is_known or copy is not None, copy
 
     def batches(self) -> Batches:
         """The lines as they come, without their newlines, or documents. Closing this ends the program."""
+        with ExitStack() as files:
+            if not isinstance(self._path, (Source, Original)):
+                self._source = files.enter_context(Source(name_of_file(self._path), is_named=True))
+            for lines in files.enter_context(closing(self._lines(files))):
+                self._check()
+                yield lines
+            self._check()
+
+    def _check(self) -> None:
+        if self._source:
+            self._source.check()
+
+    def _lines(self, files: ExitStack) -> Batches:
         paths = paths_of(self._request)
         query = read_query(self._request.filter, paths, self._is_copied)
-        try:
-            spool = Spool.of(self._path) if self._path is not None and not can_be_read_again(self._path) else None
-            if spool:
-                self._dump = Dump(pieces=spool.pieces)
-            if not self._is_copied and not (query and query.is_wide):
-                if not (self._path is not None and begins_wide(self._path, self._program, self._group)):
-                    try:
-                        yield from super().batches()
-                        return
-                    except DumpError as error:
-                        if not is_wide(error):
-                            raise
-                query = read_query(self._request.filter, paths, True)
-            if query is None:
-                raise _unread(self._request, self._program)
-            self._original = self._original or (spool and spool.original())
-            yield from self._by_copy(query)
-        finally:
-            if self._original and self._path is not None:
-                self._original.close()
+        source, spool = self._source, None
+        if not self._is_copied and not (query and query.is_wide):
+            if not (source and begins_wide(source, self._program, self._group)):
+                if source and source.size is None:
+                    spool = Spool(source.pieces())
+                self._dump = Dump(spool.pieces) if spool else source.dump() if source else self.original.dump
+                try:
+                    yield from super().batches()
+                    return
+                except DumpError as error:
+                    if not is_wide(error):
+                        raise
+            query = read_query(self._request.filter, paths, True)
+        if query is None:
+            raise _unread(self._request, self._program)
+        if source:
+            self._original = spool.original() if spool else Original.of(source)
+            files.callback(self._original.close)
+        yield from self._by_copy(query)
+
+    @property
+    def original(self) -> Original:
+        """The documents of the dump, once they are known."""
+        assert self._original
+        return self._original
 
     def _by_copy(self, query: Query) -> Batches:
         if query.refusals:
             raise query.refusals[0]
-        if self._original is None:
-            assert self._path is not None
-            self._original = Original.of(self._path)
-        original = self._original
+        original = self.original
         if self._index is not None:
             query.indexes.append(self._index)
         connection, levels = self._connected(query, original)
@@ -720,16 +712,17 @@ class AnyLines(Lines):
 
     def _connected(self, query: Query, original: Original) -> tuple[Connection, dict[str, int]]:
         """A connection over a copy, with its codes: over the one that was kept, if it has all that the query needs."""
-        codes = Codes() if self._copy is None else codes_of_copy(self._path, self._copy)
-        known = codes.key
-        if self._copy is not None:
-            codes.settle(query)
-            if codes.key == known:
-                return self._connect(dump_of(self._copy)), codes.levels
+        codes = Codes()
+        if self._source and self._copy is not None:
+            with kept_copy(self._source, self._copy) as (dump, codes):
+                known = codes.key
+                codes.settle(query)
+                if codes.key == known:
+                    return self._connect(dump), codes.levels
         return connect_copy(original, query, codes, self._program, self._group, self._connect), codes.levels
 
     def _connect(self, dump: Dump) -> Connection:
-        return Connection(dump, self._program, group=self._group)
+        return Connection(dump, self._program, group=self._group, check=self._check)
 
 
 def prepare(path: File, copy: File, *, program: str = "bsonfind") -> list[str]:
@@ -740,9 +733,8 @@ def prepare(path: File, copy: File, *, program: str = "bsonfind") -> list[str]:
     names = [name_of(copy), f"{name_of(copy)}{_ABOUT}"]
     refuse_names(name_of(path), *names)
     refuse_archive(name_of(path))
-    before, codes = _state_of(path), Codes()
-    original = Original.of(path)
-    try:
+    codes = Codes()
+    with Source(name_of_file(path), is_named=True) as source, closing(Original.of(source)) as original:
         damage = original.fault(program, None)
         if damage:
             raise damage
@@ -752,55 +744,62 @@ def prepare(path: File, copy: File, *, program: str = "bsonfind") -> list[str]:
             while piece := file.read(_PIECE):
                 data.write(piece)
             data.complete()
+            source.check()
             data.put_in_place()
-            if _state_of(path) != before:
-                raise DumpError("the file was written to meanwhile")
-            about.write(json.dumps({"version": _VERSION, "dump": before, "copy": _state_of(names[0]), **asdict(codes)}).encode())
+            with Source(name_of_file(copy)) as made:
+                told = {"version": _VERSION, "dump": source.state, "copy": made.state, **asdict(codes)}
+            about.write(json.dumps(told).encode())
             about.complete()
             about.put_in_place()
-    finally:
-        original.close()
     return [word_of(it, level) for it, level in sorted(codes.levels.items())]
 
 
-def codes_of_copy(path: File | None, copy: File) -> Codes:
-    """The codes of a copy that was kept, which must be of this dump as it is now."""
-    assert path is not None
-    name = name_of(copy)
+@contextmanager
+def kept_copy(source: Source, copy: File) -> Iterator[tuple[Dump, Codes]]:
+    """A copy that was kept, with its codes. It must be of this dump as it is now, and stay as it is while it is read."""
+    name = name_of_file(copy)
     try:
         with open(f"{name}{_ABOUT}", encoding="utf-8") as file:
             about = json.load(file)
-        if about.get("version") != _VERSION:
-            raise DumpError(f"{name} is no copy of this version of bsonfind: make it again")
-        if about["dump"] == _state_of(path) and about["copy"] == _state_of(name):
-            return Codes(dict(about["levels"]), dict(about["hidden"]))
-    except (OSError, ValueError, KeyError, TypeError, AttributeError):
-        pass
-    raise DumpError(f"{name} is no copy of {name_of(path)} as it is now: prepare it again")
+        is_known = about.get("version") == _VERSION
+    except (OSError, ValueError, RecursionError, AttributeError):
+        raise _another(name, source) from None
+    if not is_known:
+        raise DumpError(f"{name} is no copy of this version of bsonfind: make it again")
+    with Source(name, is_named=True) as kept:
+        states = [it and list(it) for it in (source.state, kept.state)]
+        if None in states or states != [about.get("dump"), about.get("copy")]:
+            raise _another(name, source)
+        try:
+            codes = Codes(dict(about["levels"]), dict(about["hidden"]))
+        except (KeyError, TypeError, ValueError):
+            raise _another(name, source) from None
+        yield kept.dump(), codes
+        kept.check()
 
 
-def _state_of(path: File) -> list[int]:
-    """The size of a file and the time of its last change."""
-    with opened(path) as file:
-        state = FileState.of(file)
-    return [state.size, state.mtime_ns]
+def _another(name: str, source: Source) -> DumpError:
+    return DumpError(f"{name} is no copy of {source.name} as it is now: prepare it again")
 
 
-def originals(name: str, start: int, most: int) -> Iterator[tuple[Input, Original]]:
+def originals(source: Source, start: int, most: int) -> Iterator[tuple[Input, Original]]:
     """The documents of a dump from a place on, in parts of at most so many bytes, each with its place."""
+    if source.is_plain and start == 0 and (source.size or 0) <= most:
+        yield Input(0, 0, None, None), Original.of(source)
+        source.check()
+        return
     errors: list[Exception] = []
-    with Source(name) as source:
-        for offset, first, pieces in _framing.inputs(up_to_error(source.pieces(), errors), most):
-            if offset < start:
-                for _ in pieces:
-                    pass
-                continue
-            original = Original.of_pieces(pieces)
-            original.first, original.offset = first, offset
-            try:
-                yield Input(offset, first, None, None), original
-            finally:
-                original.close()
+    for offset, first, pieces in _framing.inputs(up_to_error(source.pieces(), errors), most):
+        if offset < start:
+            for _ in pieces:
+                pass
+            continue
+        original = Original.of_pieces(pieces)
+        original.first, original.offset = first, offset
+        try:
+            yield Input(offset, first, None, None), original
+        finally:
+            original.close()
     if errors:
         raise errors[0]
 
@@ -819,4 +818,4 @@ def try_request(request: Request, program: str, group: Group | None = None) -> N
         query.settle(levels)
         request = replace(request, filter=query.rewritten(levels))
     with places(query, levels):
-        list(Lines(Dump(path=os.devnull), request, program, group=group).batches())
+        list(Lines(Dump(), request, program, group=group).batches())

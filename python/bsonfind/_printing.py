@@ -6,7 +6,7 @@ import re
 import subprocess
 from typing import Iterable
 
-from ._dumps import dump_of
+from ._dumps import read_some
 from ._errors import DumpError, ProgramError
 from ._lines import Batches, lines_of
 from ._processes import Run
@@ -26,18 +26,19 @@ class Printing:
         self._is_filtered = False
         self.documents = 0
 
-    def lines(self, path: str) -> Batches:
+    def lines(self, path: str, *, is_named: bool = False) -> Batches:
         """The lines as they come, of `-` those of standard input. A fault is a `DumpError`, with its place in the dump."""
-        with Source(path) as source:
-            if path != "-" and source.is_for_one_run():
-                yield from self._of_file(path)
+        with Source(path, is_named=is_named) as source:
+            if source.is_for_one_run():
+                yield from self._of_file(source)
             else:
                 yield from self._of_pieces(source.pieces())
+            source.check()
 
-    def _of_file(self, path: str) -> Batches:
+    def _of_file(self, source: Source) -> Batches:
         """Those of one run over a file; from the first document on that this refuses for a double or a decimal128 by others."""
         try:
-            with Run.over(dump_of(path), *self._words, stdout=self._stdout) as run:
+            with Run.over(source.dump(), *self._words, stdout=self._stdout) as run:
                 yield from self._told(run)
                 self.documents = finish_dump(run)
         except DumpError as error:
@@ -45,10 +46,9 @@ class Printing:
             if not is_wide(error):
                 raise
             self._is_filtered = True
-            with open(path, "rb", buffering=0) as file:
-                start = end_of(file, self.documents)
-                file.seek(start)
-                yield from self._of_pieces(iter(lambda: file.read(_PIECE), b""), start, self.documents)
+            start = end_of(source.file, self.documents)
+            source.file.seek(start)
+            yield from self._of_pieces(iter(lambda: read_some(source.file, _PIECE), b""), start, self.documents)
 
     def _of_pieces(self, pieces: Iterable[bytes], offset: int = 0, first: int = 0) -> Batches:
         """Those of some bytes, the first of which have this place and number in the whole dump."""

@@ -11,7 +11,7 @@ import tempfile
 import threading
 from typing import IO, Any, Callable, Iterable, Sequence
 
-from ._dumps import Dump, opened
+from ._dumps import Dump
 from ._errors import ArgumentError, BsonfindError, OtherProcessError, ProgramError, TimedOutError
 from ._messages import error_of, own_text
 
@@ -128,15 +128,11 @@ class Run:
     @classmethod
     def over(cls, dump: Dump, program: str, command: str, options: Sequence[str] = (), **how: Any) -> Run:
         """A run of a command that reads a dump."""
-        words = [program, command, dump.word, *options]
-        if dump.path is None:
-            return cls(words, dump.pieces, **how)
-        with opened(dump.path) as file:
-            return cls(words, stdin=file, **how)
+        return cls([program, command, "-", *options], dump.pieces, dump.file or subprocess.DEVNULL, **how)
 
     @classmethod
     def serving(cls, dump: Dump, program: str, group: Group | None = None) -> Run:
-        """A run of `serve`, which reads commands from its standard input, and a dump without a name from another descriptor.
+        """A run of `serve`, which reads commands from its standard input, and the dump from another descriptor.
 
         Ctrl-C at the terminal reaches the caller alone, so that the session can go on after it.
         """
@@ -249,17 +245,16 @@ def check_owner(owner: int) -> None:
 
 
 class Descriptor:
-    """The word that names a dump to `serve`, and the descriptor that goes with it where the dump has no name of its own."""
+    """The word that names a dump to `serve`, and the descriptor that goes with it."""
 
     def __init__(self, dump: Dump) -> None:
         self._dump = dump
         self._pipe: IO[bytes] | None = None
-        self.word, self.passed = dump.word, ()
+        self.word, self.passed = os.devnull, ()
 
     def __enter__(self) -> Descriptor:
-        if self._dump.path is not None:
-            with opened(self._dump.path) as file:
-                self._pass(file.fileno())
+        if self._dump.file is not None:
+            self._pass(self._dump.file.fileno())
         elif self._dump.pieces is not None:
             read, write = os.pipe()
             self._pipe = open(write, "wb")

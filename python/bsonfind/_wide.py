@@ -8,7 +8,7 @@ from itertools import islice
 from typing import Any, BinaryIO, Callable, Iterable, Iterator, NamedTuple, Sequence
 
 from . import _framing
-from ._dumps import File, is_packed, name_of, opened
+from ._dumps import name_of
 from ._errors import DumpError
 from ._faults import Fault, faults_of, finish_check, read_fault
 from ._processes import Group, Run
@@ -30,13 +30,11 @@ def is_wide(error: DumpError) -> bool:
     return error.fault is not None and error.fault.kind in WIDE
 
 
-def begins_wide(path: File, program: str, group: Group | None = None) -> bool:
+def begins_wide(source: Source, program: str, group: Group | None = None) -> bool:
     """Whether the program refuses a large file for a double or a decimal128 near its beginning."""
-    name = name_of(path)
-    if is_packed(name) or not os.path.isfile(name) or os.path.getsize(name) <= _HEAD:
+    if not source.is_plain or (source.size or 0) <= _HEAD:
         return False
-    with opened(name) as file:
-        head = file.read(_HEAD)
+    head = os.pread(source.file.fileno(), _HEAD, 0)
     with Run([program, "check", "-"], [head], group=group) as run:
         first = next(faults_of(run), None)
     return first is not None and first.kind in WIDE
@@ -146,7 +144,7 @@ class Checking:
 
     def faults(self, source: Source) -> Iterator[Fault]:
         """The damage, in the order of the documents. A file is read once more where the filter is needed, and a stream in pieces."""
-        if source.size is None or source.name == "-":
+        if source.size is None:
             errors: list[Exception] = []
             for chunk in chunks(source.pieces(), errors):
                 yield from self._faults_of_stream(chunk)
@@ -173,9 +171,8 @@ class Checking:
     def _faults_again(self, source: Source) -> Iterator[Fault]:
         """The faults from the first document on that needs the filter."""
         counted, self.documents = self.documents, 0
-        with Source(source.name) as again:
-            for part in again.inputs():
-                yield from self._masked_faults(part)
+        for part in source.inputs():
+            yield from self._masked_faults(part)
         if counted != self.documents:
             raise DumpError(f"{self.documents} documents in place of {counted}: the file was written to")
 
