@@ -182,6 +182,10 @@ class Spool:
             raise
         return Original(self._file)
 
+    def close(self) -> None:
+        """Closes the file."""
+        self._file.close()
+
 
 def temporary_file() -> BinaryIO:
     """A file without a name."""
@@ -673,6 +677,7 @@ class AnyLines(Lines):
             if not (source and begins_wide(source, self._program, self._group)):
                 if source and source.size is None:
                     spool = Spool(source.pieces())
+                    files.callback(spool.close)
                 self._dump = Dump(spool.pieces) if spool else source.dump() if source else self.original.dump
                 try:
                     yield from super().batches()
