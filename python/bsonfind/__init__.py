@@ -18,6 +18,7 @@ import typing
 
 from ._answers import Answer, count_documents, find, find_one
 from ._audit import Audit, Report, audit
+from ._dumps import FileState
 from ._errors import (
     ArgumentError,
     BsonfindError,
@@ -35,7 +36,7 @@ from ._errors import (
 from ._faults import Fault
 from ._merge import Check, check_parts, count_parts, find_parts
 from ._ordered import prepare
-from ._parts import FileState, Part, plan
+from ._parts import Part, plan
 from ._salvage import LeftOut, Salvaged, salvage
 from ._sessions import Cursor, Session
 from ._unpack import Collection, Unpacked, unpack

@@ -398,7 +398,8 @@ def _prepare_streams() -> None:
         try:
             os.fstat(number)
         except OSError:
-            os.open(os.devnull, os.O_RDWR)
+            # A link by itself: what reads it has an error, by its number and by its names, and not the end of an empty dump.
+            os.open("/dev/stdin", os.O_PATH | os.O_NOFOLLOW) if number == 0 else os.open(os.devnull, os.O_RDWR)
     if isinstance(sys.stdout, io.TextIOWrapper):
         sys.stdout.reconfigure(encoding="utf-8", errors="surrogateescape")
     if isinstance(sys.stderr, io.TextIOWrapper):

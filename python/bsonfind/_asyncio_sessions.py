@@ -12,12 +12,13 @@ from typing import Any, AsyncIterator, BinaryIO, Callable, ContextManager, Liter
 from . import _steps
 from ._codes import Query
 from ._decoding import Decode, Dicts, Texts, decoder, with_uuids
-from ._dumps import Dump, File, dump_of
+from ._dumps import Dump, File, name_of_file
 from ._errors import BsonfindError, CancelledError, CommandError, DumpError, SessionEndedError, TimedOutError
 from ._messages import error_of
-from ._ordered import Codes, Original, can_be_read_again, places, query_of, refused_by, temporary_file, write_copy
+from ._ordered import Codes, Original, places, query_of, refused_by, temporary_file, write_copy
 from ._processes import Descriptor, Feeder, Group, check_owner, file_for_messages, start_error
 from ._requests import Filter, Request, Sort, seconds
+from ._sources import Source
 from ._steps import Command, Hint, Reading, Steps, Use, kill, use_of
 from ._values import Uuids, uuids_of
 from ._wide import is_wide
@@ -248,8 +249,9 @@ class _Questions:
     """The connections over a dump, or over a copy for each set of paths of which requests need codes."""
 
     def __init__(self, path: File, program: str, timeout: float | None) -> None:
-        self._path, self._program, self._timeout = path, program, timeout
-        self._own: _Connection | None = _Connection(dump_of(path), program, timeout)
+        self._path, self._program, self._timeout = name_of_file(path), program, timeout
+        self._source: Source | None = None
+        self._own: _Connection | None = _Connection(program, timeout, self._check)
         self._first = self._own
         self._copies: dict[frozenset[object], _Connection] = {}
         self._indexes: list[tuple[str, bool]] = []
@@ -262,10 +264,12 @@ class _Questions:
         if self._own is None:
             return
         self._lock = asyncio.Lock()
+        self._source = source = self._source or Source(self._path, is_named=True)
         try:
-            await self._own.open()
+            await self._own.open(source.dump())
         except DumpError as error:
-            if not is_wide(error) or not can_be_read_again(self._path):
+            if not is_wide(error) or source.size is None:
+                source.close()
                 raise
             self._own = None
             try:
@@ -277,6 +281,11 @@ class _Questions:
     def check(self) -> None:
         """Refuses a call in another process than the one that opened the session."""
         self._first.check()
+
+    def _check(self) -> None:
+        """Refuses a dump that was replaced or written to."""
+        if self._source:
+            self._source.check()
 
     @property
     def _connections(self) -> list[_Connection]:
@@ -324,19 +333,20 @@ class _Questions:
             with temporary_file() as file:
                 await asyncio.get_running_loop().run_in_executor(None, self._write, query, codes, file)
                 if codes.key not in self._copies:
-                    connection = _Connection(Dump(path=f"/dev/fd/{file.fileno()}"), self._program, self._timeout)
-                    await self._open_copy(connection)
+                    connection = _Connection(self._program, self._timeout, self._check)
+                    await self._open_copy(connection, Dump(file=file))
                     self._copies[codes.key] = connection
         return self._copies[codes.key]
 
     def _write(self, query: Query, codes: Codes, file: BinaryIO) -> None:
-        self._original = self._original or Original.of(self._path)
+        assert self._source
+        self._original = self._original or Original.of(self._source)
         write_copy(self._original, query, codes, self._program, self._group, file)
 
-    async def _open_copy(self, connection: _Connection) -> None:
+    async def _open_copy(self, connection: _Connection, copy: Dump) -> None:
         assert self._original
         try:
-            await connection.open()
+            await connection.open(copy)
         except DumpError as error:
             raise (self._original.fault(self._program, self._group) if error.fault else None) or error from None
         for path, sparse in self._indexes:
@@ -367,13 +377,18 @@ class _Questions:
             await connection.close()
         if self._original:
             self._original.close()
+        if self._source:
+            self._source.close()
 
 
 class _Connection:
-    """A run of `serve` over a dump. Tasks may share it: a command has its reply before the next one is sent."""
+    """A run of `serve` over a dump. Tasks may share it: a command has its reply before the next one is sent.
 
-    def __init__(self, dump: Dump, program: str, timeout: float | None) -> None:
-        self._dump, self._program, self._timeout = dump, program, seconds(timeout)
+    Before an answer is given `check_dump` is called, which raises why there is none.
+    """
+
+    def __init__(self, program: str, timeout: float | None, check_dump: Callable[[], None]) -> None:
+        self._program, self._timeout, self._check_dump = program, seconds(timeout), check_dump
         self._owner = os.getpid()
         self._left: deque[int] = deque()
         self._files = contextlib.ExitStack()
@@ -383,14 +398,14 @@ class _Connection:
         self._feeder: Feeder | None = None
         self._process: asyncio.subprocess.Process | None = None
 
-    async def open(self) -> None:
+    async def open(self, dump: Dump) -> None:
         """Starts the program, and waits until the dump is read; does nothing where it was started."""
         self.check()
         if self._process:
             return self.check_open()
         self._lock, self._stderr = asyncio.Lock(), self._files.enter_context(file_for_messages(self._program))
         try:
-            await self._start()
+            await self._start(dump)
             self._ended = None
             # It waits by a command that changes nothing.
             if not await self._within(self._exchange(kill(0))):
@@ -399,17 +414,17 @@ class _Connection:
             await self._end("the dump was not read")
             raise
 
-    async def _start(self) -> None:
+    async def _start(self, dump: Dump) -> None:
         """Starts the program."""
         pipe, how = asyncio.subprocess.PIPE, {"stderr": self._stderr, "start_new_session": True, "limit": _BUFFER}
-        with Descriptor(self._dump) as descriptor:
+        with Descriptor(dump) as descriptor:
             words, passed = (self._program, "serve", descriptor.word.encode()), descriptor.passed
             try:
                 self._process = await asyncio.create_subprocess_exec(*words, stdin=pipe, stdout=pipe, pass_fds=passed, **how)
             except (OSError, TypeError, ValueError) as error:
                 raise start_error(self._program, error) from error
-            if self._dump.pieces is not None:
-                self._feeder = Feeder(self._dump.pieces, descriptor.take_pipe(), self._kill)
+            if dump.pieces is not None:
+                self._feeder = Feeder(dump.pieces, descriptor.take_pipe(), self._kill)
                 self._feeder.start()
 
     async def do(self, steps: Steps[T]) -> T:
@@ -420,6 +435,7 @@ class _Connection:
             while True:
                 command = steps.send(await self._ask(command))
         except StopIteration as end:
+            self._check_dump()
             return end.value
 
     def check(self) -> None:

@@ -349,7 +349,7 @@ class _Checker:
 
     def _check_documents(self, report: Report, source: Source) -> None:
         damage, harmless, say = 0, {}, self._saying(report)
-        checking = Checking(self._program, is_counting=True, group=self.group)
+        checking = Checking(self._program, self.group)
         try:
             for fault in checking.faults(source):
                 report.kinds[fault.kind] += 1

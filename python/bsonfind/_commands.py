@@ -3,13 +3,10 @@
 from __future__ import annotations
 
 import sys
-from typing import NoReturn
 
 from ._console import Console
-from ._dumps import dump_of, file_of
-from ._errors import DumpError, ProgramError
+from ._errors import DumpError
 from ._printing import Printing
-from ._processes import Run
 from ._sources import Source
 from ._wide import Checking
 
@@ -17,10 +14,8 @@ from ._wide import Checking
 def check_file(name: str, program: str, console: Console, front: str = "") -> bool:
     """Prints the damage of a dump, as `check` does, each line after a text; gives whether there is none."""
     faulty = 0
-    if not (front or _can_open(name)):
-        _run_own("check", name, program)
-    checking, is_sound = Checking(program, is_counting=False), True
-    with Source(name) as source:
+    checking, is_sound = Checking(program), True
+    with Source(name, is_named=not front) as source:
         try:
             for fault in checking.faults(source):
                 faulty += 1
@@ -36,12 +31,10 @@ def check_file(name: str, program: str, console: Console, front: str = "") -> bo
 
 def dump_file(name: str, program: str, console: Console, front: str = "") -> bool:
     """Prints the documents of a dump, as `dump` does, and what it says after a text; gives whether no document is refused."""
-    if not (front or _can_open(name)):
-        _run_own("dump", name, program)
     sys.stdout.flush()
     printing, refused = Printing(program, stdout=sys.stdout.fileno()), False
     try:
-        for _ in printing.lines(name):
+        for _ in printing.lines(name, is_named=not front):
             pass  # Each run prints by itself.
     except DumpError as error:
         if not error.is_finding:
@@ -50,20 +43,3 @@ def dump_file(name: str, program: str, console: Console, front: str = "") -> boo
         refused = True
     console.note(f"{front}{printing.documents} objects found")
     return not refused
-
-
-def _can_open(name: str) -> bool:
-    if name == "-":
-        return True  # It is open.
-    try:
-        with open(file_of(name), "rb", buffering=0):
-            return True
-    except OSError:
-        return False
-
-
-def _run_own(command: str, name: str, program: str) -> NoReturn:
-    """Has the program itself say what is wrong with a name."""
-    with Run.over(dump_of(name), program, command) as run:
-        run.finish()
-    raise ProgramError(f"cannot open {name}")

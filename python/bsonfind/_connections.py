@@ -5,7 +5,7 @@ from __future__ import annotations
 import os
 import threading
 from collections import deque
-from typing import TypeVar
+from typing import Callable, TypeVar
 
 from ._dumps import Dump
 from ._errors import CancelledError, SessionEndedError, TimedOutError
@@ -18,10 +18,20 @@ _PIECE = 1 << 20
 
 
 class Connection:
-    """A run of `serve` over a dump that was read. Threads may share it: a command has its reply before the next one is sent."""
+    """A run of `serve` over a dump that was read. Threads may share it: a command has its reply before the next one is sent.
 
-    def __init__(self, dump: Dump, program: str, timeout: float | None = None, group: Group | None = None) -> None:
-        self._lock = threading.Lock()
+    Before an answer is given `check` is called, which raises why there is none, such as a dump that was replaced.
+    """
+
+    def __init__(
+        self,
+        dump: Dump,
+        program: str,
+        timeout: float | None = None,
+        group: Group | None = None,
+        check: Callable[[], None] = lambda: None,
+    ) -> None:
+        self._lock, self._check = threading.Lock(), check
         self._timeout = seconds(timeout)
         self._group = group or Group()
         self._run = Run.serving(dump, program, self._group)
@@ -45,6 +55,7 @@ class Connection:
             while True:
                 command = steps.send(self._ask(command))
         except StopIteration as end:
+            self._check()
             return end.value
 
     def check(self) -> None:

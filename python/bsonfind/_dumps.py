@@ -6,6 +6,7 @@ The name ARCHIVE::db.collection is that of one collection of an archive, unless 
 from __future__ import annotations
 
 import os
+import select
 from typing import BinaryIO, Iterable, Iterator, NamedTuple, Union
 
 from . import _unpacking
@@ -19,16 +20,39 @@ _PIECE = 1 << 20
 _HEAD = 1 << 12
 # What stands between the name of an archive and that of a collection in it.
 INSIDE = "::"
-# Names that mean another file in another process.
-_DESCRIPTORS = ("/dev/fd/", "/dev/stdin", "/proc/self/fd/")
 
 
 class Dump(NamedTuple):
-    """A dump: the word that names it on a command line, or what comes by standard input in place of it: pieces, or a file."""
+    """What a run reads as a dump: pieces, an open file, or nothing."""
 
-    word: str = "-"
     pieces: Iterable[bytes] | None = None
-    path: str | None = None
+    file: BinaryIO | None = None
+
+
+class FileState(NamedTuple):
+    """What tells whether a file is still the same: its size, the time of its last change, its inode and device, and the time of the
+    last change of these or of its names or rights.
+    """
+
+    size: int
+    mtime_ns: int
+    inode: int
+    device: int
+    ctime_ns: int
+
+    @classmethod
+    def of(cls, file: BinaryIO) -> FileState:
+        """The state of an open file."""
+        found = os.fstat(file.fileno())
+        return cls(found.st_size, found.st_mtime_ns, found.st_ino, found.st_dev, found.st_ctime_ns)
+
+    def refuse_other(self, file: BinaryIO) -> None:
+        """Refuses an open file that is no longer in this state."""
+        now = FileState.of(file)
+        if now != self:
+            is_same = now[:2] == self[:2]
+            what = "replaced, or its name or its rights changed," if is_same else "written to"
+            raise DumpError(f"the file was {what} since it was opened")
 
 
 def name_of(path: File) -> str:
@@ -43,26 +67,10 @@ def name_of(path: File) -> str:
     return name
 
 
-def dump_of(path: File) -> Dump:
-    """The dump of a file.
-
-    The program takes names in UTF-8 alone, so a file with another name is opened here, and so is a descriptor of this process.
-    A directory and an archive are a `DumpError`.
-    """
+def name_of_file(path: File) -> str:
+    """The name of a file, also where `-` is one, which else is that of standard input."""
     name = name_of(path)
-    if os.path.isdir(name):
-        raise DumpError(f"cannot read {name}: it is a directory")
-    refuse_archive(name)
-    if is_packed(name):
-        return Dump(pieces=unpacked(name))
-    if name.startswith(_DESCRIPTORS):
-        return Dump(path=name)
-    try:
-        word = os.fsencode(name).decode("utf-8")
-    except UnicodeDecodeError:
-        return Dump(path=name)
-    # A name that begins with a hyphen would be an option.
-    return Dump(os.path.join(os.curdir, word) if word.startswith("-") else word)
+    return os.path.join(os.curdir, name) if name == "-" else name
 
 
 class Member(NamedTuple):
@@ -123,6 +131,8 @@ def opened(path: File) -> BinaryIO:
     """The file, without a buffer; one that cannot be opened is a `DumpError`, as the program says it."""
     try:
         return open(file_of(path), "rb", buffering=0)
+    except IsADirectoryError as error:
+        raise DumpError(f"cannot read {os.fsdecode(path)}: it is a directory") from error
     except OSError as error:
         raise DumpError(f"cannot open {os.fsdecode(path)}") from error
 
@@ -142,7 +152,18 @@ def unpacked_of(path: File, pieces: Iterator[bytes]) -> Iterator[bytes]:
 def pieces_of(file: BinaryIO, path: File) -> Iterator[bytes]:
     """The bytes of an open file from where it stands; a read that fails is a `DumpError`."""
     try:
-        while piece := file.read(_PIECE):
+        while piece := read_some(file, _PIECE):
             yield piece
     except OSError as error:
         raise DumpError(f"cannot read {os.fsdecode(path)}: {error.strerror}") from error
+
+
+def read_some(file: BinaryIO, most: int) -> bytes:
+    """The next bytes of an open file, none at its end. One that does not block, as a pipe that `ssh` left, is waited for."""
+    while True:
+        try:
+            return os.read(file.fileno(), most)
+        except BlockingIOError:
+            waiting = select.poll()
+            waiting.register(file, select.POLLIN)
+            waiting.poll()

@@ -6,12 +6,14 @@ import json
 import re
 from typing import TYPE_CHECKING, Iterator, NamedTuple
 
+from ._errors import ProgramError
+
 if TYPE_CHECKING:
     from ._processes import Run
 
 # The kinds of faults that are no damage: another program can read such a document.
 NO_DAMAGE = ("too deep",)
-_COUNTED = re.compile(r"(\d+) documents, \d+ faulty")
+_COUNTED = re.compile(r"(\d+) documents, (\d+) faulty\n")
 _LINE = re.compile(r'document (\d+), byte (\d+), path (".*"): (.+)')
 
 
@@ -49,10 +51,15 @@ def faults_of(run: Run) -> Iterator[Fault]:
             yield fault
 
 
-def finish_check(run: Run) -> int:
-    """Waits for the end of a run of `check`, and gives the number of documents; raises the error of a run that failed."""
-    run.wait()
-    counted = _COUNTED.fullmatch(run.last_line())
-    if not counted or run.error_line() is not None:
+def finish_check(run: Run, wanted: int | None = None) -> int:
+    """Waits for the end of a run of `check`, and gives the number of documents; raises the error of a run that did not end well.
+
+    A number that is known is an error where it is another one: a filter that was killed gives less.
+    """
+    status, counted = run.wait(), _COUNTED.fullmatch(run.messages())
+    if not counted or status not in (0, min(1, int(counted.group(2)))):
         raise run.error()
-    return int(counted.group(1))
+    documents = int(counted.group(1))
+    if wanted not in (None, documents):
+        raise ProgramError(f"check found {documents} documents in place of {wanted}")
+    return documents

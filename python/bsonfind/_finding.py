@@ -9,11 +9,12 @@ from typing import Sequence
 from . import _messages
 from ._codes import read_query
 from ._console import Console
-from ._dumps import dump_of
 from ._errors import BsonfindError, CommandError, DumpError
-from ._ordered import AnyLines, can_be_read_again, paths_of
+from ._lines import counted
+from ._ordered import AnyLines, paths_of
 from ._processes import Run
 from ._requests import Request
+from ._sources import Source
 from ._wide import begins_wide, is_wide
 
 # What the program calls the option whose text a layer refuses.
@@ -40,13 +41,13 @@ class Finding:
 
     def print(self, program: str, console: Console) -> bool:
         """Prints the documents as lines of JSON, or as they are; gives whether the dump has no fault."""
-        path = "/dev/stdin" if self.name == "-" else self.name
         query = read_query(self.request.filter, paths_of(self.request))
-        is_own = not (self.is_bson or self.copy) and not (query and query.is_wide) and can_be_read_again(path)
         try:
-            if is_own and not begins_wide(path, program) and self._print_own(path, program):
-                return True
-            self._print_by_copy(path, program, console, is_own)
+            with Source(self.name, is_named=True) as source:
+                is_own = not (self.is_bson or self.copy) and not (query and query.is_wide) and source.size is not None
+                if is_own and not begins_wide(source, program) and self._print_own(source, program):
+                    return True
+                self._print_by_copy(source, program, console, is_own)
         except DumpError as error:
             if not error.is_finding:
                 raise
@@ -63,24 +64,25 @@ class Finding:
             told = _messages.error_line(run.messages())
         return told if told and told.startswith("sort: ") else None
 
-    def _print_own(self, path: str, program: str) -> bool:
+    def _print_own(self, source: Source, program: str) -> bool:
         """Has the program print; False where it refuses the dump for a double or a decimal128."""
         sys.stdout.flush()
-        with Run.over(dump_of(path), program, "find", self.words(), stdout=sys.stdout.fileno()) as run:
+        with Run.over(source.dump(), program, "find", self.words(), stdout=sys.stdout.fileno()) as run:
             try:
-                run.finish()
+                counted(run)
             except DumpError as error:
                 if is_wide(error):
                     return False
                 raise
+            source.check()
             if sys.stderr:
                 print(run.messages(), end="", file=sys.stderr)
         return True
 
-    def _print_by_copy(self, path: str, program: str, console: Console, is_known: bool) -> None:
+    def _print_by_copy(self, source: Source, program: str, console: Console, is_known: bool) -> None:
         end = b"" if self.is_bson else b"\n"
         how = {"copy": self.copy, "size": self.batch, "index": self.index, "after": self.after}
-        lines, documents = AnyLines(path, self.request, program, is_bson=self.is_bson, is_known=is_known, **how), 0
+        lines, documents = AnyLines(source, self.request, program, is_bson=self.is_bson, is_known=is_known, **how), 0
         for batch in lines.batches():
             console.documents([line + end for line in batch])
             documents += len(batch)

@@ -11,11 +11,11 @@ from typing import Any, Callable, Iterator
 
 from . import _steps
 from ._connections import Connection
-from ._dumps import Dump, dump_of
+from ._dumps import Dump
 from ._errors import BsonfindError, CommandError, DumpError
 from ._fields import id_of
 from ._lines import Batches
-from ._ordered import Asked, Questions, can_be_read_again, compares_wide, originals, try_request
+from ._ordered import Asked, Questions, compares_wide, originals, try_request
 from ._query import MOST_HELD, moved
 from ._requests import Request
 from ._sources import Source
@@ -140,25 +140,26 @@ def _lines(path: str, ids: Ids, program: str, is_copied: bool) -> Batches:
     copied_from = 0 if is_copied else None
     with Source(path) as source:
         for part in source.inputs(MOST_HELD) if copied_from is None else ():
-            dump = Dump(pieces=part.pieces) if part.pieces is not None else dump_of(path)
             try:
-                with Connection(dump, program) as connection:
+                with Connection(Dump(part.pieces, part.file), program, check=source.check) as connection:
                     connection.do(_steps.create_index("_id", False))
                     for texts in ids.chunks():
                         yield from _answer(Asked(connection, _request(texts)))
             except DumpError as error:
-                if not is_wide(error) or not can_be_read_again(path):
+                if not is_wide(error) or source.size is None:
                     raise moved(error, part) from None
                 copied_from = part.offset
                 break
-    for part, original in originals(path, copied_from, MOST_HELD) if copied_from is not None else ():
-        try:
-            with Questions(original, program) as questions:
-                questions.create_index("_id", False)
-                for texts in ids.chunks():
-                    yield from _answer(questions.asked(_request(texts)))
-        except DumpError as error:
-            raise moved(error, part) from None
+        for part, original in originals(source, copied_from, MOST_HELD) if copied_from is not None else ():
+            try:
+                with Questions(original, program) as questions:
+                    questions.create_index("_id", False)
+                    for texts in ids.chunks():
+                        for lines in _answer(questions.asked(_request(texts))):
+                            source.check()
+                            yield lines
+            except DumpError as error:
+                raise moved(error, part) from None
 
 
 def _answer(asked: Asked) -> Batches:

@@ -9,12 +9,11 @@ from typing import Generator, NamedTuple
 from . import _steps
 from ._connections import Connection
 from ._dumps import Dump
-from ._errors import ProgramError
 from ._processes import Group, Run
 from ._requests import Request
 from ._steps import Reading
 
-_COUNTED = re.compile(r"(\d+) documents, (end|more)(?:, token (\S+))?")
+_COUNTED = re.compile(r"(\d+) documents, (end|more)(?:, token (\S+))?\n")
 Batches = Generator["list[bytes]", None, None]
 _PIECE = 1 << 16
 
@@ -27,12 +26,9 @@ class Counted(NamedTuple):
     token: str | None
 
 
-def counted(told: str) -> Counted:
-    """What the last line of a run of `find` says."""
-    found = _COUNTED.fullmatch(told)
-    if not found:
-        raise ProgramError(told or "no count was printed")
-    documents, end, token = found.groups()
+def counted(run: Run) -> Counted:
+    """Waits for the end of a run of `find`, and gives what its line says; raises the error of a run that did not end well."""
+    documents, end, token = run.finish(_COUNTED).groups()
     return Counted(int(documents), end == "end", token)
 
 
@@ -66,7 +62,7 @@ class Lines:
         words += [f"--{name}={value}" for name, value in options if value is not None]
         with Run.over(self._dump, self._program, "find", words, group=self._group) as run:
             yield from lines_of(run.stdout)
-            _, self.end, self.token = counted(run.finish())
+            _, self.end, self.token = counted(run)
 
     def _by_session(self) -> Batches:
         with Connection(self._dump, self._program, group=self._group) as connection:

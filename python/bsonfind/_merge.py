@@ -14,6 +14,7 @@ with the byte.
 
 from __future__ import annotations
 
+import re
 from concurrent.futures import ThreadPoolExecutor
 from functools import partial
 from typing import Any, Callable, Iterable, Iterator, Literal, NamedTuple, Sequence, TypeVar, overload
@@ -24,7 +25,7 @@ from ._decoding import Decode, Dicts, Texts, decoder, refuse_bson, with_uuids
 from ._dumps import Dump
 from ._errors import ArgumentError, BsonfindError, DumpError, PartError, ProgramError
 from ._faults import Fault, faults_of, finish_check
-from ._lines import Lines
+from ._lines import Lines, counted
 from ._ordered import AnyLines, Original, Questions, compares_wide, try_request
 from ._parts import Part
 from ._plain import plain_pieces
@@ -36,6 +37,7 @@ from ._wide import WIDE, Filtered, is_wide
 
 T = TypeVar("T")
 Map = Callable[[Callable[[Part], Any], Sequence[Part]], Iterable[Any]]
+_PACKED = re.compile(r"\d+ objects packed\n")
 
 
 class Check(NamedTuple):
@@ -240,7 +242,7 @@ def _packed_lines(request: Request, program: str, group: Group, part: Part) -> b
         texts = (b"".join(line + b"\n" for line in batch) for batch in batches)
         with Run([program, "pack", "-"], texts, group=group) as packed:
             data = packed.stdout.read()
-            packed.finish()
+            packed.finish(_PACKED)
             return data
     with Run.over(dump, program, "find", request.words(), group=group) as found:
         with Run([program, "pack", "-"], stdin=found.stdout, group=group) as packed:
@@ -253,12 +255,12 @@ def _packed_lines(request: Request, program: str, group: Group, part: Part) -> b
 def _finish(found: Run, packed: Run) -> None:
     """Raises what went wrong with `find` or, where that could write no more, with the `pack` that read it."""
     try:
-        found.finish()
+        counted(found)
     except ProgramError as error:
         if str(error) == "cannot write":
-            packed.finish()
+            packed.finish(_PACKED)
         raise
-    packed.finish()
+    packed.finish(_PACKED)
 
 
 def _count(request: Request, program: str, group: Group, part: Part) -> int:
@@ -286,5 +288,5 @@ def _check(program: str, group: Group, part: Part) -> Check:
     if any(it.kind in WIDE for it in faults):
         with Filtered(words, "mask", Input(0, 0, None, part.pieces()), group=group) as run:
             faults = list(faults_of(run))
-            documents = finish_check(run)
+            finish_check(run, documents)
     return Check(documents, [fault.moved(part.first, part.offset) for fault in faults])

@@ -1,4 +1,4 @@
-"""What the program prints on standard error, as exceptions. Lines of the loader may stand before its own."""
+"""What the program prints on standard error, as exceptions."""
 
 from __future__ import annotations
 
@@ -9,6 +9,8 @@ from ._errors import BsonfindError, CommandError, DumpError, ProgramError
 from ._faults import read_fault
 
 _PREFIX = "bsonfind: "
+# A line of the loader, such as for LD_PRELOAD, which stands before the program's own.
+_LOADER = re.compile("^ERROR: ld\\.so: .*\n", re.MULTILINE)
 # The words of each layer of refusals, from number 1 on; words that only a session prints are left out.
 _WORDS = {
     "json": (
@@ -23,6 +25,11 @@ _REFUSAL = re.compile(r'(query|sort|index|token): (?:byte (\d+): |place (".*"): 
 _OF_THE_DUMP = ("cannot open", "cannot read", "input too long", "too many reads")
 
 
+def own_text(told: str) -> str:
+    """What a program says itself."""
+    return _LOADER.sub("", told)
+
+
 def error_line(told: str) -> str | None:
     """What the last line says by which the program reports an error; None where there is none."""
     return next((line[len(_PREFIX) :] for line in reversed(told.split("\n")) if line.startswith(_PREFIX)), None)
@@ -34,7 +41,7 @@ def error_of(status: int, told: str) -> BsonfindError:
         return ProgramError(f"ended by signal {-status}")
     line = error_line(told)
     if line is None:
-        return ProgramError(told.strip() or f"ended with status {status}")
+        return ProgramError(told.strip() or (f"ended with status {status}" if status else "no count was printed"))
     fault = read_fault(line)
     if fault or line.startswith(_OF_THE_DUMP):
         return DumpError(line, fault)

@@ -16,12 +16,11 @@ import json
 import os
 import re
 import select
-import stat
 import subprocess
 import tempfile
 import threading
 from array import array
-from contextlib import ExitStack, contextmanager
+from contextlib import ExitStack, closing, contextmanager
 from dataclasses import asdict, dataclass, field, replace
 from itertools import islice
 from pathlib import Path
@@ -31,24 +30,22 @@ from . import _framing, _steps
 from ._codes import Probe, Query, Value, level_after, number_in, read_json, read_query, refused, word_of
 from ._connections import Connection
 from ._decoding import Decode, Texts, decoder
-from ._dumps import Dump, File, dump_of, file_of, is_packed, name_of, opened, pieces_of, refuse_archive, unpacked
+from ._dumps import Dump, File, FileState, name_of, name_of_file, refuse_archive
 from ._errors import ArgumentError, CancelledError, CommandError, DumpError, ProgramError
 from ._hiding import hide
-from ._lines import Batches, Lines, lines_of
+from ._lines import Batches, Lines, counted, lines_of
 from ._messages import error_of
 from ._outputs import Output, refuse_names
-from ._parts import FileState
+from ._printing import finish_dump, refuse_other
 from ._processes import Group, Run
 from ._replies import documents_in
 from ._requests import Request
 from ._sources import Input, Source, up_to_error
 from ._steps import Steps
-from ._wide import Filtered, begins_wide, fault_of, faults_in, filter_beside, is_wide
+from ._wide import NOT_READ, Filtered, begins_wide, fault_of, faults_in, filter_beside, is_wide
 
 T = TypeVar("T")
 _REFUSED = re.compile(r'document (\d+), byte (\d+), path (".*"): (?:not a whole number of 64 bits|no double equals it)')
-# What a run says that is read no more.
-_NOT_READ = "bsonwide: cannot write"
 # The number of a document at the start of its line.
 _NUMBERED = re.compile(rb'\{"~n":\{"\$numberLong":"([0-9]+)"\}')
 _PIECE = 1 << 20
@@ -56,6 +53,8 @@ _PIECE = 1 << 20
 _FIELD = 1 << 10
 # The end of the name of a file that describes a copy.
 _ABOUT = ".json"
+# What the file says of the form of the copy, in which numbers stand first.
+_VERSION = 1
 _NO_CODES = "no codes hold all numbers of this field: ask by other fields, or search the lines of dump"
 # At how many paths numbers are hidden at most, since each is found by some runs.
 _MOST_HIDDEN = 100
@@ -64,23 +63,19 @@ _MOST_HIDDEN = 100
 class Original:
     """The documents of a dump in an open file, and where each of them ends."""
 
-    def __init__(self, file: BinaryIO) -> None:
-        self._file, self._state = file, FileState.of(file)
+    def __init__(self, file: BinaryIO, is_own: bool = True) -> None:
+        """A file that is not its own stays open."""
+        self._file, self._is_own, self._state = file, is_own, FileState.of(file)
         # Where documents end, as far as that was asked for.
         self._ends, self._lock = array("Q"), threading.Lock()
+        self._count: int | None = None
         # How many documents and bytes of a larger dump stand before them.
         self.first = self.offset = 0
 
     @classmethod
-    def of(cls, path: File) -> Original:
-        """Those of a file. What is packed, or can be read only once, is written to a file without a name."""
-        if is_packed(path):
-            return cls.of_pieces(unpacked(path))
-        file = opened(path)
-        if stat.S_ISREG(os.fstat(file.fileno()).st_mode):
-            return cls(file)
-        with file:
-            return cls.of_pieces(iter(lambda: file.read(_PIECE), b""))
+    def of(cls, source: Source) -> Original:
+        """Those of a dump. What is packed, or can be read only once, is written to a file without a name."""
+        return cls(source.file, is_own=False) if source.is_plain else cls.of_pieces(source.pieces())
 
     @classmethod
     def of_pieces(cls, pieces: Iterable[bytes]) -> Original:
@@ -90,7 +85,7 @@ class Original:
     @property
     def dump(self) -> Dump:
         """What a run reads."""
-        return Dump(path=f"/dev/fd/{self._file.fileno()}")
+        return Dump(file=self.rewound())
 
     def rewound(self) -> BinaryIO:
         """The file, from its beginning on."""
@@ -104,8 +99,7 @@ class Original:
         for number in numbers:
             start, end = self._place(number)
             found.append(_framing.read_at(self._file, start, end - start, end - start))
-        if FileState.of(self._file) != self._state:
-            raise _written_to()
+        self._state.refuse_other(self._file)
         return found
 
     def lines(self, numbers: Sequence[int], program: str, group: Group | None = None) -> list[bytes]:
@@ -116,7 +110,7 @@ class Original:
         with Filtered([program, "dump", "-"], "wrap", Input(0, 0, None, iter(documents)), group=group) as run:
             lines = [line for batch in lines_of(run.stdout) for line in batch]
             try:
-                run.finish()
+                refuse_other(finish_dump(run), len(documents))
             except DumpError as error:
                 if error.fault:
                     at = error.fault.document
@@ -125,6 +119,12 @@ class Original:
                     raise DumpError(str(fault), fault) from None
                 raise
         return lines
+
+    def count(self) -> int:
+        """How many documents there are, by their lengths."""
+        if self._count is None:
+            self._count = sum(1 for _ in _framing.walk(self._file))
+        return self._count
 
     def number_at(self, place: int) -> Value | None:
         """The value of the number whose field begins at a place, None where it is not seen."""
@@ -137,7 +137,7 @@ class Original:
 
     def fault(self, program: str, group: Group | None) -> DumpError | None:
         """The first damage, where there is some."""
-        for fault in faults_in(Input(0, 0, self.rewound(), None), program, group):
+        for fault in faults_in(Input(0, 0, self.rewound(), None), self.count, program, group):
             return DumpError(str(fault), fault)
         return None
 
@@ -147,18 +147,15 @@ class Original:
             ends = self._ends
             ends.extend(islice(_framing.walk(self._file, ends[-1] if ends else 0), max(0, number + 1 - len(ends))))
             if number >= len(ends):
-                raise _written_to()
+                raise DumpError("the file was written to since it was opened")
 
     def _place(self, number: int) -> tuple[int, int]:
         return self._ends[number - 1] if number else 0, self._ends[number]
 
     def close(self) -> None:
         """Closes the file."""
-        self._file.close()
-
-
-def _written_to() -> DumpError:
-    return DumpError("the file was written to since it was opened")
+        if self._is_own:
+            self._file.close()
 
 
 class Spool:
@@ -167,11 +164,6 @@ class Spool:
     def __init__(self, pieces: Iterable[bytes]) -> None:
         self._file = temporary_file()
         self.pieces = self._kept(pieces)
-
-    @classmethod
-    def of(cls, path: File) -> Spool:
-        """Those of a pipe, which is opened once they are asked for."""
-        return cls(unpacked(path) if is_packed(path) else _pieces_of(path))
 
     def _kept(self, pieces: Iterable[bytes]) -> Iterator[bytes]:
         for piece in pieces:
@@ -191,10 +183,9 @@ class Spool:
             raise
         return Original(self._file)
 
-
-def _pieces_of(path: File) -> Iterator[bytes]:
-    with opened(path) as file:
-        yield from pieces_of(file, path)
+    def close(self) -> None:
+        """Closes the file."""
+        self._file.close()
 
 
 def temporary_file() -> BinaryIO:
@@ -311,19 +302,28 @@ class Ordering:
         stdin = self._hidden or self._original.rewound()
         return Run([filter_beside(self._program), *words], stdin=stdin, stdout=stdout, group=self._group)
 
-    def is_whole(self, run: Run) -> bool:
-        """Whether a run has written a whole copy, and no other one is needed; raises why there is none."""
-        status = run.wait()
+    def is_last(self, run: Run) -> bool:
+        """Whether a run refused no number, so that no other one is needed; raises why there is no copy for another reason."""
+        status, told = run.wait(), run.messages().strip()
         if status < 0:
             raise run.error()
-        if status == 0:
+        if not (status or told):
             return True
         try:
-            is_new = self._codes.raise_level(run.messages().strip(), self._query, self._original)
+            is_new = self._codes.raise_level(told, self._query, self._original)
         except DumpError as error:
             raise self.damage(error) from None
         self._is_hidden = self._is_hidden and not is_new
         return False
+
+    def refuse_part(self, count: Callable[[], int]) -> None:
+        """Refuses a copy that has not all documents. A run says nothing where it was killed, and its status may be lost."""
+        try:
+            found, wanted = count(), self._original.count()
+        except DumpError as error:
+            raise self.damage(error) from None
+        if found != wanted:
+            raise ProgramError(f"bsonwide wrote {found} documents in place of {wanted}")
 
     def damage(self, error: DumpError) -> DumpError:
         """What is wrong with the dump, of which a copy has this error: a damaged number may have no name that can be asked for."""
@@ -359,13 +359,15 @@ def write_copy(
 ) -> None:
     """Writes a copy of a dump to a file, or nowhere; the codes become those of all paths that need some, found by asking for it."""
     with _ordering(original, query, codes, program, group) as ordering:
-        is_whole = False
-        while not is_whole:
+        is_last = False
+        while not is_last:
             if copy:
                 copy.seek(0)
                 copy.truncate()
             with ordering.run(copy.fileno() if copy else subprocess.DEVNULL) as run:
-                is_whole = ordering.is_whole(run)
+                is_last = ordering.is_last(run)
+        if copy:
+            ordering.refuse_part(Original(copy).count)
 
 
 def connect_copy(
@@ -375,18 +377,20 @@ def connect_copy(
     with _ordering(original, query, codes, program, group) as ordering:
         while True:
             with ordering.run() as run, ExitStack() as ends:
-                if not _is_writing(run) and not ordering.is_whole(run):
+                if not _is_writing(run) and not ordering.is_last(run):
                     continue
                 try:
-                    connection = ends.enter_context(connect(Dump(path=f"/dev/fd/{run.stdout.fileno()}")))
+                    connection = ends.enter_context(connect(Dump(file=run.stdout)))
                 except DumpError as error:
                     run.stdout.close()
-                    if run.wait() == 0 or run.messages().strip() == _NOT_READ:
+                    status, told = run.wait(), run.messages().strip()
+                    if told == NOT_READ or not (status or told):
                         raise (ordering.damage(error) if error.fault else error) from None
                     # It read a part of a copy, of which a number was refused.
-                    ordering.is_whole(run)
+                    ordering.is_last(run)
                 else:
-                    if ordering.is_whole(run):
+                    if ordering.is_last(run):
+                        ordering.refuse_part(lambda: connection.do(_steps.count(Request())))
                         ends.pop_all()
                         return connection
 
@@ -457,8 +461,8 @@ class Questions:
         """A dump whose original is given is known to need a copy. With a timeout each connection has a group of its own."""
         self._program, self._timeout, self._shared = program, timeout, group
         self.group, self._lock = group or Group(), threading.RLock()
-        self._path, self._original = ("", path) if isinstance(path, Original) else (path, None)
-        self._is_owner = self._original is None
+        self._source = None if isinstance(path, Original) else Source(name_of_file(path), is_named=True)
+        self._original = path if isinstance(path, Original) else None
         self._copies: dict[frozenset[object], Connection] = {}
         self._indexes: list[tuple[str, bool]] = []
         # The probes of which it is known that no document matches, each with its connection.
@@ -473,17 +477,17 @@ class Questions:
 
     def _open(self, copy: File | None) -> None:
         """Opens a copy that was kept, the dump, or where the program refuses this for its numbers another copy."""
-        if copy is not None:
-            self._codes = codes_of_copy(self._path, copy)
-            self._copies[self._codes.key] = Connection(dump_of(copy), self._program, self._timeout)
+        source = self._source
+        if source and copy is not None:
+            with kept_copy(source, copy) as (dump, self._codes):
+                self._copies[self._codes.key] = self._connect(dump)
             return
-        if not self._is_owner or begins_wide(self._path, self._program, self.group):
+        if source is None or begins_wide(source, self._program, self.group):
             self._connection_by(Query("{}"), self._codes)
             return
-        spool = None if can_be_read_again(self._path) else Spool.of(self._path)
-        dump = Dump(pieces=spool.pieces) if spool else dump_of(self._path)
+        spool = Spool(source.pieces()) if source.size is None else None
         try:
-            self.own = Connection(dump, self._program, self._timeout)
+            self.own = self._connect(Dump(spool.pieces) if spool else source.dump())
             self._original = spool and spool.original()
         except DumpError as error:
             if not is_wide(error):
@@ -501,7 +505,8 @@ class Questions:
         """The documents of the dump."""
         with self._lock:
             if self._original is None:
-                self._original = Original.of(self._path)
+                assert self._source
+                self._original = Original.of(self._source)
             return self._original
 
     def do(self, steps: Callable[..., Steps[T]], request: Request, *more: Any) -> T:
@@ -546,7 +551,8 @@ class Questions:
         return connection
 
     def _connect(self, dump: Dump) -> Connection:
-        return Connection(dump, self._program, self._timeout, self._shared)
+        check = self._source.check if self._source else lambda: None
+        return Connection(dump, self._program, self._timeout, self._shared, check)
 
     def create_index(self, path: str, sparse: bool) -> dict[str, Any]:
         """Makes an index on a path, also for copies that come later. One that would reach hidden numbers is refused."""
@@ -571,8 +577,10 @@ class Questions:
         """Ends all connections."""
         for connection in self.connections:
             connection.close()
-        if self._original and self._is_owner:
-            self._original.close()
+        if self._source:
+            if self._original:
+                self._original.close()
+            self._source.close()
 
     def __enter__(self) -> Questions:
         return self
@@ -598,7 +606,7 @@ def _unread(request: Request, program: str) -> CommandError:
     try:
         if not request.is_long:
             with Run([program, "find", "-", *request.words()]) as run:
-                run.finish()
+                counted(run)
     except CommandError as error:
         return error
     return refused("the text of the query is not read")
@@ -622,21 +630,12 @@ def refused_by(probe: Probe) -> CommandError:
     return refused(probe.why, probe.place)
 
 
-def can_be_read_again(path: File) -> bool:
-    """Whether a file can be read as often as needed, unlike a pipe; one that is not there is for the program to tell."""
-    try:
-        mode = os.stat(file_of(path)).st_mode
-    except OSError:
-        return True
-    return not (stat.S_ISFIFO(mode) or stat.S_ISCHR(mode) or stat.S_ISSOCK(mode))
-
-
 class AnyLines(Lines):
     """The lines that answer a request over any dump, or with `is_bson` the documents as they are."""
 
     def __init__(
         self,
-        path: File | Original,
+        path: File | Source | Original,
         request: Request,
         program: str,
         *,
@@ -648,44 +647,63 @@ class AnyLines(Lines):
         after: str | None = None,
         group: Group | None = None,
     ) -> None:
-        """Where it is known that the program refuses the dump for its numbers, or a copy was kept, the dump is not asked."""
-        self._path, self._original = (None, path) if isinstance(path, Original) else (path, None)
-        dump = self._original.dump if self._path is None else dump_of(self._path)
-        super().__init__(dump, request, program, size=size, index=index, after=after, group=group)
+        """A file is opened once lines are asked for. Where it is known that the program refuses the dump for its numbers, or a copy
+        was kept, the dump is not asked.
+        """
+        super().__init__(Dump(), request, program, size=size, index=index, after=after, group=group)
+        self._path = path
+        self._original = path if isinstance(path, Original) else None
+        self._source = path if isinstance(path, Source) else None
         self._is_bson, self._is_copied, self._copy = is_bson, is_bson or is_known or copy is not None, copy
 
     def batches(self) -> Batches:
         """The lines as they come, without their newlines, or documents. Closing this ends the program."""
+        with ExitStack() as files:
+            if not isinstance(self._path, (Source, Original)):
+                self._source = files.enter_context(Source(name_of_file(self._path), is_named=True))
+            for lines in files.enter_context(closing(self._lines(files))):
+                self._check()
+                yield lines
+            self._check()
+
+    def _check(self) -> None:
+        if self._source:
+            self._source.check()
+
+    def _lines(self, files: ExitStack) -> Batches:
         paths = paths_of(self._request)
         query = read_query(self._request.filter, paths, self._is_copied)
-        try:
-            spool = Spool.of(self._path) if self._path is not None and not can_be_read_again(self._path) else None
-            if spool:
-                self._dump = Dump(pieces=spool.pieces)
-            if not self._is_copied and not (query and query.is_wide):
-                if not (self._path is not None and begins_wide(self._path, self._program, self._group)):
-                    try:
-                        yield from super().batches()
-                        return
-                    except DumpError as error:
-                        if not is_wide(error):
-                            raise
-                query = read_query(self._request.filter, paths, True)
-            if query is None:
-                raise _unread(self._request, self._program)
-            self._original = self._original or (spool and spool.original())
-            yield from self._by_copy(query)
-        finally:
-            if self._original and self._path is not None:
-                self._original.close()
+        source, spool = self._source, None
+        if not self._is_copied and not (query and query.is_wide):
+            if not (source and begins_wide(source, self._program, self._group)):
+                if source and source.size is None:
+                    spool = Spool(source.pieces())
+                    files.callback(spool.close)
+                self._dump = Dump(spool.pieces) if spool else source.dump() if source else self.original.dump
+                try:
+                    yield from super().batches()
+                    return
+                except DumpError as error:
+                    if not is_wide(error):
+                        raise
+            query = read_query(self._request.filter, paths, True)
+        if query is None:
+            raise _unread(self._request, self._program)
+        if source:
+            self._original = spool.original() if spool else Original.of(source)
+            files.callback(self._original.close)
+        yield from self._by_copy(query)
+
+    @property
+    def original(self) -> Original:
+        """The documents of the dump, once they are known."""
+        assert self._original
+        return self._original
 
     def _by_copy(self, query: Query) -> Batches:
         if query.refusals:
             raise query.refusals[0]
-        if self._original is None:
-            assert self._path is not None
-            self._original = Original.of(self._path)
-        original = self._original
+        original = self.original
         if self._index is not None:
             query.indexes.append(self._index)
         connection, levels = self._connected(query, original)
@@ -700,16 +718,17 @@ class AnyLines(Lines):
 
     def _connected(self, query: Query, original: Original) -> tuple[Connection, dict[str, int]]:
         """A connection over a copy, with its codes: over the one that was kept, if it has all that the query needs."""
-        codes = Codes() if self._copy is None else codes_of_copy(self._path, self._copy)
-        known = codes.key
-        if self._copy is not None:
-            codes.settle(query)
-            if codes.key == known:
-                return self._connect(dump_of(self._copy)), codes.levels
+        codes = Codes()
+        if self._source and self._copy is not None:
+            with kept_copy(self._source, self._copy) as (dump, codes):
+                known = codes.key
+                codes.settle(query)
+                if codes.key == known:
+                    return self._connect(dump), codes.levels
         return connect_copy(original, query, codes, self._program, self._group, self._connect), codes.levels
 
     def _connect(self, dump: Dump) -> Connection:
-        return Connection(dump, self._program, group=self._group)
+        return Connection(dump, self._program, group=self._group, check=self._check)
 
 
 def prepare(path: File, copy: File, *, program: str = "bsonfind") -> list[str]:
@@ -721,9 +740,8 @@ def prepare(path: File, copy: File, *, program: str = "bsonfind") -> list[str]:
     refuse_names(name_of(path), *names)
     _refuse_other(names[1])
     refuse_archive(name_of(path))
-    before, codes = _state_of(path), Codes()
-    original = Original.of(path)
-    try:
+    codes = Codes()
+    with Source(name_of_file(path), is_named=True) as source, closing(Original.of(source)) as original:
         damage = original.fault(program, None)
         if damage:
             raise damage
@@ -733,14 +751,13 @@ def prepare(path: File, copy: File, *, program: str = "bsonfind") -> list[str]:
             while piece := file.read(_PIECE):
                 data.write(piece)
             data.complete()
+            source.check()
             data.put_in_place()
-            if _state_of(path) != before:
-                raise DumpError("the file was written to meanwhile")
-            about.write(json.dumps({"dump": before, "copy": _state_of(names[0]), **asdict(codes)}).encode())
+            with Source(name_of_file(copy)) as made:
+                told = {"version": _VERSION, "dump": source.state, "copy": made.state, **asdict(codes)}
+            about.write(json.dumps(told).encode())
             about.complete()
             about.put_in_place()
-    finally:
-        original.close()
     return [word_of(it, level) for it, level in sorted(codes.levels.items())]
 
 
@@ -757,42 +774,52 @@ def _refuse_other(name: str) -> None:
         raise ArgumentError(f"{name} is there, and describes no copy: give the copy another name")
 
 
-def codes_of_copy(path: File | None, copy: File) -> Codes:
-    """The codes of a copy that was kept, which must be of this dump as it is now."""
-    assert path is not None
-    name = name_of(copy)
+@contextmanager
+def kept_copy(source: Source, copy: File) -> Iterator[tuple[Dump, Codes]]:
+    """A copy that was kept, with its codes. It must be of this dump as it is now, and stay as it is while it is read."""
+    name = name_of_file(copy)
     try:
         with open(f"{name}{_ABOUT}", encoding="utf-8") as file:
             about = json.load(file)
-        if about["dump"] == _state_of(path) and about["copy"] == _state_of(name):
-            return Codes(dict(about["levels"]), dict(about["hidden"]))
-    except (OSError, ValueError, KeyError, TypeError):
-        pass
-    raise DumpError(f"{name} is no copy of {name_of(path)} as it is now: prepare it again")
+        is_known = about.get("version") == _VERSION
+    except (OSError, ValueError, RecursionError, AttributeError):
+        raise _another(name, source) from None
+    if not is_known:
+        raise DumpError(f"{name} is no copy of this version of bsonfind: make it again")
+    with Source(name, is_named=True) as kept:
+        states = [it and list(it) for it in (source.state, kept.state)]
+        if None in states or states != [about.get("dump"), about.get("copy")]:
+            raise _another(name, source)
+        try:
+            codes = Codes(dict(about["levels"]), dict(about["hidden"]))
+        except (KeyError, TypeError, ValueError):
+            raise _another(name, source) from None
+        yield kept.dump(), codes
+        kept.check()
 
 
-def _state_of(path: File) -> list[int]:
-    """The size of a file and the time of its last change."""
-    with opened(path) as file:
-        state = FileState.of(file)
-    return [state.size, state.mtime_ns]
+def _another(name: str, source: Source) -> DumpError:
+    return DumpError(f"{name} is no copy of {source.name} as it is now: prepare it again")
 
 
-def originals(name: str, start: int, most: int) -> Iterator[tuple[Input, Original]]:
+def originals(source: Source, start: int, most: int) -> Iterator[tuple[Input, Original]]:
     """The documents of a dump from a place on, in parts of at most so many bytes, each with its place."""
+    if source.is_plain and start == 0 and (source.size or 0) <= most:
+        yield Input(0, 0, None, None), Original.of(source)
+        source.check()
+        return
     errors: list[Exception] = []
-    with Source(name) as source:
-        for offset, first, pieces in _framing.inputs(up_to_error(source.pieces(), errors), most):
-            if offset < start:
-                for _ in pieces:
-                    pass
-                continue
-            original = Original.of_pieces(pieces)
-            original.first, original.offset = first, offset
-            try:
-                yield Input(offset, first, None, None), original
-            finally:
-                original.close()
+    for offset, first, pieces in _framing.inputs(up_to_error(source.pieces(), errors), most):
+        if offset < start:
+            for _ in pieces:
+                pass
+            continue
+        original = Original.of_pieces(pieces)
+        original.first, original.offset = first, offset
+        try:
+            yield Input(offset, first, None, None), original
+        finally:
+            original.close()
     if errors:
         raise errors[0]
 
@@ -811,4 +838,4 @@ def try_request(request: Request, program: str, group: Group | None = None) -> N
         query.settle(levels)
         request = replace(request, filter=query.rewritten(levels))
     with places(query, levels):
-        list(Lines(Dump(path=os.devnull), request, program, group=group).batches())
+        list(Lines(Dump(), request, program, group=group).batches())

@@ -6,9 +6,9 @@ import os
 import stat
 import struct
 from dataclasses import dataclass, field
-from typing import BinaryIO, Iterable, Iterator, NamedTuple
+from typing import BinaryIO, Iterable, Iterator
 
-from ._dumps import File, is_packed, name_of, opened, refuse_archive, unpacked
+from ._dumps import File, FileState, is_packed, name_of, opened, refuse_archive, unpacked
 from ._errors import DumpError, PartError
 from ._faults import Fault
 from ._framing import LONGEST, SHORTEST, walk
@@ -20,20 +20,6 @@ MOST = 1 << 30
 LARGEST = (1 << 63) - 1
 _PIECE = 1 << 20
 _length_at = struct.Struct("<i").unpack_from
-
-
-class FileState(NamedTuple):
-    """What tells whether a file is still the one that was cut: its size, the time of its last change, and its inode."""
-
-    size: int
-    mtime_ns: int
-    inode: int
-
-    @classmethod
-    def of(cls, file: BinaryIO) -> FileState:
-        """The state of an open file."""
-        found = os.fstat(file.fileno())
-        return cls(found.st_size, found.st_mtime_ns, found.st_ino)
 
 
 @dataclass(frozen=True)
@@ -86,7 +72,7 @@ class Part:
         if not self.state:
             return
         now = FileState.of(file)
-        if now.inode != self.state.inode:
+        if (now.inode, now.device) != (self.state.inode, self.state.device):
             raise PartError(self, "the file was replaced since it was cut")
         if now.size < self.state.size:
             raise PartError(self, f"{self.state.size - now.size} bytes are missing: the file became shorter")

@@ -6,14 +6,14 @@ import re
 import subprocess
 from typing import Iterable
 
-from ._dumps import dump_of
+from ._dumps import read_some
 from ._errors import DumpError, ProgramError
 from ._lines import Batches, lines_of
 from ._processes import Run
 from ._sources import Source
 from ._wide import Chunk, Filtered, chunks, end_of, fault_of, is_wide
 
-_FOUND = re.compile(r"(\d+) objects found")
+_FOUND = re.compile(r"(\d+) objects found\n")
 _PIECE = 1 << 20
 
 
@@ -26,33 +26,33 @@ class Printing:
         self._is_filtered = False
         self.documents = 0
 
-    def lines(self, path: str) -> Batches:
+    def lines(self, path: str, *, is_named: bool = False) -> Batches:
         """The lines as they come, of `-` those of standard input. A fault is a `DumpError`, with its place in the dump."""
-        with Source(path) as source:
-            if path != "-" and source.is_for_one_run():
-                yield from self._of_file(path)
+        with Source(path, is_named=is_named) as source:
+            if source.is_for_one_run():
+                yield from self._of_file(source)
             else:
                 yield from self._of_pieces(source.pieces())
+            source.check()
 
     def of_pieces(self, pieces: Iterable[bytes]) -> Batches:
         """The lines of some bytes, as they come."""
         return self._of_pieces(pieces)
 
-    def _of_file(self, path: str) -> Batches:
+    def _of_file(self, source: Source) -> Batches:
         """Those of one run over a file; from the first document on that this refuses for a double or a decimal128 by others."""
         try:
-            with Run.over(dump_of(path), *self._words, stdout=self._stdout) as run:
+            with Run.over(source.dump(), *self._words, stdout=self._stdout) as run:
                 yield from self._told(run)
-                self.documents = _found(run)
+                self.documents = finish_dump(run)
         except DumpError as error:
             self.documents = error.fault.document if error.fault else 0
             if not is_wide(error):
                 raise
             self._is_filtered = True
-            with open(path, "rb", buffering=0) as file:
-                start = end_of(file, self.documents)
-                file.seek(start)
-                yield from self._of_pieces(iter(lambda: file.read(_PIECE), b""), start, self.documents)
+            start = end_of(source.file, self.documents)
+            source.file.seek(start)
+            yield from self._of_pieces(iter(lambda: read_some(source.file, _PIECE), b""), start, self.documents)
 
     def _of_pieces(self, pieces: Iterable[bytes], offset: int = 0, first: int = 0) -> Batches:
         """Those of some bytes, the first of which have this place and number in the whole dump."""
@@ -83,7 +83,9 @@ class Printing:
         try:
             with run:
                 yield from self._told(run)
-                self.documents = chunk.first + _found(run)
+                found = finish_dump(run)
+                refuse_other(found, chunk.documents())
+                self.documents = chunk.first + found
         except DumpError as error:
             if not error.fault:
                 raise
@@ -103,9 +105,12 @@ class Printing:
             yield from lines_of(run.stdout)
 
 
-def _found(run: Run) -> int:
-    """How many documents a run printed."""
-    found = _FOUND.fullmatch(run.finish())
-    if not found:
-        raise ProgramError("no count was printed")
-    return int(found.group(1))
+def finish_dump(run: Run) -> int:
+    """Waits for the end of a run of `dump`, and gives the number of documents; raises the error of a run that did not end well."""
+    return int(run.finish(_FOUND).group(1))
+
+
+def refuse_other(documents: int, wanted: int) -> None:
+    """Refuses another number of documents than was given to the filter, as after one that was killed."""
+    if documents != wanted:
+        raise ProgramError(f"dump printed {documents} documents in place of {wanted}")

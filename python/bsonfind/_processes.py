@@ -5,14 +5,15 @@ from __future__ import annotations
 import fcntl
 import io
 import os
+import re
 import subprocess
 import tempfile
 import threading
 from typing import IO, Any, Callable, Iterable, Sequence
 
-from ._dumps import Dump, opened
+from ._dumps import Dump
 from ._errors import ArgumentError, BsonfindError, OtherProcessError, ProgramError, TimedOutError
-from ._messages import error_line, error_of
+from ._messages import error_of, own_text
 
 # As many bytes as a pipe of Linux holds.
 _BUFFER = 1 << 16
@@ -127,15 +128,11 @@ class Run:
     @classmethod
     def over(cls, dump: Dump, program: str, command: str, options: Sequence[str] = (), **how: Any) -> Run:
         """A run of a command that reads a dump."""
-        words = [program, command, dump.word, *options]
-        if dump.path is None:
-            return cls(words, dump.pieces, **how)
-        with opened(dump.path) as file:
-            return cls(words, stdin=file, **how)
+        return cls([program, command, "-", *options], dump.pieces, dump.file or subprocess.DEVNULL, **how)
 
     @classmethod
     def serving(cls, dump: Dump, program: str, group: Group | None = None) -> Run:
-        """A run of `serve`, which reads commands from its standard input, and a dump without a name from another descriptor.
+        """A run of `serve`, which reads commands from its standard input, and the dump from another descriptor.
 
         Ctrl-C at the terminal reaches the caller alone, so that the session can go on after it.
         """
@@ -185,7 +182,10 @@ class Run:
         check_owner(self._owner)
 
     def wait(self) -> int:
-        """The status, once the run has ended; raises why its group was ended, or what was wrong with the pieces."""
+        """The status, once the run has ended, and 0 where another part of this process took it.
+
+        Raises why its group was ended, or what was wrong with the pieces.
+        """
         status = self.process.wait()
         if self._group.error:
             raise self._group.error
@@ -196,23 +196,19 @@ class Run:
         return status
 
     def messages(self) -> str:
-        """What standard error says, once the run has ended."""
+        """What the program says on standard error, once the run has ended."""
         self._stderr.seek(0)
-        return self._stderr.read().decode(errors="replace")
+        return own_text(self._stderr.read().decode(errors="replace"))
 
-    def last_line(self) -> str:
-        """The last line of standard error, in which a run that ended well gives its counts; the loader's come before it."""
-        return self.messages().rstrip("\n").rpartition("\n")[2]
+    def finish(self, line: re.Pattern[str]) -> re.Match[str]:
+        """Waits for the end, and gives the line with the counts; raises the error of a run that did not end well.
 
-    def error_line(self) -> str | None:
-        """What the program says of an error of its own; None where it says nothing."""
-        return error_line(self.messages())
-
-    def finish(self) -> str:
-        """Waits for the end, and gives the last line of standard error; raises the error of a run that failed."""
-        if self.wait():
+        It ended well only if this line is all that it says. A status of 0 proves nothing, and the line follows an error too.
+        """
+        status, found = self.wait(), line.fullmatch(self.messages())
+        if status or not found:
             raise self.error()
-        return self.last_line()
+        return found
 
     def error(self) -> BsonfindError:
         """The error of a run that did not end well."""
@@ -249,17 +245,16 @@ def check_owner(owner: int) -> None:
 
 
 class Descriptor:
-    """The word that names a dump to `serve`, and the descriptor that goes with it where the dump has no name of its own."""
+    """The word that names a dump to `serve`, and the descriptor that goes with it."""
 
     def __init__(self, dump: Dump) -> None:
         self._dump = dump
         self._pipe: IO[bytes] | None = None
-        self.word, self.passed = dump.word, ()
+        self.word, self.passed = os.devnull, ()
 
     def __enter__(self) -> Descriptor:
-        if self._dump.path is not None:
-            with opened(self._dump.path) as file:
-                self._pass(file.fileno())
+        if self._dump.file is not None:
+            self._pass(self._dump.file.fileno())
         elif self._dump.pieces is not None:
             read, write = os.pipe()
             self._pipe = open(write, "wb")

@@ -9,7 +9,7 @@ from ._backups import Dump
 from ._errors import BsonfindError, DumpError
 from ._faults import Fault
 from ._lines import Batches, counted, lines_of
-from ._ordered import AnyLines, can_be_read_again, compares_wide, originals, try_request
+from ._ordered import AnyLines, compares_wide, originals, try_request
 from ._processes import Group
 from ._requests import Request
 from ._sources import Input, Source
@@ -61,20 +61,22 @@ def _answer(dump: Dump, request: Request, program: str, group: Group, is_copied:
                         is_started = True
                         yield Found(name, [])
                     for lines in lines_of(run.stdout):
+                        source.check()
                         yield Found(name, lines)
                     try:
-                        counted(run.finish())
+                        counted(run)
                     except DumpError as error:
-                        if not is_wide(error) or not can_be_read_again(name):
+                        if not is_wide(error) or source.size is None:
                             raise moved(error, part) from None
                         copied_from = part.offset
                         break
-        if copied_from is not None:
-            if not is_started:
-                is_started = True
-                yield Found(name, [])
-            for lines in _by_copies(name, copied_from, request, program, group):
-                yield Found(name, lines)
+            if copied_from is not None:
+                if not is_started:
+                    is_started = True
+                    yield Found(name, [])
+                for lines in _by_copies(source, copied_from, request, program, group):
+                    source.check()
+                    yield Found(name, lines)
     except (BsonfindError, OSError) as error:
         if not is_started:
             yield Found(name, [])
@@ -84,9 +86,9 @@ def _answer(dump: Dump, request: Request, program: str, group: Group, is_copied:
         yield Found(name, [])
 
 
-def _by_copies(name: str, start: int, request: Request, program: str, group: Group) -> Batches:
+def _by_copies(source: Source, start: int, request: Request, program: str, group: Group) -> Batches:
     """The lines of the documents from a place on, some of which hold doubles or decimal128, in parts that are copied."""
-    for part, original in originals(name, start, MOST_HELD):
+    for part, original in originals(source, start, MOST_HELD):
         try:
             yield from AnyLines(original, request, program, is_known=True, group=group).batches()
         except DumpError as error:

@@ -10,7 +10,7 @@ from contextlib import ExitStack, nullcontext
 from typing import Callable, ContextManager, Iterable, Iterator, NamedTuple
 
 from ._dumps import File, name_of
-from ._errors import ArgumentError, DumpError, ProgramError
+from ._errors import ArgumentError, DumpError
 from ._faults import NO_DAMAGE, Fault, faults_of, finish_check
 from ._framing import LONGEST, SHORTEST
 from ._outputs import Output, refuse_names
@@ -398,9 +398,7 @@ class _Check:
         run = run or self.run(data)
         with run:
             faults = list(faults_of(run))
-            count = finish_check(run)
-        if count != documents:
-            raise ProgramError(f"check found {count} documents in place of {documents}")
+            finish_check(run, documents)
         if not isinstance(run, Filtered) and any(it.kind in WIDE for it in faults):
             self._is_filtered = True
             return self.faults(data, documents)

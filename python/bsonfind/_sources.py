@@ -7,7 +7,7 @@ import stat
 from typing import Any, BinaryIO, Iterable, Iterator, NamedTuple, Sequence
 
 from . import _framing
-from ._dumps import File, file_of, is_packed, name_of, refuse_archive, unpacked_of
+from ._dumps import Dump, File, FileState, file_of, is_packed, name_of, opened, read_some, refuse_archive, unpacked_of
 from ._errors import DumpError
 from ._faults import finish_check
 from ._processes import Run
@@ -29,29 +29,58 @@ class Input(NamedTuple):
 
 
 class Source:
-    """A dump that is open for one reading. Its size is that of the file as it is on the disk, None for a pipe or a device.
+    """A dump that is open by one descriptor. Its size is that of the file as it is on the disk, None for a pipe or a device.
 
-    The name `-` is that of standard input.
+    The name `-` is that of standard input, which is read from where it stands. A file can be read as often as is needed, and is
+    refused once it is no longer as it was when it was opened. A pipe with a name is opened once it is read, since that waits.
 
-    The errors do not name it: whoever reads many adds the name.
+    The errors do not name it, unless that is asked for: whoever reads many adds the name.
     """
 
-    def __init__(self, path: File) -> None:
-        self.name = name_of(path)
-        try:
-            is_stdin = self.name == "-"
-            self._file: BinaryIO = open(0 if is_stdin else file_of(path), "rb", buffering=0, closefd=not is_stdin)
-        except OSError as error:
-            raise DumpError(str(error.strerror)) from error
-        status = os.fstat(self._file.fileno())
-        self.size = status.st_size if stat.S_ISREG(status.st_mode) else None
-        self._is_packed = is_packed(path)
-        self._read = 0
+    def __init__(self, path: File, *, is_named: bool = False) -> None:
+        self.name, self.is_packed = name_of(path), is_packed(path)
+        self._is_named = is_named
+        self._file: BinaryIO | None = None
+        self.size: int | None = None
+        # What tells whether a file is still the same.
+        self.state: FileState | None = None
+        self._start = self._read = 0
+        if self.name == "-" or not _is_pipe(self.name):
+            status = os.fstat(self.file.fileno())
+            if stat.S_ISREG(status.st_mode):
+                self._start = self.file.tell()
+                self.size = max(0, status.st_size - self._start)
+                self.state = FileState.of(self.file)
+
+    @property
+    def file(self) -> BinaryIO:
+        """The open file."""
+        if self._file is None:
+            try:
+                self._file = _standard_input() if self.name == "-" else opened(self.name)
+            except DumpError as error:
+                if self._is_named or not isinstance(error.__cause__, OSError):
+                    raise
+                raise DumpError(str(error.__cause__.strerror)) from error
+        return self._file
+
+    @property
+    def is_plain(self) -> bool:
+        """Whether it is a file that is read as it is, from its beginning."""
+        return self.size is not None and not self.is_packed and not self._start
+
+    def dump(self) -> Dump:
+        """What a run reads."""
+        if not self.is_plain:
+            return Dump(self.pieces())
+        refuse_archive(self.name)
+        self.file.seek(0)
+        return Dump(file=self.file)
 
     def pieces(self) -> Iterator[bytes]:
         """All bytes of the dump, unpacked where it is packed. One that is damaged is an `UnpackError` after what comes before."""
         refuse_archive(self.name)
-        return unpacked_of(self.name, self.raw()) if self._is_packed else self.raw()
+        return unpacked_of(self.name, self.raw()) if self.is_packed else self.raw()
 
     def inputs(self, most: int | None = None) -> Iterator[Input]:
         """What runs read one after the other, at most so many bytes each; without a number as many as a run can read.
@@ -59,7 +88,7 @@ class Source:
         What goes wrong with the file is raised after the run over the bytes before it.
         """
         limit = _framing.LARGEST_INPUT if most is None else most
-        if self._is_packed or self.size is None or self.size > limit:
+        if self.is_packed or self.size is None or self.size > limit:
             errors: list[Exception] = []
             for offset, first, pieces in _framing.inputs(up_to_error(self.pieces(), errors), limit):
                 yield Input(offset, first, None, pieces)
@@ -67,33 +96,69 @@ class Source:
                 raise errors[0]
         else:
             refuse_archive(self.name)
-            yield Input(0, 0, self._file, None)
+            self.file.seek(self._start)
+            yield Input(0, 0, self.file, None)
+            self.check()
 
     def is_for_one_run(self) -> bool:
-        """Whether a run reads the file by its name: one of this size, which is not packed."""
-        return self.size is not None and self.size <= _framing.LARGEST_INPUT and not self._is_packed
+        """Whether one run can read it as it is."""
+        return self.is_plain and (self.size or 0) <= _framing.LARGEST_INPUT
 
     def position(self) -> int:
         """How many bytes of the file were read by now, by this process or by a run."""
-        return self._read or (self._file.tell() if self.size is not None and not self._file.closed else 0)
+        is_read = self._file and self.size is not None and not self._file.closed
+        return self._read or (self.file.tell() - self._start if is_read else 0)
 
     def raw(self) -> Iterator[bytes]:
         """All bytes of the file, as they are on the disk."""
-        while piece := self._file.read(_PIECE):
-            self._read += len(piece)
-            yield piece
+        self._read = 0
+        if self.size is not None:
+            self.file.seek(self._start)
+        try:
+            while piece := read_some(self.file, _PIECE):
+                self._read += len(piece)
+                yield piece
+        except OSError as error:
+            if not self._is_named:
+                raise
+            raise DumpError(f"cannot read {self.name}: {error.strerror}") from error
         if self.size is not None and self._read < self.size:
-            raise DumpError(f"no bytes at byte {self._read}: the file became shorter")
+            raise DumpError(f"no bytes at byte {self._start + self._read}: the file became shorter")
+        self.check()
+
+    def check(self) -> None:
+        """Refuses a file that is no longer as it was when it was opened, as long as it is open."""
+        if self.state and not self.file.closed:
+            self.state.refuse_other(self.file)
 
     def close(self) -> None:
         """Closes the file."""
-        self._file.close()
+        if self._file:
+            self._file.close()
 
     def __enter__(self) -> Source:
         return self
 
     def __exit__(self, *_: object) -> None:
         self.close()
+
+
+def _standard_input() -> BinaryIO:
+    """Standard input, if it can be read: not where it is closed or a directory."""
+    try:
+        os.read(0, 0)
+    except BlockingIOError:
+        pass  # It can be read later.
+    except OSError as error:
+        raise DumpError(f"cannot read standard input: {error.strerror}") from error
+    return open(0, "rb", buffering=0, closefd=False)
+
+
+def _is_pipe(name: str) -> bool:
+    try:
+        return stat.S_ISFIFO(os.stat(file_of(name)).st_mode)
+    except OSError:
+        return False  # Whoever opens it says what is wrong with it.
 
 
 def try_program(program: str) -> None:

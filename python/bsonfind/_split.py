@@ -71,9 +71,6 @@ class _Reading:
 def _read_all(namespace: Namespace, read: Read, pipe: int) -> None:
     try:
         with Source(f"/dev/fd/{pipe}") as source:
-            os.close(pipe)
-            pipe = -1
             read(namespace, source)
     finally:
-        if pipe >= 0:
-            os.close(pipe)
+        os.close(pipe)

@@ -5,15 +5,17 @@ from __future__ import annotations
 import os
 import shutil
 from itertools import islice
-from typing import Any, BinaryIO, Iterable, Iterator, NamedTuple, Sequence
+from typing import Any, BinaryIO, Callable, Iterable, Iterator, NamedTuple, Sequence
 
 from . import _framing
-from ._dumps import File, is_packed, name_of, opened
+from ._dumps import name_of
 from ._errors import DumpError
 from ._faults import Fault, faults_of, finish_check, read_fault
 from ._processes import Group, Run
 from ._sources import Input, Source, up_to_error
 
+# What a filter says that is read no more.
+NOT_READ = "bsonwide: cannot write"
 # The faults that are none: documents of these kinds are read by way of the filter.
 WIDE = ("double", "decimal128")
 _WIDE_LINES = tuple(f": {kind}\n".encode() for kind in WIDE)
@@ -28,13 +30,11 @@ def is_wide(error: DumpError) -> bool:
     return error.fault is not None and error.fault.kind in WIDE
 
 
-def begins_wide(path: File, program: str, group: Group | None = None) -> bool:
+def begins_wide(source: Source, program: str, group: Group | None = None) -> bool:
     """Whether the program refuses a large file for a double or a decimal128 near its beginning."""
-    name = name_of(path)
-    if is_packed(name) or not os.path.isfile(name) or os.path.getsize(name) <= _HEAD:
+    if not source.is_plain or (source.size or 0) <= _HEAD:
         return False
-    with opened(name) as file:
-        head = file.read(_HEAD)
+    head = os.pread(source.file.fileno(), _HEAD, 0)
     with Run([program, "check", "-"], [head], group=group) as run:
         first = next(faults_of(run), None)
     return first is not None and first.kind in WIDE
@@ -64,6 +64,15 @@ class Chunk(NamedTuple):
         for _ in range(documents):
             at += int.from_bytes(self.data[at : at + 4], "little")
         return Chunk(self.offset + at, self.first + documents, self.data[at:])
+
+    def documents(self) -> int:
+        """How many documents there are, by their lengths; what has a wrong one counts as one."""
+        at = number = 0
+        while at < len(self.data):
+            length = int.from_bytes(self.data[at : at + 4], "little")
+            at += length if _framing.is_length(length, len(self.data) - at) else len(self.data)
+            number += 1
+        return number
 
     def document(self) -> bytes:
         """The first document, or all bytes where its length is wrong."""
@@ -100,19 +109,20 @@ class Filtered(Run):
     def wait(self) -> int:
         """The status, once both have ended. The filter's counts where it failed by itself."""
         status = super().wait()
-        return 1 if self._filter.wait() and self._failure() else status
+        self._filter.wait()
+        return 1 if self._failure() else status
 
     def messages(self) -> str:
         """What standard error says; of a filter that failed what it says, as the program would."""
         return self._failure() or super().messages()
 
     def _failure(self) -> str:
-        """Why the filter failed, where it was not because the program read no more."""
-        told = self._filter.messages().strip()
-        _, found, text = told.rpartition("bsonwide: ")
-        if self._filter.process.wait() == 0 or text == "cannot write":
+        """Why the filter failed, where it was not because the program read no more. One that said nothing may have been killed."""
+        status, told = self._filter.process.wait(), self._filter.messages().strip()
+        if told == NOT_READ or not (told or status):
             return ""
-        return f"bsonfind: {text}" if found else told or f"bsonfind: bsonwide ended with status {self._filter.process.wait()}"
+        _, found, text = told.rpartition("bsonwide: ")
+        return f"bsonfind: {text}" if found else told or f"bsonfind: bsonwide ended with status {status}"
 
     def close(self) -> None:
         """Kills both where they run."""
@@ -123,20 +133,18 @@ class Filtered(Run):
 class Checking:
     """The check of a dump, in which documents with doubles and decimal128 are sound.
 
-    `documents` is how many were checked by now, and `wide` how many of them hold doubles or decimal128 before any damage; these
-    are counted only where that is asked for.
+    `documents` is how many were checked by now, and `wide` how many of them hold doubles or decimal128 before any damage.
     """
 
-    def __init__(self, program: str, *, is_counting: bool, group: Group | None = None) -> None:
-        self._words = [program, "check", "-"]
-        self._is_counting, self._group = is_counting, group or Group()
+    def __init__(self, program: str, group: Group | None = None) -> None:
+        self._words, self._group = [program, "check", "-"], group or Group()
         self.documents = self.wide = 0
         # The first document that needs the filter.
         self._first: int | None = None
 
     def faults(self, source: Source) -> Iterator[Fault]:
         """The damage, in the order of the documents. A file is read once more where the filter is needed, and a stream in pieces."""
-        if source.size is None or source.name == "-":
+        if source.size is None:
             errors: list[Exception] = []
             for chunk in chunks(source.pieces(), errors):
                 yield from self._faults_of_stream(chunk)
@@ -146,29 +154,26 @@ class Checking:
         for part in source.inputs():
             with part.run(self._words, group=self._group) as run:
                 yield from self._own_faults(run, part)
-                if self._first is not None and not self._is_counting:
-                    break
                 self.documents += finish_check(run)
         if self._first is not None:
             yield from self._faults_again(source)
 
     def _faults_of_stream(self, chunk: Chunk) -> Iterator[Fault]:
-        self._first, before = None, self.documents
+        self._first = None
         with Run(self._words, [chunk.data], group=self._group) as run:
             yield from self._own_faults(run, chunk.given())
-            if self._first is None or self._is_counting:
-                self.documents += finish_check(run)
+            documents = finish_check(run)
         if self._first is not None:
-            self.documents = before
-            yield from self._masked_faults(chunk.given())
+            yield from self._masked_faults(chunk.given(), documents)
+        else:
+            self.documents += documents
 
     def _faults_again(self, source: Source) -> Iterator[Fault]:
         """The faults from the first document on that needs the filter."""
         counted, self.documents = self.documents, 0
-        with Source(source.name) as again:
-            for part in again.inputs():
-                yield from self._masked_faults(part)
-        if self._is_counting and counted != self.documents:
+        for part in source.inputs():
+            yield from self._masked_faults(part)
+        if counted != self.documents:
             raise DumpError(f"{self.documents} documents in place of {counted}: the file was written to")
 
     def _own_faults(self, run: Run, part: Input) -> Iterator[Fault]:
@@ -179,32 +184,30 @@ class Checking:
                 if self._first is None:
                     fault = read_fault(line.decode().rstrip("\n"))
                     self._first = self.documents + fault.document if fault else None
-                    if not self._is_counting:
-                        return
             elif self._first is None:
                 fault = read_fault(line.decode().rstrip("\n"))
                 if fault:
                     yield fault.moved(self.documents, part.offset)
 
-    def _masked_faults(self, part: Input) -> Iterator[Fault]:
+    def _masked_faults(self, part: Input, wanted: int | None = None) -> Iterator[Fault]:
         with Filtered(self._words, "mask", part, group=self._group) as run:
             for fault in faults_of(run):
                 fault = fault.moved(self.documents, part.offset)
                 if self._first is None or fault.document >= self._first:
                     yield fault
-            self.documents += finish_check(run)
+            self.documents += finish_check(run, wanted)
 
 
-def faults_in(given: Input, program: str, group: Group | None = None) -> Iterator[Fault]:
-    """The damage of some documents."""
+def faults_in(given: Input, count: Callable[[], int], program: str, group: Group | None = None) -> Iterator[Fault]:
+    """The damage of some documents, of which the number is known once all are read."""
     with Filtered([program, "check", "-"], "mask", given, group=group) as masked:
         yield from faults_of(masked)
-        finish_check(masked)
+        finish_check(masked, count())
 
 
 def fault_of(document: bytes, program: str) -> Fault | None:
     """The fault of a single document: its damage, or else what keeps the program from reading it."""
-    faults = list(faults_in(Input(0, 0, None, iter([document])), program))
+    faults = list(faults_in(Input(0, 0, None, iter([document])), lambda: 1, program))
     if not faults:
         with Run([program, "check", "-"], [document]) as run:
             faults = list(faults_of(run))

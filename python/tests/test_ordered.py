@@ -620,6 +620,20 @@ class Copies(Goods):
             with self.assertRaisesRegex(DumpError, text):
                 Session(self.path, PROGRAM, copy=copy)
 
+    def test_copy_of_another_version(self) -> None:
+        """One of no version has the number of each document at its end, where it may hide damage."""
+        copy, about = self.room / "copy.bson", self.room / "copy.bson.json"
+        prepare(self.path, copy, program=PROGRAM)
+        told = json.loads(about.read_text())
+        number = told.pop("version")
+        for version in ({}, {"version": number + 1}, {"version": None}):
+            about.write_text(json.dumps({**told, **version}))
+            with self.assertRaisesRegex(DumpError, "is no copy of this version of bsonfind: make it again"):
+                Session(self.path, PROGRAM, copy=copy)
+            run = run_package("find", str(self.path), "--copy", str(copy))
+            self.assertEqual((run.returncode, run.stdout), (2, ""))
+            self.assertIn("make it again", run.stderr)
+
     def test_what_is_not_prepared(self) -> None:
         """Nothing is left of it, and what was there stays."""
         copy = self.file(b"as it was", "copy.bson")

@@ -1,0 +1,116 @@
+"""Tests within a process that takes the statuses of its children: it ignores SIGCHLD, or its handler waits for any child."""
+
+import os
+import subprocess
+import sys
+from typing import List, Tuple
+
+from .support import DAMAGED, PATIENCE, PROGRAM, Room, environment
+from .test_ordered import FIRST, GOODS
+
+# What takes the statuses, in a process that begins with it.
+WAYS = {
+    "ignored": "signal.signal(signal.SIGCHLD, signal.SIG_IGN)",
+    "reaped": """
+def reap(*_):
+    try:
+        while os.waitpid(-1, os.WNOHANG)[0]:
+            pass
+    except ChildProcessError:
+        pass
+signal.signal(signal.SIGCHLD, reap)
+""",
+}
+ASK = """
+import asyncio, logging
+from decimal import Decimal
+from bsonfind import *
+logging.disable()  # asyncio says of each child that its status is not known
+path, copy, program = sys.argv[1:]
+price = {"price": {"$gt": 9.25}}
+async def ask():
+    async with AsyncSession(path, program) as session:
+        return await session.count_documents(price)
+def within(**how):
+    with Session(path, program, **how) as session:
+        return session.count_documents(price)
+for call in (
+    lambda: [it["_id"] for it in find(path, price, decode="plain", program=program)],
+    lambda: len(list(find(path, decode="bson", program=program))),
+    lambda: count_documents(path, {"cost": Decimal("19")}, program=program),
+    within,
+    lambda: asyncio.run(ask()),
+    lambda: prepare(path, copy, program=program),
+    lambda: within(copy=copy),
+    lambda: [(it.documents, it.wide, it.faulty, it.error) for it in audit(path, program=program).reports],
+):
+    try:
+        print(call(), flush=True)
+    except BsonfindError as error:
+        print(f"{type(error).__name__}: {error}", flush=True)
+"""
+# Three of the prices are above 9.25, two of the costs are 19, and five of the six documents have a double or a decimal128.
+ANSWERS = ["[0, 2, 3]", "6", "2", "3", "3", "['cost*100', 'price']", "3", "[(6, 5, 0, None)]"]
+
+
+class Children(Room):
+    def run_python(self, way: str, code: str, *words: object) -> Tuple[int, List[str], str]:
+        """The status of Python below which statuses are lost, what it prints, and what it says."""
+        code = f"import os, signal, sys\n{WAYS[way]}\n{code}"
+        command = [sys.executable, "-c", code, *map(str, words)]
+        run = subprocess.run(command, env=environment(), capture_output=True, text=True, timeout=PATIENCE)
+        return run.returncode, run.stdout.splitlines(), run.stderr
+
+    def run_command(self, *words: object) -> Tuple[int, List[str], str]:
+        """The same of `python3 -m bsonfind` where SIGCHLD is ignored."""
+        code = 'os.execv(sys.executable, [sys.executable, "-m", "bsonfind", *sys.argv[1:]])'
+        return self.run_python("ignored", code, "--program", PROGRAM, *words)
+
+    def test_answers(self) -> None:
+        path, copy = self.file(b"".join(GOODS)), self.room / "copy"
+        for way in WAYS:
+            self.assertEqual(self.run_python(way, ASK, path, copy, PROGRAM), (0, ANSWERS, ""), way)
+
+    def test_commands(self) -> None:
+        path, bad = self.file(b"".join(GOODS)), self.file(b"".join(GOODS) + DAMAGED, "bad.bson")
+        fault = f'document 6, byte {len(b"".join(GOODS)) + 7}, path "d": bad boolean'
+        self.assertEqual(self.run_command("check", path), (0, [], "6 documents, 0 faulty\n"))
+        status, lines, told = self.run_command("dump", path)
+        self.assertEqual((status, lines[0], len(lines), told), (0, FIRST, 6, "6 objects found\n"))
+        status, lines, told = self.run_command("find", path, "--query", '{"price":9.5}')
+        self.assertEqual((status, lines, told[:17]), (0, [FIRST], "1 documents, end,"))
+        self.assertEqual(self.run_command("check", bad), (1, [fault], "7 documents, 1 faulty\n"))
+        self.assertEqual(self.run_command("find", bad), (1, [], f"bsonfind: {fault}\n"))
+        self.assertEqual(self.run_command("dump", bad)[::2], (1, f"bsonfind: {fault}\n6 objects found\n"))
+
+    def test_filter_that_is_killed(self) -> None:
+        """Nothing is answered of the part that it wrote, though it says nothing: two documents of the six."""
+        size = {"order": len(GOODS[0] + GOODS[1]) - 8 - 8 + 24, "mask": len(GOODS[0] + GOODS[1]), "wrap": 0}
+        cases = " ".join(f"{way}) size={size};;" for way, size in size.items())
+        self.script(f'case $1 in {cases} esac\n"{os.path.dirname(PROGRAM)}/bsonwide" "$@" | head -c $size\nkill -9 $$', "bsonwide")
+        path, program = self.file(b"".join(GOODS)), self.script('exec "$PROGRAM" "$@"')
+        for way in WAYS:
+            status, lines, told = self.run_python(way, ASK, path, self.room / "copy", program)
+            self.assertEqual((status, len(lines), told), (0, len(ANSWERS), ""))
+            for line in lines[:-1]:
+                self.assertRegex(line, "^(ProgramError|DumpError): ")
+            self.assertRegex(lines[-1], "documents in place of|ended with status -9")
+
+    def test_line_of_the_count_after_an_error(self) -> None:
+        """It is printed after a failed read too."""
+        path = self.file(b"".join(GOODS))
+        code = """
+from bsonfind import *
+path, program = sys.argv[1:]
+for call in (lambda: list(find(path, program=program)), lambda: check_parts(plan(path), program=program), lambda: audit(path, program=program)):
+    try:
+        print(call())
+    except BsonfindError as error:
+        print(f"{type(error).__name__}: {error}")
+"""
+        program = self.script('case $1 in find) line="0 documents, end";; *) line="0 documents, 0 faulty";; esac\n'
+                              'echo "bsonfind: cannot read" >&2\necho "$line" >&2\nexit 1')
+        for way in WAYS:
+            status, lines, told = self.run_python(way, code, path, program)
+            self.assertEqual((status, told), (0, ""))
+            self.assertEqual([it.rpartition(": ")[2] for it in lines], ["cannot read"] * 3)

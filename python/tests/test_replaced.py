@@ -1,0 +1,143 @@
+"""Tests of dumps that are replaced or written to while they are asked, and of kept copies of other dumps: an error, never two versions."""
+
+import asyncio
+import json
+import os
+import shutil
+from pathlib import Path
+from typing import Callable, List
+from unittest import mock
+
+from bsonfind import AsyncSession, DumpError, Session, find, plan, prepare
+
+from .support import PROGRAM, Room, run_package
+from .test_ordered import document, double, whole
+
+# Two versions of a dump with as many bytes; the last document has a double, which has the program refuse it at first.
+OLD = [document(whole("_id", it), whole("old", it)) for it in range(3)] + [document(double("x", 1.5))]
+NEW = [document(whole("_id", it), whole("new", it)) for it in range(3)] + [document(double("x", 2.5))]
+CHANGED = "the file was (replaced|written to)"
+
+
+class Replaced(Room):
+    def setUp(self) -> None:
+        super().setUp()
+        self.path = self.file(b"".join(OLD))
+
+    def replace(self, data: bytes = b"".join(NEW)) -> None:
+        """Puts another file in place of the dump, with its size and the time of its last change."""
+        other = self.file(data, "other")
+        shutil.copystat(self.path, other)
+        os.replace(other, self.path)
+
+    def changes(self) -> List[Callable[[], object]]:
+        """What changes a dump: another file, and bytes that are written to it, of which the time is set back."""
+
+        def write() -> None:
+            times = self.path.stat()
+            with open(self.path, "r+b") as file:
+                file.write(b"".join(NEW))
+            os.utime(self.path, ns=(times.st_atime_ns, times.st_mtime_ns))
+
+        return [self.replace, write]
+
+    def refused(self, call: Callable[[], object], text: str = CHANGED) -> None:
+        """Has a call refuse the dump."""
+        with self.assertRaisesRegex(DumpError, text) as raised:
+            call()
+        self.assertFalse(raised.exception.is_finding)
+
+    def test_session(self) -> None:
+        """Over the dump itself, over a copy, and over one that was kept: nothing is answered after it."""
+        for data in (OLD[:3], OLD):
+            for is_kept in (False, True):
+                for change in self.changes():
+                    self.path.unlink(missing_ok=True)
+                    self.file(b"".join(data))
+                    copy = self.room / "copy"
+                    if is_kept:
+                        prepare(self.path, copy, program=PROGRAM)
+                    with Session(self.path, PROGRAM, copy=copy if is_kept else None) as session:
+                        cursor = session.find({"_id": {"$gte": 0}}, batch_size=1, decode="plain")
+                        self.assertEqual(next(cursor)["_id"], 0)
+                        change()
+                        self.refused(lambda: next(cursor))
+                        for filter in ({"_id": {"$lt": 50}}, {"_id": {"$lt": 50.5}}):
+                            self.refused(lambda: session.count_documents(filter))
+                            for decode in ("plain", "bson"):
+                                self.refused(lambda: session.find_one(filter, decode=decode))
+
+    def test_asyncio_session(self) -> None:
+        async def ask(change: Callable[[], object]) -> None:
+            async with AsyncSession(self.path, PROGRAM) as session:
+                self.assertEqual(await session.count_documents({"old": {"$gte": 1}}), 2)
+                cursor = session.find({"old": {"$gte": 0}}, batch_size=1, decode="plain")
+                self.assertEqual((await cursor.__anext__())["_id"], 0)
+                change()
+                for call in (
+                    lambda: cursor.__anext__(),
+                    lambda: session.count_documents({"_id": {"$lt": 50}}),
+                    lambda: session.find_one({"_id": {"$lt": 50.5}}, decode="bson"),
+                ):
+                    with self.assertRaisesRegex(DumpError, CHANGED):
+                        await call()
+
+        for data in (OLD[:3], OLD):
+            for change in self.changes():
+                self.path.unlink()
+                self.file(b"".join(data))
+                asyncio.run(ask(change))
+
+    def test_kept_copy_of_another_dump(self) -> None:
+        """Of the same size and time; and a copy that is another one."""
+        copy = self.room / "copy"
+        for change in self.changes():
+            prepare(self.path, copy, program=PROGRAM)
+            change()
+            self.refused(lambda: Session(self.path, PROGRAM, copy=copy), "is no copy of .* as it is now")
+            self.refused(lambda: list(find(self.path, program=PROGRAM)) and Session(self.path, PROGRAM, copy=copy), "is no copy of")
+        prepare(self.path, copy, program=PROGRAM)
+        other = Path(shutil.copy2(copy, self.room / "other"))
+        os.replace(other, copy)
+        self.refused(lambda: Session(self.path, PROGRAM, copy=copy), "is no copy of")
+
+    def test_dump_that_is_replaced_while_it_is_prepared(self) -> None:
+        """No copy is left."""
+        wide = self.script('"$(dirname "$PROGRAM")/bsonwide" "$@"\nif [ $1 = order ]; then touch "$ROOM/dump.bson"; fi', "bsonwide")
+        self.assertTrue(os.path.exists(wide))
+        self.refused(lambda: prepare(self.path, self.room / "copy", program=self.script('exec "$PROGRAM" "$@"')))
+        self.assertFalse((self.room / "copy").exists() or (self.room / "copy.json").exists())
+
+    def test_commands(self) -> None:
+        """The dump is replaced after the first run, which refuses it for its double, and before the filter reads it."""
+        after = 'if [ -e "$ROOM/next" ]; then mv "$ROOM/next" "$ROOM/dump.bson"; elif [ -e "$ROOM/later" ]; then mv "$ROOM/later" "$ROOM/next"; fi'
+        program = self.script(f'"$PROGRAM" "$@"\nstatus=$?\n{after}\nexit $status')
+        self.script('exec "$(dirname "$PROGRAM")/bsonwide" "$@"', "bsonwide")
+        ids = self.file(b"0\n1\n", "ids")
+        for words in (["check"], ["dump"], ["find"], ["query"], ["ids", "--ids", str(ids)]):
+            self.path.unlink()
+            self.file(b"".join(OLD))
+            # The first run of these asks no documents.
+            self.file(b"".join(NEW), "later" if words[0] in ("query", "ids") else "next")
+            run = run_package("--program", program, *words, str(self.path))
+            with self.subTest(words):
+                self.assertEqual(run.returncode, 2)
+                self.assertRegex(run.stderr, CHANGED)
+                self.assertNotIn("new", run.stdout)
+
+    def test_hard_links_and_modes(self) -> None:
+        """They count as changes, since the time that shows a replaced file shows them too."""
+        with Session(self.path, PROGRAM) as session:
+            os.link(self.path, self.room / "link")
+            self.refused(lambda: session.count_documents({}), "its name or its rights changed")
+
+    def test_device(self) -> None:
+        """A file of another device is another one."""
+        parts, copy = plan(self.path), self.room / "copy"
+        prepare(self.path, copy, program=PROGRAM)
+        about = json.loads(Path(f"{copy}.json").read_text())
+        about["dump"][3] += 1
+        Path(f"{copy}.json").write_text(json.dumps(about))
+        self.refused(lambda: Session(self.path, PROGRAM, copy=copy), "is no copy of")
+        with mock.patch.object(type(parts[0].state), "of", lambda file: parts[0].state._replace(device=parts[0].state.device + 1)):
+            self.refused(lambda: list(parts[0].pieces()), "the file was replaced")
