@@ -418,7 +418,7 @@ class _Connection:
         """Starts the program."""
         pipe, how = asyncio.subprocess.PIPE, {"stderr": self._stderr, "start_new_session": True, "limit": _BUFFER}
         with Descriptor(dump) as descriptor:
-            words, passed = (self._program, "serve", descriptor.word.encode()), descriptor.passed
+            words, passed = (self._program, "serve", descriptor.word), descriptor.passed
             try:
                 self._process = await asyncio.create_subprocess_exec(*words, stdin=pipe, stdout=pipe, pass_fds=passed, **how)
             except (OSError, TypeError, ValueError) as error:

@@ -33,7 +33,6 @@ from ._wide import Checking
 
 # How many faults of a file are reported one by one.
 MOST_FAULTS = 10
-_WIDE = "doubles or decimal128"
 
 
 @dataclass
@@ -41,13 +40,11 @@ class Report:
     """What the check of a file came to.
 
     `kinds` says how many documents have each kind of first fault, and `faults` has the first of those that are damage, and then
-    the first of each other kind. `wide` says how many documents hold doubles or decimal128, which is no fault. `error` says why
-    the file was not read to its end, `metadata` what is wrong with its metadata.
+    the first of each other kind. `error` says why the file was not read to its end, `metadata` what is wrong with its metadata.
     """
 
     name: str
     documents: int = 0
-    wide: int = 0
     kinds: Counter[str] = field(default_factory=Counter)
     faults: list[Fault] = field(default_factory=list)
     error: str | None = None
@@ -84,7 +81,6 @@ class Report:
         return {
             "name": self.name,
             "documents": self.documents,
-            "doubles_or_decimal128": self.wide,
             "faulty": self.faulty,
             "kinds": self.kinds,
             "faults": [{"document": it.document, "byte": it.offset, "path": it.path, "kind": it.kind} for it in self.faults],
@@ -143,7 +139,7 @@ class Audit(NamedTuple):
 
     def rows(self) -> list[tuple[str, int]]:
         """The table; the kinds of faults that are no damage come last."""
-        kinds, wide = self.kinds.most_common(), sum(it.wide for it in self.reports)
+        kinds = self.kinds.most_common()
         damage = [(f"  {kind}", count) for kind, count in kinds if kind not in NO_DAMAGE]
         harmless = [(f"  {kind} (no damage)", count) for kind, count in kinds if kind in NO_DAMAGE]
         others = (
@@ -160,7 +156,6 @@ class Audit(NamedTuple):
             ("faulty", sum(self.kinds.values())),
             *damage,
             *harmless,
-            *([(f"with {_WIDE}", wide)] if wide else []),
             *((name, len(those)) for name, those in others if those),
         ]
 
@@ -295,8 +290,7 @@ class _Checker:
         if not (dump.error or is_archive):
             report.namespace, report.metadata = namespace_of(dump.name), fault_of_metadata(dump.name, dump.is_below)
         say = self._saying(report)
-        wide = f", {report.wide} with {_WIDE}" if report.wide else ""
-        say(report.error or f"{report.documents} documents, {report.faulty} faulty{wide}")
+        say(report.error or f"{report.documents} documents, {report.faulty} faulty")
         if report.metadata:
             say(f"metadata: {report.metadata}")
 
@@ -359,7 +353,7 @@ class _Checker:
                     report.faults.append(fault)
                     say(str(fault))
         finally:
-            report.documents, report.wide = checking.documents, checking.wide
+            report.documents = checking.documents
             if damage > self._max_faults:
                 say(f"and {damage - self._max_faults} more")
             if harmless:

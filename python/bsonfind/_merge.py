@@ -33,7 +33,7 @@ from ._processes import Group, Run
 from ._requests import Filter, Request, Sort, seconds, whole
 from ._sources import Input
 from ._values import Uuids
-from ._wide import WIDE, Filtered, is_wide
+from ._wide import checking, is_wide
 
 T = TypeVar("T")
 Map = Callable[[Callable[[Part], Any], Sequence[Part]], Iterable[Any]]
@@ -281,12 +281,7 @@ def _count(request: Request, program: str, group: Group, part: Part) -> int:
 
 
 def _check(program: str, group: Group, part: Part) -> Check:
-    words = [program, "check", "-"]
-    with Run(words, part.pieces(), group=group) as run:
+    with checking(Input(0, 0, None, part.pieces()), program, group) as run:
         faults = list(faults_of(run))
         documents = finish_check(run)
-    if any(it.kind in WIDE for it in faults):
-        with Filtered(words, "mask", Input(0, 0, None, part.pieces()), group=group) as run:
-            faults = list(faults_of(run))
-            finish_check(run, documents)
     return Check(documents, [fault.moved(part.first, part.offset) for fault in faults])

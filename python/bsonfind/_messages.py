@@ -8,7 +8,7 @@ import re
 from ._errors import BsonfindError, CommandError, DumpError, ProgramError
 from ._faults import read_fault
 
-_PREFIX = "bsonfind: "
+_PREFIX = re.compile("bsonfind: |bsonwide: ")
 # A line of the loader, such as for LD_PRELOAD, which stands before the program's own.
 _LOADER = re.compile("^ERROR: ld\\.so: .*\n", re.MULTILINE)
 # The words of each layer of refusals, from number 1 on; words that only a session prints are left out.
@@ -32,7 +32,7 @@ def own_text(told: str) -> str:
 
 def error_line(told: str) -> str | None:
     """What the last line says by which the program reports an error; None where there is none."""
-    return next((line[len(_PREFIX) :] for line in reversed(told.split("\n")) if line.startswith(_PREFIX)), None)
+    return next((line[found.end() :] for line in reversed(told.split("\n")) if (found := _PREFIX.match(line))), None)
 
 
 def error_of(status: int, told: str) -> BsonfindError:

@@ -32,6 +32,7 @@ from ._connections import Connection
 from ._decoding import Decode, Texts, decoder
 from ._dumps import Dump, File, FileState, name_of, name_of_file, refuse_archive
 from ._errors import ArgumentError, CancelledError, CommandError, DumpError, ProgramError
+from ._faults import faults_of, finish_check
 from ._hiding import hide
 from ._lines import Batches, Lines, counted, lines_of
 from ._messages import error_of
@@ -42,7 +43,7 @@ from ._replies import documents_in
 from ._requests import Request
 from ._sources import Input, Source, up_to_error
 from ._steps import Steps
-from ._wide import NOT_READ, Filtered, begins_wide, fault_of, faults_in, filter_beside, is_wide
+from ._wide import NOT_READ, begins_wide, checking, is_wide, wide_beside
 
 T = TypeVar("T")
 _REFUSED = re.compile(r'document (\d+), byte (\d+), path (".*"): (?:not a whole number of 64 bits|no double equals it)')
@@ -107,15 +108,15 @@ class Original:
         if not numbers:
             return []
         documents = self.documents(numbers)
-        with Filtered([program, "dump", "-"], "wrap", Input(0, 0, None, iter(documents)), group=group) as run:
+        with Run([wide_beside(program), "dump", "-"], documents, group=group) as run:
             lines = [line for batch in lines_of(run.stdout) for line in batch]
             try:
                 refuse_other(finish_dump(run), len(documents))
             except DumpError as error:
                 if error.fault:
                     at = error.fault.document
-                    fault = fault_of(documents[at], program) or error.fault
-                    fault = fault.moved(numbers[at] - fault.document, self._place(numbers[at])[0])
+                    start = self._place(numbers[at])[0] - sum(map(len, documents[:at]))
+                    fault = error.fault.moved(numbers[at] - at, start)
                     raise DumpError(str(fault), fault) from None
                 raise
         return lines
@@ -137,8 +138,10 @@ class Original:
 
     def fault(self, program: str, group: Group | None) -> DumpError | None:
         """The first damage, where there is some."""
-        for fault in faults_in(Input(0, 0, self.rewound(), None), self.count, program, group):
-            return DumpError(str(fault), fault)
+        with checking(Input(0, 0, self.rewound(), None), program, group) as run:
+            for fault in faults_of(run):
+                return DumpError(str(fault), fault)
+            finish_check(run, self.count())
         return None
 
     def _walk_past(self, number: int) -> None:
@@ -300,7 +303,7 @@ class Ordering:
         if self._hidden:
             self._hidden.seek(0)
         stdin = self._hidden or self._original.rewound()
-        return Run([filter_beside(self._program), *words], stdin=stdin, stdout=stdout, group=self._group)
+        return Run([wide_beside(self._program), *words], stdin=stdin, stdout=stdout, group=self._group)
 
     def is_last(self, run: Run) -> bool:
         """Whether a run refused no number, so that no other one is needed; raises why there is no copy for another reason."""

@@ -17,7 +17,7 @@ from ._outputs import Output, refuse_names
 from ._processes import Run, processors
 from ._sources import Input, Source, try_program
 from ._unpacking import UnpackError
-from ._wide import WIDE, Filtered
+from ._wide import checking
 
 # From so many documents in a row, or from fewer that end with the file, a place is guessed to be the beginning of a document.
 IN_A_ROW = 4
@@ -381,17 +381,14 @@ def _places(pattern: re.Pattern[bytes], data: bytes, first: int, with_values: bo
 
 
 class _Check:
-    """The check of some documents after others. All go through the filter once one of them holds doubles or decimal128."""
+    """The check of some documents after others."""
 
     def __init__(self, program: str) -> None:
-        self._words = [program, "check", "-"]
-        self._is_filtered = False
+        self._program = program
 
     def run(self, data: list[bytes]) -> Run:
         """A run over documents."""
-        if self._is_filtered:
-            return Filtered(self._words, "mask", Input(0, 0, None, iter(data)))
-        return Run(self._words, data)
+        return checking(Input(0, 0, None, iter(data)), self._program)
 
     def faults(self, data: list[bytes], documents: int, run: Run | None = None) -> list[Fault]:
         """The damage of so many documents, as a run that was started finds it."""
@@ -399,9 +396,6 @@ class _Check:
         with run:
             faults = list(faults_of(run))
             finish_check(run, documents)
-        if not isinstance(run, Filtered) and any(it.kind in WIDE for it in faults):
-            self._is_filtered = True
-            return self.faults(data, documents)
         return faults
 
 

@@ -94,16 +94,15 @@ class Audits(Room):
             found = [
                 f'document 502, byte {start + 7}, path "d": bad boolean',
                 f'document 504, byte {start + len(DAMAGED + DECIMAL) + 18}, path "b": bad boolean',
-                "906 documents, 2 faulty, 5 with doubles or decimal128",
+                "906 documents, 2 faulty",
             ]
             self.assertEqual(lines[:3], [f"{path}: {it}" for it in found])
-            wide = "with doubles or decimal128", 5
-            self.assertEqual(lines[3:], self.table(("files", 1), ("documents", 906), ("faulty", 2), ("  bad boolean", 2), wide))
+            self.assertEqual(lines[3:], self.table(("files", 1), ("documents", 906), ("faulty", 2), ("  bad boolean", 2)))
         sound = self.file(DOUBLE * 3, "sound.bson")
-        self.assertEqual(self.audit(str(sound), status=0)[0], f"{sound}: 3 documents, 0 faulty, 3 with doubles or decimal128")
+        self.assertEqual(self.audit(str(sound), status=0)[0], f"{sound}: 3 documents, 0 faulty")
         (line,) = self.audit(str(sound), "--json", status=0)
         (report,) = json.loads(line)["files"]
-        self.assertEqual((report["documents"], report["doubles_or_decimal128"], report["faulty"]), (3, 3, 0))
+        self.assertEqual((report["documents"], report["faulty"]), (3, 0))
 
     def test_every_night(self) -> None:
         """The script of the guide prints nothing of a good backup, and of another one nothing of its good files."""
@@ -120,7 +119,7 @@ class Audits(Room):
         lines = [
             f"ALARM: status 1 for {self.backup}",
             f'{bad}: document 2, byte 39, path "d": bad boolean',
-            f"{bad}: 3 documents, 1 faulty, 2 with doubles or decimal128",
+            f"{bad}: 3 documents, 1 faulty",
             f"{bad}: not in the log",
         ]
         self.assertEqual((run.returncode, run.stderr, run.stdout.splitlines()[:4]), (1, "", lines))
@@ -522,7 +521,7 @@ class Audits(Room):
         log = self.file(LOG.replace("500", "501").encode(), "log")
         none = str(self.room / "none.bson")
         (line,) = self.audit(self.backup, none, "--json", "--expect", str(log), status=2)
-        good = {"faulty": 0, "doubles_or_decimal128": 0, "kinds": {}, "faults": [], "error": None, "metadata": None}
+        good = {"faulty": 0, "kinds": {}, "faults": [], "error": None, "metadata": None}
         faults = [{"document": 273, "byte": 49744, "path": "", "kind": "bad length"}]
         bad = {**good, "faulty": 1, "kinds": {"bad length": 1}, "faults": faults}
         files = [

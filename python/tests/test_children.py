@@ -42,7 +42,7 @@ for call in (
     lambda: asyncio.run(ask()),
     lambda: prepare(path, copy, program=program),
     lambda: within(copy=copy),
-    lambda: [(it.documents, it.wide, it.faulty, it.error) for it in audit(path, program=program).reports],
+    lambda: [(it.documents, it.faulty, it.error) for it in audit(path, program=program).reports],
 ):
     try:
         print(call(), flush=True)

@@ -426,8 +426,8 @@ class Audits(Room):
         fault = f'document 1, byte {len(DOUBLE) + 100}, path "address.lines.0": not UTF-8'
         wanted = [
             f"A::club.people: {fault}",
-            "A::club.people: 501 documents, 1 faulty, 1 with doubles or decimal128",
-            "A::shop.orders: 401 documents, 0 faulty, 1 with doubles or decimal128",
+            "A::club.people: 501 documents, 1 faulty",
+            "A::shop.orders: 401 documents, 0 faulty",
         ]
         self.assertEqual(lines[:3], wanted)
 
