@@ -131,10 +131,14 @@ def opened(path: File) -> BinaryIO:
     """The file, without a buffer; one that cannot be opened is a `DumpError`, as the program says it."""
     try:
         return open(file_of(path), "rb", buffering=0)
-    except IsADirectoryError as error:
-        raise DumpError(f"cannot read {os.fsdecode(path)}: it is a directory") from error
     except OSError as error:
-        raise DumpError(f"cannot open {os.fsdecode(path)}") from error
+        raise not_opened(path, error) from error
+
+
+def not_opened(path: File, error: OSError) -> DumpError:
+    """Why a file cannot be opened, as the program says it."""
+    name = os.fsdecode(path)
+    return DumpError(f"cannot read {name}: it is a directory" if isinstance(error, IsADirectoryError) else f"cannot open {name}")
 
 
 def unpacked(path: File) -> Iterator[bytes]:
@@ -160,10 +164,8 @@ def pieces_of(file: BinaryIO, path: File) -> Iterator[bytes]:
 
 def read_some(file: BinaryIO, most: int) -> bytes:
     """The next bytes of an open file, none at its end. One that does not block, as a pipe that `ssh` left, is waited for."""
-    while True:
-        try:
-            return os.read(file.fileno(), most)
-        except BlockingIOError:
-            waiting = select.poll()
-            waiting.register(file, select.POLLIN)
-            waiting.poll()
+    while (piece := file.read(most)) is None:
+        waiting = select.poll()
+        waiting.register(file, select.POLLIN)
+        waiting.poll()
+    return piece

@@ -7,7 +7,7 @@ import stat
 from typing import Any, BinaryIO, Iterable, Iterator, NamedTuple, Sequence
 
 from . import _framing
-from ._dumps import Dump, File, FileState, file_of, is_packed, name_of, opened, read_some, refuse_archive, unpacked_of
+from ._dumps import Dump, File, FileState, file_of, is_packed, name_of, not_opened, read_some, refuse_archive, unpacked_of
 from ._errors import DumpError
 from ._faults import finish_check
 from ._processes import Run
@@ -48,7 +48,7 @@ class Source:
         if self.name == "-" or not _is_pipe(self.name):
             status = os.fstat(self.file.fileno())
             if stat.S_ISREG(status.st_mode):
-                self._start = self.file.tell()
+                self._start = os.lseek(self.file.fileno(), 0, os.SEEK_CUR)
                 self.size = max(0, status.st_size - self._start)
                 self.state = FileState.of(self.file)
 
@@ -57,11 +57,13 @@ class Source:
         """The open file."""
         if self._file is None:
             try:
-                self._file = _standard_input() if self.name == "-" else opened(self.name)
-            except DumpError as error:
-                if self._is_named or not isinstance(error.__cause__, OSError):
-                    raise
-                raise DumpError(str(error.__cause__.strerror)) from error
+                self._file = _standard_input() if self.name == "-" else open(file_of(self.name), "rb", buffering=0)
+            except OSError as error:
+                if not self._is_named:
+                    raise DumpError(str(error.strerror)) from error
+                if self.name == "-":
+                    raise DumpError(f"cannot read standard input: {error.strerror}") from error
+                raise not_opened(self.name, error) from error
         return self._file
 
     @property
@@ -113,7 +115,7 @@ class Source:
         """All bytes of the file, as they are on the disk."""
         self._read = 0
         if self.size is not None:
-            self.file.seek(self._start)
+            os.lseek(self.file.fileno(), self._start, os.SEEK_SET)
         try:
             while piece := read_some(self.file, _PIECE):
                 self._read += len(piece)
@@ -144,13 +146,11 @@ class Source:
 
 
 def _standard_input() -> BinaryIO:
-    """Standard input, if it can be read: not where it is closed or a directory."""
+    """Standard input; an error where it is closed or a directory."""
     try:
         os.read(0, 0)
     except BlockingIOError:
         pass  # It can be read later.
-    except OSError as error:
-        raise DumpError(f"cannot read standard input: {error.strerror}") from error
     return open(0, "rb", buffering=0, closefd=False)
 
 

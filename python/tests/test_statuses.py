@@ -100,9 +100,8 @@ class Statuses(Room):
         sources, dumps = (mock.patch(f"bsonfind.{it}.open", refusing, create=True) for it in ("_sources", "_dumps"))
         with sources, dumps:
             for command in COMMANDS:
-                if command != "find":  # The program itself opens the file.
-                    with self.subTest(command):
-                        self.assertEqual(self.status(*self.words(command, closed)), 2)
+                with self.subTest(command):
+                    self.assertEqual(self.status(*self.words(command, closed)), 2)
 
     def test_what_is_not_done(self) -> None:
         failed = dict.fromkeys(COMMANDS, 2)
