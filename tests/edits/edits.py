@@ -77,6 +77,8 @@ rt = ModuleType("rt")
 rt.__file__ = os.path.realpath(shutil.which("rt") or sys.exit("edits: rt is not on PATH"))
 SourceFileLoader("rt", rt.__file__).exec_module(rt)
 rtlib, Crate = rt.rtlib, rt.Crate
+# A copy of kept work; some kits have one that only links its files.
+linked = getattr(rt, "linked", shutil.copytree)
 # Trials of several crates build the libraries below them in turn.
 BUILDING = threading.Lock()
 # What a check takes at most, in bytes.
@@ -258,7 +260,7 @@ def kept_work(crate: Crate, room: str) -> str | None:
             built = is_left_by_gate(crate) or not any(it.build_rlib(["--jobs", "1"], anew=False) for it in crate.below())
             kept = f"{room}/{crate.name}"
             if os.path.isdir(f"{crate.folder}/out/incremental"):
-                rt.linked(f"{crate.folder}/out/incremental", kept)
+                linked(f"{crate.folder}/out/incremental", kept)
         finally:
             for it in held:
                 os.close(it)
@@ -315,7 +317,7 @@ class Trial:
         for only in (only_flags(edits) if len(edits) <= self.few else [], []):
             with tempfile.TemporaryDirectory(prefix="edits-kept-") as room:
                 if os.path.isdir(self.kept):
-                    rt.linked(self.kept, f"{room}/kept")
+                    linked(self.kept, f"{room}/kept")
                 ran = rt.checked(self.crate, texts, [*self.flags, *only], f"{room}/kept")
             # Of an impl of a trait of another crate the name may be another.
             if not only or "has no function" not in ran.stdout:
