@@ -45,7 +45,8 @@ pub record Written (tree : Tree) (name value : List ℕ) : Type 0 where
   pub spells : IsTyped type content tree
   pub whole : written_typed tree name value ≡ byte_of type ∷ (name ++ 0 ∷ content)
 
-from_items : (ts : Items) (b : List ℕ) → AreItemsBy (valued raw) ts b → (fs : Fields) × AreFieldsBy (valued raw) fs b × (values_in fs ≡ ts)
+-- the elements of an array as fields
+pub from_items : (ts : Items) (b : List ℕ) → AreItemsBy (valued raw) ts b → (fs : Fields) × AreFieldsBy (valued raw) fs b × (values_in fs ≡ ts)
 from_items no_items b h = (no_fields, h, refl)
 from_items (item t ts) b h = let r = from_items ts h.2 h.5 in (field h.0 t r.0, (h.1, h.2, h.3, h.4, r.1, h.6), ap (item t) r.2)
 
@@ -59,7 +60,7 @@ module _ (name value : List ℕ) where
     whole = w;
   }
 
-  written_leaf : (a : Scalar) → IsValuedScalar raw a value → Written (leaf a) name value
+  pub written_leaf : (a : Scalar) → IsValuedScalar raw a value → Written (leaf a) name value
   written_leaf (trees.int32 z) h = absurd h
   written_leaf (trees.int64 z) h = record {
     type = number_type h.kind;
@@ -82,7 +83,7 @@ module _ (name value : List ℕ) where
   written_leaf (trees.code s) h = plain (trees.code s) refl refl refl h
   written_leaf trees.max_key h = plain trees.max_key refl refl refl h
 
-  pub written_by : (t : Tree) → IsValueBy (valued raw) t value → Written t name value
+  unfoldable pub written_by : (t : Tree) → IsValueBy (valued raw) t value → Written t name value
   written_by (leaf a) h = written_leaf a h
   written_by (doc fs) h = record {
     type = Kept kinds.Doc;

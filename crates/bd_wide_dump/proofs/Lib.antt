@@ -3,3 +3,4 @@ pub mod ValueLemmas
 pub mod LineLemmas
 pub mod RawLemmas
 pub mod PlainLemmas
+pub mod OneLemmas

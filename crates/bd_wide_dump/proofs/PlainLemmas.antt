@@ -56,7 +56,8 @@ raw_text_is k content x z fits sized is r =
 abbrev Agree : Tree → Tree → Type 0
 Agree t u = (x : List ℕ) → IsTextOf u x → x ≡ text t
 
-same_length : (v content r s : List ℕ) → v ++ r ≡ content ++ s → length v ≡ length content → v ≡ content
+-- equal bytes begin with equal bytes if these are as many
+pub same_length : (v content r s : List ℕ) → v ++ r ≡ content ++ s → length v ≡ length content → v ≡ content
 same_length v content r s is long = sym (take_at v r (length v) refl) ∙ ap (take (length v)) is ∙ take_at content s (length v) (sym long)
 
 read_back : (a : Scalar) (v : List ℕ) → IsScalar a v → scalar_at (scalar_kind a) v ≡ a

@@ -28,7 +28,8 @@ use Rattle.bd_wide_dump.specs.inside.Begins.{values_in, HasElements, IsNumberOf,
 
 -- ---- numbers
 
-same_number : (k j : NumberKind) → number_type k ≡ number_type j → k ≡ j
+-- no two kinds of numbers have the same type
+pub same_number : (k j : NumberKind) → number_type k ≡ number_type j → k ≡ j
 same_number as_double as_double h = refl
 same_number as_int32 as_int32 h = refl
 same_number as_int64 as_int64 h = refl

@@ -36,7 +36,7 @@ abbrev pub IsScalarText : Scalar → List ℕ → Type 0
 IsScalarText (int64 z) text = IsRawText z text
 IsScalarText s text = text ≡ scalar_text s
 
--- The same for the values that contain values: each of these by its content text, in the stored order.
+-- The same for the values that contain values: each of these by its own text, in the stored order.
 abbrev mutual
   -- The text is that of any value.
   pub IsTextOf : Tree → List ℕ → Type 0

@@ -2,7 +2,7 @@
 
 ghost use Rattle.std.specs.Prelude.{◌≡◌, ℕ, List, [], ◌∷◌, ◌++◌, length};
 ghost use Rattle.bd_value.specs.Tree.{Doc, doc, fields_of};
-ghost use Rattle.bd_bson_view.specs.Spelling.{IsDocument, NumberKind, number_size, number_type};
+ghost use Rattle.bd_bson_view.specs.Spelling.{IsDocument, IsDocumentBy, NumberKind, number_size, number_type, valued};
 ghost use Rattle.bd_extjson_text.specs.Text.{text};
 ghost use Rattle.bd_wide_dump.specs.Raw.{raw};
 ghost use Rattle.bd_wide_dump.specs.WideText.{AreBytes, IsLineOf};
@@ -18,4 +18,10 @@ pub fn numbers_differ()
 pub fn plain_lines()
     ensures { (d : Doc) (bytes line : List ℕ) → IsDocument d bytes → IsLineOf bytes line
         → line ≡ text (doc (fields_of d)) ++ 10 ∷ [] }
+{}
+
+/// Bytes are at most one document of all types.
+pub fn one_wide_document()
+    ensures { (d e : Doc) (bytes : List ℕ) → IsDocumentBy (valued raw) d bytes →
+        IsDocumentBy (valued raw) e bytes → d ≡ e }
 {}

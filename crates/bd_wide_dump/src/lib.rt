@@ -13,7 +13,8 @@
 //! - `line`: `WideTextBuffer`, the buffer of a line for one document after the other.
 //! - `element`: the next element of a document, read without a check.
 //! - `number`: doubles and decimal128.
-//! - `laws`: different numbers differ; documents of the nineteen kinds are printed as `bd_extjson_text` prints them.
+//! - `laws`: different numbers differ; bytes are at most one document; those of the nineteen kinds are printed as
+//!   `bd_extjson_text` prints them.
 #![tactic(auto)]
 
 mod element;
@@ -21,5 +22,5 @@ mod laws;
 mod line;
 mod number;
 
-pub use laws::{numbers_differ, plain_lines};
+pub use laws::{numbers_differ, one_wide_document, plain_lines};
 pub use line::WideTextBuffer;
