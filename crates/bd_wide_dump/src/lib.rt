@@ -2,11 +2,13 @@
 //!
 //! What the text is: `specs/WideText.antt`. A number is its type and its bits: `specs/Raw.antt`.
 //!
-//! An example, which the tests of this crate prove and run as `line`:
+//! An example, which `bd_wide_tests` proves and runs as `examples::all_types`:
 //!
 //! ```
+//! let bytes = b"\x10\0\0\0\x01d\0\0\0\0\0\0\0\xf8\x3f\0";
+//! check_bytes(alloc, Profile::All, bytes, 0, 0)?;
 //! let mut lines = WideTextBuffer::new(alloc);
-//! let line = lines.line(b"\x10\0\0\0\x01d\0\0\0\0\0\0\0\xf8\x3f\0")?;
+//! let line = lines.line(bytes)?;
 //! assert!(rt; line == b"{\"d\":{\"$numberDouble\":\"1.5\"}}\n".as_slice());
 //! ```
 //!

@@ -1,9 +1,12 @@
-//! The examples of use in the roots of `bd_wide_number`, `bd_wide_text`, `bd_wide`, `bd_wide_args` and `bd_wide_cli`.
+//! The examples of use in the roots of `bd_wide_number`, `bd_wide_text`, `bd_wide_dump`, `bd_wide`, `bd_wide_args` and
+//! `bd_wide_cli`.
+use bd_bson_check::{Profile, check_bytes};
 use bd_cli_scan::Status;
 use bd_io_device::{MemoryInput, MemoryOutput};
 use bd_wide::write_wrapped;
 use bd_wide_args::{Order, parse_words};
 use bd_wide_cli::{Command, Filter, run};
+use bd_wide_dump::WideTextBuffer;
 use bd_wide_number::{Number, code_of, whole_of};
 use bd_wide_text::write_double;
 use std::test::Fail;
@@ -35,6 +38,17 @@ fn wrapped(rt: HostRuntime) -> Result<(), Fail> {
     let mut out = Vec::new(alloc);
     assert!(rt; write_wrapped(bytes, &mut path, &mut out)?);
     assert!(rt; out.as_slice() == wanted.as_slice());
+    Ok(())
+}
+
+#[test]
+fn all_types(rt: HostRuntime) -> Result<(), Fail> {
+    let alloc = rt.alloc();
+    let bytes = b"\x10\0\0\0\x01d\0\0\0\0\0\0\0\xf8\x3f\0";
+    check_bytes(alloc, Profile::All, bytes, 0, 0)?;
+    let mut lines = WideTextBuffer::new(alloc);
+    let line = lines.line(bytes)?;
+    assert!(rt; line == b"{\"d\":{\"$numberDouble\":\"1.5\"}}\n".as_slice());
     Ok(())
 }
 
