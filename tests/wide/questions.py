@@ -185,11 +185,13 @@ def main() -> int:
     import bsonfind._requests as requests
 
     plain = requests.text_of
-    requests.text_of = lambda value: str(value) if isinstance(value, Raw) else plain(value)
+    requests.text_of = lambda value, *uuids: str(value) if isinstance(value, Raw) else plain(value, *uuids)
     of = requests.Request.of.__func__
 
-    def raw_of(cls, filter=None, sort=None, skip=0, limit=0):  # noqa: ANN001, ANN202
-        return requests.Request(str(filter), str(sort), skip, limit) if isinstance(filter, Raw) else of(cls, filter, sort, skip, limit)
+    def raw_of(cls, filter=None, sort=None, skip=0, limit=0, *uuids):  # noqa: ANN001, ANN002, ANN202
+        if isinstance(filter, Raw):
+            return requests.Request(str(filter), str(sort), skip, limit)
+        return of(cls, filter, sort, skip, limit, *uuids)
 
     requests.Request.of = classmethod(raw_of)
     with tempfile.TemporaryDirectory() as room:
