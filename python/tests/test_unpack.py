@@ -469,12 +469,12 @@ class Audits(Room):
 
     def test_program_that_fails(self) -> None:
         """The rest of the archive is read nevertheless, and an end of all of it ends all."""
-        killed = self.script('[ "$(head -c 4 | wc -c)" = 4 ] && kill -9 $$; exec "$PROGRAM" "$@" </dev/null')
+        killed = self.wide('[ "$(head -c 4 | wc -c)" = 4 ] && kill -9 $$; exec "$WIDE" "$@" </dev/null')
         done = audit(self.file(TWO, "a"), program=killed)
         self.assertEqual([it.error for it in done.reports], ["ended by signal 9"] * 2)
         path = str(self.file(archive([("shop", "orders", SHOP_DATA)]), "a"))
-        empty = '[ "$(head -c 4 | wc -c)" = 4 ] || exec "$PROGRAM" check /dev/null'
-        stuck = self.script(f'{empty}\necho $$ >>"$ROOM/pids"\nexec sleep 600')
+        empty = '[ "$(head -c 4 | wc -c)" = 4 ] || exec "$WIDE" check /dev/null'
+        stuck = self.wide(f'{empty}\necho $$ >>"$ROOM/pids"\nexec sleep 600')
         words = ["--program", stuck, "audit", path]
         self.assertEqual(self.interrupt(f"import sys\nfrom bsonfind.__main__ import main\nsys.exit(main({words!r}))", 1), 130)
 
