@@ -194,7 +194,7 @@ class Compares(Room):
         peaks = []
         for count in (3000, 12_000):
             path = self.dump(*(f'{{"_id":{number},"text":"{"x" * 50}"}}' for number in range(count)), name=f"{count}.bson")
-            with mock.patch("bsonfind._sorting._MOST_LINES", 500):
+            with mock.patch("bsonfind._sorting._MOST_LINES", 500), mock.patch("bsonfind._sources._PIECE", 10_000):
                 tracemalloc.start()
                 compare(Pair("", path, path), "_id", PROGRAM, self.fail)
                 peaks.append(tracemalloc.get_traced_memory()[1])
