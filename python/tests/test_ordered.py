@@ -204,7 +204,7 @@ class Finds(Goods):
         data = b"".join(GOODS)
         for bad, byte, place in (
             (DAMAGED, 7, 'path "d": bad boolean'),
-            (DAMAGED + data * 3000, 7, 'path "d": bad boolean'),  # The filter writes on, and is not read.
+            (DAMAGED + data * 3000, 7, 'path "d": bad boolean'),  # `order` writes on, and is not read.
             (GOODS[0][:20], 0, 'path "": bad length'),
             (nameless, 5, 'path "": not UTF-8'),
             (document(b"\x07a\0"), 7, 'path "a": value cut short'),
@@ -218,8 +218,8 @@ class Finds(Goods):
                 self.assertEqual(str(raised.exception), f"document 6, byte {byte}, {place}")
                 self.assertTrue(raised.exception.fault)
 
-    def test_filter_that_fails(self) -> None:
-        """Nothing is answered of a part of a copy, whatever kept the filter from writing the rest."""
+    def test_order_that_fails(self) -> None:
+        """Nothing is answered of a part of a copy, whatever kept `order` from writing the rest."""
         cut = f'"$WIDE" order - "cost*100" price | head -c {len(GOODS[0]) + 4}'
         program = self.counting()
         for end, text in (("kill -9 $$", "ended by signal 9"), ("echo bsonwide: no memory >&2\nexit 1", "no memory"), ("exit 1", "ended with status 1")):
