@@ -8,8 +8,8 @@ import os
 import signal
 import sys
 import threading
-from contextlib import nullcontext
-from typing import Callable, ContextManager, NoReturn, Sequence
+from contextlib import ExitStack
+from typing import Callable, NoReturn, Sequence
 
 from ._audit import MOST_FAULTS, Audit, audit_dumps
 from ._backups import Dump, dumps_of, text_lines
@@ -25,8 +25,8 @@ from ._processes import processors
 from ._query import query_dumps
 from ._requests import Request
 from ._salvage import salvage
-from ._sources import try_program
 from ._unpack import unpack
+from ._wide import try_program
 
 GOOD, FAULTY, FAILED, INTERRUPTED = 0, 1, 2, 130
 _EPILOG = "COMMAND --help explains a command and its status. ARCHIVE::db.collection names a collection of an archive as a FILE."
@@ -351,9 +351,9 @@ def run_ids(words: argparse.Namespace) -> int:
     ids = Ids(text_lines(words.ids), words.ids)
     if words.missing is not None:
         refuse_names(words.file, words.missing, words.ids)
-    # It is opened first: of one that cannot be written no document is printed.
-    place: ContextManager[Output | None] = nullcontext() if words.missing is None else Output(words.missing)
-    with place as output:
+    with ExitStack() as files:
+        # It is opened first: of one that cannot be written no document is printed.
+        output = None if words.missing is None else files.enter_context(Output(words.missing))
         missing = find_ids(words.file, ids, words.program, console.documents)
         if output:
             output.write("".join(f"{line}\n" for line in missing).encode(errors="surrogateescape"))

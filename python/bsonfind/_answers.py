@@ -166,8 +166,8 @@ def find_one(
     timeout: float | None = None,
 ) -> Any:
     """The first document of an answer, None where it has none."""
-    how: dict[str, Any] = {"uuid_representation": uuid_representation, "program": program, "timeout": timeout}
-    with find(path, filter, sort=sort, skip=skip, limit=1, decode=decode, **how) as answer:
+    how: dict[str, Any] = {"decode": decode, "uuid_representation": uuid_representation, "program": program, "timeout": timeout}
+    with find(path, filter, sort=sort, skip=skip, limit=1, **how) as answer:
         return next(answer, None)
 
 

@@ -27,9 +27,9 @@ from ._errors import ArgumentError, BsonfindError, DumpError
 from ._faults import NO_DAMAGE, Fault
 from ._processes import Group, processors
 from ._requests import whole
-from ._sources import Source, try_program
+from ._sources import Source
 from ._split import split
-from ._wide import Checking
+from ._wide import Checking, try_program
 
 # How many faults of a file are reported one by one.
 MOST_FAULTS = 10

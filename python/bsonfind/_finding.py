@@ -4,7 +4,7 @@ from __future__ import annotations
 
 import sys
 from dataclasses import dataclass, replace
-from typing import Sequence
+from typing import Any, Sequence
 
 from . import _messages
 from ._codes import read_query
@@ -81,7 +81,7 @@ class Finding:
 
     def _print_by_copy(self, source: Source, program: str, console: Console, is_known: bool) -> None:
         end = b"" if self.is_bson else b"\n"
-        how = {"copy": self.copy, "size": self.batch, "index": self.index, "after": self.after}
+        how: dict[str, Any] = {"copy": self.copy, "size": self.batch, "index": self.index, "after": self.after}
         lines, documents = AnyLines(source, self.request, program, is_bson=self.is_bson, is_known=is_known, **how), 0
         for batch in lines.batches():
             console.documents([line + end for line in batch])

@@ -4,7 +4,7 @@ from __future__ import annotations
 
 import re
 import subprocess
-from typing import Iterable, Iterator
+from typing import Iterable
 
 from ._errors import DumpError, ProgramError
 from ._lines import Batches, lines_of
@@ -33,7 +33,7 @@ class Printing:
         """The lines of some bytes, as they come."""
         return self._of([Input(0, 0, None, iter(pieces))])
 
-    def _of(self, parts: Iterable[Input]) -> Iterator[list[bytes]]:
+    def _of(self, parts: Iterable[Input]) -> Batches:
         for part in parts:
             with part.run(self._words, stdout=self._stdout) as run:
                 try:

@@ -15,9 +15,9 @@ from ._faults import NO_DAMAGE, Fault, faults_of, finish_check
 from ._framing import LONGEST, SHORTEST
 from ._outputs import Output, refuse_names
 from ._processes import Run, processors
-from ._sources import Input, Source, try_program
+from ._sources import Input, Source
 from ._unpacking import UnpackError
-from ._wide import checking
+from ._wide import checking, try_program
 
 # From so many documents in a row, or from fewer that end with the file, a place is guessed to be the beginning of a document.
 IN_A_ROW = 4

@@ -9,7 +9,6 @@ from typing import Any, BinaryIO, Iterable, Iterator, NamedTuple, Sequence
 from . import _framing
 from ._dumps import Dump, File, FileState, file_of, is_packed, name_of, not_opened, read_some, refuse_archive, unpacked_of
 from ._errors import DumpError
-from ._faults import finish_check
 from ._processes import Run
 
 _PIECE = 1 << 18
@@ -102,10 +101,6 @@ class Source:
             yield Input(0, 0, self.file, None)
             self.check()
 
-    def is_for_one_run(self) -> bool:
-        """Whether one run can read it as it is."""
-        return self.is_plain and (self.size or 0) <= _framing.LARGEST_INPUT
-
     def position(self) -> int:
         """How many bytes of the file were read by now, by this process or by a run."""
         is_read = self._file and self.size is not None and not self._file.closed
@@ -159,12 +154,6 @@ def _is_pipe(name: str) -> bool:
         return stat.S_ISFIFO(os.stat(file_of(name)).st_mode)
     except OSError:
         return False  # Whoever opens it says what is wrong with it.
-
-
-def try_program(program: str) -> None:
-    """Has the program check nothing, so that one that cannot be started is reported before anything else is done."""
-    with Run([program, "check", "-"]) as run:
-        finish_check(run)
 
 
 def up_to_error(pieces: Iterable[bytes], errors: list[Exception]) -> Iterator[bytes]:

@@ -38,8 +38,10 @@ def begins_wide(source: Source, program: str, group: Group | None = None) -> boo
 def wide_beside(program: str) -> str:
     """The program for all types that goes with a program: the one beside it, and else the one on `PATH`."""
     found = shutil.which(name_of(program))
-    beside = os.path.join(os.path.dirname(found), "bsonwide") if found else ""
-    return beside if beside and os.access(beside, os.X_OK) else "bsonwide"
+    if not found:
+        return program  # It cannot be started, and the error says why.
+    beside = os.path.join(os.path.dirname(found), "bsonwide")
+    return beside if os.access(beside, os.X_OK) else "bsonwide"
 
 
 class Checking:
@@ -61,3 +63,9 @@ class Checking:
 def checking(given: Input, program: str, group: Group | None = None) -> Run:
     """A run that checks some documents of all types."""
     return given.run([wide_beside(program), "check", "-"], group=group)
+
+
+def try_program(program: str) -> None:
+    """Has the program check nothing, so that one that cannot be started is reported before anything else is done."""
+    with checking(Input(0, 0, None, None), program) as run:
+        finish_check(run)

@@ -14,14 +14,15 @@ from typing import Callable, Iterable, List
 ROOT = Path(__file__).resolve().parents[2]
 PACKAGE = ROOT / "python"
 PROGRAM = os.environ.get("BSONFIND") or shutil.which("bsonfind") or str(ROOT / "bsonfind")
-# The filter stands beside the program, and a script in place of the program finds it on PATH.
-os.environ["PATH"] = os.pathsep.join([os.path.dirname(os.path.abspath(PROGRAM)), os.environ.get("PATH", os.defpath)])
+# The program for all types stands beside it, and a script in place of the program finds it on PATH.
+WIDE = os.path.join(os.path.dirname(os.path.abspath(PROGRAM)), "bsonwide")
+os.environ["PATH"] = os.pathsep.join([os.path.dirname(WIDE), os.environ.get("PATH", os.defpath)])
 PEOPLE = ROOT / "examples/people.bson"
 SHOP = ROOT / "examples/shop.bson"
 # The documents of the examples, as another program wrote them.
 PEOPLE_LINES = (ROOT / "examples/people.jsonl").read_bytes().splitlines()
 SHOP_LINES = (ROOT / "examples/shop.jsonl").read_bytes().splitlines()
-# A document with a double, which the program reads by way of the filter; and one with a boolean of 2, which is refused.
+# A document with a double, which `bsonfind` alone refuses; and one with a boolean of 2, which is refused.
 DOUBLE = bytes.fromhex("10000000016400000000000000f03f00")
 DAMAGED = bytes.fromhex("090000000864000200")
 PATIENCE = 60.0
@@ -42,24 +43,31 @@ class Room(unittest.TestCase):
         return path
 
     def script(self, text: str, name: str = "program") -> str:
-        """A program that is a script of the shell, in which PROGRAM is the real one and ROOM the directory."""
-        path = self.file(f"#!/bin/sh\nPROGRAM='{PROGRAM}'\nROOM='{self.room}'\n{text}\n".encode(), name)
+        """A program that is a script of the shell, in which PROGRAM and WIDE are the real ones and ROOM the directory."""
+        path = self.file(f"#!/bin/sh\nPROGRAM='{PROGRAM}'\nWIDE='{WIDE}'\nROOM='{self.room}'\n{text}\n".encode(), name)
         path.chmod(0o755)
         return str(path)
 
+    def wide(self, text: str) -> str:
+        """The program, with a script in place of `bsonwide` beside it."""
+        self.script(text, "bsonwide")
+        return self.script('exec "$PROGRAM" "$@"')
+
     def counting(self) -> str:
-        """The program, of which each start is a line of the file `starts`."""
+        """The program, of which each start is a line of the file `starts`; a start of `bsonwide` has this name before its words."""
+        self.script('echo bsonwide "$@" >>"$ROOM/starts"\nexec "$WIDE" "$@"', "bsonwide")
         return self.script('echo "$@" >>"$ROOM/starts"\nexec "$PROGRAM" "$@"')
 
     def starts(self) -> List[str]:
-        """The words of each start of the counting program."""
+        """The words of each start of the counting programs."""
         path = self.room / "starts"
         return path.read_text().splitlines() if path.exists() else []
 
     def stuck(self) -> str:
-        """A program that answers when it is started first, and then never; `pids` has the numbers of those that never do."""
-        first = 'if mkdir "$ROOM/first" 2>/dev/null; then exec "$PROGRAM" "$@"; fi'
-        return self.script(f'{first}\necho $$ >>"$ROOM/pids"\nexec sleep 600')
+        """The programs, of which the first start answers, and the others never do; `pids` has the numbers of those."""
+        first = 'if mkdir "$ROOM/first" 2>/dev/null; then exec "${}" "$@"; fi\necho $$ >>"$ROOM/pids"\nexec sleep 600'
+        self.script(first.format("WIDE"), "bsonwide")
+        return self.script(first.format("PROGRAM"))
 
     def interrupt(self, code: str, stuck: int) -> int:
         """Interrupts Python alone once so many programs are stuck below it, and gives its status; none of them may be left."""

@@ -1,6 +1,5 @@
 """Tests within a process that takes the statuses of its children: it ignores SIGCHLD, or its handler waits for any child."""
 
-import os
 import subprocess
 import sys
 from typing import List, Tuple
@@ -49,8 +48,8 @@ for call in (
     except BsonfindError as error:
         print(f"{type(error).__name__}: {error}", flush=True)
 """
-# Three of the prices are above 9.25, two of the costs are 19, and five of the six documents have a double or a decimal128.
-ANSWERS = ["[0, 2, 3]", "6", "2", "3", "3", "['cost*100', 'price']", "3", "[(6, 5, 0, None)]"]
+# Three of the prices are above 9.25, two of the costs are 19, and none of the six documents has a fault.
+ANSWERS = ["[0, 2, 3]", "6", "2", "3", "3", "['cost*100', 'price']", "3", "[(6, 0, None)]"]
 
 
 class Children(Room):
@@ -83,18 +82,24 @@ class Children(Room):
         self.assertEqual(self.run_command("find", bad), (1, [], f"bsonfind: {fault}\n"))
         self.assertEqual(self.run_command("dump", bad)[::2], (1, f"bsonfind: {fault}\n6 objects found\n"))
 
-    def test_filter_that_is_killed(self) -> None:
-        """Nothing is answered of the part that it wrote, though it says nothing: two documents of the six."""
-        size = {"order": len(GOODS[0] + GOODS[1]) - 8 - 8 + 24, "mask": len(GOODS[0] + GOODS[1]), "wrap": 0}
-        cases = " ".join(f"{way}) size={size};;" for way, size in size.items())
-        self.script(f'case $1 in {cases} esac\n"{os.path.dirname(PROGRAM)}/bsonwide" "$@" | head -c $size\nkill -9 $$', "bsonwide")
-        path, program = self.file(b"".join(GOODS)), self.script('exec "$PROGRAM" "$@"')
-        for way in WAYS:
-            status, lines, told = self.run_python(way, ASK, path, self.room / "copy", program)
-            self.assertEqual((status, len(lines), told), (0, len(ANSWERS), ""))
-            for line in lines[:-1]:
-                self.assertRegex(line, "^(ProgramError|DumpError): ")
-            self.assertRegex(lines[-1], "documents in place of|ended with status -9")
+    def test_process_that_is_killed(self) -> None:
+        """Nothing is answered of what it wrote before: of `order`, which says nothing at its end, two documents of the six."""
+        # Each has a number of 12 bytes more, two decimal128 are 8 bytes shorter, and an int32 is 4 longer.
+        size = len(GOODS[0] + GOODS[1]) + 2 * 12 - 2 * 8 + 4
+        path, quiet = self.file(b"".join(GOODS)), "2>/dev/null"
+        for command, said, failed in (("order", "", range(7)), ("check", quiet, (5, 6, 7)), ("dump", quiet, (0,))):
+            cut = f'"$WIDE" "$@" {said} | head -c {size}\nkill -9 $$'
+            program = self.wide(f'if [ $1 = {command} ]; then {cut}; fi\nexec "$WIDE" "$@"')
+            for way in WAYS:
+                with self.subTest(f"{command} {way}"):
+                    (self.room / "copy").unlink(missing_ok=True)
+                    status, lines, told = self.run_python(way, ASK, path, self.room / "copy", program)
+                    self.assertEqual((status, len(lines), told), (0, len(ANSWERS), ""))
+                    for number, (line, answer) in enumerate(zip(lines, ANSWERS)):
+                        if number in failed:
+                            self.assertRegex(line, "^(ProgramError|DumpError): ")
+                        else:
+                            self.assertEqual(line, answer)
 
     def test_line_of_the_count_after_an_error(self) -> None:
         """It is printed after a failed read too."""
@@ -108,8 +113,9 @@ for call in (lambda: list(find(path, program=program)), lambda: check_parts(plan
     except BsonfindError as error:
         print(f"{type(error).__name__}: {error}")
 """
-        program = self.script('case $1 in find) line="0 documents, end";; *) line="0 documents, 0 faulty";; esac\n'
-                              'echo "bsonfind: cannot read" >&2\necho "$line" >&2\nexit 1')
+        failing = 'echo "{}: cannot read" >&2\necho "0 documents, {}" >&2\nexit 1'
+        self.script(failing.format("bsonwide", "0 faulty"), "bsonwide")
+        program = self.script(failing.format("bsonfind", "end"))
         for way in WAYS:
             status, lines, told = self.run_python(way, code, path, program)
             self.assertEqual((status, told), (0, ""))

@@ -145,7 +145,7 @@ class Compares(Room):
         data = SHOP.read_bytes() + packed(['{"_id":1,"text":"%s"}' % ("x" * 3000)])
         one, two = str(self.file(data, "one.bson")), str(self.file(data, "two.bson"))
         for size in (7, 1000):
-            with mock.patch("bsonfind._sources._PIECE", size), mock.patch("bsonfind._wide._AT_ONCE", 5000):
+            with mock.patch("bsonfind._sources._PIECE", size):
                 done = compare(Pair("", one, two), "_id", PROGRAM, self.fail)
             self.assertEqual((done.documents, done.kinds["same"]), ((401, 401), 401))
 
@@ -194,7 +194,7 @@ class Compares(Room):
         peaks = []
         for count in (3000, 12_000):
             path = self.dump(*(f'{{"_id":{number},"text":"{"x" * 50}"}}' for number in range(count)), name=f"{count}.bson")
-            with mock.patch("bsonfind._sorting._MOST_LINES", 500), mock.patch("bsonfind._wide._AT_ONCE", 50_000):
+            with mock.patch("bsonfind._sorting._MOST_LINES", 500), mock.patch("bsonfind._sources._PIECE", 10_000):
                 tracemalloc.start()
                 compare(Pair("", path, path), "_id", PROGRAM, self.fail)
                 peaks.append(tracemalloc.get_traced_memory()[1])

@@ -65,7 +65,7 @@ class Plans(Room):
 
     def test_what_is_no_file(self) -> None:
         missing = self.room / "missing.bson"
-        for path, text in ((missing, "cannot open"), (self.room, "cannot open"), ("/dev/null", "is no regular file")):
+        for path, text in ((missing, "cannot open"), (self.room, "it is a directory"), ("/dev/null", "is no regular file")):
             with self.assertRaisesRegex(DumpError, text):
                 plan(path)
         with self.assertRaises(ValueError):

@@ -103,16 +103,15 @@ class Replaced(Room):
 
     def test_dump_that_is_replaced_while_it_is_prepared(self) -> None:
         """No copy is left."""
-        wide = self.script('"$(dirname "$PROGRAM")/bsonwide" "$@"\nif [ $1 = order ]; then touch "$ROOM/dump.bson"; fi', "bsonwide")
-        self.assertTrue(os.path.exists(wide))
-        self.refused(lambda: prepare(self.path, self.room / "copy", program=self.script('exec "$PROGRAM" "$@"')))
+        program = self.wide('"$WIDE" "$@"\nif [ $1 = order ]; then touch "$ROOM/dump.bson"; fi')
+        self.refused(lambda: prepare(self.path, self.room / "copy", program=program))
         self.assertFalse((self.room / "copy").exists() or (self.room / "copy.json").exists())
 
     def test_commands(self) -> None:
-        """The dump is replaced after the first run, which refuses it for its double, and before the filter reads it."""
+        """The dump is replaced after the first run: that of `check` or `dump`, and one that refuses it for its double."""
         after = 'if [ -e "$ROOM/next" ]; then mv "$ROOM/next" "$ROOM/dump.bson"; elif [ -e "$ROOM/later" ]; then mv "$ROOM/later" "$ROOM/next"; fi'
-        program = self.script(f'"$PROGRAM" "$@"\nstatus=$?\n{after}\nexit $status')
-        self.script('exec "$(dirname "$PROGRAM")/bsonwide" "$@"', "bsonwide")
+        for name, real in (("bsonwide", "WIDE"), ("program", "PROGRAM")):
+            program = self.script(f'"${real}" "$@"\nstatus=$?\n{after}\nexit $status', name)
         ids = self.file(b"0\n1\n", "ids")
         for words in (["check"], ["dump"], ["find"], ["query"], ["ids", "--ids", str(ids)]):
             self.path.unlink()

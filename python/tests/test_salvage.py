@@ -265,8 +265,7 @@ class Salvages(Room):
         path = self.file(long)
         with open(path, "r+b") as file:
             file.truncate(600_000_000)
-        program = self.script('ulimit -S -v unlimited\nexec "$PROGRAM" "$@"')
-        self.script('ulimit -S -v unlimited\nexec "${PROGRAM%/*}/bsonwide" "$@"', "bsonwide")
+        program = self.wide('ulimit -S -v unlimited\nexec "$WIDE" "$@"')
         words = ["-m", "bsonfind", "--program", program, "salvage", str(path), "--good", "/dev/null", "--bad", "/dev/null"]
         limited = ["sh", "-c", 'ulimit -S -v 262144; exec "$@"', "sh", sys.executable, *words]
         run = subprocess.run(limited, env=environment(), stdout=subprocess.PIPE, text=True)
@@ -332,7 +331,7 @@ class BadInput(Room):
         people = PEOPLE.read_bytes()
         path, good, bad = str(self.file(people)), str(self.file(b"good", "good.bson")), str(self.file(b"bad", "bad.bson"))
         words = "salvage", path, "--good", good, "--bad"
-        killed = self.script('[ "$(head -c 4 | wc -c)" = 4 ] && kill -9 $$; exec "$PROGRAM" "$@" </dev/null')
+        killed = self.wide('[ "$(head -c 4 | wc -c)" = 4 ] && kill -9 $$; exec "$WIDE" "$@" </dev/null')
         there = sorted(os.listdir(self.room))
         self.refused("--program", "no-such-program", *words, bad, told="cannot start no-such-program: No such file or directory")
         self.refused("--program", killed, *words, bad, told="ended by signal 9")
@@ -368,14 +367,14 @@ class BadInput(Room):
     def test_file_that_shrinks(self) -> None:
         """It does so when the program is tried, after its size was read."""
         path = self.file(PEOPLE.read_bytes())
-        program = self.script(f"truncate -s 39978 {path}\nexec \"$PROGRAM\" \"$@\"")
+        program = self.wide(f"truncate -s 39978 {path}\nexec \"$WIDE\" \"$@\"")
         told = f"{path}: no bytes at byte 39978: the file became shorter"
         self.refused("--program", program, "salvage", str(path), "--good", "/dev/null", "--bad", "/dev/null", told=told)
 
     def test_progress_on_a_terminal(self) -> None:
         path = self.file(PEOPLE.read_bytes())
         wait = 'if [ "$(head -c 4 | wc -c)" = 4 ]; then sleep 1.5; cat >/dev/null; fi'
-        slow = self.script(f'{wait}\nexec "$PROGRAM" "$@" <"$ROOM/dump.bson"')
+        slow = self.wide(f'{wait}\nexec "$WIDE" "$@" <"$ROOM/dump.bson"')
         ours, theirs = os.openpty()
         words = ["--program", slow, "salvage", str(path), "--good", "/dev/null", "--bad", "/dev/null"]
         with os.fdopen(ours, "rb", buffering=0) as terminal:
@@ -389,8 +388,8 @@ class BadInput(Room):
     def test_termination(self) -> None:
         """The signal of kill ends the program too, and leaves the files as they were."""
         path, good = self.file(PEOPLE.read_bytes()), self.file(b"good", "good.bson")
-        empty = '[ "$(head -c 4 | wc -c)" = 4 ] || exec "$PROGRAM" check /dev/null'
-        stuck = self.script(f'{empty}\necho $$ >>"$ROOM/pids"\nexec sleep 600')
+        empty = '[ "$(head -c 4 | wc -c)" = 4 ] || exec "$WIDE" check /dev/null'
+        stuck = self.wide(f'{empty}\necho $$ >>"$ROOM/pids"\nexec sleep 600')
         words = ["--program", stuck, "salvage", str(path), "--good", str(good), "--bad", str(self.room / "bad.bson")]
         python = subprocess.Popen([sys.executable, "-m", "bsonfind", *words], env=environment(), stderr=subprocess.PIPE, text=True)
         pids = self.room / "pids"
@@ -398,11 +397,11 @@ class BadInput(Room):
         python.terminate()
         self.assertEqual((python.communicate()[1], python.returncode), ("", 143))
         self.assertFalse(any(os.path.exists(f"/proc/{pid}") for pid in pids.read_text().split()))
-        self.assertEqual(sorted(os.listdir(self.room)), ["dump.bson", "good.bson", "pids", "program"])
+        self.assertEqual(sorted(os.listdir(self.room)), ["bsonwide", "dump.bson", "good.bson", "pids", "program"])
         self.assertEqual(good.read_bytes(), b"good")
 
     def test_interrupt(self) -> None:
         path = str(self.file(PEOPLE.read_bytes()))
-        program = self.script('echo $$ >>"$ROOM/pids"\nexec sleep 600')
+        program = self.wide('echo $$ >>"$ROOM/pids"\nexec sleep 600')
         words = ["--program", program, "salvage", path, "--good", "/dev/null", "--bad", "/dev/null"]
         self.assertEqual(self.interrupt(f"import sys\nfrom bsonfind.__main__ import main\nsys.exit(main({words!r}))", 1), 130)

@@ -159,8 +159,6 @@ class Statuses(Room):
         """As the shell gives the status of a program that a signal ended."""
         program, pids = self.stuck(), self.room / "pids"
         for command in COMMANDS:
-            if command == "prepare":
-                continue  # It begins with a run of bsonwide.
             for number in (signal.SIGINT, signal.SIGTERM):
                 first = self.room / "first"
                 shutil.rmtree(first, ignore_errors=True)

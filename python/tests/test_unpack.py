@@ -329,27 +329,9 @@ class Unpacks(Room):
 
     def test_read_that_fails(self) -> None:
         """What was read before is kept, as of an archive that was cut."""
-        read = os.open(self.file(TWO, "a"), os.O_RDONLY)
-        self.addCleanup(os.close, read)
-
-        class Failing:
-            def __init__(self, *_: object, **__: object) -> None:
-                self.reads = 0
-
-            def fileno(self) -> int:
-                return read
-
-            def read(self, size: int) -> bytes:
-                self.reads += 1
-                if self.reads > 1:
-                    raise OSError(5, "Input/output error")
-                return os.read(read, 100_000)
-
-            def close(self) -> None:
-                pass
-
-        with mock.patch("bsonfind._sources.open", Failing, create=True):
-            done = unpack(self.room / "a", self.room / "out")
+        reads = [TWO[:100_000], OSError(5, "Input/output error")]
+        with mock.patch("bsonfind._sources.read_some", side_effect=reads):
+            done = unpack(self.file(TWO, "a"), self.room / "out")
         self.assertEqual((done.is_good, done.error), (False, "Input/output error"))
         self.assertEqual([it.error for it in done.collections], ["no end"] * 2)
 
@@ -469,12 +451,12 @@ class Audits(Room):
 
     def test_program_that_fails(self) -> None:
         """The rest of the archive is read nevertheless, and an end of all of it ends all."""
-        killed = self.script('[ "$(head -c 4 | wc -c)" = 4 ] && kill -9 $$; exec "$PROGRAM" "$@" </dev/null')
+        killed = self.wide('[ "$(head -c 4 | wc -c)" = 4 ] && kill -9 $$; exec "$WIDE" "$@" </dev/null')
         done = audit(self.file(TWO, "a"), program=killed)
         self.assertEqual([it.error for it in done.reports], ["ended by signal 9"] * 2)
         path = str(self.file(archive([("shop", "orders", SHOP_DATA)]), "a"))
-        empty = '[ "$(head -c 4 | wc -c)" = 4 ] || exec "$PROGRAM" check /dev/null'
-        stuck = self.script(f'{empty}\necho $$ >>"$ROOM/pids"\nexec sleep 600')
+        empty = '[ "$(head -c 4 | wc -c)" = 4 ] || exec "$WIDE" check /dev/null'
+        stuck = self.wide(f'{empty}\necho $$ >>"$ROOM/pids"\nexec sleep 600')
         words = ["--program", stuck, "audit", path]
         self.assertEqual(self.interrupt(f"import sys\nfrom bsonfind.__main__ import main\nsys.exit(main({words!r}))", 1), 130)
 

@@ -10,7 +10,8 @@ from unittest import mock
 from bsonfind._commands import check_file, dump_file
 from bsonfind._console import Console
 
-from .support import DAMAGED, DOUBLE, PATIENCE, PEOPLE, PEOPLE_LINES, PROGRAM, Room, environment
+from .bson import document, field, text
+from .support import DAMAGED, DOUBLE, PATIENCE, PEOPLE, PEOPLE_LINES, PROGRAM, Room, environment, packed
 
 DECIMAL = bytes.fromhex("18000000136400") + (1234 | 6174 << 113).to_bytes(16, "little") + b"\0"
 # A double before damage; the byte of the fault is 18.
@@ -64,15 +65,19 @@ class Commands(Room):
                 told = self.run_command("dump", word, stdin=stdin)
                 self.assertEqual(told, (1, [*PEOPLE_LINES, LINES[0], LINES[0]], f"bsonfind: {line}\n502 objects found\n"))
 
-    def test_documents_that_cannot_be_wrapped(self) -> None:
-        """The deepest level holds no double; the fault is the one that the program itself reports."""
-        deep = DOUBLE
+    def test_deepest_and_longest_documents(self) -> None:
+        """Doubles at the end of 200 levels, and of 16,793,600 bytes, of which 24 are not the text."""
+        deep, line = DOUBLE, LINES[0]
         for _ in range(199):
-            deep = (len(deep) + 8).to_bytes(4, "little") + b"\x03a\0" + deep + b"\0"
-        place = f'document 1, byte {len(DOUBLE) + 199 * 7 + 4}, path "{"a." * 199}d": double'
-        for word, stdin in self.forms(DOUBLE + deep):
-            self.assertEqual(self.run_command("dump", word, stdin=stdin), (1, LINES[:1], f"bsonfind: {place}\n1 objects found\n"))
-            self.assertEqual(self.run_command("check", word, stdin=stdin), (0, [], "2 documents, 0 faulty\n"))
+            deep, line = (len(deep) + 8).to_bytes(4, "little") + b"\x03a\0" + deep + b"\0", b'{"a":' + line + b"}"
+        words = b"x" * (16_793_600 - 24)
+        long = document(field(2, "t", text(words.decode())), DOUBLE[4:-1])
+        self.assertEqual(len(long), 16_793_600)
+        for data, lines in ((DOUBLE + deep, [LINES[0], line]), (long, [b'{"t":"' + words + b'","d":{"$numberDouble":"1.0"}}'])):
+            for word, stdin in self.forms(data):
+                told = self.run_command("dump", word, stdin=stdin)
+                self.assertTrue(told == (0, lines, f"{len(lines)} objects found\n"), (word, told[2]))  # Lines too long to show.
+                self.assertEqual(self.run_command("check", word, stdin=stdin), (0, [], f"{len(lines)} documents, 0 faulty\n"))
 
     def test_names(self) -> None:
         """What is reported of a file that is not there, or no file, is what the program reports."""
@@ -84,15 +89,22 @@ class Commands(Room):
             file.write(DOUBLE)
         self.assertEqual(self.run_command("dump", os.fsdecode(path))[1], LINES[:1])
 
-    def test_the_filter_is_started_where_it_is_needed(self) -> None:
-        script = self.script('echo bsonwide "$@" >>"$ROOM/starts"\nexec "$(dirname "$PROGRAM")/bsonwide" "$@"', "bsonwide")
+    def test_one_process_reads_a_dump(self) -> None:
+        """It is the one beside the program; where none is there it is on `PATH`, and where no program is, that is the error."""
         program = self.counting()
-        for data, ways in ((PEOPLE.read_bytes(), set()), (DOUBLE, {"bsonwide mask -", "bsonwide wrap -"})):
+        for data in (packed(['{"a":1}']), DOUBLE + DAMAGED):
             for word, stdin in self.forms(data):
                 for command in ("check", "dump"):
                     self.run_command("--program", program, command, word, stdin=stdin)
-            self.assertEqual({it for it in self.starts() if it.startswith("bsonwide")}, ways)
-        os.unlink(script)
+                    self.assertEqual(self.starts(), [f"bsonwide {command} -"])
+                    (self.room / "starts").unlink()
+        path = self.file(DOUBLE)
+        (self.room / "bsonwide").unlink()
+        self.assertEqual(self.run_command("--program", program, "dump", path)[:2], (0, LINES[:1]))
+        self.assertEqual(self.starts(), [])
+        for command in ("check", "dump"):
+            told = self.run_command("--program", f"{program}s", command, path)
+            self.assertEqual(told, (2, [], f"bsonfind: cannot start {program}s: No such file or directory\n"))
 
     def test_larger_than_what_a_run_reads(self) -> None:
         """With a largest input of 30,000 bytes in place of 4,294,967,295."""
