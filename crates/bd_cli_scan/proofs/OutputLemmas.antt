@@ -39,6 +39,7 @@ pub second_err : {A E : Type 0} (r : Result A E) (old mid new : Writer) (first s
 second_err (Ok x) old mid new first second a h = _
 second_err (Err e) old mid new first second a h = write_fails_second old mid new first second a h
 
+-- a text that was taken first and one that a success says was taken then are both taken
 pub second_ok : {A E : Type 0} (r : Result A E) (old mid new : Writer) (first second : List ℕ) → TakesText (between old mid) first
     → OnOk r (TakesText (between mid new) second) → OnOk r (TakesText (between old new) (first ++ second))
 second_ok (Ok x) old mid new first second a h = takes_both old mid new first second a h
