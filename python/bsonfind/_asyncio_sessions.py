@@ -261,7 +261,7 @@ class _Questions:
 
     async def open(self) -> None:
         """Opens the dump, or where the program refuses it for its numbers a copy; does nothing where that was done."""
-        if self._own is None:
+        if self._own is None or self._own.was_started():
             return
         self._lock = asyncio.Lock()
         self._source = source = self._source or Source(self._path, is_named=True)
@@ -400,9 +400,8 @@ class _Connection:
 
     async def open(self, dump: Dump) -> None:
         """Starts the program, and waits until the dump is read; does nothing where it was started."""
-        self.check()
-        if self._process:
-            return self.check_open()
+        if self.was_started():
+            return
         self._lock, self._stderr = asyncio.Lock(), self._files.enter_context(file_for_messages(self._program))
         try:
             await self._start(dump)
@@ -441,6 +440,13 @@ class _Connection:
     def check(self) -> None:
         """Refuses a call in another process than the one that opened the connection."""
         check_owner(self._owner)
+
+    def was_started(self) -> bool:
+        """Whether the program was started; raises why the connection ended, where it has since."""
+        self.check()
+        if self._process:
+            self.check_open()
+        return self._process is not None
 
     def check_open(self) -> None:
         """Raises why the connection ended, where it has."""

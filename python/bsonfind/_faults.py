@@ -54,7 +54,7 @@ def faults_of(run: Run) -> Iterator[Fault]:
 def finish_check(run: Run, wanted: int | None = None) -> int:
     """Waits for the end of a run of `check`, and gives the number of documents; raises the error of a run that did not end well.
 
-    A number that is known is an error where it is another one: a filter that was killed gives less.
+    Where the number is known, another one is an error.
     """
     status, counted = run.wait(), _COUNTED.fullmatch(run.messages())
     if not counted or status not in (0, min(1, int(counted.group(2)))):

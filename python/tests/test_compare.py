@@ -191,10 +191,12 @@ class Compares(Room):
         self.assertEqual((done.documents, done.kinds["same"]), ((500, 500), 500))
 
     def test_memory_does_not_grow_with_the_dump(self) -> None:
+        """What is held is bounded by bytes, of which both dumps have more."""
         peaks = []
         for count in (3000, 12_000):
-            path = self.dump(*(f'{{"_id":{number},"text":"{"x" * 50}"}}' for number in range(count)), name=f"{count}.bson")
-            with mock.patch("bsonfind._sorting._MOST_LINES", 500), mock.patch("bsonfind._sources._PIECE", 10_000):
+            path = self.dump(*(f'{{"_id":{number},"text":"{"x" * 500}"}}' for number in range(count)), name=f"{count}.bson")
+            small = mock.patch.multiple("bsonfind._sorting", _MOST_LINES=500, _MOST_RUNS=8)
+            with small, mock.patch("bsonfind._sources._PIECE", 10_000):
                 tracemalloc.start()
                 compare(Pair("", path, path), "_id", PROGRAM, self.fail)
                 peaks.append(tracemalloc.get_traced_memory()[1])

@@ -251,7 +251,8 @@ class Parts(Room):
     def test_state_of_a_file(self) -> None:
         found = os.stat(PEOPLE)
         (part,) = plan(PEOPLE)
-        self.assertEqual(part.state, (found.st_size, found.st_mtime_ns, found.st_ino))
+        wanted = found.st_size, found.st_mtime_ns, found.st_ino, found.st_dev, found.st_ctime_ns
+        self.assertEqual(part.state, wanted)
         self.assertEqual(pickle.loads(pickle.dumps(part)).state, part.state)
 
 
