@@ -36,12 +36,15 @@ def begins_wide(source: Source, program: str, group: Group | None = None) -> boo
 
 
 def wide_beside(program: str) -> str:
-    """The program for all types that goes with a program: the one beside it, and else the one on `PATH`."""
+    """The program for all types that goes with a program: the one beside it or what it links to, and else the one on `PATH`."""
     found = shutil.which(name_of(program))
     if not found:
         return program  # It cannot be started, and the error says why.
-    beside = os.path.join(os.path.dirname(found), "bsonwide")
-    return beside if os.access(beside, os.X_OK) else "bsonwide"
+    for file in (found, os.path.realpath(found)):
+        beside = os.path.join(os.path.dirname(file), "bsonwide")
+        if os.access(beside, os.X_OK):
+            return beside
+    return "bsonwide"
 
 
 class Checking:
