@@ -1,0 +1,2 @@
+pub mod DoubleText
+pub mod JsonNumber
