@@ -1,0 +1,2 @@
+pub mod TenLemmas
+pub mod DecimalLemmas

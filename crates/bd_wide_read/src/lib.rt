@@ -1,10 +1,12 @@
 //! The numbers that texts mean.
 #![tactic(auto)]
 
+mod decimal128;
 mod double;
 mod fault;
 mod json_number;
 
+pub use decimal128::read_decimal128;
 pub use double::{read_double, read_number};
 pub use fault::TextFault;
 pub use json_number::{after_number, is_number};
