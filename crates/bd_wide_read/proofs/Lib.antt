@@ -1,2 +1,3 @@
+pub mod DoubleLemmas
 pub mod TenLemmas
 pub mod DecimalLemmas

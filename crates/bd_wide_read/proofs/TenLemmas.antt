@@ -1,7 +1,6 @@
 -- Numbers times powers of ten.
-use Rattle.std.proofs.Common.{◌≡◌, ◌≢◌, ℕ, zero, suc, ◌+◌, ◌-◌, ◌*◌, ◌/◌, ◌%◌, ◌^◌, ◌<◌, ◌≤◌, refl, sym, ap, ◌∙◌, subst, arith, inl, inr, min, pow-suc, pow-add, mul_assoc, mul_comm, mul-one, one-mul, zero-mul, mul-zero}
+use Rattle.std.proofs.Common.{◌≡◌, ℕ, zero, suc, ◌+◌, ◌-◌, ◌*◌, ◌%◌, ◌^◌, ◌<◌, ◌≤◌, sym, ap, ◌∙◌, arith, pow-add, mul_assoc, one-mul, zero-mul}
 use Rattle.std.proofs.Math.Nat.{one-le-pow, pow-le-pow_right, le-mul_of_pos_right, eq_of_mul-eq-mul_right, mul-mod_left, mul_right_comm, mul-le-mul_right, mul-lt-mul_of_pos_right}
-use Rattle.std.proofs.lemmas.Bool.{cases_lt}
 
 pub ten_pos : (k : ℕ) → 0 < 10 ^ k
 ten_pos k = one-le-pow k 10 (omega arith)

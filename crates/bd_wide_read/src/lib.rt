@@ -5,8 +5,10 @@ mod decimal128;
 mod double;
 mod fault;
 mod json_number;
+mod laws;
 
 pub use decimal128::read_decimal128;
 pub use double::{read_double, read_number};
 pub use fault::TextFault;
 pub use json_number::{after_number, is_number};
+pub use laws::double_text_is_read;

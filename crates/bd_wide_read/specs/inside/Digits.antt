@@ -1,5 +1,5 @@
 -- The digits of a decimal128 and its exponent: used only in proofs.
-use Rattle.std.specs.Prelude.{◌≡◌, ◌<◌, ◌≤◌, ℕ, ◌+◌, ◌-◌, ◌*◌, ◌^◌, min}
+use Rattle.std.specs.Prelude.{◌≡◌, ◌<◌, ◌≤◌, ℕ, ◌-◌, ◌*◌, ◌^◌, min}
 use Rattle.bd_wide_read.specs.DecimalText.{Scaled}
 
 -- The number has more than 34 digits, also without the zeros at its end.

@@ -1,4 +1,4 @@
-use Rattle.std.proofs.Common.{◌≡◌, arith, subst, sym, ℕ, ◌%◌, ◌*◌, ◌<◌}
+use Rattle.std.proofs.Common.{◌≡◌, arith, subst, sym, ℕ, ◌<◌}
 use Rattle.bd_wide_read.proofs.TenLemmas.{far_none, power_fits, rest_none, ten_pos}
 use Rattle.bd_wide_read.proofs.decimal128.divided.Goals as goal
 

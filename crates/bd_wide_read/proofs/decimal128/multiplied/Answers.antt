@@ -1,4 +1,4 @@
-use Rattle.std.proofs.Common.{◌≡◌, arith, refl, ℕ, ◌-◌, ◌*◌, ◌^◌, ◌<◌, ◌≤◌}
+use Rattle.std.proofs.Common.{◌≡◌, arith, refl, ◌-◌, ◌^◌, ◌<◌, ◌≤◌}
 use Rattle.bd_wide_read.proofs.TenLemmas.{power_fits, product_far, product_fits, product_large}
 use Rattle.bd_wide_read.proofs.decimal128.multiplied.Goals as goal
 

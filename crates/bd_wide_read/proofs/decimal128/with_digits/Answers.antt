@@ -1,4 +1,4 @@
-use Rattle.std.proofs.Common.{◌*◌, ◌^◌, subst, sym, ℕ}
+use Rattle.std.proofs.Common.{◌*◌, ◌^◌, subst}
 use Rattle.bd_wide_read.specs.inside.Digits.{HasTooMany}
 use Rattle.bd_wide_read.proofs.DecimalLemmas.{if_none, many_rest}
 use Rattle.bd_wide_read.proofs.decimal128.with_digits.Goals as goal
