@@ -1,7 +1,8 @@
 -- The decimal128 that a text means: the conversion from a string of the decimal128 specification, which rounds nothing.
-use Rattle.std.specs.Prelude.{◌≡◌, ◌<◌, ◌≤◌, ℕ, ◌+◌, ◌-◌, ◌*◌, ◌/◌, ◌%◌, ◌^◌, ◌==◌, ◌&&◌, Bool, List, length, drop, Result, Ok, Err, if◌then◌else◌, slice_index}
+use Rattle.std.specs.Prelude.{◌≡◌, ◌<◌, ◌≤◌, ℕ, ◌+◌, ◌-◌, ◌*◌, ◌/◌, ◌%◌, ◌^◌, ◌==◌, ◌&&◌, ◌⊎◌, Bool, List, length, drop, Result, Ok, Err, if◌then◌else◌, slice_index}
 use Rattle.std.specs.Float.Numeral.{Parts, scan_numeral, has_digits, numeral_digits, tens_up, tens_down, minus}
 use Rattle.std.specs.Float.Parse.{is_infinity_text, is_nan_text, sign_len}
+use Rattle.bd_wide_number.specs.Decimal128.{five_bits}
 use Rattle.bd_wide_read.specs.declared.fault.TextFault.{TextFault}
 use Rattle.bd_wide_read.specs.declared.fault.TextFault.TheVariants.{BadText, OutOfRange}
 
@@ -59,6 +60,11 @@ pub record IsExact (n : Scaled) (c b : ℕ) : Type 0 where
 -- the upper half of the bits of a decimal128 (IEEE 754, binary encoding)
 abbrev pub high_half : Bool → ℕ → ℕ → ℕ
 high_half negative c b = (if negative then 2 ^ 63 else 0) + (b * 2 ^ 49 + c / 2 ^ 64)
+
+-- The bits are a decimal128 in its one form: at most 34 digits, or NaN or an infinity without a payload.
+abbrev pub IsCanonical : ℕ → ℕ → Type 0
+IsCanonical low high = ((five_bits high < 24) × (high % 2 ^ 49 * 2 ^ 64 + low < 10 ^ 34))
+    ⊎ ((low ≡ 0) × ((high ≡ 0x7C00_0000_0000_0000) ⊎ ((high ≡ 0x7800_0000_0000_0000) ⊎ (high ≡ 0xF800_0000_0000_0000))))
 
 -- What a numeric-string is read as: the lower and the upper half of the bits, or a fault.
 abbrev pub IsRead : Numeric → Result (ℕ × ℕ) TextFault → Type 0

@@ -11,4 +11,4 @@ pub use decimal128::read_decimal128;
 pub use double::{read_double, read_number};
 pub use fault::TextFault;
 pub use json_number::{after_number, is_number};
-pub use laws::double_text_is_read;
+pub use laws::{decimal128_text_is_read, double_text_is_read};
