@@ -5,3 +5,5 @@
 mod decimals;
 #[cfg(test)]
 mod doubles;
+#[cfg(test)]
+mod stand_ins;

@@ -1,0 +1,2 @@
+pub mod StandIns
+pub mod inside
