@@ -64,9 +64,9 @@ one_zero n z c h none = omega (arith, joined n z 1, (value_of_digit c h).1)
 pub one_many : (n z c : ℕ) → digit_value c < 10 → 10 ^ 33 ≤ n → (c - 48 ≡ 0 → ⊥) → HasTooMany (n * 10 ^ z * 10 + digit_value c)
 one_many n z c h full some = many_step (n * 10 ^ z) (digit_value c) h (omega (arith, grows n z)) (λ e. absurd (some (sym (value_of_digit c h).1 ∙ e)))
 
--- ---- the place
+-- ---- the power_is
 
--- the number with the zeros that were left out
+-- the number with the zeros that were rest out
 pub worth_up : (m z up down c b : ℕ) → IsWorth (scaled m (up + z - down) (down - (up + z))) c b → IsWorth (scaled (m * 10 ^ z) (up - down) (down - up)) c b
 worth_up m z up down c b w = record {
   digits = w.digits;
@@ -123,9 +123,9 @@ divided_none m above below up down apart less h c b w =
     let none : above ≡ 0 = omega (arith, apart.over) in
     h (c * 10 ^ b) (sym (joined c b below) ∙ w.value ∙ ap (λ (n : ℕ). m * 10 ^ n) none ∙ mul-one m)
 
-pub placed_worth : (m above below up down : ℕ) → m < 10 ^ 34 → AreApart above below up down → down ≤ up → up - down ≤ 12287
+pub fitted_worth : (m above below up down : ℕ) → m < 10 ^ 34 → AreApart above below up down → down ≤ up → up - down ≤ 12287
     → IsWorth (scaled m above below) m (up - down) × (up - down ≡ min above 12287)
-placed_worth m above below up down few apart less near =
+fitted_worth m above below up down few apart less near =
     let none : below ≡ 0 = omega (arith, apart.under) in
     let same : above ≡ up - down = omega (arith, apart.over) in (
       record {
@@ -163,13 +163,13 @@ multiplied_none m above below up down apart less far large c b w =
 pub digits_same : (p : Parts) (whole fraction : List ℕ) → whole ≡ p.whole → fraction ≡ p.fraction → digits_value 10 (whole ++ fraction) ≡ numeral_digits p
 digits_same p whole fraction e f = λ i. digits_value 10 (e i ++ f i)
 
-pub apart_negative : (p : Parts) (z cut up down : ℕ) → p.exponent_negative ≡ true → cut ≡ min (digits_value 10 p.exponent) (2 ^ 100) → z < 2 ^ 64 → length p.fraction < 2 ^ 64
-    → up ≡ 6176 + z → down ≡ length p.fraction + cut → AreApart (tens_up p + 6176 + z - tens_down p) (tens_down p - (tens_up p + 6176 + z)) up down
-apart_negative p z cut up down negative e few short is at = rw negative (record { over = omega arith; under = omega arith })
+pub apart_negative : (p : Parts) (z capped up down : ℕ) → p.exponent_negative ≡ true → capped ≡ min (digits_value 10 p.exponent) (2 ^ 100) → z < 2 ^ 64 → length p.fraction < 2 ^ 64
+    → up ≡ 6176 + z → down ≡ length p.fraction + capped → AreApart (tens_up p + 6176 + z - tens_down p) (tens_down p - (tens_up p + 6176 + z)) up down
+apart_negative p z capped up down negative e few short is at = rw negative (record { over = omega arith; under = omega arith })
 
-pub apart_positive : (p : Parts) (z cut up down : ℕ) → p.exponent_negative ≡ false → cut ≡ min (digits_value 10 p.exponent) (2 ^ 100) → z < 2 ^ 64 → length p.fraction < 2 ^ 64
-    → up ≡ 6176 + z + cut → down ≡ length p.fraction → AreApart (tens_up p + 6176 + z - tens_down p) (tens_down p - (tens_up p + 6176 + z)) up down
-apart_positive p z cut up down positive e few short is at = rw positive (record { over = omega arith; under = omega arith })
+pub apart_positive : (p : Parts) (z capped up down : ℕ) → p.exponent_negative ≡ false → capped ≡ min (digits_value 10 p.exponent) (2 ^ 100) → z < 2 ^ 64 → length p.fraction < 2 ^ 64
+    → up ≡ 6176 + z + capped → down ≡ length p.fraction → AreApart (tens_up p + 6176 + z - tens_down p) (tens_down p - (tens_up p + 6176 + z)) up down
+apart_positive p z capped up down positive e few short is at = rw positive (record { over = omega arith; under = omega arith })
 
 pub exact_if : (r : Option (ℕ × ℕ)) (p : Parts) (m z up down : ℕ) → m * 10 ^ z ≡ numeral_digits p → AreKept m z
     → AreApart (tens_up p + 6176 + z - tens_down p) (tens_down p - (tens_up p + 6176 + z)) up down

@@ -41,7 +41,7 @@ begins_with (d ∷ ds) rest all some = let r = digit_from_value d all.0 in (d, d
 
 text_is : (text : List ℕ) (p : Parts) (n b : ℕ) → scan_numeral text ≡ p → p.len ≡ length text → 0 < length p.whole + length p.fraction → numeral_digits p ≡ n
     → tens_up p + 6176 ≡ b + tens_down p → ((d : ℕ) × (t : List ℕ) × (text ≡ d ∷ t) × (48 ≤ d) × (d ≤ 57)) → IsText text n b
-text_is text p n b scans long some value place start = record {
+text_is text p n b scans long some value power_is start = record {
   all = rw scans (rw (lt-ltb 0 (length p.whole + length p.fraction) some) (eq-eqb p.len (length text) long));
   value =
       let above : tens_up p + 6176 - tens_down p ≡ b = omega arith in
@@ -74,21 +74,21 @@ plain_text digits all some =
 scientific_text : (digits : List ℕ) (negative : Bool) (e b : ℕ) → AllDigits 10 digits → 0 < length digits → e < 10 ^ 64
     → (cond negative 0 e + 6176 ≡ b + (length digits - 1 + cond negative e 0))
     → IsText (mantissa digits ++ (69 ∷ sign_byte negative ∷ decimal e)) (digits_value 10 digits) b
-scientific_text [] negative e b all some few place = absurd (omega arith)
-scientific_text (d ∷ []) true e b all some few place =
+scientific_text [] negative e b all some few power_is = absurd (omega arith)
+scientific_text (d ∷ []) true e b all some few power_is =
     let x = decimal_is_IsNumeral_wide e few in
     let t = mantissa (d ∷ []) ++ (69 ∷ 45 ∷ decimal e) in
     text_is t (parts d [] true (decimal e) (length t)) _ b (scan_scientific d [] (decimal e) true all x.0.0 x.0.1) refl (omega arith) refl (omega (arith, x.1)) (begins_with (d ∷ []) _ all (omega arith))
-scientific_text (d ∷ []) false e b all some few place =
+scientific_text (d ∷ []) false e b all some few power_is =
     let x = decimal_is_IsNumeral_wide e few in
     let t = mantissa (d ∷ []) ++ (69 ∷ 43 ∷ decimal e) in
     text_is t (parts d [] false (decimal e) (length t)) _ b (scan_scientific d [] (decimal e) false all x.0.0 x.0.1) refl (omega arith) refl (omega (arith, x.1)) (begins_with (d ∷ []) _ all (omega arith))
-scientific_text (d ∷ f ∷ fs) true e b all some few place =
+scientific_text (d ∷ f ∷ fs) true e b all some few power_is =
     let x = decimal_is_IsNumeral_wide e few in
     let t = mantissa (d ∷ f ∷ fs) ++ (69 ∷ 45 ∷ decimal e) in
     let r = digit_from_value d all.0 in
     text_is t (parts d (f ∷ fs) true (decimal e) (length t)) _ b (scan_scientific d (f ∷ fs) (decimal e) true all x.0.0 x.0.1) refl (omega arith) refl (omega (arith, x.1)) (d, _, refl, r.0, r.1)
-scientific_text (d ∷ f ∷ fs) false e b all some few place =
+scientific_text (d ∷ f ∷ fs) false e b all some few power_is =
     let x = decimal_is_IsNumeral_wide e few in
     let t = mantissa (d ∷ f ∷ fs) ++ (69 ∷ 43 ∷ decimal e) in
     let r = digit_from_value d all.0 in
@@ -114,7 +114,7 @@ layout_text digits b all some few inside = elim (cases_lt 6176 b) [
       | inl less ↦ elim (cases_lt (6176 - b) (length digits)) [
         | inl inner ↦
             let n = length digits - (6176 - b) in
-            let left : length (drop n digits) ≡ length digits - n = length-drop n digits in
+            let rest : length (drop n digits) ≡ length digits - n = length-drop n digits in
             let first : length (take n digits) ≡ min n (length digits) = length-take n digits in
             rw (le-ltb 6176 b near, le-ltb (b + length digits) 6171 large, ne_eqb b 6176 (λ e. omega arith), lt-ltb (6176 - b) (length digits) inner)
             (subst (λ (t : List ℕ). IsText (take n digits ++ (46 ∷ drop n digits)) (digits_value 10 t) b) (take-append-drop n digits)
@@ -152,8 +152,8 @@ numeric_is false t n b is =
 read_only : (s : Bool) (c b : ℕ) (r : Result (ℕ × ℕ) TextFault) → c < 10 ^ 34 → b < 12288 → IsRead (number s (scaled c b 0)) r → r ≡ Ok (c % 2 ^ 64, high_half s c b)
 read_only s c b (Ok bits) few inside is =
     let one : b + 0 ≡ b = omega arith in
-    let own : IsWorth (scaled c b 0) c b = record { digits = few; exponent = inside; value = ap (λ (n : ℕ). c * 10 ^ n) one } in
-    let near = is.2.nearest c b own in
+    let itself : IsWorth (scaled c b 0) c b = record { digits = few; exponent = inside; value = ap (λ (n : ℕ). c * 10 ^ n) one } in
+    let near = is.2.nearest c b itself in
     let same : is.1 ≡ b = omega (arith, near) in
     let power : b ≡ is.1 + 0 = omega arith in
     let equal : is.0 ≡ c = eq_of_mul-eq-mul_right (10 ^ b) (ten_pos b) is.0 c (ap (λ (n : ℕ). is.0 * 10 ^ n) power ∙ is.2.worth.value) in

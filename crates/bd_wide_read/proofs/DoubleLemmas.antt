@@ -15,31 +15,31 @@ use Rattle.fast_float.proofs.Rows.{AllDigits-take, AllDigits-drop, AllDigits-app
 use Rattle.bd_wide_text.specs.Layout.{mantissa, zeros}
 use Rattle.bd_wide_text.specs.Double.{AreSignificant, IsTextOf, IsDoubleText, laid_out, padded}
 use Rattle.bd_wide_text.proofs.ReadBackLemmas.{reads_back}
-use Rattle.bd_wide_read.specs.JsonNumber.{after_digits, after_exponent, after_fraction, after_int, is_end, is_number, past_digits}
+use Rattle.bd_wide_read.specs.JsonNumber.{after_digits, after_exponent, after_fraction, after_int, is_end, is_number, skip_digits}
 use Rattle.bd_wide_read.specs.DoubleText.{double_bits, finite_bits, number_bits}
 
 -- ---- the parts of a number
 
-past_run : (ds rest : List ℕ) → AllDigits 10 ds → past_digits (ds ++ rest) ≡ past_digits rest
-past_run [] rest h = refl
-past_run (d ∷ ds) rest h = let r = digit_from_value d h.0 in rw ((is_digit d r.0 r.1).0) (past_run ds rest h.1)
+skip_run : (ds rest : List ℕ) → AllDigits 10 ds → skip_digits (ds ++ rest) ≡ skip_digits rest
+skip_run [] rest h = refl
+skip_run (d ∷ ds) rest h = let r = digit_from_value d h.0 in rw ((is_digit d r.0 r.1).0) (skip_run ds rest h.1)
 
-run_ends : (ds : List ℕ) → AllDigits 10 ds → past_digits ds ≡ []
-run_ends ds h = ap past_digits (sym (append-nil ds)) ∙ past_run ds [] h
+run_ends : (ds : List ℕ) → AllDigits 10 ds → skip_digits ds ≡ []
+run_ends ds h = ap skip_digits (sym (append-nil ds)) ∙ skip_run ds [] h
 
-digits_after : (ds rest : List ℕ) → AllDigits 10 ds → 0 < length ds → past_digits rest ≡ rest → after_digits (ds ++ rest) ≡ Some rest
+digits_after : (ds rest : List ℕ) → AllDigits 10 ds → 0 < length ds → skip_digits rest ≡ rest → after_digits (ds ++ rest) ≡ Some rest
 digits_after [] rest h some stop = absurd (omega arith)
 digits_after (d ∷ ds) rest h some stop =
     let r = digit_from_value d h.0 in
-    rw ((is_digit d r.0 r.1).0) (ap (λ (t : List ℕ). Some t) (past_run ds rest h.1 ∙ stop))
+    rw ((is_digit d r.0 r.1).0) (ap (λ (t : List ℕ). Some t) (skip_run ds rest h.1 ∙ stop))
 
 digits_end : (ds : List ℕ) → AllDigits 10 ds → 0 < length ds → after_digits ds ≡ Some []
 digits_end ds h some = ap after_digits (sym (append-nil ds)) ∙ digits_after ds [] h some refl
 
-int_after : (d : ℕ) (ds rest : List ℕ) → AllDigits 10 (d ∷ ds) → 48 < d → past_digits rest ≡ rest → after_int ((d ∷ ds) ++ rest) ≡ Some rest
+int_after : (d : ℕ) (ds rest : List ℕ) → AllDigits 10 (d ∷ ds) → 48 < d → skip_digits rest ≡ rest → after_int ((d ∷ ds) ++ rest) ≡ Some rest
 int_after d ds rest h first stop =
     let r = digit_from_value d h.0 in
-    rw (ne_eqb d 48 (λ e. omega arith), (is_digit d r.0 r.1).0) (ap (λ (t : List ℕ). Some t) (past_run ds rest h.1 ∙ stop))
+    rw (ne_eqb d 48 (λ e. omega arith), (is_digit d r.0 r.1).0) (ap (λ (t : List ℕ). Some t) (skip_run ds rest h.1 ∙ stop))
 
 -- the byte of a sign
 abbrev sign_byte : Bool → ℕ
@@ -128,7 +128,7 @@ laid_out_is s d ds (pos e) all first = elim (cases_lt 5 e) [
   | inl far ↦ rw (lt-ltb 5 e far) (scientific_is s false d ds e all first)
   | inr near ↦ elim (cases_lt (e + 1) (length (d ∷ ds))) [
     | inl more ↦
-        let left : length (drop (e + 1) (d ∷ ds)) ≡ length (d ∷ ds) - (e + 1) = length-drop (e + 1) (d ∷ ds) in
+        let rest : length (drop (e + 1) (d ∷ ds)) ≡ length (d ∷ ds) - (e + 1) = length-drop (e + 1) (d ∷ ds) in
         let one : e + 1 ≡ suc e = omega arith in
         rw (le-ltb 5 e near, lt-ltb (e + 1) (length (d ∷ ds)) more)
         (rw one (point_is s d (take e ds) (drop (suc e) (d ∷ ds)) (AllDigits-take (suc e) (d ∷ ds) all) first (AllDigits-drop (suc e) (d ∷ ds) all) (omega (arith, length-drop (suc e) (d ∷ ds)))))

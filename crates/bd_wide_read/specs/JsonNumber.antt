@@ -13,14 +13,14 @@ without_sign [] = []
 without_sign (c ∷ cs) = if c == 45 || c == 43 then cs else c ∷ cs
 
 -- what follows the digits at the start
-abbrev pub past_digits : List ℕ → List ℕ
-past_digits [] = []
-past_digits (c ∷ cs) = if is_ascii_digit c then past_digits cs else c ∷ cs
+abbrev pub skip_digits : List ℕ → List ℕ
+skip_digits [] = []
+skip_digits (c ∷ cs) = if is_ascii_digit c then skip_digits cs else c ∷ cs
 
 -- what follows at least one digit
 abbrev pub after_digits : List ℕ → Option (List ℕ)
 after_digits [] = None
-after_digits (c ∷ cs) = if is_ascii_digit c then Some (past_digits cs) else None
+after_digits (c ∷ cs) = if is_ascii_digit c then Some (skip_digits cs) else None
 
 -- what follows `int`: a zero, or digits of which the first is none
 abbrev pub after_int : List ℕ → Option (List ℕ)

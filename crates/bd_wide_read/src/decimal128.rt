@@ -117,19 +117,19 @@ fn coefficient_and_exponent(numeral: &Numeral<'_>) -> Option<(u128, u64)>
     ensures none { IfNone result ((c b : ℕ) → IsWorth (scaled_of numeral.now) c b → ⊥) }
 {
     let kept = kept_digits(numeral.whole(), numeral.fraction())?;
-    let power = cut_value(numeral.exponent());
-    let places = numeral.fraction().len() as u128;
+    let power = capped_value(numeral.exponent());
+    let decimals = numeral.fraction().len() as u128;
     let up = LEAST + kept.zeros as u128;
     if numeral.is_exponent_negative() {
-        placed(kept.number, up, places + power)
+        fitted(kept.number, up, decimals + power)
     } else {
-        placed(kept.number, up + power, places)
+        fitted(kept.number, up + power, decimals)
     }
 }
 
 /// The coefficient of the decimal128 that is a number times 10 ^ (up - down - 6176), and its exponent plus 6176.
-fn placed(number: u128, up: u128, down: u128) -> Option<(u128, u64)>
-    requires few { number < 10 ^ 34 }
+fn fitted(number: u128, up: u128, down: u128) -> Option<(u128, u64)>
+    requires coefficient { number < 10 ^ 34 }
     ensures some { (above below : ℕ) → AreApart above below up down → IfSome result
         (λ r. IsWorth (scaled number above below) r.0 r.1 × (r.1 ≡ min above 12287)) }
     ensures none { (above below : ℕ) → AreApart above below up down → IfNone result
@@ -147,7 +147,7 @@ fn placed(number: u128, up: u128, down: u128) -> Option<(u128, u64)>
     Some((c, GREATEST as u64))
 }
 
-/// A number divided by a power of ten, if no remainder is left. `count` is the power, or another that is far.
+/// A number divided by a power of ten, if no remainder is rest. `count` is the power, or another that is far.
 fn divided(number: u128, count: u32) -> Option<u128>
     requires { number < 10 ^ 34 }
     ensures some { (k : ℕ) → min k 20000 ≡ min count 20000
@@ -188,7 +188,7 @@ fn multiplied(number: u128, count: u32) -> Option<u128>
     Some(number * 10u128.pow(count))
 }
 
-/// Digits, and how many zeros were left out after them.
+/// Digits, and how many zeros were rest out after them.
 #[derive(Clone, Copy)]
 struct Kept {
     number: u128,
@@ -202,7 +202,7 @@ fn kept_digits(whole: &[u8], fraction: &[u8]) -> Option<Kept>
     requires short { length whole.now + length fraction.now < 2 ^ 64 }
     ensures value { IfSome result (λ k. k.number * 10 ^ k.zeros
         ≡ digits_value 10 (whole.now ++ fraction.now)) }
-    ensures kept { IfSome result (λ k. AreKept k.number k.zeros) }
+    ensures limits { IfSome result (λ k. AreKept k.number k.zeros) }
     ensures zeros { IfSome result (λ k. k.zeros ≤ length whole.now + length fraction.now) }
     ensures none { IfNone result (HasTooMany (digits_value 10 (whole.now ++ fraction.now))) }
 {
@@ -217,11 +217,11 @@ fn kept_digits(whole: &[u8], fraction: &[u8]) -> Option<Kept>
 /// The same with more digits after those that were kept.
 fn with_digits(kept: Kept, digits: &[u8]) -> Option<Kept>
     requires all { AllDigits 10 digits.now }
-    requires kept { AreKept kept.number kept.zeros }
+    requires limits { AreKept kept.number kept.zeros }
     requires short { kept.zeros + length digits.now < 2 ^ 64 }
     ensures value { IfSome result (λ k. k.number * 10 ^ k.zeros
         ≡ digits_value_after 10 (kept.number * 10 ^ kept.zeros) digits.now) }
-    ensures kept { IfSome result (λ k. AreKept k.number k.zeros) }
+    ensures limits { IfSome result (λ k. AreKept k.number k.zeros) }
     ensures zeros { IfSome result (λ k. k.zeros ≤ kept.zeros + length digits.now) }
     ensures none { IfNone result
         (HasTooMany (digits_value_after 10 (kept.number * 10 ^ kept.zeros) digits.now)) }
@@ -238,11 +238,11 @@ fn with_digits(kept: Kept, digits: &[u8]) -> Option<Kept>
 /// The same with one digit more.
 fn with_digit(kept: Kept, c: u8) -> Option<Kept>
     requires digit { digit_value c < 10 }
-    requires kept { AreKept kept.number kept.zeros }
+    requires limits { AreKept kept.number kept.zeros }
     requires short { kept.zeros + 1 < 2 ^ 64 }
     ensures value { IfSome result (λ k. k.number * 10 ^ k.zeros
         ≡ kept.number * 10 ^ kept.zeros * 10 + digit_value c) }
-    ensures kept { IfSome result (λ k. AreKept k.number k.zeros) }
+    ensures limits { IfSome result (λ k. AreKept k.number k.zeros) }
     ensures zeros { IfSome result (λ k. k.zeros ≤ kept.zeros + 1) }
     ensures none { IfNone result
         (HasTooMany (kept.number * 10 ^ kept.zeros * 10 + digit_value c)) }
@@ -264,7 +264,7 @@ fn with_digit(kept: Kept, c: u8) -> Option<Kept>
 }
 
 /// The value of digits, or 2 ^ 100 where that is less.
-fn cut_value(digits: &[u8]) -> u128
+fn capped_value(digits: &[u8]) -> u128
     requires { AllDigits 10 digits.now }
     ensures { result ≡ min (digits_value 10 digits.now) (2 ^ 100) }
 {

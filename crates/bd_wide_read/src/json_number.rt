@@ -1,7 +1,7 @@
 //! Numbers of RFC 8259.
 
 ghost use Rattle.std.specs.Prelude.{◌≡◌, ◌≤◌, length, option_map};
-ghost use Rattle.bd_wide_read.specs.JsonNumber.{after_digits as after_digits_of, after_exponent as after_exponent_of, after_fraction as after_fraction_of, after_int as after_int_of, after_number as after_number_of, is_number as is_number_of, past_digits as past_digits_of, without_minus as without_minus_of, without_sign as without_sign_of};
+ghost use Rattle.bd_wide_read.specs.JsonNumber.{after_digits as after_digits_of, after_exponent as after_exponent_of, after_fraction as after_fraction_of, after_int as after_int_of, after_number as after_number_of, is_number as is_number_of, skip_digits as skip_digits_of, without_minus as without_minus_of, without_sign as without_sign_of};
 
 /// Whether bytes are a number.
 pub fn is_number(bytes: &[u8]) -> bool
@@ -55,14 +55,14 @@ fn after_digits(bytes: &[u8]) -> Option<&[u8]>
     ensures { option_map (λ s. s.now) result ≡ after_digits_of bytes.now }
 {
     match bytes {
-        [c, rest @ ..] if c.is_ascii_digit() => Some(past_digits(rest)),
+        [c, rest @ ..] if c.is_ascii_digit() => Some(skip_digits(rest)),
         _ => None,
     }
 }
 
 /// What follows the digits at the start.
-fn past_digits(bytes: &[u8]) -> &[u8]
-    ensures rest { result.now ≡ past_digits_of bytes.now }
+fn skip_digits(bytes: &[u8]) -> &[u8]
+    ensures rest { result.now ≡ skip_digits_of bytes.now }
 {
     let mut rest = bytes;
     while let [c, more @ ..] = rest {

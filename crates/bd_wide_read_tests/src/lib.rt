@@ -1,4 +1,5 @@
-//! Texts of numbers, and what they are read as. The expected bits are worked by hand, by IEEE 754.
+//! Texts of numbers, and what they are read as, and lines with other values for their numbers. The expected bits and texts are
+//! worked by hand, by IEEE 754 and by the rules of `bd_wide_substitute`.
 #![tactic(auto)]
 
 #[cfg(test)]
@@ -6,4 +7,6 @@ mod decimals;
 #[cfg(test)]
 mod doubles;
 #[cfg(test)]
-mod stand_ins;
+mod examples;
+#[cfg(test)]
+mod substitute;

@@ -6,7 +6,7 @@ use Rattle.bd_wide_read.specs.DecimalText.{Scaled}
 abbrev pub HasTooMany : ℕ → Type 0
 HasTooMany n = (c k : ℕ) → c < 10 ^ 34 → c * 10 ^ k ≡ n → ⊥
 
--- At most 34 digits are kept, and zeros are left out only after 34 digits.
+-- At most 34 digits are kept, and zeros are rest out only after 34 digits.
 pub record AreKept (number zeros : ℕ) : Type 0 where
   pub few : number < 10 ^ 34
   pub full : 0 < zeros → 10 ^ 33 ≤ number

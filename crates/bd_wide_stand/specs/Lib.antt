@@ -1,2 +1,0 @@
-pub mod StandIns
-pub mod inside
