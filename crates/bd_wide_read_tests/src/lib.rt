@@ -9,4 +9,6 @@ mod doubles;
 #[cfg(test)]
 mod examples;
 #[cfg(test)]
+mod mix;
+#[cfg(test)]
 mod substitute;
