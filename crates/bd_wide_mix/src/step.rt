@@ -51,7 +51,8 @@ fn body<'a>(
     depth_left: u32,
     out: &mut Vec<u8>,
 ) -> Result<Option<&'a [Number]>, NoMemory>
-    ensures { IfOk result (λ o. IfSome o (λ rest. (p : Parts) × (step.entry.wholes.now ≡ wholes_of p)
+    ensures { IfOk result (λ o. IfSome o (λ rest. (p : Parts)
+        × (step.entry.wholes.now ≡ wholes_of p)
         × (step.entry.texts.now ≡ texts_of p) × (step.entry.numbers.now ≡ numbers_of p ++ rest.now)
         × (out.new.items ≡ out.old.items ++ framed (mixed_of p)))) }
 {
@@ -72,7 +73,8 @@ fn elements<'a>(
     depth_left: u32,
     out: &mut Vec<u8>,
 ) -> Result<Option<&'a [Number]>, NoMemory>
-    ensures { IfOk result (λ o. IfSome o (λ rest. (p : Parts) × (step.entry.wholes.now ≡ wholes_of p)
+    ensures { IfOk result (λ o. IfSome o (λ rest. (p : Parts)
+        × (step.entry.wholes.now ≡ wholes_of p)
         × (step.entry.texts.now ≡ texts_of p) × (step.entry.numbers.now ≡ numbers_of p ++ rest.now)
         × (out.new.items ≡ out.old.items ++ mixed_of p))) }
 {
@@ -278,8 +280,10 @@ fn scoped<'a>(
 /// The code with its length, what is inside its scope, and what remains after both, with the same numbers.
 fn entered_scope<'a>(step: Step<'a>, head: &[u8]) -> Option<(&'a [u8], Step<'a>, Step<'a>)>
     ensures { IfSome result (λ r.
-        (step.entry.wholes.now ≡ head.now ++ (with_length r.0.now (framed r.1.wholes.now) ++ r.2.wholes.now))
-        × (step.entry.texts.now ≡ head.now ++ (with_length r.0.now (framed r.1.texts.now) ++ r.2.texts.now))
+        (step.entry.wholes.now
+        ≡ head.now ++ (with_length r.0.now (framed r.1.wholes.now) ++ r.2.wholes.now))
+        × (step.entry.texts.now
+        ≡ head.now ++ (with_length r.0.now (framed r.1.texts.now) ++ r.2.texts.now))
         × (r.1.numbers.now ≡ step.entry.numbers.now)) }
 {
     let (code, inside, wholes) = unscoped(after_word(step.wholes, head)?)?;

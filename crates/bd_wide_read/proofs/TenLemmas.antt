@@ -24,6 +24,7 @@ too_large c m k l full less e =
     let g : m * 10 ^ (1 + (l - suc k)) ≡ m * 10 ^ 1 * 10 ^ (l - suc k) = joined m 1 (l - suc k) in
     omega (arith, f, g, grows (m * 10 ^ 1) (l - suc k))
 
+-- the power of ten is a number of 128 bits
 pub power_fits : (k : ℕ) → k ≤ 34 → 10 ^ k < 2 ^ 128
 power_fits k few = let h : 10 ^ k ≤ 10 ^ 34 = pow-le-pow_right (omega arith) few in omega (arith, h)
 

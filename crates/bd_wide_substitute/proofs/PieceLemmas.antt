@@ -111,6 +111,7 @@ run_begins bytes cs c is begins =
 
 -- ---- what is appended
 
+-- bytes that stay are a piece
 pub copied : {E : Type 0} (r : Result ℕ E) (bytes : List ℕ) (n : ℕ) (old new : Substituted) → IsBefore (same (take n bytes)) (drop n bytes) → 1 ≤ n → n ≤ length bytes
     → OnOk r (new.wholes.items ≡ old.wholes.items ++ take n bytes) → OnOk r (new.texts.items ≡ old.texts.items ++ take n bytes) → OnOk r (new.numbers.items ≡ old.numbers.items)
     → IfOk r (λ m. m ≡ n) → IfOk r (λ m. IsTaken bytes m old new)
@@ -127,6 +128,7 @@ copied (Ok m) bytes n old new before some within w t x same_n =
       within = within;
     })
 
+-- the other values for a number are a piece
 pub number_put : {E : Type 0} (r : Result ℕ E) (bytes : List ℕ) (x : Number) (n : ℕ) (old new : Substituted) → IsBefore (number (take n bytes) x) (drop n bytes) → 2 ≤ n → n ≤ length bytes
     → OnOk r (new.wholes.items ≡ old.wholes.items ++ filler_of whole n) → OnOk r (new.texts.items ≡ old.texts.items ++ filler_of text n) → OnOk r (new.numbers.items ≡ old.numbers.items ++ x ∷ [])
     → IfOk r (λ m. m ≡ n) → IfOk r (λ m. IsTaken bytes m old new)

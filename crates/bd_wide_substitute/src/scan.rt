@@ -95,7 +95,8 @@ fn bare_number(run: &[u8]) -> Option<u64>
 /// Appends the first n bytes to both texts.
 fn copy(bytes: &[u8], n: usize, made: &mut Substituted) -> Result<usize, NoMemory>
     requires { n ≤ length bytes.now }
-    ensures wholes { OnOk result (made.new.wholes.items ≡ made.old.wholes.items ++ take n bytes.now) }
+    ensures wholes { OnOk result
+        (made.new.wholes.items ≡ made.old.wholes.items ++ take n bytes.now) }
     ensures texts { OnOk result (made.new.texts.items ≡ made.old.texts.items ++ take n bytes.now) }
     ensures numbers { OnOk result (made.new.numbers.items ≡ made.old.numbers.items) }
     ensures n { IfOk result (λ m. m ≡ n) }
