@@ -311,5 +311,6 @@ reads_text (fin s zero e) text ok is = ap (parse_float binary64) is ∙ zero_rea
 reads_text (fin s (suc m) e) text ok is =
     ap (parse_float binary64) is.5 ∙ reads_significant is.0 is.1 is.2 is.3 s m e is.4 ∙ ap (λ (x : Float). Some x) is.4
 
+-- the text of a double is parsed as this double
 pub reads_back : (bits : ℕ) (text : List ℕ) → bits < 2 ^ 64 → IsDoubleText bits text → parse_float binary64 text ≡ Some (of_bits binary64 bits)
 reads_back bits text inside is = reads_text (of_bits binary64 bits) text (of_bits-fits binary64 bits) is

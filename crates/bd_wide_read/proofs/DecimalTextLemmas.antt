@@ -1,0 +1,231 @@
+-- The text of a decimal128 is read as the decimal128.
+use Rattle.std.proofs.Common.{◌≡◌, ◌<◌, ◌≤◌, ◌⊎◌, ℕ, zero, suc, ◌+◌, ◌-◌, ◌*◌, ◌/◌, ◌%◌, ◌^◌, ◌==◌, Bool, true, false, cond, List, [], ◌∷◌, ◌++◌, length, take, drop, refl, sym, ap, ◌∙◌, subst, inl, inr, arith, leb, ne_eqb, eq-eqb, Result, Ok, Err, append-nil, length-append, length-take, length-drop, take-append-drop, true≢false, min}
+use Rattle.std.proofs.lemmas.Bool.{cases_lt}
+use Rattle.std.proofs.lemmas.List.{length-replicate}
+use Rattle.std.proofs.lemmas.Nat.{shr-shr}
+use Rattle.std.proofs.lemmas.Str.Parse.{digit_from_value}
+use Rattle.std.proofs.lemmas.Fmt.{decimal_is_IsNumeral_wide, length-decimal-le_wide}
+use Rattle.std.proofs.lemmas.Float.Parse.{scan_numeral-text_of}
+use Rattle.std.proofs.Math.Nat.{eq_of_mul-eq-mul_right}
+use borrow.Author.Tests.{lt-ltb, le-ltb, lt-leb, le-leb}
+use Rattle.std.specs.Fmt.{decimal, sign_text}
+use Rattle.std.specs.Str.Parse.{AllDigits, digits_value, digits_value_after}
+use Rattle.std.specs.Float.Numeral.{Parts, scan_numeral, numeral_digits, tens_up, tens_down, IsWellFormed}
+use Rattle.fast_float.proofs.Rows.{AllDigits-take, AllDigits-drop, AllDigits-append}
+use Rattle.bd_wide_number.specs.Decimal128.{five_bits, coefficient_of, biased_exponent}
+use Rattle.bd_wide_text.specs.Layout.{mantissa, zeros}
+use Rattle.bd_wide_text.specs.Decimal128.{decimal128_size, decimal128_text, scientific_string}
+use Rattle.bd_wide_read.specs.declared.fault.TextFault.{TextFault}
+use Rattle.bd_wide_read.specs.declared.fault.TextFault.TheVariants.{BadText, OutOfRange}
+use Rattle.bd_wide_read.specs.DecimalText.{number, IsCanonical, IsRead, IsWorth, high_half, is_numeral, numeric_of, scaled_of, size_of}
+use Rattle.bd_wide_read.specs.inside.Digits.{scaled}
+use Rattle.bd_wide_read.proofs.DoubleLemmas.{AllDigits-zeros}
+use Rattle.bd_wide_read.proofs.DecimalLemmas.{value_append}
+use Rattle.bd_wide_read.proofs.ScanLemmas.{parts, scan_scientific, sign_byte}
+use Rattle.bd_wide_read.proofs.TenLemmas.{ten_pos}
+
+-- ---- the numeral of a layout
+
+-- The text is that of n * 10 ^ (b - 6176), and begins with a digit.
+record IsText (text : List ℕ) (n b : ℕ) : Type 0 where
+  all : is_numeral text ≡ true
+  value : scaled_of (scan_numeral text) ≡ scaled n b 0
+  first : ℕ
+  rest : List ℕ
+  begins : text ≡ first ∷ rest
+  digit : (48 ≤ first) × (first ≤ 57)
+
+begins_with : (ds rest : List ℕ) → AllDigits 10 ds → 0 < length ds → (d : ℕ) × (t : List ℕ) × (ds ++ rest ≡ d ∷ t) × (48 ≤ d) × (d ≤ 57)
+begins_with [] rest all some = absurd (omega arith)
+begins_with (d ∷ ds) rest all some = let r = digit_from_value d all.0 in (d, ds ++ rest, refl, r.0, r.1)
+
+text_is : (text : List ℕ) (p : Parts) (n b : ℕ) → scan_numeral text ≡ p → p.len ≡ length text → 0 < length p.whole + length p.fraction → numeral_digits p ≡ n
+    → tens_up p + 6176 ≡ b + tens_down p → ((d : ℕ) × (t : List ℕ) × (text ≡ d ∷ t) × (48 ≤ d) × (d ≤ 57)) → IsText text n b
+text_is text p n b scans long some value power_is start = record {
+  all = rw scans (rw (lt-ltb 0 (length p.whole + length p.fraction) some) (eq-eqb p.len (length text) long));
+  value =
+      let above : tens_up p + 6176 - tens_down p ≡ b = omega arith in
+      let below : tens_down p - (tens_up p + 6176) ≡ 0 = omega arith in
+      ap scaled_of scans ∙ (λ i. scaled (value i) (above i) (below i));
+  first = start.0;
+  rest = start.1;
+  begins = start.2;
+  digit = (start.3, start.4);
+}
+
+-- digits, a point and digits
+point_text : (whole fraction : List ℕ) (b : ℕ) → AllDigits 10 whole → AllDigits 10 fraction → 0 < length whole → length fraction ≤ 6176 → b ≡ 6176 - length fraction
+    → IsText (whole ++ (46 ∷ fraction)) (digits_value 10 (whole ++ fraction)) b
+point_text whole fraction b w f some few at =
+    let text = whole ++ ((46 ∷ fraction) ++ []) in
+    let p : Parts = record { whole = whole; point = true; fraction = fraction; exponent_negative = false; exponent = []; len = length text } in
+    let good : IsWellFormed p = record { whole_digits = w; fraction_digits = f; exponent_digits = tt; no_point = λ e. absurd (true≢false e); no_exponent = λ e. refl; len_is = refl } in
+    let is : IsText text (digits_value 10 (whole ++ fraction)) b = text_is text p _ b (scan_numeral-text_of p good) refl (omega arith) refl (omega arith) (begins_with whole _ w some) in
+    subst (λ (t : List ℕ). IsText (whole ++ (46 ∷ t)) (digits_value 10 (whole ++ fraction)) b) (append-nil fraction) is
+
+plain_text : (digits : List ℕ) → AllDigits 10 digits → 0 < length digits → IsText digits (digits_value 10 digits) 6176
+plain_text digits all some =
+    let text = digits ++ ([] ++ []) in
+    let p : Parts = record { whole = digits; point = false; fraction = []; exponent_negative = false; exponent = []; len = length text } in
+    let good : IsWellFormed p = record { whole_digits = all; fraction_digits = tt; exponent_digits = tt; no_point = λ e. refl; no_exponent = λ e. refl; len_is = refl } in
+    let is : IsText text (digits_value 10 (digits ++ [])) 6176 = text_is text p _ 6176 (scan_numeral-text_of p good) refl (omega arith) refl (omega arith) (begins_with digits _ all some) in
+    subst (λ (t : List ℕ). IsText t (digits_value 10 t) 6176) (append-nil digits) is
+
+scientific_text : (digits : List ℕ) (negative : Bool) (e b : ℕ) → AllDigits 10 digits → 0 < length digits → e < 10 ^ 64
+    → (cond negative 0 e + 6176 ≡ b + (length digits - 1 + cond negative e 0))
+    → IsText (mantissa digits ++ (69 ∷ sign_byte negative ∷ decimal e)) (digits_value 10 digits) b
+scientific_text [] negative e b all some few power_is = absurd (omega arith)
+scientific_text (d ∷ []) true e b all some few power_is =
+    let x = decimal_is_IsNumeral_wide e few in
+    let t = mantissa (d ∷ []) ++ (69 ∷ 45 ∷ decimal e) in
+    text_is t (parts d [] true (decimal e) (length t)) _ b (scan_scientific d [] (decimal e) true all x.0.0 x.0.1) refl (omega arith) refl (omega (arith, x.1)) (begins_with (d ∷ []) _ all (omega arith))
+scientific_text (d ∷ []) false e b all some few power_is =
+    let x = decimal_is_IsNumeral_wide e few in
+    let t = mantissa (d ∷ []) ++ (69 ∷ 43 ∷ decimal e) in
+    text_is t (parts d [] false (decimal e) (length t)) _ b (scan_scientific d [] (decimal e) false all x.0.0 x.0.1) refl (omega arith) refl (omega (arith, x.1)) (begins_with (d ∷ []) _ all (omega arith))
+scientific_text (d ∷ f ∷ fs) true e b all some few power_is =
+    let x = decimal_is_IsNumeral_wide e few in
+    let t = mantissa (d ∷ f ∷ fs) ++ (69 ∷ 45 ∷ decimal e) in
+    let r = digit_from_value d all.0 in
+    text_is t (parts d (f ∷ fs) true (decimal e) (length t)) _ b (scan_scientific d (f ∷ fs) (decimal e) true all x.0.0 x.0.1) refl (omega arith) refl (omega (arith, x.1)) (d, _, refl, r.0, r.1)
+scientific_text (d ∷ f ∷ fs) false e b all some few power_is =
+    let x = decimal_is_IsNumeral_wide e few in
+    let t = mantissa (d ∷ f ∷ fs) ++ (69 ∷ 43 ∷ decimal e) in
+    let r = digit_from_value d all.0 in
+    text_is t (parts d (f ∷ fs) false (decimal e) (length t)) _ b (scan_scientific d (f ∷ fs) (decimal e) false all x.0.0 x.0.1) refl (omega arith) refl (omega (arith, x.1)) (d, _, refl, r.0, r.1)
+
+value_zeros : (n : ℕ) → digits_value 10 (zeros n) ≡ 0
+value_zeros zero = refl
+value_zeros (suc n) = value_zeros n
+
+value_after_zeros : (n : ℕ) (digits : List ℕ) → digits_value 10 (48 ∷ (zeros n ++ digits)) ≡ digits_value 10 digits
+value_after_zeros n digits = value_append (zeros n) digits 0 ∙ ap (λ (v : ℕ). digits_value_after 10 v digits) (value_zeros n)
+
+layout_text : (digits : List ℕ) (b : ℕ) → AllDigits 10 digits → 0 < length digits → length digits ≤ 40 → b < 2 ^ 14 → IsText (scientific_string digits b) (digits_value 10 digits) b
+unfolding scientific_string
+layout_text digits b all some few inside = elim (cases_lt 6176 b) [
+  | inl far ↦ rw (lt-ltb 6176 b far, le-ltb (b + length digits) 6177 (omega arith)) (scientific_text digits false (b + length digits - 6177) b all some (omega arith) (omega arith))
+  | inr near ↦ elim (cases_lt (b + length digits) 6171) [
+    | inl small ↦
+        let below : b + length digits < 6177 = omega arith in
+        rw (le-ltb 6176 b near, lt-ltb (b + length digits) 6171 small, lt-ltb (b + length digits) 6177 below)
+        (scientific_text digits true (6177 - (b + length digits)) b all some (omega arith) (omega arith))
+    | inr large ↦ elim (cases_lt b 6176) [
+      | inl less ↦ elim (cases_lt (6176 - b) (length digits)) [
+        | inl inner ↦
+            let n = length digits - (6176 - b) in
+            let rest : length (drop n digits) ≡ length digits - n = length-drop n digits in
+            let first : length (take n digits) ≡ min n (length digits) = length-take n digits in
+            rw (le-ltb 6176 b near, le-ltb (b + length digits) 6171 large, ne_eqb b 6176 (λ e. omega arith), lt-ltb (6176 - b) (length digits) inner)
+            (subst (λ (t : List ℕ). IsText (take n digits ++ (46 ∷ drop n digits)) (digits_value 10 t) b) (take-append-drop n digits)
+            (point_text (take n digits) (drop n digits) b (AllDigits-take n digits all) (AllDigits-drop n digits all) (omega arith) (omega arith) (omega arith)))
+        | inr outer ↦
+            let n = 6176 - b - length digits in
+            let long : length (zeros n ++ digits) ≡ n + length digits = length-append (zeros n) digits ∙ ap (λ k. k + length digits) (length-replicate {A = ℕ} n 48) in
+            rw (le-ltb 6176 b near, le-ltb (b + length digits) 6171 large, ne_eqb b 6176 (λ e. omega arith), le-ltb (6176 - b) (length digits) outer)
+            (subst (λ (v : ℕ). IsText (48 ∷ 46 ∷ (zeros n ++ digits)) v b) (value_after_zeros n digits)
+            (point_text (48 ∷ []) (zeros n ++ digits) b (omega arith, tt) (AllDigits-append (zeros n) digits (AllDigits-zeros n) all) (omega arith) (omega arith) (omega arith)))
+      ]
+      | inr equal ↦
+          let same : b ≡ 6176 = omega arith in
+          rw (le-ltb 6176 b near, le-ltb (b + length digits) 6171 large, eq-eqb b 6176 same)
+          (subst (λ (n : ℕ). IsText digits (digits_value 10 digits) n) (sym same) (plain_text digits all some))
+    ]
+  ]
+]
+
+-- ---- the numeric-string
+
+no_sign : (d : ℕ) (t : List ℕ) → 48 ≤ d → numeric_of (d ∷ t) ≡ size_of false (d ∷ t)
+no_sign d t low = rw (ne_eqb d 45 (λ e. omega arith), ne_eqb d 43 (λ e. omega arith))
+
+size_is : (s : Bool) (t : List ℕ) (n b : ℕ) → IsText t n b → size_of s t ≡ number s (scaled n b 0)
+size_is s t n b is = rw is.all (ap (λ v. number s v) is.value)
+
+numeric_is : (s : Bool) (t : List ℕ) (n b : ℕ) → IsText t n b → numeric_of (sign_text s ++ t) ≡ number s (scaled n b 0)
+numeric_is true t n b is = size_is true t n b is
+numeric_is false t n b is =
+    subst (λ (u : List ℕ). numeric_of u ≡ size_of false u) (sym is.begins) (no_sign is.first is.rest is.digit.0) ∙ size_is false t n b is
+
+-- ---- what it is read as
+
+read_only : (s : Bool) (c b : ℕ) (r : Result (ℕ × ℕ) TextFault) → c < 10 ^ 34 → b < 12288 → IsRead (number s (scaled c b 0)) r → r ≡ Ok (c % 2 ^ 64, high_half s c b)
+read_only s c b (Ok bits) few inside is =
+    let one : b + 0 ≡ b = omega arith in
+    let itself : IsWorth (scaled c b 0) c b = record { digits = few; exponent = inside; value = ap (λ (n : ℕ). c * 10 ^ n) one } in
+    let near = is.2.nearest c b itself in
+    let same : is.1 ≡ b = omega (arith, near) in
+    let power : b ≡ is.1 + 0 = omega arith in
+    let equal : is.0 ≡ c = eq_of_mul-eq-mul_right (10 ^ b) (ten_pos b) is.0 c (ap (λ (n : ℕ). is.0 * 10 ^ n) power ∙ is.2.worth.value) in
+    let low : bits.0 ≡ c % 2 ^ 64 = is.3 ∙ ap (λ (n : ℕ). n % 2 ^ 64) equal in
+    let high : bits.1 ≡ high_half s c b = is.4 ∙ (λ i. high_half s (equal i) (same i)) in
+    λ i. Ok (low i, high i)
+read_only s c b (Err OutOfRange) few inside is =
+    let one : b + 0 ≡ b = omega arith in
+    absurd (is c b (record { digits = few; exponent = inside; value = ap (λ (n : ℕ). c * 10 ^ n) one }))
+read_only s c b (Err BadText) few inside is = absurd is
+
+-- ---- the bits
+
+coefficient_is : (low high : ℕ) → five_bits high < 24 → high % 2 ^ 49 * 2 ^ 64 + low < 10 ^ 34 → coefficient_of low high ≡ high % 2 ^ 49 * 2 ^ 64 + low
+coefficient_is low high five few = rw (lt-leb 24 (five_bits high) five, lt-leb (10 ^ 34) (high % 2 ^ 49 * 2 ^ 64 + low) few)
+
+exponent_is : (high : ℕ) → five_bits high < 24 → biased_exponent high ≡ high / 2 ^ 49 % 2 ^ 14
+exponent_is high five = rw (lt-leb 24 (five_bits high) five)
+
+exponent_below : (high : ℕ) → five_bits high < 24 → high / 2 ^ 49 % 2 ^ 14 < 12288
+exponent_below high five =
+    let split : high / 2 ^ 49 / 2 ^ 9 ≡ high / 2 ^ 58 = shr-shr high 49 9 in
+    omega (arith, split)
+
+high_is : (low high : ℕ) → low < 2 ^ 64 → high < 2 ^ 64 → high_half (leb (2 ^ 63) high) (high % 2 ^ 49 * 2 ^ 64 + low) (high / 2 ^ 49 % 2 ^ 14) ≡ high
+high_is low high l h =
+    let upper : (high % 2 ^ 49 * 2 ^ 64 + low) / 2 ^ 64 ≡ high % 2 ^ 49 = omega arith in
+    let split : high / 2 ^ 49 / 2 ^ 14 ≡ high / 2 ^ 63 = shr-shr high 49 14 in
+    elim (cases_lt high (2 ^ 63)) [
+      | inl less ↦ rw (lt-leb (2 ^ 63) high less) (omega (arith, split, upper))
+      | inr more ↦ rw (le-leb (2 ^ 63) high more) (omega (arith, split, upper))
+    ]
+
+finite_text : (low high : ℕ) → five_bits high < 24 → high % 2 ^ 49 * 2 ^ 64 + low < 10 ^ 34 → IsText (decimal128_size low high) (high % 2 ^ 49 * 2 ^ 64 + low) (high / 2 ^ 49 % 2 ^ 14)
+unfolding decimal128_size
+finite_text low high five few =
+    let c = high % 2 ^ 49 * 2 ^ 64 + low in
+    let b = high / 2 ^ 49 % 2 ^ 14 in
+    let wide : c < 10 ^ 64 = omega arith in
+    let numeral = decimal_is_IsNumeral_wide c wide in
+    let short : length (decimal c) ≤ 34 = length-decimal-le_wide 34 c (omega arith) few wide in
+    let is : IsText (scientific_string (decimal c) b) c b =
+    subst (λ (n : ℕ). IsText (scientific_string (decimal c) b) n b) numeral.1 (layout_text (decimal c) b numeral.0.1 numeral.0.0 (omega arith) (omega arith)) in
+    rw (ne_eqb (five_bits high) 30 (λ e. omega arith), coefficient_is low high five few, exponent_is high five) is
+
+finite_read : (low high : ℕ) (r : Result (ℕ × ℕ) TextFault) → low < 2 ^ 64 → high < 2 ^ 64 → five_bits high < 24 → high % 2 ^ 49 * 2 ^ 64 + low < 10 ^ 34
+    → IsRead (numeric_of (decimal128_text low high)) r → r ≡ Ok (low, high)
+unfolding decimal128_text
+finite_read low high r l h five few is =
+    let c = high % 2 ^ 49 * 2 ^ 64 + low in
+    let b = high / 2 ^ 49 % 2 ^ 14 in
+    let s = leb (2 ^ 63) high in
+    let not_nan : (five_bits high == 31) ≡ false = ne_eqb (five_bits high) 31 (λ e. omega arith) in
+    let text : decimal128_text low high ≡ sign_text s ++ decimal128_size low high = rw not_nan in
+    let means : numeric_of (decimal128_text low high) ≡ number s (scaled c b 0) = ap numeric_of text ∙ numeric_is s (decimal128_size low high) c b (finite_text low high five few) in
+    let bits = read_only s c b r few (exponent_below high five) (subst (λ n. IsRead n r) means is) in
+    let lower : c % 2 ^ 64 ≡ low = omega arith in
+    bits ∙ (λ i. Ok (lower i, high_is low high l h i))
+
+special_read : (low high : ℕ) (r : Result (ℕ × ℕ) TextFault) → low ≡ 0 → (high ≡ 0x7C00_0000_0000_0000) ⊎ ((high ≡ 0x7800_0000_0000_0000) ⊎ (high ≡ 0xF800_0000_0000_0000))
+    → IsRead (numeric_of (decimal128_text low high)) r → r ≡ Ok (low, high)
+unfolding decimal128_text decimal128_size scan_numeral
+special_read low high r none (inl e) is =
+    let is2 : IsRead (numeric_of (decimal128_text 0 0x7C00_0000_0000_0000)) r = subst (λ (n : ℕ). IsRead (numeric_of (decimal128_text 0 n)) r) e (subst (λ (n : ℕ). IsRead (numeric_of (decimal128_text n high)) r) none is) in
+    is2 ∙ (λ i. Ok (sym none i, sym e i))
+special_read low high r none (inr (inl e)) is =
+    let is2 : IsRead (numeric_of (decimal128_text 0 0x7800_0000_0000_0000)) r = subst (λ (n : ℕ). IsRead (numeric_of (decimal128_text 0 n)) r) e (subst (λ (n : ℕ). IsRead (numeric_of (decimal128_text n high)) r) none is) in
+    is2 ∙ (λ i. Ok (sym none i, sym e i))
+special_read low high r none (inr (inr e)) is =
+    let is2 : IsRead (numeric_of (decimal128_text 0 0xF800_0000_0000_0000)) r = subst (λ (n : ℕ). IsRead (numeric_of (decimal128_text 0 n)) r) e (subst (λ (n : ℕ). IsRead (numeric_of (decimal128_text n high)) r) none is) in
+    is2 ∙ (λ i. Ok (sym none i, sym e i))
+
+pub decimal_read : (low high : ℕ) (r : Result (ℕ × ℕ) TextFault) → low < 2 ^ 64 → high < 2 ^ 64 → IsCanonical low high → IsRead (numeric_of (decimal128_text low high)) r → r ≡ Ok (low, high)
+decimal_read low high r l h (inl finite) is = finite_read low high r l h finite.0 finite.1 is
+decimal_read low high r l h (inr special) is = special_read low high r special.0 special.1 is

@@ -1,0 +1,5 @@
+pub mod DecimalTextLemmas
+pub mod DoubleLemmas
+pub mod TenLemmas
+pub mod DecimalLemmas
+pub mod ScanLemmas

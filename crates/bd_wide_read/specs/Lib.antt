@@ -1,0 +1,4 @@
+pub mod DecimalText
+pub mod DoubleText
+pub mod JsonNumber
+pub mod inside

@@ -1,0 +1,14 @@
+//! Texts of numbers, and what they are read as, and lines with other values for their numbers. The expected bits and texts are
+//! worked by hand, by IEEE 754 and by the rules of `bd_wide_substitute`.
+#![tactic(auto)]
+
+#[cfg(test)]
+mod decimals;
+#[cfg(test)]
+mod doubles;
+#[cfg(test)]
+mod examples;
+#[cfg(test)]
+mod mix;
+#[cfg(test)]
+mod substitute;

@@ -1,0 +1,2 @@
+pub mod Substitutes
+pub mod inside

@@ -1,0 +1,29 @@
+//! A text of Extended JSON with values of the same length in place of its doubles and decimal128.
+//!
+//! A double is a bare number with a fraction or an exponent, or `{"$numberDouble":T}`; a decimal128 is `{"$numberDecimal":T}`.
+//! In one text each is a whole number, in another an empty string. Only blanks follow, up to the same length, so every other byte
+//! of the text has its offset, and so has each fault. If a document is read of both texts, each value in which they differ is one
+//! of the numbers, in order; and a number that is no value, as in a date, is refused in one of them. What is not spelled as a
+//! number stays, and is refused in both.
+//!
+//! What the two texts are: `specs/Substitutes.antt`.
+//!
+//! An example, which `bd_wide_read_tests` proves and runs as `examples::substituted`:
+//!
+//! ```
+//! let made = substitute(alloc, b"[1.5,2]")?;
+//! assert!(rt; made.wholes.as_slice() == b"[0  ,2]".as_slice());
+//! assert!(rt; made.texts.as_slice() == b"[\"\" ,2]".as_slice());
+//! assert!(rt; made.numbers.len() == 1);
+//! ```
+//!
+//! - `scan`: `substitute`, from the start of a text to its end.
+//! - `wrapped`: the wrappers of numbers.
+//! - `blank`: the parts of a text that are skipped.
+#![tactic(auto)]
+
+mod blank;
+mod scan;
+mod wrapped;
+
+pub use scan::{Substituted, substitute};
