@@ -1,5 +1,5 @@
 #!/usr/bin/env python3
-"""Runs ./bsonfind over inputs and outputs that fail, each read and each write in turn.
+"""Runs ./bsonfind and ./bsonwide over inputs and outputs that fail, each read and each write in turn.
 
 usage: tests/faults/devices.py     The last line is 'N passed, M failed'.
 
@@ -30,7 +30,25 @@ from typing import NamedTuple
 sys.path.insert(0, str(Path(__file__).resolve().parents[1]))
 
 from failing import PATIENCE, PIPE, PROGRAM, Failing, Ran, Tests, await_stop, main
-from growths import BAD, BINARY, DOUBLE, FIVE, FIVE_DUMP, INT32, INT32_LINE, INT64, SEVERAL, STARVED, TALK, USAGE, counted, frames, lines
+from growths import (
+    BAD,
+    BINARY,
+    DOUBLE,
+    DOUBLE_LINE,
+    FIVE,
+    FIVE_DUMP,
+    INT32,
+    INT32_LINE,
+    INT64,
+    SEVERAL,
+    STARVED,
+    TALK,
+    USAGE,
+    WRAPPED,
+    counted,
+    frames,
+    lines,
+)
 from model.answers import Dump, digest, token_of
 from model.sessions import Session, request_text
 from model.texts import read_document
@@ -73,6 +91,10 @@ def checked(parts: list[Part], given: int) -> Ran:
     return Ran(1, shown(read), UNREAD + b"%d documents, %d faulty\n" % (len(read), sum(text != b"" for _, text in read)))
 
 
+def wrapped(parts: list[Part], given: int) -> Ran:
+    return Ran(1, shown(whole(parts, given)), UNREAD)
+
+
 def untouched(_: int) -> Ran:
     """Of an input that is read whole before anything is written."""
     return Ran(1, b"", UNREAD)
@@ -87,6 +109,7 @@ class Case(NamedTuple):
     answer: Ran
     unread: Callable[[int], Ran] = untouched
     commands: bytes = b""
+    program: str = "bsonfind"
 
 
 DUMP = [(INT32, INT32_LINE.encode()), (b"\5\0\0\0\0", b"{}\n"), (BINARY, b'{"x":{"$binary":{"base64":"//8=","subType":"02"}}}\n')]
@@ -100,6 +123,16 @@ SMALL = [
     Case("pack", ["pack", FILE], joined(PACK), Ran(0, shown(PACK), b"3 objects packed\n")),
     Case("find", ["find", FILE, "--sort", '{"a":1}', "--index", "a"], FIVE_DUMP, Ran(0, shown(FIVE), counted(5, "end", 4, FIVE_DUMP, sort='{"a":1}').encode())),
     Case("serve", ["serve", FILE], SEVERAL, Ran(0, shown(SESSION), b""), commands=joined(SESSION)),
+]
+
+WIDE_DUMP = [(DOUBLE, DOUBLE_LINE.encode()), *DUMP]
+WIDE_CHECK = [(DOUBLE, b""), (INT32, b""), (BAD, b'document 2, byte 52, path "a.0.1": bad boolean\n')]
+WRAP = [(DOUBLE, WRAPPED), (INT32, INT32)]
+
+WIDE = [
+    Case("bsonwide, dump", ["dump", FILE], joined(WIDE_DUMP), Ran(0, shown(WIDE_DUMP), b"4 objects found\n"), partial(dumped, WIDE_DUMP), program="bsonwide"),
+    Case("bsonwide, check", ["check", FILE], joined(WIDE_CHECK), Ran(1, shown(WIDE_CHECK), b"3 documents, 1 faulty\n"), partial(checked, WIDE_CHECK), program="bsonwide"),
+    Case("bsonwide, wrap", ["wrap", FILE], joined(WRAP), Ran(0, shown(WRAP), b""), partial(wrapped, WRAP), program="bsonwide"),
 ]
 
 # What is told on standard error, alone and beside lines, and the usage.
@@ -148,6 +181,16 @@ class Way(NamedTuple):
     stdin: bytes | Path
     pipe: bytes
     descriptor: int
+    program: str = "bsonfind"
+
+    @property
+    def path(self) -> Path:
+        """Its program."""
+        return ROOT / self.program
+
+    def tells(self, ran: Ran) -> Ran:
+        """What `bsonfind` tells as its program does."""
+        return ran._replace(err=ran.err.replace(b"bsonfind: ", b"%s: " % self.program.encode()))
 
 
 def named(case: Case, name: str) -> list[str]:
@@ -156,15 +199,16 @@ def named(case: Case, name: str) -> list[str]:
 
 def of_file(failing: Failing, case: Case) -> Way:
     (failing.room / f"{case.name}.input").write_bytes(case.data)
-    return Way("a file", named(case, f"{case.name}.input"), case.commands, b"", 3)
+    return Way("a file", named(case, f"{case.name}.input"), case.commands, b"", 3, case.program)
 
 
 def ways(failing: Failing, case: Case) -> list[Way]:
-    by_name = [of_file(failing, case), Way("a pipe with a name", named(case, PIPE), case.commands, case.data, 3)]
+    by_name = [of_file(failing, case), Way("a pipe with a name", named(case, PIPE), case.commands, case.data, 3, case.program)]
     if case.words[0] == "serve":
         return by_name
     file = failing.room / f"{case.name}.input"
-    return [*by_name, Way("a file as standard input", named(case, "-"), file, b"", 0), Way("a pipe", named(case, "-"), case.data, b"", 0)]
+    stream = named(case, "-")
+    return [*by_name, Way("a file as standard input", stream, file, b"", 0, case.program), Way("a pipe", stream, case.data, b"", 0, case.program)]
 
 
 def judge(tests: Tests, name: str, results: list[str], least: int, most: int | None = None) -> None:
@@ -177,7 +221,7 @@ def judge(tests: Tests, name: str, results: list[str], least: int, most: int | N
 def wrong_read(failing: Failing, way: Way, unread: Callable[[int], Ran], size: int, read: int) -> str | None:
     """What is wrong where a read fails, if anything; None where there are not so many reads."""
     error = READ_ERRORS[read % len(READ_ERRORS)]
-    ran, counts = failing.run(way.words, way.stdin, way.pipe, input=way.descriptor, read=read, error=error, single=size)
+    ran, counts = failing.run(way.words, way.stdin, way.pipe, way.path, input=way.descriptor, read=read, error=error, single=size)
     reads, given = counts.reads[way.descriptor], counts.given[way.descriptor]
     if reads < read:
         return None
@@ -187,16 +231,16 @@ def wrong_read(failing: Failing, way: Way, unread: Callable[[int], Ran], size: i
         return f"it reads standard input after read {read}"
     if size == SINGLE and given != read - 1:
         return f"{given} bytes before read {read}"
-    return "" if ran == unread(given) else f"read {read}: {ran}"
+    return "" if ran == way.tells(unread(given)) else f"read {read}: {ran}"
 
 
 def test_reads(tests: Tests, failing: Failing) -> None:
-    for case in SMALL + LARGE:
+    for case in SMALL + WIDE + LARGE:
         for way in ways(failing, case):
             name = f"{case.name}, each read of {way.name} fails"
             # One is of the bytes, and one of the end.
             judge(tests, name, failing.each(partial(wrong_read, failing, way, case.unread, BLOCKS)), 2)
-            if case in SMALL:
+            if case not in LARGE:
                 results = failing.each(partial(wrong_read, failing, way, case.unread, SINGLE))
                 judge(tests, f"{name}, byte by byte", results, len(case.data) + 1, len(case.data) + 1)
 
@@ -219,7 +263,7 @@ def test_commands(tests: Tests, failing: Failing) -> None:
 
 def wrong_write(failing: Failing, way: Way, answer: Ran, descriptor: int, size: int, error: int, write: int) -> str | None:
     """What is wrong where a write fails, if anything; None where there are not so many writes."""
-    ran, counts = failing.run(way.words, way.stdin, output=descriptor, write=write, error=error, single=size)
+    ran, counts = failing.run(way.words, way.stdin, program=way.path, output=descriptor, write=write, error=error, single=size)
     writes, taken = counts.writes[descriptor], counts.taken[descriptor]
     if writes < write:
         return None
@@ -228,11 +272,11 @@ def wrong_write(failing: Failing, way: Way, answer: Ran, descriptor: int, size: 
     if size == SINGLE and taken != write - 1:
         return f"{taken} bytes before write {write}"
     wanted = Ran(1, answer.out[:taken], UNWRITTEN) if descriptor == 1 else Ran(1, answer.out, answer.err[:taken])
-    return "" if ran == wanted else f"write {write}, error {error}: {ran}"
+    return "" if ran == way.tells(wanted) else f"write {write}, error {error}: {ran}"
 
 
 def test_writes(tests: Tests, failing: Failing) -> None:
-    for case in SMALL + TOLD + LARGE:
+    for case in SMALL + WIDE + TOLD + LARGE:
         way = of_file(failing, case)
         for descriptor, stream, text in ((1, "output", case.answer.out), (2, "error", case.answer.err)):
             name = f"{case.name}, each write to standard {stream} fails"
@@ -247,13 +291,13 @@ def test_writes(tests: Tests, failing: Failing) -> None:
 
 
 def wrong_whole(failing: Failing, case: Case, way: Way, size: int) -> str:
-    ran, _ = failing.run(way.words, way.stdin, way.pipe, single=size)
+    ran, _ = failing.run(way.words, way.stdin, way.pipe, way.path, single=size)
     return "" if ran == case.answer else str(ran)
 
 
 def test_whole(tests: Tests, failing: Failing) -> None:
     """A byte a read and a byte a write, and both as they come."""
-    each = [(case, way, size) for case in SMALL + LARGE for way in ways(failing, case) for size in (BLOCKS, SINGLE)]
+    each = [(case, way, size) for case in SMALL + WIDE + LARGE for way in ways(failing, case) for size in (BLOCKS, SINGLE)]
     each += [(case, of_file(failing, case), size) for case in TOLD for size in (BLOCKS, SINGLE)]
     for (case, way, size), wrong in zip(each, failing.pool.map(lambda it: wrong_whole(failing, *it), each)):
         tests.want(f"{case.name} of {way.name}{', byte by byte' if size == SINGLE else ''}", not wrong, wrong)
@@ -388,26 +432,26 @@ def direct(failing: Failing, words: list[object], commands: bytes = b"", **strea
     return Ran(run.returncode, run.stdout or b"", run.stderr or b"")
 
 
-def shut(redirections: str) -> list[object]:
+def shut(redirections: str, program: Path = PROGRAM) -> list[object]:
     """Before the words of a run: which descriptors are closed."""
-    return ["sh", "-c", f'exec "$0" "$@" {redirections}', PROGRAM]
+    return ["sh", "-c", f'exec "$0" "$@" {redirections}', program]
 
 
 def test_closed(tests: Tests, failing: Failing) -> None:
     """Outputs whose reader is gone, and descriptors that are closed. No signal ends a run, and nothing is written to its file."""
     ours, gone = os.pipe()
     os.close(ours)
-    for case in SMALL + TOLD + LARGE:
+    for case in SMALL + WIDE + TOLD + LARGE:
         way, (status, out, err) = of_file(failing, case), case.answer
         for name, redirections, streams, wanted in (
             ("output", ">&-", {"stdout": gone}, Ran(1, b"", UNWRITTEN) if out else case.answer),
             ("error", "2>&-", {"stderr": gone}, Ran(1, out, b"") if err else case.answer),
             ("output and error", ">&- 2>&-", {"stdout": gone, "stderr": gone}, Ran(1, b"", b"")),
         ):
-            ran = direct(failing, [PROGRAM, *way.words], case.commands, **streams)
-            tests.want(f"{case.name}, no one reads standard {name}", ran == wanted, ran)
-            ran = direct(failing, shut(redirections) + way.words, case.commands)
-            tests.want(f"{case.name}, closed standard {name}", ran == wanted, ran)
+            ran = direct(failing, [way.path, *way.words], case.commands, **streams)
+            tests.want(f"{case.name}, no one reads standard {name}", ran == way.tells(wanted), ran)
+            ran = direct(failing, shut(redirections, way.path) + way.words, case.commands)
+            tests.want(f"{case.name}, closed standard {name}", ran == way.tells(wanted), ran)
         if FILE in case.words:
             tests.want(f"{case.name}, its file", (failing.room / way.words[1]).read_bytes() == case.data)
     os.close(gone)

@@ -1,4 +1,4 @@
-"""Runs ./bsonfind over tests/faults/failing.c, by which growths of memory, reads and writes fail.
+"""Runs ./bsonfind and ./bsonwide over tests/faults/failing.c, by which growths of memory, reads and writes fail.
 
 For tests/faults/growths.py and tests/faults/devices.py. Where there is no C compiler there is no library, and their tests are passed over.
 """
@@ -100,7 +100,9 @@ class Failing:
                 self.free.put((file, mmap.mmap(opened.fileno(), LAYOUT.size)))
 
     @contextmanager
-    def started(self, words: Iterable[str], stdin: bytes | Path = b"", pipe: bytes = b"", **how: int) -> Iterator[tuple[subprocess.Popen, Callable[[], Counts]]]:
+    def started(
+        self, words: Iterable[str], stdin: bytes | Path = b"", pipe: bytes = b"", program: Path = PROGRAM, **how: int
+    ) -> Iterator[tuple[subprocess.Popen, Callable[[], Counts]]]:
         """A run, with its counts so far. Standard input is a pipe or a file, and PIPE the name of a pipe that has these bytes.
 
         Of a word as growth=3 the library is told by the environment.
@@ -124,15 +126,15 @@ class Failing:
                 closing.callback(os.close, handed[0])
                 words = [f"/dev/fd/{handed[0]}" if word == PIPE else word for word in words]
             run = subprocess.Popen(
-                [PROGRAM, *words], cwd=self.room, env=env, stdin=source, stdout=subprocess.PIPE, stderr=subprocess.PIPE, pass_fds=handed
+                [program, *words], cwd=self.room, env=env, stdin=source, stdout=subprocess.PIPE, stderr=subprocess.PIPE, pass_fds=handed
             )
             closing.callback(run.communicate)
             closing.callback(run.kill)
             yield run, told
 
-    def run(self, words: Iterable[str], stdin: bytes | Path = b"", pipe: bytes = b"", **how: int) -> tuple[Ran, Counts]:
+    def run(self, words: Iterable[str], stdin: bytes | Path = b"", pipe: bytes = b"", program: Path = PROGRAM, **how: int) -> tuple[Ran, Counts]:
         """A run to its end."""
-        with self.started(words, stdin, pipe, **how) as (run, told):
+        with self.started(words, stdin, pipe, program, **how) as (run, told):
             out, err = run.communicate(timeout=PATIENCE)
             counts = told()
         if not counts.ready:

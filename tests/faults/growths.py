@@ -1,11 +1,11 @@
 #!/usr/bin/env python3
-"""Runs ./bsonfind with each growth of its memory refused in turn: alone, and with all that come after it.
+"""Runs ./bsonfind and ./bsonwide with each growth of their memory refused in turn: alone, and with all that come after it.
 
 usage: tests/faults/growths.py     The last line is 'N passed, M failed'.
 
 The inputs and the whole answers are written by hand, or are those of examples/; tests/program/tokens.py makes tokens. With a growth
-refused a run gives the whole answer, where it does without; else it writes lines of it from the front (`pack` documents), tells
-`bsonfind: no memory` and nothing else, and has status 1.
+refused a run gives the whole answer, where it does without; else it writes lines of it from the front (`pack`, `wrap` and `order` documents),
+tells `bsonfind: no memory`, or the same of `bsonwide`, and nothing else, and has status 1.
 """
 
 import sys
@@ -17,7 +17,7 @@ from typing import NamedTuple
 
 sys.path.insert(0, str(Path(__file__).resolve().parents[1]))
 
-from failing import Failing, Ran, Tests, main
+from failing import Counts, Failing, Ran, Tests, main
 from model.answers import digest, token_of
 from model.sessions import request_text
 from support import ROOT
@@ -30,12 +30,22 @@ usage: bsonfind dump FILE
        bsonfind find FILE [--query Q] [--sort S] [--skip N] [--limit N] [--batch N] [--index PATH] [--after TOKEN]
        bsonfind serve FILE
 """
+WIDE_USAGE = """\
+usage: bsonwide dump FILE
+       bsonwide check FILE
+       bsonwide wrap FILE
+       bsonwide order FILE [PATH..]
+"""
 
 INT32 = bytes.fromhex("0c000000 10 6100 01000000 00")
 INT32_LINE = '{"a":{"$numberInt":"1"}}\n'
 INT64 = bytes.fromhex("10000000 12 6100 0000008000000000 00")
 BINARY = bytes.fromhex("13000000 05 7800 06000000 02 02000000 ffff 00")
 DOUBLE = bytes.fromhex("10000000 01 6400 000000000000f03f 00")
+DOUBLE_LINE = '{"d":{"$numberDouble":"1.0"}}\n'
+# {"d":{"$numberDouble":"1.0"}}, a document, and {"~n":0,"d":1} of two int64.
+WRAPPED = bytes.fromhex("24000000 03 6400 1c000000 02 246e756d626572446f75626c6500 04000000 312e3000 00 00")
+ORDERED = bytes.fromhex("1c000000 12 7e6e00 0000000000000000 12 6400 0100000000000000 00")
 # The second element of an array in an array is a boolean of 2.
 BAD = bytes.fromhex("1c000000 04 6100 14000000 04 3000 0c000000 0a 3000 08 3100 02 00 00 00")
 FIVE = [
@@ -104,14 +114,19 @@ class Run(NamedTuple):
     pieces: list[bytes]
     err: str
     status: int = 0
+    program: str = "bsonfind"
 
     def whole(self) -> Ran:
         return Ran(self.status, b"".join(self.pieces), self.err.encode())
 
+    def on(self, failing: Failing, **how: int) -> tuple[Ran, Counts]:
+        """A run to its end."""
+        return failing.run(self.words, self.stdin, program=ROOT / self.program, **how)
+
     def is_cut(self, ran: Ran) -> bool:
         """Whether it ended because memory ran out as it should."""
         is_front = self.whole().out.startswith(ran.out) and len(ran.out) in accumulate(map(len, self.pieces), initial=0)
-        return is_front and (ran.status, ran.err) == (1, STARVED)
+        return is_front and (ran.status, ran.err) == (1, STARVED.replace(b"bsonfind", self.program.encode()))
 
 
 def lines(text: str) -> list[bytes]:
@@ -141,6 +156,27 @@ def found(name: str, options: list[str], places: list[int], end: str = "end", gi
 def talk(name: str, dump: str, text: str) -> Run:
     """A session, of commands with their replies."""
     return Run(f"serve, {name}", ["serve", dump], b"".join(lines(text)[::2]), lines(text)[1::2], "")
+
+
+def wide(name: str, words: list[str], stdin: bytes, pieces: list[bytes], err: str, status: int = 0) -> Run:
+    """A run of `bsonwide`."""
+    return Run(f"bsonwide, {name}", words, stdin, pieces, err, status, "bsonwide")
+
+
+def wide_runs() -> list[Run]:
+    orders = list(frames((ROOT / "examples/shop.bson").read_bytes()))[:8]
+    order_lines = (ROOT / "examples/shop.jsonl").read_bytes().splitlines(keepends=True)[:8]
+    fault = 'document 1, byte 40, path "a.0.1": bad boolean\n'
+    return [
+        wide("dump", ["dump", "-"], DOUBLE + INT32, lines(DOUBLE_LINE + INT32_LINE), "2 objects found\n"),
+        wide("dump of orders", ["dump", "-"], b"".join(orders), order_lines, "8 objects found\n"),
+        wide("dump with a fault", ["dump", "-"], DOUBLE + BAD, lines(DOUBLE_LINE), f"bsonwide: {fault}1 objects found\n", 1),
+        wide("check", ["check", "-"], DOUBLE + BAD + INT32, lines(fault), "3 documents, 1 faulty\n", 1),
+        wide("wrap", ["wrap", "-"], DOUBLE + INT32, [WRAPPED, INT32], ""),
+        wide("order", ["order", "-"], DOUBLE, [ORDERED], ""),
+        wide("no words", [], b"", [], WIDE_USAGE, 2),
+        wide("--help", ["--help"], b"", [WIDE_USAGE.encode()], ""),
+    ]
 
 
 def runs(failing: Failing) -> list[Run]:
@@ -212,13 +248,13 @@ def runs(failing: Failing) -> list[Run]:
 
 def refused(failing: Failing, run: Run, onward: int, growth: int) -> Ran | None:
     """The answer with a growth refused; None where there are not so many."""
-    ran, counts = failing.run(run.words, run.stdin, growth=growth, onward=onward)
+    ran, counts = run.on(failing, growth=growth, onward=onward)
     return ran if counts.refused else None
 
 
 def test_growths(tests: Tests, failing: Failing) -> None:
-    for run in runs(failing):
-        ran, counts = failing.run(run.words, run.stdin)
+    for run in runs(failing) + wide_runs():
+        ran, counts = run.on(failing)
         tests.want(f"{run.name}, the whole", ran == run.whole(), ran)
         for onward, what in ((0, "alone"), (1, "with all after it")):
             answers = failing.each(partial(refused, failing, run, onward))
