@@ -1,6 +1,8 @@
 # make            builds the programs, ./bsonfind and ./bsonwide; with ANEW=1 from nothing, whatever was proved before
 # make look       prints the documents of FILE, examples/shop.bson without it, by the program as it stands, with no proof
 # make test       passes all tests
+# make quick      passes what needs no proof, over the programs that are built or installed, in a few minutes
+# make lint       looks at scripts and pages by mypy, pyflakes, shellcheck and man; what is missing is named
 # make edits      tries wrong bodies, of CRATE alone where it is given, on all processors but one: the proofs must refuse each
 # make reference  writes docs/REFERENCE.md from the sources
 # make bench      times the commands over a dump of MB megabytes, 20 without it, of documents of a KIND, mixed without it, and draws docs/performance.svg; of several MB how cost grows
@@ -29,7 +31,7 @@ FISH = $(SHARE)/fish/vendor_completions.d
 PACKAGE = $(DESTDIR)$(shell $(PYTHON) tools/packages.py "$(PREFIX)")/bsonfind
 MODULES = python/bsonfind/*.py python/bsonfind/py.typed python/bsonfind/VERSION
 
-.PHONY: all build look test edits reference bench install uninstall deb dist clean
+.PHONY: all build look test quick lint edits reference bench install uninstall deb dist clean
 
 all: build
 
@@ -50,6 +52,12 @@ bsonwide: | bsonfind
 
 test:
 	@tests/all.sh
+
+quick:
+	@tests/quick.py
+
+lint:
+	@tests/lint.sh
 
 edits:
 	@tests/edits.sh $(CRATE)

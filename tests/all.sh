@@ -4,6 +4,8 @@
 # last line. The status is 0 where nothing failed.
 set -u
 cd "$(dirname "$0")/.." || exit 1
+# The programs that the gate builds are tested, and no others.
+unset BSONFIND BSONWIDE
 log=$(mktemp) || exit 1
 trap 'rm -f "$log"' EXIT
 passed=0

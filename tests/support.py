@@ -1,9 +1,11 @@
 """What the tests share: where the repository and its program are, and counts of what passed."""
 
+import os
 from pathlib import Path
 
 ROOT = Path(__file__).resolve().parent.parent
-PROGRAM = ROOT / "bsonfind"
+# ./bsonfind, or the program of BSONFIND. `bsonwide` stands beside it.
+PROGRAM = Path(os.environ.get("BSONFIND") or ROOT / "bsonfind").absolute()
 
 
 class Tests:

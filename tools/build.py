@@ -94,8 +94,9 @@ def keeps() -> bool:
 def prove(room: str, count: int, anew: bool) -> int:
     """Prove the crates of a repository and build its programs; print a line a crate; return the status."""
     started, done, proved, said = time.monotonic(), 0, 0, []
-    how = {"stdin": subprocess.DEVNULL, "stdout": subprocess.PIPE, "stderr": subprocess.STDOUT}
-    with subprocess.Popen(["rt", "ci", *(["--anew"] if anew and keeps() else [])], cwd=room, text=True, errors="replace", **how) as run:
+    words = ["rt", "ci", *(["--anew"] if anew and keeps() else [])]
+    none, pipe = subprocess.DEVNULL, subprocess.PIPE
+    with subprocess.Popen(words, cwd=room, stdin=none, stdout=pipe, stderr=subprocess.STDOUT, text=True, errors="replace") as run:
         meter = Meter(run.pid)
         try:
             for line in run.stdout or ():

@@ -105,7 +105,7 @@ def debian_changelog(maintainer: str) -> str:
 def make_deb(number: str, time: int, stage: Path) -> Path:
     """Make the package of Debian from the files that are installed below a folder."""
     template = (PACKAGING / "control").read_text(encoding="utf-8")
-    maintainer = re.search(r"^Maintainer: (.*)$", template, re.MULTILINE)[1]
+    maintainer, = re.findall(r"^Maintainer: (.*)$", template, re.MULTILINE)
     for name, debian in DEBIAN_NAMES.items():
         (stage / debian).parent.mkdir(exist_ok=True)
         (stage / name).rename(stage / debian)

@@ -135,27 +135,27 @@ def definitions(folder: str) -> dict[str, Definition]:
 
 
 def end_of(text: str, at: int) -> int:
-    """Return the offset of the brace that closes the one before an offset."""
+    """Return the offset of the brace that closes the one before an offset, the end of the text without one."""
     depth = 1
-    while depth:
-        found = re.compile(r'"(?:\\.|[^"\\])*"|[{}]').search(text, at)
+    for found in re.compile(r'"(?:\\.|[^"\\])*"|[{}]').finditer(text, at):
         depth += {"{": 1, "}": -1}.get(found[0], 0)
-        at = found.end()
-    return at - 1
+        if not depth:
+            return found.start()
+    return len(text)
 
 
 def contract_at(text: str, at: int) -> tuple[str, dict[str, str]]:
     """Return the head of a function, from its name on, and its clauses by their names, each after the comment above it."""
-    head = SIGNATURE.match(text, at)
-    at = head.end()
-    clauses = {}
+    found = SIGNATURE.match(text, at)
+    head, clauses = (found[0], {}) if found else ("", {})
+    at += len(head)
     while clause := CLAUSE.match(text, at):
         end = end_of(text, clause.end())
         name = (clause[3] or "ensures") if clause[1] == "ensures" else f"requires {clause[3] or ''}".rstrip()
         lines = [*re.findall("//.*", clause[0]), f"{name}{clause[2] or ''}: {text[clause.end() : end].strip()}"]
         clauses[name] = "\n".join(f"  {it}" for it in lines)
         at = end + 1
-    return re.sub(r"([(\[]) |,? (?=[)\]])", r"\1", " ".join(head[0].split())), clauses
+    return re.sub(r"([(\[]) |,? (?=[)\]])", r"\1", " ".join(head.split())), clauses
 
 
 def items(text: str) -> Iterator[Item]:
@@ -174,7 +174,8 @@ def items(text: str) -> Iterator[Item]:
         item = ITEM.match(line)
         if item and (item[1] or (by and item[2] == "fn") or (by == "trait" and item[2] == "ghost")):
             begin = start + item.start(3)
-            head, clauses = f"{item[2]} {re.match(r'[^{;=(]*', line[item.start(3) :])[0].strip()}", {}
+            clauses: dict[str, str] = {}
+            head = f"{item[2]} {re.split('[{;=(]', line[item.start(3) :])[0].strip()}"
             if item[2] == "fn":
                 head, clauses = contract_at(text, begin)
             elif item[2] == "ghost":
@@ -193,8 +194,8 @@ def code() -> dict[Path, list[Item]]:
         names = {name.strip() for one, more in exports for name in [one, *more.split(",")]}
         for file in files_of(root.parent.parent.name, "src/**/*.rt"):
             is_open = re.search(rf"^pub mod {file.stem};", text, re.M)
-            own = items(file.read_text(encoding="utf-8"))
-            found[file] = [it for it in own if is_open or (it.owner or it.name) in names]
+            here = items(file.read_text(encoding="utf-8"))
+            found[file] = [it for it in here if is_open or (it.owner or it.name) in names]
     given = {(it.owner, it.name): it.clauses for own in found.values() for it in own if it.by == "trait"}
     for file, own in found.items():
         beyond = (it._replace(clauses={k: v for k, v in it.clauses.items() if k not in given.get((it.by, it.name), ())}) for it in own)
@@ -261,9 +262,9 @@ def blocks(crate: str) -> Iterator[str]:
         yield "\n".join(lines)
     for file in files_of(crate, "src/**/*.rt"):
         lines = [f"[{file.name}](../{file.relative_to(ROOT)})", "```"]
-        for it in code().get(file, ()):
-            lines += [f"// {sentence(it.comment)}".rstrip(), f"{it.owner}::{it.head}" if it.owner else it.head]
-            lines += (re.sub(r"\n {5,}", "\n    ", text) for text in it.clauses.values())
+        for item in code().get(file, ()):
+            lines += [f"// {sentence(item.comment)}".rstrip(), f"{item.owner}::{item.head}" if item.owner else item.head]
+            lines += (re.sub(r"\n {5,}", "\n    ", text) for text in item.clauses.values())
         if len(lines) > 2:
             yield "\n".join([*lines, "```"])
 

@@ -1,5 +1,5 @@
 #!/usr/bin/env python3
-"""Compares the usage that ./bsonfind and ./bsonwide print with the synopses of their man pages and with their completions.
+"""Compares the usage that `bsonfind` and `bsonwide` print with the synopses of their man pages and with their completions.
 
 usage: tests/docs/usage.py     The last line is 'N passed, M failed'.
 
@@ -15,7 +15,7 @@ from pathlib import Path
 
 sys.path.insert(0, str(Path(__file__).resolve().parents[1]))
 
-from support import ROOT, Tests
+from support import PROGRAM, ROOT, Tests
 
 PROGRAMS = ("bsonfind", "bsonwide")
 # Of each completion the lines, or the parts, that offer commands and options, and these in them.
@@ -28,7 +28,7 @@ COMPLETIONS = {
 
 def lines_of_usage(program: str) -> list[str]:
     """The command lines of the usage, each on one line without the name of the program."""
-    text = subprocess.run([ROOT / program, "--help"], capture_output=True, text=True, check=True).stdout
+    text = subprocess.run([PROGRAM.with_name(program), "--help"], capture_output=True, text=True, check=True).stdout
     return [" ".join(it.split()) for it in re.split(rf"^(?:usage:)?\s+{program} ", text, flags=re.MULTILINE) if it]
 
 

@@ -442,7 +442,7 @@ def test_closed(tests: Tests, failing: Failing) -> None:
     ours, gone = os.pipe()
     os.close(ours)
     for case in SMALL + WIDE + TOLD + LARGE:
-        way, (status, out, err) = of_file(failing, case), case.answer
+        way, (_, out, err) = of_file(failing, case), case.answer
         for name, redirections, streams, wanted in (
             ("output", ">&-", {"stdout": gone}, Ran(1, b"", UNWRITTEN) if out else case.answer),
             ("error", "2>&-", {"stderr": gone}, Ran(1, out, b"") if err else case.answer),

@@ -23,7 +23,7 @@ sys.path.insert(0, str(Path(__file__).resolve().parents[1]))
 
 from model.answers import LEVELS, BadFilter, check_filter
 from model.texts import read_document
-from support import PROGRAM, ROOT
+from support import PROGRAM
 
 STACK = 1 << 20
 SECONDS = 300  # of processor time; then a signal ends the run

@@ -190,7 +190,7 @@ class Inputs:
     def bent_token(self, token: str, documents: int) -> str:
         """A token that was given, or another one: of another place or count, with a bit changed, or of another form."""
         rng, data = self.rng, base64.b64decode(token)
-        given, last, tied = int.from_bytes(data[1:9], "little"), int.from_bytes(data[9:13], "little"), data[13:]
+        given, tied = int.from_bytes(data[1:9], "little"), data[13:]
         at = rng.randrange(45)
         changed = bytes(byte ^ (1 << rng.randrange(8)) if place == at else byte for place, byte in enumerate(data))
         return rng.choice([

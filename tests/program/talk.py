@@ -24,7 +24,7 @@ sys.path.insert(0, str(Path(__file__).resolve().parents[1]))
 
 from model.sessions import Find, Session
 from pages import DUMP, PEOPLE, REQUESTS
-from support import PROGRAM, ROOT, Tests
+from support import PROGRAM, Tests
 
 # How many seconds a reply may take.
 PATIENCE = 60.0

@@ -135,7 +135,6 @@ class Asking:
                         except DumpError as error:  # It would have numbers that are hidden.
                             self.note(f"dump {number}: index", error)
                 self.is_hidden = bool(session._questions._codes.hidden)
-                token = None
                 for turn in range(REQUESTS):
                     request, texts = self.request()
                     name = f"dump {number}, {texts}"
