@@ -25,15 +25,24 @@ HEAD = """\
 `make reference` writes this page from the sources. For each crate it has the files of definitions, with the definitions that
 public contracts cite, and the public functions with their clauses. A line below a function is a clause: its name, and what holds
 after the call; before it after `requires`; after `*` once the result is dropped. Of an argument `x` that is `&mut`, `x.old` is its
-value before the call and `x.new` after it. A function changes nothing else, except what a `RefCell` has. [PROVED.md](PROVED.md)
-has the laws in words, [ARCHITECTURE.md](ARCHITECTURE.md) draws the crates."""
+value before the call and `x.new` after it. A function changes nothing else, except what a `RefCell` has. After `by` stand the private
+functions of the crate that this one calls, and those that they call: each serves the clauses above it. So from any function there are
+two steps: look here for its name, and read up. A line such as `// Tree as Reading: kind` has methods of a type that serve the clauses
+of a trait. [PROVED.md](PROVED.md) has the laws in words, [ARCHITECTURE.md](ARCHITECTURE.md) draws the crates."""
 IMPORT = re.compile(r"^ *(?:pub |ghost )*use ([\w.]+?)(?:\.\{([^}]*)\}| as (\w+))?;?$", re.M)
 # The start of a definition, of a block of methods, of an item of code and of a clause; the rest of the head of a function.
 DEFINED = re.compile(r" *(?:abbrev |unfoldable )?pub (?!mod |use )(?:record |data )?([^\s:]+)")
 BLOCK = re.compile(r"(?:pub (trait)|impl) (?:([\w:]+) for )?&?(\w+)")
-ITEM = re.compile(r" *(pub )?(?:const |unsafe )*(fn|struct|enum|trait|const|type|ghost) (?!use |fn )(\w+)")
+ITEM = re.compile(r" *(?:(pub )|pub\(\w+\) )?(?:const |unsafe )*(fn|struct|enum|trait|const|type|ghost) (?!use |fn )(\w+)")
 CLAUSE = re.compile(r"(?:\s+//.*)*\s+(requires|ensures)(\*)?(?: (\w+))? \{")
+TOKEN = re.compile(r"""//.*|"(?:\\.|[^"\\])*"|'(?:\\.|[^'\\])'|[{}]""")
+CALL = re.compile(r"(?:(\.)|(\w+)(?:::<[^>]*>)?::)?\b([a-z_]\w*)\b(?=(?:::<[^()]*>)?(\()|\s*[,)])")
+BOUND = re.compile(r"\blet (?:mut )?(\w+)|\b(\w+): |[|,] ?(?:mut )?(\w+)(?=[,|])")
 SIGNATURE = re.compile(r"(?:\[[^\]]*\]|[^{;])*?(?=\s+(?://|(?:requires|ensures)\b)|\s*[{;])")
+
+
+# A function: its file, its type or trait, the trait that a type has it by, its name.
+Key = tuple[Path, str, str, str]
 
 
 class Definition(NamedTuple):
@@ -46,14 +55,17 @@ class Definition(NamedTuple):
 
 
 class Item(NamedTuple):
-    """A public item of code, a method of a type or trait (`owner`), or one that a type has by a trait (`by`)."""
+    """An item of code, a method of a type or trait (`owner`), or one that a type has by a trait (`by`)."""
 
     owner: str
     by: str
     name: str
+    is_public: bool
     comment: str
     head: str
     clauses: dict[str, str]
+    body: str
+
 
 
 def crates() -> Iterator[tuple[str, str]]:
@@ -137,15 +149,15 @@ def definitions(folder: str) -> dict[str, Definition]:
 def end_of(text: str, at: int) -> int:
     """Return the offset of the brace that closes the one before an offset, the end of the text without one."""
     depth = 1
-    for found in re.compile(r'"(?:\\.|[^"\\])*"|[{}]').finditer(text, at):
+    for found in TOKEN.finditer(text, at):
         depth += {"{": 1, "}": -1}.get(found[0], 0)
         if not depth:
             return found.start()
     return len(text)
 
 
-def contract_at(text: str, at: int) -> tuple[str, dict[str, str]]:
-    """Return the head of a function, from its name on, and its clauses by their names, each after the comment above it."""
+def contract_at(text: str, at: int) -> tuple[str, dict[str, str], str]:
+    """Return the head of a function, from its name on, its clauses by their names, each after the comment above it, and its body."""
     found = SIGNATURE.match(text, at)
     head, clauses = (found[0], {}) if found else ("", {})
     at += len(head)
@@ -155,11 +167,13 @@ def contract_at(text: str, at: int) -> tuple[str, dict[str, str]]:
         lines = [*re.findall("//.*", clause[0]), f"{name}{clause[2] or ''}: {text[clause.end() : end].strip()}"]
         clauses[name] = "\n".join(f"  {it}" for it in lines)
         at = end + 1
-    return re.sub(r"([(\[]) |,? (?=[)\]])", r"\1", " ".join(head.split())), clauses
+    begin = re.compile(r"\s*\{").match(text, at)
+    body = text[begin.end() : end_of(text, begin.end())] if begin else ""
+    return re.sub(r"([(\[]) |,? (?=[)\]])", r"\1", " ".join(head.split())), clauses, body
 
 
 def items(text: str) -> Iterator[Item]:
-    """Yield the public items of a file of code, the methods of its traits, and those of what implements traits."""
+    """Yield the items of a file of code, the methods of its traits, and those of what implements traits."""
     lines = text.splitlines()
     start = 0
     owner = by = ""
@@ -172,16 +186,23 @@ def items(text: str) -> Iterator[Item]:
         elif line.startswith("}"):
             owner = by = ""
         item = ITEM.match(line)
-        if item and (item[1] or (by and item[2] == "fn") or (by == "trait" and item[2] == "ghost")):
+        if item and (item[1] or item[2] == "fn" or (by == "trait" and item[2] == "ghost")):
             begin = start + item.start(3)
             clauses: dict[str, str] = {}
+            body = ""
             head = f"{item[2]} {re.split('[{;=(]', line[item.start(3) :])[0].strip()}"
             if item[2] == "fn":
-                head, clauses = contract_at(text, begin)
+                head, clauses, body = contract_at(text, begin)
             elif item[2] == "ghost":
                 head = " ".join(text[begin : end_of(text, text.index("{", begin) + 1) + 1].split())
-            yield Item("" if block else owner, by, item[3], comment_above(lines, at, "///"), head, clauses)
+            is_public = bool(item[1] or by)
+            yield Item("" if block else owner, by, item[3], is_public, comment_above(lines, at, "///"), head, clauses, body)
         start += len(line) + 1
+
+
+@cache
+def all_items(file: Path) -> list[Item]:
+    return list(items(file.read_text(encoding="utf-8")))
 
 
 @cache
@@ -194,8 +215,7 @@ def code() -> dict[Path, list[Item]]:
         names = {name.strip() for one, more in exports for name in [one, *more.split(",")]}
         for file in files_of(root.parent.parent.name, "src/**/*.rt"):
             is_open = re.search(rf"^pub mod {file.stem};", text, re.M)
-            here = items(file.read_text(encoding="utf-8"))
-            found[file] = [it for it in here if is_open or (it.owner or it.name) in names]
+            found[file] = [it for it in all_items(file) if it.is_public and (is_open or (it.owner or it.name) in names)]
     given = {(it.owner, it.name): it.clauses for own in found.values() for it in own if it.by == "trait"}
     for file, own in found.items():
         beyond = (it._replace(clauses={k: v for k, v in it.clauses.items() if k not in given.get((it.by, it.name), ())}) for it in own)
@@ -251,6 +271,71 @@ def users() -> Iterator[tuple[str, str]]:
             yield from ((path, crate) for path in cites(text, known_in(text)))
 
 
+def key_of(file: Path, item: Item) -> Key:
+    return file, item.owner, item.by, item.name
+
+
+@cache
+def functions(crate: str) -> dict[Key, Item]:
+    """Return the functions of a crate that have a body."""
+    return {key_of(file, it): it for file in files_of(crate, "src/**/*.rt") for it in all_items(file) if it.body}
+
+
+@cache
+def printed(crate: str) -> set[Key]:
+    """Return the functions of a crate that have lines of their own."""
+    return {key_of(file, it) for file, own in code().items() if file.parts[-3] == crate for it in own}
+
+
+@cache
+def private_traits(crate: str) -> set[str]:
+    """Return the traits of a crate that no other knows."""
+    texts = [it.read_text(encoding="utf-8") for it in files_of(crate, "src/**/*.rt")]
+    traits = {name for text in texts for name in re.findall(r"^(?:pub(?:\(crate\))? )?trait (\w+)", text, re.M)}
+    return traits - {owner for _, owner, by, _ in printed(crate) if by == "trait"}
+
+
+@cache
+def called_by(crate: str, key: Key) -> list[Key]:
+    """Return the functions of its crate that a function names, as calls or as values."""
+    item = functions(crate)[key]
+    text = TOKEN.sub(lambda it: it[0] if it[0] in "{}" else " ", item.body)
+    bound = {name for names in BOUND.findall(f"{item.head} {text}") for name in names}
+    named = set()
+    for dot, left, name, call in CALL.findall(text):
+        if call or name not in bound:
+            named.add((name, "." if dot else item.owner if left == "Self" else left if left[:1].isupper() else ""))
+    # A method of a trait that other crates know too may be that of any type.
+    open_to = ("", "trait", *private_traits(crate))
+    ways = {it: ({it[1], it[2], "." if it[2] in open_to else it[1]} if it[1] else {""}) for it in functions(crate) if it != key}
+    return [it for it in ways if any((it[3], way) in named for way in ways[it])]
+
+
+@cache
+def under(crate: str, key: Key) -> list[Key]:
+    """Return the functions without lines of their own that a function calls, and those that they call."""
+    found: list[Key] = []
+    fresh = [key]
+    while fresh:
+        more = [it for it in called_by(crate, fresh.pop(0)) if it != key and it not in found and it not in printed(crate)]
+        found += more
+        fresh += more
+    return found
+
+
+def by_line(crate: str, *keys: Key) -> list[str]:
+    """Return the line that names the functions under these, none where there are none."""
+    below = [it for key in keys if key in functions(crate) for it in under(crate, key)]
+    names = [f"{owner}::{name}" if owner else name for _, owner, _, name in below]
+    return [f"  by {', '.join(dict.fromkeys(names))}"] if names else []
+
+
+def others(crate: str) -> list[Key]:
+    """Return the functions that no public one calls: what a type has by a trait, for code above, and `main`."""
+    reached = {it for key in printed(crate) & functions(crate).keys() for it in under(crate, key)}
+    return [it for it in functions(crate) if it not in reached | printed(crate) and (it[2] or it[3] == "main")]
+
+
 def blocks(crate: str) -> Iterator[str]:
     """Yield the parts of the section of a crate: what it is, a list for each file of definitions, a block for each of code."""
     yield sentence(first_comment((files_of(crate, "src/lib.rt") or files_of(crate, "src/main.rt"))[0], "//!"))
@@ -265,13 +350,22 @@ def blocks(crate: str) -> Iterator[str]:
         for item in code().get(file, ()):
             lines += [f"// {sentence(item.comment)}".rstrip(), f"{item.owner}::{item.head}" if item.owner else item.head]
             lines += (re.sub(r"\n {5,}", "\n    ", text) for text in item.clauses.values())
+            lines += by_line(crate, key_of(file, item))
+        given = [it for it in others(crate) if it[0] == file]
+        for owner, by in dict.fromkeys(it[1:3] for it in given):
+            keys = [it for it in given if it[1:3] == (owner, by)]
+            names = ", ".join(it[3] for it in keys)
+            lines += [f"// {owner} as {by}: {names}" if owner else f"// {names}", *by_line(crate, *keys)]
         if len(lines) > 2:
             yield "\n".join([*lines, "```"])
 
 
 def page() -> str:
     """Return the page."""
-    parts = [HEAD]
+    families: dict[str, list[str]] = {}
+    for family, crate in crates():
+        families.setdefault(family, []).append(f"[{crate}](#{crate})")
+    parts = [HEAD, "\n".join(f"- {family}: {', '.join(names)}" for family, names in families.items())]
     last = ""
     for family, crate in crates():
         parts += [*([f"## {family}"] if family != last else []), f"### {crate}", *blocks(crate)]

@@ -4,7 +4,7 @@
 usage: tests/docs/reference.py     The last line is 'N passed, M failed'. It needs neither the program nor a proof.
 
 - docs/REFERENCE.md is current, and each line of it has its comment in the sources; so has each definition that it does not name,
-  and each lemma that more than one other file uses.
+  and each lemma that more than one other file uses. Each function stands there, or in the line `by` of one that does.
 - docs/PROVED.md names each law. What it has in backquotes is the name of a crate, function, type, clause or definition.
 - docs/ARCHITECTURE.md has each crate but those of tests, and no page but the changelog names a crate that does not exist.
 - `specs/inside/` has the definitions that only functions inside a crate cite, and no other. Proofs that a definition needs, such as
@@ -53,6 +53,15 @@ def comments() -> Iterator[tuple[bool, str]]:
     for _, name in reference.crates():
         found = [what for crate, what in lacking if crate == name]
         yield not found, f"{name}: without a comment: {', '.join(found)}"
+
+
+def functions() -> Iterator[tuple[bool, str]]:
+    for _, name in reference.crates():
+        shown = {*reference.printed(name), *reference.others(name)}
+        known = shown | {it for key in shown & reference.functions(name).keys() for it in reference.under(name, key)}
+        for file, owner, _, function in reference.functions(name).keys() - known:
+            yield False, f"{file.relative_to(ROOT)}: {owner} {function} is called by no function that docs/REFERENCE.md has"
+        yield True, name
 
 
 def proved() -> Iterator[tuple[bool, str]]:
@@ -118,7 +127,7 @@ def roots() -> Iterator[tuple[bool, str]]:
 def main() -> int:
     passed = failed = 0
     current = text_of(reference.PAGE) == reference.page()
-    for holds, message in ((current, "docs/REFERENCE.md is not current: make reference"), *comments(), *proved(), *crates(), *links(), *inside(), *roots()):
+    for holds, message in ((current, "docs/REFERENCE.md is not current: make reference"), *comments(), *functions(), *proved(), *crates(), *links(), *inside(), *roots()):
         if holds:
             passed += 1
         else:
