@@ -71,7 +71,7 @@ bench: bsonfind bsonwide
 install: bsonfind bsonwide
 	install -d "$(BIN)" "$(DOC)/docs" "$(DOC)/examples" "$(DOC)/python" "$(MAN)" "$(BASH)" "$(ZSH)" "$(FISH)"
 	install -m 755 bsonfind bsonwide "$(BIN)"
-	install -m 644 LICENSE CHANGELOG.md CONTRIBUTING.md README.md "$(DOC)"
+	install -m 644 LICENSE CHANGELOG.md CONTRIBUTING.md README.md SECURITY.md "$(DOC)"
 	install -m 644 docs/*.md docs/*.svg "$(DOC)/docs"
 	install -m 644 examples/* "$(DOC)/examples"
 	install -m 644 python/README.md "$(DOC)/python"
@@ -87,7 +87,7 @@ install: bsonfind bsonwide
 uninstall:
 	rm -f "$(BIN)/bsonfind" "$(MAN)/bsonfind.1" "$(BASH)/bsonfind" "$(ZSH)/_bsonfind" "$(FISH)/bsonfind.fish"
 	rm -f "$(BIN)/bsonwide" "$(MAN)/bsonwide.1" "$(BASH)/bsonwide" "$(ZSH)/_bsonwide" "$(FISH)/bsonwide.fish"
-	rm -f "$(DOC)/LICENSE" "$(DOC)/CHANGELOG.md" "$(DOC)/CONTRIBUTING.md" "$(DOC)/README.md" "$(DOC)/GUIDE.md"
+	rm -f "$(DOC)/LICENSE" "$(DOC)/CHANGELOG.md" "$(DOC)/CONTRIBUTING.md" "$(DOC)/README.md" "$(DOC)/SECURITY.md" "$(DOC)/GUIDE.md"
 	rm -rf "$(DOC)/docs" "$(DOC)/examples" "$(DOC)/python"
 	rmdir "$(DOC)" 2>/dev/null || true
 	if command -v $(PYTHON) >/dev/null; then rm -rf "$(PACKAGE)" "$(PACKAGE)-$(VERSION).dist-info"; fi
