@@ -274,12 +274,15 @@ def check(program: Program, row: Members) -> int:
     return 1
 
 
+def joined(parts: object) -> bytes:
+    """The bytes of a text, or of texts, of which those with a number are repeated; \\udcff in it is the byte ff."""
+    texts = parts if isinstance(parts, list) else [parts]
+    return "".join(it if isinstance(it, str) else it[0] * it[1] for it in texts).encode(errors="surrogateescape")
+
+
 def line_of(row: Members) -> bytes:
     """The line that a row of pack gives, by its text, its bytes or its parts."""
-    if "hex" in row:
-        return bytes_of(row, "hex")
-    parts = row.get("parts", [text_of(row.get("text"))])
-    return "".join(it if isinstance(it, str) else it[0] * it[1] for it in parts).encode()
+    return bytes_of(row, "hex") if "hex" in row else joined(row.get("parts", text_of(row.get("text"))))
 
 
 @one_by_one
@@ -305,7 +308,7 @@ def cut(program: Program, row: Members) -> int:
 @one_by_one
 def pack(program: Program, row: Members) -> int:
     """{"text":T,"bytes":HEX,"shown":D}: a line as the bytes of its document, and what dump prints of them (without "shown" the line
-    itself); or {"text":T,"fault":"byte 5: not in the profile"}, which is told of a query too. In place of "text", "hex" gives a
+    itself; "begins" are the first of many bytes); or {"text":T,"fault":"byte 5: not in the profile"}, which is told of a query too. In place of "text", "hex" gives a
     line by its bytes, and "parts":[T,[TIMES,T]..] by texts, of which those with a number are repeated."""
     line = line_of(row)
     ran = program.run("pack", "-", given=line + b"\n")
@@ -320,24 +323,37 @@ def pack(program: Program, row: Members) -> int:
     want((ran.returncode, ran.stderr), (0, b"1 objects packed\n"), "the end of pack")
     if "bytes" in row:
         want(ran.stdout.hex(), bytes_of(row, "bytes").hex(), "the bytes")
+    if "begins" in row:
+        begins = bytes_of(row, "begins")
+        want(ran.stdout[: len(begins)].hex(), begins.hex(), "the first bytes")
     shown = text_of(row.get("shown")) if "shown" in row else line.decode()
     want(program.run("dump", "-", given=ran.stdout).stdout.decode(), f"{shown}\n", "the document")
     return 1
 
 
+def dump_of(program: Program, row: Members, name: str = "dump") -> Path:
+    """The dump of a row: of its documents, of its "bytes", or "dump", a file of the repository."""
+    if "dump" in row:
+        return ROOT / str(row.get("dump"))
+    return program.file(bytes_of(row, "bytes"), name) if "bytes" in row else program.dump(row.get("documents", []), name)
+
+
 @one_by_one
 def run(program: Program, row: Members) -> int:
     """{"arguments":["find","FILE"..],"documents":[D..],"input":T,"status":0,"output":[LINE..],"error":[LINE..]}: a run; FILE among the
-    arguments is a dump of the documents, or of "bytes". Output that is a string is hexadecimal digits. "each" in place of
+    arguments is a dump of the documents, or of "bytes", or "dump" of the repository. Output that is a string is hexadecimal digits;
+    "same" names a file that it is. Input may have parts, as a line of pack; "hex" gives it by bytes. "each" in place of
     "arguments" is a list of them, which all end so; "file" is the name of the dump in the folder that the run is in."""
-    name = str(row.get("file", "dump"))
-    file = program.file(bytes_of(row, "bytes"), name) if "bytes" in row else program.dump(row.get("documents", []), name)
+    file = dump_of(program, row, str(row.get("file", "dump")))
+    given = bytes_of(row, "hex") if "hex" in row else joined(row.get("input", ""))
     output = row.get("output", [])
     wanted = "".join(f"{text_of(it)}\n" for it in output).encode() if isinstance(output, list) else bytes_of(row, "output")
+    if "same" in row:
+        wanted = Path(ROOT, str(row.get("same"))).read_bytes()
     lines = row.get("each", [row.get("arguments", [])])
     for line in lines:
         words = [file if it == "FILE" else it for it in line]
-        ran = program.run(*words, given=str(row.get("input", "")).encode(), folder=file.parent)
+        ran = program.run(*words, given=given, folder=None if "dump" in row else file.parent)
         want(ran.stdout, wanted, f"standard output of {line}")
         want(ran.stderr.decode(), "".join(f"{it}\n" for it in row.get("error", [])), f"standard error of {line}")
         want(ran.returncode, row.get("status", 0), f"the status of {line}")
@@ -401,6 +417,56 @@ def find(program: Program, rows: list[Row]) -> Came:
             yield place, len(told), wrong
 
 
+# The options of `find`, and the count of documents at which a token stays.
+OPTIONS = ("query", "sort", "skip", "limit", "batch", "index", "after")
+MOST_GIVEN = (1 << 64) - 1
+
+
+def searched(program: Program, dump: Path, shown: list[str], row: Members, paths: list[str]) -> int:
+    """Wants of `find` what a row of `search` says, without an index and by each of these."""
+    request = [text_of(row.get("query", "{}")), text_of(row.get("sort", "{}")), row.get("skip", 0), row.get("limit", 0)]
+
+    def token(given: int, last: int) -> str:
+        return token_of(min(given, MOST_GIVEN), last, digest(dump.read_bytes(), request_text(*request)))
+
+    words, given, last = [], 0, None
+    for name, value in (it for it in row if it[0] in OPTIONS):
+        if name == "after" and isinstance(value, list):
+            given, last = value
+            value = token(given, last)
+        words += [f"--{name}", text_of(value)]
+    if "refused" in row:
+        wanted = (1, "", f"bsonfind: {row.get('refused')}\n")
+    else:
+        found = row.get("found")
+        last = found[-1] if found else last
+        end = "end" if row.get("end", True) else "more"
+        told = f"{len(found)} documents, {end}" + ("" if last is None else f", token {token(given + len(found), last)}")
+        wanted = (0, "".join(f"{shown[it]}\n" for it in found), f"{told}\n")
+    for index in ["", *paths]:
+        ran = program.run("find", dump, *words, *([f"--index={index}"] if index else []))
+        want((ran.returncode, ran.stdout.decode(), ran.stderr.decode()), wanted, f"find {words} {index}")
+    return 1 + len(paths)
+
+
+def search(program: Program, rows: list[Row]) -> Came:
+    """{"documents":[D..],"indexes":[PATH..]} (or "bytes", or "dump" of the repository), and after it, as often as there are runs of
+    `find` over it, {"query":Q,"sort":S,"skip":N,"limit":N,"batch":N,"index":PATH,"after":TOKEN,"found":[PLACE..],"end":B}: the numbers of
+    the documents that are printed, without an index and by each, and whether they are all, which they are without "end". The token is
+    the model's; that of "after" too, where it is [GIVEN,PLACE]. "refused" in place of "found" is the message."""
+    groups: list[tuple[Row, list[Row]]] = []
+    for it in rows:
+        if {"documents", "bytes", "dump"} & {name for name, _ in it[1]}:
+            groups.append((it, []))
+        else:
+            groups[-1][1].append(it)
+    for (_, head), asked in groups:
+        dump = dump_of(program, head)
+        shown = program.run("dump", dump).stdout.decode().split("\n")
+        kind = one_by_one(lambda _, row: searched(program, dump, shown, row, head.get("indexes", [])))
+        yield from kind(program, asked)
+
+
 KINDS: dict[str, Callable[[Program, list[Row]], Came]] = {
     "match": match,
     "filter": filters,
@@ -411,6 +477,7 @@ KINDS: dict[str, Callable[[Program, list[Row]], Came]] = {
     "cut": cut,
     "pack": pack,
     "run": run,
+    "search": search,
     "order": order,
 }
 
