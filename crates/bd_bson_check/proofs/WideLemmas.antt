@@ -1,24 +1,23 @@
 -- Bytes that are skipped without a fault under all types spell a tree by value, and the other way round.
-use Rattle.std.proofs.Common.{◌≡◌, ℕ, zero, suc, ◌+◌, ◌-◌, ◌<◌, ◌≤◌, max, ℤ, Bool, true, false, cond, ltb, List, [], ◌∷◌, ◌++◌, length, get_or, take, drop}
-use Rattle.std.proofs.Common.{Option, Some, None, Result, Ok, Err, refl, sym, ap, ap₂, subst, ◌∙◌, append_assoc, arith, ◌||◌, ◌&&◌, not, codes, option_map}
-use Rattle.std.specs.{Option.ok_or, Result.result_err}
+use Rattle.std.proofs.Common.{◌≡◌, ℕ, zero, suc, ◌+◌, ◌-◌, ◌<◌, ◌≤◌, ℤ, Bool, true, false, cond, ltb, List, [], ◌∷◌, ◌++◌, length}
+use Rattle.std.proofs.Common.{Option, Some, None, Ok, refl, sym, ap, subst, ◌∙◌, append_assoc, arith, codes, option_map}
+use Rattle.std.specs.{Option.ok_or}
 use Rattle.std.proofs.lemmas.Bool.{ltb-false}
 use Rattle.std.proofs.lemmas.List.{length-append, append-nil, nil_from_length}
 use Rattle.bd_value.specs.Tree as trees
 use Rattle.bd_value.specs.Tree.{Scalar, Tree, leaf, doc, array, code_scope, Fields, no_fields, field, Items, Doc, fields_of, pairs_of, fields_of-pairs_of}
-use Rattle.bd_value.specs.{Limits.longest_document, Limits.most_levels, View.scalar_kind, View.kind_of, declared.node.Kind.Kind}
+use Rattle.bd_value.specs.{Limits.most_levels, View.kind_of, declared.node.Kind.Kind}
 use Rattle.bd_value.specs.declared.node.Kind.TheVariants as kinds
 use Rattle.bd_bson_view.specs.{declared.raw_parts.Holder.Holder, declared.raw_parts.ElementType.ElementType}
 use Rattle.bd_bson_view.specs.declared.raw_parts.ElementType.TheVariants as types
 use Rattle.bd_bson_view.specs.declared.raw_parts.Holder.TheVariants as holders
-use Rattle.bd_bson_view.specs.Unique.{number_length}
-use Rattle.bd_bson_view.specs.Spelling.{number, string, scoped, framed, element, type_byte, type_at, is_holder, IsName, IsText, IsValue, depth, fields_depth, items_depth}
-use Rattle.bd_bson_view.specs.Spelling.{IsScalar, IsValuedScalar, IsValueBy, AreFieldsBy, AreItemsBy, IsDocumentBy, valued, written_typed, IsNumber, NumberKind, as_double, as_int32, as_int64, as_decimal128, number_type, number_byte, number_size}
+use Rattle.bd_bson_view.specs.Spelling.{number, string, scoped, framed, element, type_byte, type_at, is_holder, IsName, IsText, IsValue, depth, fields_depth}
+use Rattle.bd_bson_view.specs.Spelling.{IsScalar, IsValuedScalar, IsValueBy, AreFieldsBy, IsDocumentBy, valued, written_typed, IsNumber, NumberKind, as_double, as_int32, as_int64, as_decimal128, number_type, number_byte, number_size}
 use Rattle.bd_bson_check.specs.Fault.{Fault}
 use Rattle.bd_bson_check.specs.declared.profile.Profile.TheVariants.{All}
-use Rattle.bd_bson_check.specs.declared.fault.FaultKind.TheVariants.{UnknownType, NameUnended, Double, Decimal128}
-use Rattle.bd_bson_check.specs.FirstFault.{within, label, ◌>>=◌, skip_name, skip_string, skip_frame, skip_fixed, skip_wide, skip_code_frame, skip_value, skip_typed, skip_element, skip_elements, skip_body, skip_code_scope, skip_nested, skip_document, Nested}
-use Rattle.bd_bson_check.proofs.FirstFaultLemmas.{IsBytes, IsBytes-drop, bind_ok, guard_ok, done, ok_is, Takes, Takes-then, TakesFixed, fixed_takes, name_takes, TakesString, string_takes, Frames, frame_takes, code_frame_takes, items_in, items_from_fields, items_depth_is, TakesValue, byte_stated, type_takes, within_ok, refused, refused_takes, value_takes, document_skipped, element_again, typed_again, fixed_again, scalar_again}
+use Rattle.bd_bson_check.specs.declared.fault.FaultKind.TheVariants.{UnknownType, NameUnended}
+use Rattle.bd_bson_check.specs.FirstFault.{within, label, skip_name, skip_string, skip_frame, skip_fixed, skip_code_frame, skip_value, skip_typed, skip_element, skip_elements, skip_body, skip_code_scope, skip_nested, skip_document, Nested}
+use Rattle.bd_bson_check.proofs.FirstFaultLemmas.{IsBytes, IsBytes-drop, bind_ok, guard_ok, done, ok_is, Takes, Takes-then, fixed_takes, name_takes, string_takes, frame_takes, code_frame_takes, items_in, items_from_fields, items_depth_is, byte_stated, type_takes, within_ok, refused, refused_takes, value_takes, document_skipped, element_again, typed_again, fixed_again, scalar_again}
 
 module _ (worth : ElementType → List ℕ → ℤ) where
   -- a document or an array that was skipped, with n levels remaining

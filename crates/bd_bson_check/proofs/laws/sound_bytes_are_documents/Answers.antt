@@ -1,4 +1,4 @@
-use Rattle.std.proofs.Common.{◌≡◌, ◌+◌, length, Option, None, Result, Ok, Err, refl, ap}
+use Rattle.std.proofs.Common.{◌≡◌, ◌+◌, length, None, Result, Ok, Err, refl, ap}
 use Rattle.std.specs.Result.{result_err}
 use Rattle.bd_bson_check.specs.Fault.{Fault}
 use Rattle.bd_bson_check.specs.declared.profile.Profile.TheVariants.{All}
