@@ -21,22 +21,25 @@ err f = Err f
 
 -- a reader that stopped at a fault stopped at that of the item, if the item has it
 pub reported_fails : {A : Type 0} (r : Stop) (f : Fault) (read : Result A Fault) → ReportsStop r f → read ≡ err f → FailsAtItem r read
-reported_fails stops.NoMemory f read stated is = tt
+reported_fails stops.NoMemory f read stated is = rw is stated
 reported_fails (stops.Found g) f read stated is = is ∙ ap err stated
+
+-- what a reader stopped at, where the item has a fault
+fault_met : {A : Type 0} (r : Stop) (read : Result A Fault) → FailsAtItem r read → (f : Fault) × (read ≡ err f) × ReportsStop r f
+fault_met stops.NoMemory (Ok x) fails = absurd fails
+fault_met stops.NoMemory (Err f) fails = (f, refl, fails)
+fault_met (stops.Found g) read fails = (found_fault g, fails, refl)
 
 pub fails_within : {A : Type 0} (error r : Stop) (name : List ℕ) (read : Result A Fault)
     → ((f : Fault) → ReportsStop error f → ReportsStop r (longer name f)) → FailsAtItem error read → FailsAtItem r (within name read)
-fails_within stops.NoMemory stops.NoMemory name read stated fails = tt
-fails_within stops.NoMemory (stops.Found g) name (Ok x) stated fails =
-    let zero_at : 0 ≡ g.offset = ap (λ (f : Fault). f.offset) (stated (record { kind = TooDeep; offset = 0; path = [] }) tt) in
-    let one_at : 1 ≡ g.offset = ap (λ (f : Fault). f.offset) (stated (record { kind = TooDeep; offset = 1; path = [] }) tt) in
-    absurd (omega arith)
-fails_within stops.NoMemory (stops.Found g) name (Err f) stated fails = ap err (stated f tt)
-fails_within (stops.Found g) r name read stated fails = reported_fails r (longer name (found_fault g)) (within name read) (stated (found_fault g) refl) (ap (within name) fails)
+fails_within error r name read stated fails =
+    let met = fault_met error read fails in
+    reported_fails r (longer name met.0) (within name read) (stated met.0 met.2) (ap (within name) met.1)
 
 pub fails_then : {A B : Type 0} (r : Stop) (x : Result A Fault) (f : A → Result B Fault) → FailsAtItem r x → FailsAtItem r (x >>= f)
-fails_then stops.NoMemory x f h = tt
-fails_then (stops.Found g) x f h = rw h refl
+fails_then r x f fails =
+    let met = fault_met r x fails in
+    reported_fails r met.0 (x >>= f) met.2 (ap (λ y. y >>= f) met.1)
 
 -- ---- values that contain values
 

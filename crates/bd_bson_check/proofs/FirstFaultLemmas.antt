@@ -23,7 +23,7 @@ use Rattle.bd_bson_view.specs.declared.raw_parts.ElementType.{ElementType}
 use Rattle.bd_bson_view.specs.Unique.{number_length, number_value, number_prefix, zero_offset, string_after, string_length, binary_whole, binary_count}
 use Rattle.bd_bson_view.specs.Unique.{binary_subtype, after_five, regex_whole, scalar_size}
 use Rattle.bd_bson_view.specs.Spelling.{number, long, string, data_of, scoped, IsName, IsText, IsScalar, framed, element, IsValue, AreItems, AreFields, depth, items_depth}
-use Rattle.bd_bson_view.specs.Spelling.{fields_depth, IsDocument, Grammar, AreFieldsBy, AreItemsBy, nineteen}
+use Rattle.bd_bson_view.specs.Spelling.{fields_depth, is_holder, IsDocument, IsDocumentBy, Grammar, IsValueBy, AreFieldsBy, AreItemsBy, nineteen}
 use Rattle.bd_bson_view.specs.{declared.raw_parts.Holder.Holder, Spelling.type_byte, Spelling.type_at, Sizes.number_of, Unique.type_is, Unique.framed_after}
 use Rattle.bd_value.specs.Tree as trees
 use Rattle.bd_value.specs.declared.node.Kind.TheVariants as kinds
@@ -655,22 +655,28 @@ frame_again top e body rest short all =
     ap (skip_frame top e) (framed_after body rest)
     ∙ rw (number_again (cond top ShortLength ValueShort) e n more (omega (arith, total, short)), tests, k, drop_at body (0 ∷ rest) (length body) refl, take_at body (0 ∷ rest) (length body) refl) refl
 
-element_again : (p : Profile) (nested : Nested) (index : Option ℕ) (e : ℕ) (t : Tree) (name value rest : List ℕ) → IsName name → ((q : ℕ) → skip_value nested (kind_of t) q e (value ++ rest) ≡ Ok rest)
-    → skip_element p nested index e (element t name value ++ rest) ≡ Ok rest
+-- an element is skipped if its value is
+pub typed_again : (p : Profile) (nested : Nested) (index : Option ℕ) (e : ℕ) (type : ElementType) (b : ℕ) (name value rest : List ℕ) → type_at b ≡ Some type → IsName name
+    → ((q : ℕ) → skip_typed p nested type q e (value ++ rest) ≡ Ok rest) → skip_element p nested index e ((b ∷ (name ++ 0 ∷ value)) ++ rest) ≡ Ok rest
 unfolding skip_element
-element_again p nested index e t name value rest named h =
+typed_again p nested index e type b name value rest typed named h =
     let whole : (name ++ 0 ∷ value) ++ rest ≡ name ++ 0 ∷ (value ++ rest) = append_assoc name (0 ∷ value) rest in
     let q = e - suc (length (name ++ 0 ∷ (value ++ rest))) in
-    ap (λ (x : List ℕ). skip_element p nested index e (type_byte (kind_of t) ∷ x)) whole ∙ rw (type_is (kind_of t), name_again NameUnended e name (value ++ rest) named, h q) refl
+    ap (λ (x : List ℕ). skip_element p nested index e (b ∷ x)) whole ∙ rw (typed, name_again NameUnended e name (value ++ rest) named, h q) refl
+
+-- an element of the nineteen kinds is skipped if its value is
+pub element_again : (p : Profile) (nested : Nested) (index : Option ℕ) (e : ℕ) (t : Tree) (name value rest : List ℕ) → IsName name → ((q : ℕ) → skip_value nested (kind_of t) q e (value ++ rest) ≡ Ok rest)
+    → skip_element p nested index e (element t name value ++ rest) ≡ Ok rest
+element_again p nested index e t name value rest named h = typed_again p nested index e (types.Kept (kind_of t)) (type_byte (kind_of t)) name value rest (type_is (kind_of t)) named h
 
 -- one more element
-next_again : (p : Profile) (nested : Nested) (index : Option ℕ) (n e : ℕ) (t : Tree) (name value rest bytes : List ℕ) → IsName name → bytes ≡ element t name value ++ rest → length bytes ≤ n
-    → ((q : ℕ) → skip_value nested (kind_of t) q e (value ++ rest) ≡ Ok rest) → ((m : ℕ) → length rest ≤ m → skip_elements p nested (option_map suc index) m e rest ≡ Ok tt)
+next_again : (p : Profile) (nested : Nested) (index : Option ℕ) (n e : ℕ) (first rest bytes : List ℕ) → bytes ≡ first ++ rest → length bytes ≤ n → 1 ≤ length first
+    → skip_element p nested index e (first ++ rest) ≡ Ok rest → ((m : ℕ) → length rest ≤ m → skip_elements p nested (option_map suc index) m e rest ≡ Ok tt)
     → skip_elements p nested index n e bytes ≡ Ok tt
 unfolding skip_elements
-next_again p nested index zero e t name value rest bytes named is turns first others = absurd (omega (arith, ap length is))
-next_again p nested index (suc n) e t name value rest bytes named is turns first others =
-    rw (is, element_again p nested index e t name value rest named first) (others n (omega (arith, ap length is, length-append (element t name value) rest)))
+next_again p nested index n e [] rest bytes is turns some skips others = absurd (omega arith)
+next_again p nested index zero e (b ∷ first) rest bytes is turns some skips others = absurd (omega (arith, ap length is))
+next_again p nested index (suc n) e (b ∷ first) rest bytes is turns some skips others = rw (is, skips) (others n (omega (arith, ap length is, length-append (b ∷ first) rest)))
 
 -- no elements have no fault
 pub elements_nil : (p : Profile) (nested : Nested) (index : Option ℕ) (n e : ℕ) → skip_elements p nested index n e [] ≡ Ok tt
@@ -685,7 +691,8 @@ body_again p nested in_array e body rest short h = rw (frame_again false e body 
 
 -- ---- scalars
 
-fixed_again : (n e : ℕ) (prefix rest : List ℕ) → length prefix ≡ n → skip_fixed n e (prefix ++ rest) ≡ Ok rest
+-- n bytes are skipped
+pub fixed_again : (n e : ℕ) (prefix rest : List ℕ) → length prefix ≡ n → skip_fixed n e (prefix ++ rest) ≡ Ok rest
 fixed_again n e prefix rest len =
     let long : ltb (length (prefix ++ rest)) n ≡ false = le-ltb _ _ (omega (arith, length-append prefix rest)) in
     rw (long, drop_at prefix rest n len) refl
@@ -725,7 +732,8 @@ binary_again e k s rest lt =
     let after : drop 5 v ≡ data_of k s ++ rest = ap (drop 5) (binary_whole k (data_of k s) rest) ∙ after_five (length (data_of k s)) k (data_of k s ++ rest) in
     rw (long, tests, binary_subtype k (data_of k s) rest, n, after) (data_again (e - length v) k s rest lt)
 
-scalar_again : (nested : Nested) (s : Scalar) (q e : ℕ) (value rest : List ℕ) → IsScalar s value → skip_value nested (scalar_kind s) q e (value ++ rest) ≡ Ok rest
+-- a scalar of the nineteen kinds is skipped
+pub scalar_again : (nested : Nested) (s : Scalar) (q e : ℕ) (value rest : List ℕ) → IsScalar s value → skip_value nested (scalar_kind s) q e (value ++ rest) ≡ Ok rest
 scalar_again nested (trees.int32 z) q e value rest h = fixed_again 4 e value rest (sym (scalar_size (trees.int32 z) value rest h))
 scalar_again nested (trees.int64 z) q e value rest h = fixed_again 8 e value rest (sym (scalar_size (trees.int64 z) value rest h))
 scalar_again nested (trees.date z) q e value rest h = fixed_again 8 e value rest (sym (scalar_size (trees.date z) value rest h))
@@ -764,55 +772,92 @@ code_nested p r q e s body rest h short inside =
     ap (skip_body p (skip_nested p r) false (e - length rest)) (sym (append-nil (framed body))) ∙ body_again p (skip_nested p r) false (e - length rest) body [] (omega (arith, size, short)) inside in
     rw (f, string_again (e - length rest) s (framed body) h, scope) refl
 
-parts_length : (t : Tree) (name value rest bytes : List ℕ) → bytes ≡ element t name value ++ rest → length bytes ≡ 2 + length name + length value + length rest
-parts_length t name value rest bytes is = ap length is ∙ omega (arith, length-append (element t name value) rest, length-append name (0 ∷ value))
+-- Under the profile each scalar of the grammar is skipped, and the values that hold others are written as ever.
+pub record Skips (p : Profile) (g : Grammar) : Type 0 where
+  pub scalar : (nested : Nested) (index : Option ℕ) (e : ℕ) (s : Scalar) (name value rest : List ℕ) → IsName name → g.Spells s value
+      → skip_element p nested index e (g.written (leaf s) name value ++ rest) ≡ Ok rest
+  pub some : (s : Scalar) (name value : List ℕ) → g.Spells s value → 1 ≤ length (g.written (leaf s) name value)
+  pub holder : (t : Tree) (name value : List ℕ) → is_holder (kind_of t) ≡ true → g.written t name value ≡ element t name value
 
-mutual
-  unfolding skip_nested
+module _ (p : Profile) (g : Grammar) (skips : Skips p g) where
+  some_written : (t : Tree) (name value : List ℕ) → IsValueBy g t value → 1 ≤ length (g.written t name value)
+  some_written (leaf s) name value h = skips.some s name value h
+  some_written (doc fs) name value h = rw (skips.holder (doc fs) name value refl) (omega arith)
+  some_written (array ts) name value h = rw (skips.holder (array ts) name value refl) (omega arith)
+  some_written (code_scope s fs) name value h = rw (skips.holder (code_scope s fs) name value refl) (omega arith)
 
-  value_again : (p : Profile) (t : Tree) (depth_left q e : ℕ) (value rest : List ℕ) → IsValue t value → depth t ≤ depth_left → length value ≤ longest_document
-      → skip_value (skip_nested p depth_left) (kind_of t) q e (value ++ rest) ≡ Ok rest
-  value_again p (leaf s) depth_left q e value rest h deep short = scalar_again (skip_nested p depth_left) s q e value rest h
-  value_again p (doc fs) zero q e value rest h deep short = absurd (omega arith)
-  value_again p (doc fs) (suc r) q e value rest h deep short =
-      let size : length (framed h.0) ≤ longest_document = omega (arith, short, ap length h.2) in
-      let less : length h.0 ≤ longest_document = omega (arith, size, framed_length h.0) in
-      rw h.2 (body_again p (skip_nested p r) false e h.0 rest size (λ end. fields_again p fs None r (length h.0) end h.0 h.1 (omega arith) less (omega arith)))
-  value_again p (array ts) zero q e value rest h deep short = absurd (omega arith)
-  value_again p (array ts) (suc r) q e value rest h deep short =
-      let size : length (framed h.0) ≤ longest_document = omega (arith, short, ap length h.2) in
-      let less : length h.0 ≤ longest_document = omega (arith, size, framed_length h.0) in
-      rw h.2 (body_again p (skip_nested p r) true e h.0 rest size (λ end. items_again p ts (Some 0) r (length h.0) end h.0 h.1 (omega arith) less (omega arith)))
-  value_again p (code_scope s fs) zero q e value rest h deep short = absurd (omega arith)
-  value_again p (code_scope s fs) (suc zero) q e value rest h deep short = absurd (omega arith)
-  value_again p (code_scope s fs) (suc (suc r)) q e value rest h deep short =
-      let parts : length (string s ++ framed h.0) ≤ longest_document = omega (arith, short, ap (λ (x : List ℕ). length x) h.2, scoped_length s (framed h.0)) in
-      let less : length h.0 ≤ longest_document = omega (arith, parts, framed_length h.0, length-append (string s) (framed h.0)) in
-      rw h.2 (code_nested p r q e s h.0 rest h.3 parts (λ end. fields_again p fs None r (length h.0) end h.0 h.1 (omega arith) less (omega arith)))
+  held_short : (t : Tree) (name value : List ℕ) → is_holder (kind_of t) ≡ true → length (g.written t name value) ≤ longest_document → length value ≤ longest_document
+  held_short t name value held short =
+      omega (arith, short, ap (λ (x : List ℕ). length x) (skips.holder t name value held), length-append name (0 ∷ value))
 
-  fields_again : (p : Profile) (fs : Fields) (index : Option ℕ) (depth_left n e : ℕ) (bytes : List ℕ) → AreFields fs bytes → fields_depth fs ≤ depth_left
-      → length bytes ≤ longest_document → length bytes ≤ n → skip_elements p (skip_nested p depth_left) index n e bytes ≡ Ok tt
-  fields_again p no_fields index depth_left n e bytes h deep short turns = rw h (elements_nil p (skip_nested p depth_left) index n e)
-  fields_again p (field name t fs) index depth_left n e bytes h deep short turns =
-      let size = parts_length t name h.0 h.1 bytes h.5 in
-      next_again p (skip_nested p depth_left) index n e t name h.0 h.1 bytes h.2 h.5 turns (λ q. value_again p t depth_left q e h.0 h.1 h.3 (omega arith) (omega (arith, size)))
-      (λ m le. fields_again p fs (option_map suc index) depth_left m e h.1 h.4 (omega arith) (omega (arith, size)) le)
+  held_again : (nested : Nested) (index : Option ℕ) (e : ℕ) (t : Tree) (name value rest : List ℕ) → IsName name → is_holder (kind_of t) ≡ true
+      → ((q : ℕ) → skip_value nested (kind_of t) q e (value ++ rest) ≡ Ok rest) → skip_element p nested index e (g.written t name value ++ rest) ≡ Ok rest
+  held_again nested index e t name value rest named held h = rw (skips.holder t name value held) (element_again p nested index e t name value rest named h)
 
-  items_again : (p : Profile) (ts : Items) (index : Option ℕ) (depth_left n e : ℕ) (bytes : List ℕ) → AreItems ts bytes → items_depth ts ≤ depth_left
-      → length bytes ≤ longest_document → length bytes ≤ n → skip_elements p (skip_nested p depth_left) index n e bytes ≡ Ok tt
-  items_again p no_items index depth_left n e bytes h deep short turns = rw h (elements_nil p (skip_nested p depth_left) index n e)
-  items_again p (item t ts) index depth_left n e bytes h deep short turns =
-      let size = parts_length t h.0 h.1 h.2 bytes h.6 in
-      next_again p (skip_nested p depth_left) index n e t h.0 h.1 h.2 bytes h.3 h.6 turns (λ q. value_again p t depth_left q e h.1 h.2 h.4 (omega arith) (omega (arith, size)))
-      (λ m le. items_again p ts (option_map suc index) depth_left m e h.2 h.5 (omega arith) (omega (arith, size)) le)
+  mutual
+    unfolding skip_nested
+
+    value_again : (t : Tree) (index : Option ℕ) (depth_left e : ℕ) (name value rest : List ℕ) → IsName name → IsValueBy g t value → depth t ≤ depth_left
+        → length (g.written t name value) ≤ longest_document → skip_element p (skip_nested p depth_left) index e (g.written t name value ++ rest) ≡ Ok rest
+    value_again (leaf s) index depth_left e name value rest named h deep short = skips.scalar (skip_nested p depth_left) index e s name value rest named h
+    value_again (doc fs) index zero e name value rest named h deep short = absurd (omega arith)
+    value_again (doc fs) index (suc r) e name value rest named h deep short =
+        let size : length (framed h.0) ≤ longest_document = omega (arith, held_short (doc fs) name value refl short, ap length h.2) in
+        let less : length h.0 ≤ longest_document = omega (arith, size, framed_length h.0) in
+        held_again (skip_nested p (suc r)) index e (doc fs) name value rest named refl
+        (λ q. rw h.2 (body_again p (skip_nested p r) false e h.0 rest size (λ end. fields_again fs None r (length h.0) end h.0 h.1 (omega arith) less (omega arith))))
+    value_again (array ts) index zero e name value rest named h deep short = absurd (omega arith)
+    value_again (array ts) index (suc r) e name value rest named h deep short =
+        let size : length (framed h.0) ≤ longest_document = omega (arith, held_short (array ts) name value refl short, ap length h.2) in
+        let less : length h.0 ≤ longest_document = omega (arith, size, framed_length h.0) in
+        held_again (skip_nested p (suc r)) index e (array ts) name value rest named refl
+        (λ q. rw h.2 (body_again p (skip_nested p r) true e h.0 rest size (λ end. items_again ts (Some 0) r (length h.0) end h.0 h.1 (omega arith) less (omega arith))))
+    value_again (code_scope s fs) index zero e name value rest named h deep short = absurd (omega arith)
+    value_again (code_scope s fs) index (suc zero) e name value rest named h deep short = absurd (omega arith)
+    value_again (code_scope s fs) index (suc (suc r)) e name value rest named h deep short =
+        let parts : length (string s ++ framed h.0) ≤ longest_document
+        = omega (arith, held_short (code_scope s fs) name value refl short, ap (λ (x : List ℕ). length x) h.2, scoped_length s (framed h.0)) in
+        let less : length h.0 ≤ longest_document = omega (arith, parts, framed_length h.0, length-append (string s) (framed h.0)) in
+        held_again (skip_nested p (suc (suc r))) index e (code_scope s fs) name value rest named refl
+        (λ q. rw h.2 (code_nested p r q e s h.0 rest h.3 parts (λ end. fields_again fs None r (length h.0) end h.0 h.1 (omega arith) less (omega arith))))
+
+    fields_again : (fs : Fields) (index : Option ℕ) (depth_left n e : ℕ) (bytes : List ℕ) → AreFieldsBy g fs bytes → fields_depth fs ≤ depth_left
+        → length bytes ≤ longest_document → length bytes ≤ n → skip_elements p (skip_nested p depth_left) index n e bytes ≡ Ok tt
+    fields_again no_fields index depth_left n e bytes h deep short turns = rw h (elements_nil p (skip_nested p depth_left) index n e)
+    fields_again (field name t fs) index depth_left n e bytes h deep short turns =
+        let size : length bytes ≡ length (g.written t name h.0) + length h.1 = ap (λ (x : List ℕ). length x) h.5 ∙ length-append (g.written t name h.0) h.1 in
+        let some = some_written t name h.0 h.3 in
+        next_again p (skip_nested p depth_left) index n e (g.written t name h.0) h.1 bytes h.5 turns some (value_again t index depth_left e name h.0 h.1 h.2 h.3 (omega arith) (omega (arith, size)))
+        (λ m le. fields_again fs (option_map suc index) depth_left m e h.1 h.4 (omega arith) (omega (arith, size)) le)
+
+    items_again : (ts : Items) (index : Option ℕ) (depth_left n e : ℕ) (bytes : List ℕ) → AreItemsBy g ts bytes → items_depth ts ≤ depth_left
+        → length bytes ≤ longest_document → length bytes ≤ n → skip_elements p (skip_nested p depth_left) index n e bytes ≡ Ok tt
+    items_again no_items index depth_left n e bytes h deep short turns = rw h (elements_nil p (skip_nested p depth_left) index n e)
+    items_again (item t ts) index depth_left n e bytes h deep short turns =
+        let size : length bytes ≡ length (g.written t h.0 h.1) + length h.2 = ap (λ (x : List ℕ). length x) h.6 ∙ length-append (g.written t h.0 h.1) h.2 in
+        let some = some_written t h.0 h.1 h.4 in
+        next_again p (skip_nested p depth_left) index n e (g.written t h.0 h.1) h.2 bytes h.6 turns some (value_again t index depth_left e h.0 h.1 h.2 h.3 h.4 (omega arith) (omega (arith, size)))
+        (λ m le. items_again ts (option_map suc index) depth_left m e h.2 h.5 (omega arith) (omega (arith, size)) le)
+
+  -- the bytes of a document by the grammar have no fault
+  pub document_skipped : (e : ℕ) (bytes : List ℕ) (d : Doc) → IsDocumentBy g d bytes → skip_document p e bytes ≡ Ok tt
+  unfolding skip_document
+  document_skipped e bytes d h =
+      let s = h.spells in
+      let size : length (framed s.0) ≤ longest_document = let m = h.short in omega (arith, ap length s.2) in
+      let deep : fields_depth (fields_of d) ≤ most_levels - 1 = let m = h.shallow in omega arith in
+      let whole : bytes ≡ framed s.0 ++ [] = s.2 ∙ sym (append-nil (framed s.0)) in
+      let inside = fields_again (fields_of d) None (most_levels - 1) (length s.0) (e - length {A = ℕ} (0 ∷ [])) s.0 s.1 deep (omega (arith, size, framed_length s.0)) (omega arith) in
+      rw (whole, frame_again true e s.0 [] size (λ is. refl), inside) refl
+
+-- under each profile the nineteen kinds are skipped
+nineteen_skips : (p : Profile) → Skips p nineteen
+nineteen_skips p = record {
+  scalar = λ nested index e s name value rest named h. element_again p nested index e (leaf s) name value rest named (λ q. scalar_again nested s q e value rest h);
+  some = λ s name value h. omega arith;
+  holder = λ t name value held. refl;
+}
 
 -- the bytes of a document have no fault
 pub document_again : (p : Profile) (e : ℕ) (bytes : List ℕ) (d : Doc) → IsDocument d bytes → skip_document p e bytes ≡ Ok tt
-unfolding skip_document
-document_again p e bytes d h =
-    let s = h.spells in
-    let size : length (framed s.0) ≤ longest_document = let m = h.short in omega (arith, ap length s.2) in
-    let deep : fields_depth (fields_of d) ≤ most_levels - 1 = let m = h.shallow in omega arith in
-    let whole : bytes ≡ framed s.0 ++ [] = s.2 ∙ sym (append-nil (framed s.0)) in
-    let inside = fields_again p (fields_of d) None (most_levels - 1) (length s.0) (e - length {A = ℕ} (0 ∷ [])) s.0 s.1 deep (omega (arith, size, framed_length s.0)) (omega arith) in
-    rw (whole, frame_again true e s.0 [] size (λ is. refl), inside) refl
+document_again p e bytes d h = document_skipped p nineteen (nineteen_skips p) e bytes d h

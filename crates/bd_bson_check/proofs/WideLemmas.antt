@@ -1,24 +1,23 @@
--- Bytes that are skipped without a fault under all types spell a tree by value.
-use Rattle.std.proofs.Common.{◌≡◌, ℕ, zero, suc, ◌+◌, ◌-◌, ◌<◌, ◌≤◌, max, ℤ, Bool, true, false, cond, ltb, List, [], ◌∷◌, ◌++◌, length, get_or, take, drop}
-use Rattle.std.proofs.Common.{Option, Some, None, Result, Ok, Err, refl, sym, ap, ap₂, subst, ◌∙◌, append_assoc, arith, ◌||◌, ◌&&◌, not, codes, option_map}
-use Rattle.std.specs.{Option.ok_or, Result.result_err}
+-- Bytes that are skipped without a fault under all types spell a tree by value, and the other way round.
+use Rattle.std.proofs.Common.{◌≡◌, ℕ, zero, suc, ◌+◌, ◌-◌, ◌<◌, ◌≤◌, ℤ, Bool, true, false, cond, ltb, List, [], ◌∷◌, ◌++◌, length}
+use Rattle.std.proofs.Common.{Option, Some, None, Ok, refl, sym, ap, subst, ◌∙◌, append_assoc, arith, codes, option_map}
+use Rattle.std.specs.{Option.ok_or}
 use Rattle.std.proofs.lemmas.Bool.{ltb-false}
 use Rattle.std.proofs.lemmas.List.{length-append, append-nil, nil_from_length}
 use Rattle.bd_value.specs.Tree as trees
 use Rattle.bd_value.specs.Tree.{Scalar, Tree, leaf, doc, array, code_scope, Fields, no_fields, field, Items, Doc, fields_of, pairs_of, fields_of-pairs_of}
-use Rattle.bd_value.specs.{Limits.longest_document, Limits.most_levels, View.scalar_kind, View.kind_of, declared.node.Kind.Kind}
+use Rattle.bd_value.specs.{Limits.most_levels, View.kind_of, declared.node.Kind.Kind}
 use Rattle.bd_value.specs.declared.node.Kind.TheVariants as kinds
 use Rattle.bd_bson_view.specs.{declared.raw_parts.Holder.Holder, declared.raw_parts.ElementType.ElementType}
 use Rattle.bd_bson_view.specs.declared.raw_parts.ElementType.TheVariants as types
 use Rattle.bd_bson_view.specs.declared.raw_parts.Holder.TheVariants as holders
-use Rattle.bd_bson_view.specs.Unique.{number_length}
-use Rattle.bd_bson_view.specs.Spelling.{number, string, scoped, framed, element, type_byte, type_at, is_holder, IsName, IsText, IsValue, depth, fields_depth, items_depth}
-use Rattle.bd_bson_view.specs.Spelling.{IsValueBy, AreFieldsBy, AreItemsBy, IsDocumentBy, valued, written_typed, IsNumber, NumberKind, as_double, as_int32, as_int64, as_decimal128, number_type, number_byte, number_size}
+use Rattle.bd_bson_view.specs.Spelling.{number, string, scoped, framed, element, type_byte, type_at, is_holder, IsName, IsText, IsValue, depth, fields_depth}
+use Rattle.bd_bson_view.specs.Spelling.{IsScalar, IsValuedScalar, IsValueBy, AreFieldsBy, IsDocumentBy, valued, written_typed, IsNumber, NumberKind, as_double, as_int32, as_int64, as_decimal128, number_type, number_byte, number_size}
 use Rattle.bd_bson_check.specs.Fault.{Fault}
 use Rattle.bd_bson_check.specs.declared.profile.Profile.TheVariants.{All}
-use Rattle.bd_bson_check.specs.declared.fault.FaultKind.TheVariants.{UnknownType, NameUnended, Double, Decimal128}
-use Rattle.bd_bson_check.specs.FirstFault.{within, label, ◌>>=◌, skip_name, skip_string, skip_frame, skip_fixed, skip_wide, skip_code_frame, skip_value, skip_typed, skip_element, skip_elements, skip_body, skip_code_scope, skip_nested, skip_document, Nested}
-use Rattle.bd_bson_check.proofs.FirstFaultLemmas.{IsBytes, IsBytes-drop, bind_ok, guard_ok, done, ok_is, Takes, Takes-then, TakesFixed, fixed_takes, name_takes, TakesString, string_takes, Frames, frame_takes, code_frame_takes, items_in, items_from_fields, items_depth_is, TakesValue, byte_stated, type_takes, within_ok, refused, refused_takes, value_takes}
+use Rattle.bd_bson_check.specs.declared.fault.FaultKind.TheVariants.{UnknownType, NameUnended}
+use Rattle.bd_bson_check.specs.FirstFault.{within, label, skip_name, skip_string, skip_frame, skip_fixed, skip_code_frame, skip_value, skip_typed, skip_element, skip_elements, skip_body, skip_code_scope, skip_nested, skip_document, Nested}
+use Rattle.bd_bson_check.proofs.FirstFaultLemmas.{IsBytes, IsBytes-drop, bind_ok, guard_ok, done, ok_is, Takes, Takes-then, fixed_takes, name_takes, string_takes, frame_takes, code_frame_takes, items_in, items_from_fields, items_depth_is, byte_stated, type_takes, within_ok, refused, refused_takes, value_takes, document_skipped, element_again, typed_again, fixed_again, scalar_again}
 
 module _ (worth : ElementType → List ℕ → ℤ) where
   -- a document or an array that was skipped, with n levels remaining
@@ -253,3 +252,86 @@ module _ (worth : ElementType → List ℕ → ℤ) where
       let same = fields_of-pairs_of all.0 in
       let spells : IsValueBy (valued worth) (doc (fields_of (pairs_of all.0))) bytes = (f.0.0, rw same all.1, whole) in
       (pairs_of all.0, record { spells = spells; short = omega (arith, ap (λ (x : List ℕ). length x) whole, r.short); shallow = omega (arith, all.2, ap fields_depth same) })
+
+  -- ---- and those that spell a tree by value are skipped
+
+  number_skipped : (k : NumberKind) (nested : Nested) (index : Option ℕ) (e : ℕ) (name value rest : List ℕ) → IsName name → length value ≡ number_size k
+      → skip_element All nested index e ((number_byte k ∷ (name ++ 0 ∷ value)) ++ rest) ≡ Ok rest
+  number_skipped as_double nested index e name value rest named size = typed_again All nested index e types.Double 1 name value rest refl named (λ q. fixed_again 8 e value rest size)
+  number_skipped as_int32 nested index e name value rest named size = typed_again All nested index e (types.Kept kinds.Int32) 16 name value rest refl named (λ q. fixed_again 4 e value rest size)
+  number_skipped as_int64 nested index e name value rest named size = typed_again All nested index e (types.Kept kinds.Int64) 18 name value rest refl named (λ q. fixed_again 8 e value rest size)
+  number_skipped as_decimal128 nested index e name value rest named size = typed_again All nested index e types.Decimal128 19 name value rest refl named (λ q. fixed_again 16 e value rest size)
+
+  counted_skipped : (z : ℤ) (nested : Nested) (index : Option ℕ) (e : ℕ) (name value rest : List ℕ) → IsName name → IsNumber worth z value
+      → skip_element All nested index e (written_typed (leaf (trees.int64 z)) name value ++ rest) ≡ Ok rest
+  counted_skipped z nested index e name value rest named h = rw h.typed (number_skipped h.kind nested index e name h.value rest named h.sized)
+
+  -- a scalar that is no number is skipped as ever
+  module _ (nested : Nested) (index : Option ℕ) (e : ℕ) (name value rest : List ℕ) (named : IsName name) where
+    same_skipped : (s : Scalar) → IsScalar s value → skip_element All nested index e (element (leaf s) name value ++ rest) ≡ Ok rest
+    same_skipped s h = element_again All nested index e (leaf s) name value rest named (λ q. scalar_again nested s q e value rest h)
+
+    scalar_skipped : (s : Scalar) → IsValuedScalar worth s value → skip_element All nested index e (written_typed (leaf s) name value ++ rest) ≡ Ok rest
+    scalar_skipped (trees.int32 z) h = absurd h
+    scalar_skipped (trees.int64 z) h = counted_skipped z nested index e name value rest named h
+    scalar_skipped trees.min_key h = same_skipped trees.min_key h
+    scalar_skipped trees.undefined h = same_skipped trees.undefined h
+    scalar_skipped trees.null h = same_skipped trees.null h
+    scalar_skipped (trees.text s) h = same_skipped (trees.text s) h
+    scalar_skipped (trees.symbol s) h = same_skipped (trees.symbol s) h
+    scalar_skipped (trees.binary k s) h = same_skipped (trees.binary k s) h
+    scalar_skipped (trees.object_id s) h = same_skipped (trees.object_id s) h
+    scalar_skipped (trees.boolean b) h = same_skipped (trees.boolean b) h
+    scalar_skipped (trees.date z) h = same_skipped (trees.date z) h
+    scalar_skipped (trees.timestamp s i) h = same_skipped (trees.timestamp s i) h
+    scalar_skipped (trees.regex p o) h = same_skipped (trees.regex p o) h
+    scalar_skipped (trees.db_pointer s i) h = same_skipped (trees.db_pointer s i) h
+    scalar_skipped (trees.code s) h = same_skipped (trees.code s) h
+    scalar_skipped trees.max_key h = same_skipped trees.max_key h
+
+  scalar_written : (s : Scalar) (name value : List ℕ) → IsValuedScalar worth s value → 1 ≤ length (written_typed (leaf s) name value)
+  scalar_written (trees.int32 z) name value h = absurd h
+  scalar_written (trees.int64 z) name value h = rw h.typed (omega arith)
+  scalar_written trees.min_key name value h = omega arith
+  scalar_written trees.undefined name value h = omega arith
+  scalar_written trees.null name value h = omega arith
+  scalar_written (trees.text s) name value h = omega arith
+  scalar_written (trees.symbol s) name value h = omega arith
+  scalar_written (trees.binary k s) name value h = omega arith
+  scalar_written (trees.object_id s) name value h = omega arith
+  scalar_written (trees.boolean b) name value h = omega arith
+  scalar_written (trees.date z) name value h = omega arith
+  scalar_written (trees.timestamp s i) name value h = omega arith
+  scalar_written (trees.regex p o) name value h = omega arith
+  scalar_written (trees.db_pointer s i) name value h = omega arith
+  scalar_written (trees.code s) name value h = omega arith
+  scalar_written trees.max_key name value h = omega arith
+
+  holder_written : (t : Tree) (name value : List ℕ) → is_holder (kind_of t) ≡ true → written_typed t name value ≡ element t name value
+  holder_written (leaf (trees.int32 z)) name value held = absurd cc
+  holder_written (leaf (trees.int64 z)) name value held = absurd cc
+  holder_written (leaf trees.min_key) name value held = absurd cc
+  holder_written (leaf trees.undefined) name value held = absurd cc
+  holder_written (leaf trees.null) name value held = absurd cc
+  holder_written (leaf (trees.text s)) name value held = absurd cc
+  holder_written (leaf (trees.symbol s)) name value held = absurd cc
+  holder_written (leaf (trees.binary k s)) name value held = absurd cc
+  holder_written (leaf (trees.object_id s)) name value held = absurd cc
+  holder_written (leaf (trees.boolean b)) name value held = absurd cc
+  holder_written (leaf (trees.date z)) name value held = absurd cc
+  holder_written (leaf (trees.timestamp s i)) name value held = absurd cc
+  holder_written (leaf (trees.regex p o)) name value held = absurd cc
+  holder_written (leaf (trees.db_pointer s i)) name value held = absurd cc
+  holder_written (leaf (trees.code s)) name value held = absurd cc
+  holder_written (leaf trees.max_key) name value held = absurd cc
+  holder_written (doc fs) name value held = refl
+  holder_written (array ts) name value held = refl
+  holder_written (code_scope s fs) name value held = refl
+
+  -- the bytes of a document by value have no fault under all types
+  pub document_by_value_again : (e : ℕ) (bytes : List ℕ) (d : Doc) → IsDocumentBy (valued worth) d bytes → skip_document All e bytes ≡ Ok tt
+  document_by_value_again e bytes d h = document_skipped All (valued worth) (record {
+    scalar = λ nested index e s name value rest named h. scalar_skipped nested index e name value rest named s h;
+    some = scalar_written;
+    holder = holder_written;
+  }) e bytes d h

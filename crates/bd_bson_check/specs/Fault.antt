@@ -34,10 +34,15 @@ pub record HasNoOffset (fault : FaultKind) (e : FaultInMemory) : Type 0 where
 abbrev pub IsWantOfMemory : FaultInMemory → Type 0
 IsWantOfMemory e = HasNoOffset FaultKind.NoMemory e
 
--- The fault in memory is the one that there is, or says that memory ran out.
+-- The path has a name: the fault is of an item inside the document.
+abbrev pub HasNames : List (List ℕ) → Type 0
+HasNames [] = ⊥
+HasNames (name ∷ names) = Unit {0}
+
+-- The fault in memory is the one that there is, or says that memory ran out for its path.
 abbrev pub ReportsFault : ℕ → Option Fault → FaultInMemory → Type 0
-ReportsFault number None e = IsWantOfMemory e
-ReportsFault number (Some f) e = IsWantOfMemory e ⊎ IsFault number f e
+ReportsFault number None e = ⊥
+ReportsFault number (Some f) e = (HasNames f.path × IsWantOfMemory e) ⊎ IsFault number f e
 
 -- the message of a kind of fault
 unfoldable pub fault_words : FaultKind → List ℕ

@@ -1,6 +1,6 @@
 //! The first fault of a document's bytes, from left to right, without a tree; and the documents of a dump in turn.
 
-ghost use Rattle.std.specs.Prelude.{◌≡◌, ◌≤◌, ◌<◌, ◌+◌, length, drop, slice_range, option_map, suc, IfOk, IfErr, IfSome, MatchResult, Ok, Err, Some, None, [], if◌then◌else◌};
+ghost use Rattle.std.specs.Prelude.{◌≡◌, ◌≤◌, ◌<◌, ◌+◌, ◌⊎◌, length, drop, slice_range, option_map, suc, IfOk, IfErr, IfSome, MatchResult, Ok, Err, Some, None, [], if◌then◌else◌};
 ghost use Rattle.bd_value.specs.Limits.{longest_input};
 ghost use Rattle.bd_value.specs.Tree.{Doc};
 ghost use Rattle.bd_value.specs.View.{pairs};
@@ -80,7 +80,9 @@ pub fn read_document(alloc: Global, bytes: &[u8], base: u64, number: u32) -> Res
     // If the bytes spell a document, it is read, unless memory runs out.
     ensures only { (d : Doc) →
         IsDocument d bytes.now → MatchResult result (λ r. pairs r ≡ d) IsWantOfMemory }
-    ensures fault { IfErr result (ReportsFault number (first_fault base bytes.now)) }
+    // The fault is the first that the bytes have; memory may also run out for the document.
+    ensures fault { IfErr result (λ e. ReportsFault number (first_fault base bytes.now) e
+        ⊎ (IsWantOfMemory e × (first_fault base bytes.now ≡ None))) }
 {
     let raw = check_document(alloc, bytes, base, number)?;
     match raw.to_document(alloc) {

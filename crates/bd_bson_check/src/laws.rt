@@ -55,9 +55,11 @@ pub fn documents_have_no_fault()
         fault_under All base bytes ≡ None }
 {}
 
-/// Bytes without a fault under all types are a document by value, whatever a number is worth.
+/// Bytes have no fault under all types exactly if they are a document by value, whatever a number is worth.
 pub fn sound_bytes_are_documents()
-    ensures { (worth : ElementType → List ℕ → ℤ) (base : ℕ) (bytes : List ℕ) →
+    ensures none { (worth : ElementType → List ℕ → ℤ) (base : ℕ) (bytes : List ℕ) (d : Doc) →
+        IsDocumentBy (valued worth) d bytes → fault_under All base bytes ≡ None }
+    ensures some { (worth : ElementType → List ℕ → ℤ) (base : ℕ) (bytes : List ℕ) →
         ((i : ℕ) → slice_index bytes i < 256) → fault_under All base bytes ≡ None →
         (d : Doc) × IsDocumentBy (valued worth) d bytes }
 {}

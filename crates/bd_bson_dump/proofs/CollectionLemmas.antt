@@ -141,8 +141,8 @@ module _ (bytes : List ℕ) where
       size = let i = s.inside in omega (arith, length-take at bytes)
 
       fails_as : (o : Option Fault) → frame_fault at (drop at bytes) ≡ o → ReportsFault number o e → IsUnread bytes e
-      fails_as None is reported = inr (short, inl reported)
-      fails_as (Some f) is (inl want) = inr (short, inl want)
+      fails_as None is reported = absurd reported
+      fails_as (Some f) is (inl want) = inr (short, inl want.1)
       fails_as (Some f) is (inr h) = inr (
         short,
         inr (record {

@@ -37,8 +37,8 @@ one_bad (Some f) = omega arith
 
 -- a reported fault that is not out of memory
 pub found : (number : ℕ) (first : Option Fault) (f : reported.Fault) → ReportsFault number first f → ¬ (f.kind ≡ kinds.NoMemory) → (first ≡ Some (fault_view f)) × (f.document ≡ number)
-found number None f want other = absurd (other want.kind)
-found number (Some g) f (inl want) other = absurd (other want.kind)
+found number None f reported other = absurd reported
+found number (Some g) f (inl want) other = absurd (other want.1.kind)
 found number (Some g) f (inr is) other = (ap (λ (x : Fault). Some x) is.same, is.document)
 
 -- a text is there, or not

@@ -70,8 +70,7 @@ pub(crate) fn scan_documents<R: Input, O: Output, V: Visitor<O>>(
                             return Err(OutputFault::NoMemory);
                         }
                         if visitor.ends_at_fault() {
-                            let fault = Some(InputFault::Faulty(fault));
-                            return Ok(DumpScan { count, bad, fault });
+                            return Ok(ended(count, bad, InputFault::Faulty(fault)));
                         }
                         visitor.meet(&fault, out)?;
                         bad += 1;
@@ -86,17 +85,23 @@ pub(crate) fn scan_documents<R: Input, O: Output, V: Visitor<O>>(
                 let fault = fault.to_fault(alloc);
                 // A bad length: the scan cannot find the next document.
                 visitor.meet(&fault, out)?;
-                let fault = Some(InputFault::Faulty(fault));
-                return Ok(DumpScan { count, bad, fault });
+                return Ok(ended(count, bad, InputFault::Faulty(fault)));
             }
             Err(DocFault::Read(ReadFault::NoMemory)) => return Err(OutputFault::NoMemory),
             Err(DocFault::Read(fault)) => {
-                let fault = Some(InputFault::Unread(fault));
-                return Ok(DumpScan { count, bad, fault });
+                return Ok(ended(count, bad, InputFault::Unread(fault)));
             }
             Err(DocFault::Failed) => unreachable!(),
         }
     }
+}
+
+/// A scan that ended before the end of the input.
+fn ended(count: u32, bad: u32, fault: InputFault) -> DumpScan
+    ensures { (result.count ≡ count) × (result.bad ≡ bad) × (result.fault ≡ Some fault) }
+{
+    let fault = Some(fault);
+    DumpScan { count, bad, fault }
 }
 
 /// The documents of an input that were scanned.

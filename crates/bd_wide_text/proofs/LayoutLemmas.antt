@@ -72,6 +72,21 @@ short_exponent size p parts =
     let middle = cond p.point (46 ∷ p.fraction) [] in
     omega (arith, parts.short, ap (λ xs. length xs) parts.text, length-append p.whole (middle ++ back), length-append middle back, exponent_inside p.exponent_negative p.exponent)
 
+-- the text has a point, or an exponent
+few_parts : (size : List ℕ) (p : Parts) → AreParts size p → length p.whole + length p.fraction ≤ 24
+few_parts size p parts = by p.point refl
+  where
+    sized : (middle : List ℕ) → cond p.point (46 ∷ p.fraction) [] ≡ middle → length p.whole + (length middle + length (exponent_text p.exponent_negative p.exponent)) ≤ 25
+    sized middle is =
+        let back = exponent_text p.exponent_negative p.exponent in
+        let between = cond p.point (46 ∷ p.fraction) [] in
+        omega (arith, parts.short, ap (λ xs. length xs) parts.text, length-append p.whole (between ++ back), length-append between back, ap (λ xs. length xs) is)
+
+    by : (point : Bool) → p.point ≡ point → length p.whole + length p.fraction ≤ 24
+    by true is = omega (arith, sized (46 ∷ p.fraction) (rw is refl))
+    by false is =
+        omega (arith, sized [] (rw is refl), exponent_inside p.exponent_negative p.exponent, parts.plain.marked is, ap (λ xs. length xs) (parts.plain.well_formed.no_point is))
+
 last_of : (a b : List ℕ) → 0 < length b → get_or (a ++ b) (length (a ++ b) - 1) 0 ≡ get_or b (length b - 1) 0
 last_of a b some =
     let long : length (a ++ b) - 1 ≡ length a + (length b - 1) = omega (arith, length-append a b) in
@@ -95,7 +110,7 @@ far_digits size p parts far =
         | inr t ↦ t
       ])
     ] in
-    (record { all = AllDigits-append p.whole p.fraction w.whole_digits w.fraction_digits; first = first; last = last }, omega (arith, length-append p.whole p.fraction))
+    (record { all = AllDigits-append p.whole p.fraction w.whole_digits w.fraction_digits; first = first; last = last; few = omega (arith, few_parts size p parts, length-append p.whole p.fraction) }, omega (arith, length-append p.whole p.fraction))
 
 pub far_up : (size : List ℕ) (p : Parts) → AreParts size p → 0 < length p.exponent → p.exponent_negative ≡ false
     → IsLaidOutAnew p (mantissa (p.whole ++ p.fraction) ++ (codes "E+" ++ padded p.exponent))
@@ -198,7 +213,7 @@ small_number size p count parts none is whole before splits value inside =
       | inl t ↦ absurd (before.next inside (only_zero p.fraction count t.1 inside))
       | inr t ↦ t
     ]) in
-    let sig : AreSignificant digits = record { all = AllDigits-drop count p.fraction digits_all; first = first; last = last } in
+    let sig : AreSignificant digits = record { all = AllDigits-drop count p.fraction digits_all; first = first; last = last; few = omega (arith, long, few_parts size p parts) } in
     let number : IsNumberOf p digits (negsuc count) = λ s.
     ap (λ n. round binary64 s n (10 ^ (count + length digits))) (sym (mul-one (digits_value 10 digits)))
     ∙ near_number size p is s (digits_value 10 digits) 0 0 (value ∙ sym (mul-one (digits_value 10 digits))) 0 (count + length digits) (omega arith) in
@@ -239,7 +254,7 @@ large_whole size p count parts is after first zero_behind =
     let end : length digits - 1 ≡ count - 1 = omega arith in
     let last_is : 48 < get_or digits (length digits - 1) 0 =
     rw (end, get_or-take count p.whole (count - 1) 0 (omega (arith, after.some))) (above_zero p.whole (count - 1) digits_all (omega (arith, after.some, after.within)) after.last) in
-    let sig : AreSignificant digits = record { all = AllDigits-take count p.whole digits_all; first = first_is; last = last_is } in
+    let sig : AreSignificant digits = record { all = AllDigits-take count p.whole digits_all; first = first_is; last = last_is; few = omega (arith, long, after.within, few_parts size p parts) } in
     let w = digits_value 10 digits in
     let whole_value : digits_value 10 p.whole ≡ w * 10 ^ z =
     ap (digits_value 10) splits ∙ digits_value-append digits (zeros z) ∙ (λ i. w * 10 ^ (length-replicate {A = ℕ} z 48 i) + value_zeros z i) ∙ omega arith in
@@ -276,6 +291,7 @@ large_broken size p count parts is after first last =
       all = AllDigits-append p.whole p.fraction w.whole_digits w.fraction_digits;
       first = rw (get_or_append_left p.whole p.fraction 0 0 some) (above_zero p.whole 0 w.whole_digits some first);
       last = rw (last_of p.whole p.fraction is.some) last;
+      few = omega (arith, long, few_parts size p parts);
     } in
     let number : IsNumberOf p digits (pos (n - 1)) = λ s. near_number size p is s (digits_of p) 0 0 (sym (mul-one (digits_of p))) (n - 1 + 1) (length digits) (omega arith) in
     let ends : (get_or p.fraction (length p.fraction - 1) 0 == 48) ≡ false = ne_eqb _ 48 (λ e. omega arith) in

@@ -1,16 +1,18 @@
 -- The text of a double, with the layout of bsondump and Go's driver.
-use Rattle.std.specs.Prelude.{◌≡◌, ◌<◌, ℕ, zero, suc, ◌+◌, ◌-◌, ◌*◌, ◌^◌, ◌==◌, Bool, List, ◌++◌, length, take, drop, slice_index, nat_lt, if◌then◌else◌, codes, decimal, ℤ, pos, negsuc}
+use Rattle.std.specs.Prelude.{◌≡◌, ◌<◌, ◌≤◌, ℕ, zero, suc, ◌+◌, ◌-◌, ◌*◌, ◌^◌, ◌==◌, Bool, List, ◌++◌, length, take, drop, slice_index, nat_lt, if◌then◌else◌, codes, decimal, ℤ, pos, negsuc}
 use Rattle.std.specs.Fmt.{sign_text}
 use Rattle.std.specs.Str.Parse.{AllDigits, digits_value}
 use Rattle.std.specs.Float.Ieee.{Float, nan, inf, fin, round, of_bits}
 use Rattle.std.specs.Float.{binary64}
 use Rattle.bd_wide_text.specs.Layout.{mantissa, zeros}
 
--- The digits begin and end with one that is not 0.
+-- The digits begin and end with one that is not 0, and are few. (17 are enough for each double; that no more are printed is
+-- tested.)
 pub record AreSignificant (digits : List ℕ) : Type 0 where
   pub all : AllDigits 10 digits
   pub first : 48 < slice_index digits 0
   pub last : 48 < slice_index digits (length digits - 1)
+  pub few : length digits ≤ 24
 
 -- the digits of an exponent, at least two
 abbrev pub padded : List ℕ → List ℕ

@@ -3,7 +3,6 @@ use Rattle.std.specs.Prelude.{◌≡◌, ◌⊎◌, ℕ, List, [], ◌∷◌, �
 use Rattle.std.specs.Prelude.{Option, Some, None, Bool, true, false}
 use Rattle.std.specs.Prelude.{is_some, unwrap_or, Err}
 use Rattle.std.specs.{List.count_by}
-use Rattle.bd_value.specs.{Tree.Doc}
 use Rattle.bd_io_device.specs.Devices.{WriteFailsAfter, Over, Reader, TakesText, Writer}
 use Rattle.bd_bson_check.specs.{Fault.fault_view, Fault.Fault, FirstFault.fault_under, declared.profile.Profile.Profile}
 use Rattle.bd_bson_check.specs.Dump.{frame_fault_under, frame_length}

@@ -1,5 +1,4 @@
 use Rattle.std.proofs.Common.{◌∙◌, subst}
-use Rattle.std.proofs.lemmas.Result.{err_from_is_err_and}
 use Rattle.bd_bson_view.proofs.SoundLemmas.{document_unique}
 use Rattle.bd_bson_check.specs.Fault.{ReportsFault}
 use Rattle.bd_bson_check.proofs.DumpLemmas.{document_faultless}
@@ -7,9 +6,8 @@ use Rattle.bd_bson_check.proofs.check.read_document.Goals as goal
 
 pub returns-in_err-raw-clause-only : goal.returns-in_err-raw-clause-only
 returns-in_err-raw-clause-only c = λ d is.
-    let p = err_from_is_err_and c.from_residual.result c.from_residual.ensures.1 in
     let e = c.in_err-raw.field-0.0 in
-    rw (p.1, p.2) (subst (λ f. ReportsFault c.args.number f e) (document_faultless c.args.base c.args.bytes.now d is) c.in_err-raw.ensures.first)
+    absurd (subst (λ f. ReportsFault c.args.number f e) (document_faultless c.args.base c.args.bytes.now d is) c.in_err-raw.ensures.first)
 
 pub returns-in-Ok-clause-only : goal.returns-in-Ok-clause-only
 returns-in-Ok-clause-only c = λ d is.

@@ -67,7 +67,8 @@ returns-then-ends_at_fault-clause-scans g c =
     let fault = c.in-Err.fault in
     let f = scans.found c.number-count.result (fault_under c.profile-profile.result c.offset-base.result c.bytes-bytes.result.now) fault c.in-Err.ensures (search rules) in
     let ends : true ≡ is_none (g.V.Visitor.texts.bad l.buffer.number (fault_view fault)) = sym c.if-ends_at_fault.true ∙ c.ends_at_fault.ensures l.buffer.number (fault_view fault) in
-    rw c.number-count.ensures (scans.ends_faulty l.invariant.so_far read.gives fault read.frame (rw (c.profile-profile.ensures, c.offset-base.ensures) at f.0) (f.1 ∙ c.number-count.ensures)
+    let e = c.ended.ensures in
+    rw (e.0, e.1, e.2, c.number-count.ensures) (scans.ends_faulty l.invariant.so_far read.gives fault read.frame (rw (c.profile-profile.ensures, c.offset-base.ensures) at f.0) (f.1 ∙ c.number-count.ensures)
     (scans.no_text (g.V.Visitor.texts.bad l.buffer.number (fault_view fault)) ends))
 
 pub loop-buffer-preserved : goal.loop-buffer-preserved
@@ -100,7 +101,8 @@ returns-in-Err-Frame-clause-scans g c =
     let e = c.in-Err-Frame in
     let f = c.to_fault-fault in
     let fails = rw (e.field-0-is, ← e.fault-is) at (e.ensures.fails l.invariant.not_failed) in
-    rw c.number-count.ensures (scans.ends_by_length l.invariant.so_far _ f.result f.ensures.same f.ensures.path fails
+    let is = c.ended-in-Err-Frame.ensures in
+    rw (is.0, is.1, is.2, c.number-count.ensures) (scans.ends_by_length l.invariant.so_far _ f.result f.ensures.same f.ensures.path fails
     (g.O.Output.state c.meet-in-Err-Frame.new.out) c.in_ok-meet-in-Err-Frame.ensures)
 
 pub returns-in_err-meet-in-Err-Frame-clause-stops : goal.returns-in_err-meet-in-Err-Frame-clause-stops
@@ -126,7 +128,8 @@ pub returns-in-Err-Read-clause-scans : goal.returns-in-Err-Read-clause-scans
 returns-in-Err-Read-clause-scans g c =
     let l = c.loop-buffer in
     let e = c.in-Err-Read in
-    rw c.number-count.ensures (scans.ends_unread l.invariant.so_far _ (search rules) (rw (e.field-0-is, ← e.fault-is) at (e.ensures.fails l.invariant.not_failed)))
+    let is = c.ended-in-Err-Read.ensures in
+    rw (is.0, is.1, is.2, c.number-count.ensures) (scans.ends_unread l.invariant.so_far _ (search rules) (rw (e.field-0-is, ← e.fault-is) at (e.ensures.fails l.invariant.not_failed)))
 
 pub returns-in_err-visit-in-Ok-clause-stops_reading : goal.returns-in_err-visit-in-Ok-clause-stops_reading
 returns-in_err-visit-in-Ok-clause-stops_reading g c = scans.reads_so_far (scans.read_document c.loop-buffer.invariant.read (c.read_next.ensures.reads (search rules)))
