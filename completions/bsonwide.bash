@@ -18,13 +18,13 @@ _bsonwide() {
 	local word=${COMP_WORDS[COMP_CWORD]} command=${COMP_WORDS[1]} before=${COMP_WORDS[COMP_CWORD - 1]}
 	COMPREPLY=()
 	if ((COMP_CWORD == 1)); then
-		mapfile -t COMPREPLY < <(compgen -W 'dump check wrap order --help' -- "$word")
+		mapfile -t COMPREPLY < <(compgen -W 'dump check order --help' -- "$word")
 		return
 	fi
 	# One file, maybe after two hyphens.
 	[[ $COMP_CWORD == 2 || "$COMP_CWORD $before" == '3 --' ]] || return
 	case $command in
-	dump | check | wrap | order) _bsonwide_dumps "$word" ;;
+	dump | check | order) _bsonwide_dumps "$word" ;;
 	esac
 }
 

@@ -16,10 +16,9 @@ function __bsonwide_needs_file
 end
 
 complete -c bsonwide -f
-complete -c bsonwide -n 'not __bsonwide_command dump check wrap order' -a dump -d 'print each document as a line'
-complete -c bsonwide -n 'not __bsonwide_command dump check wrap order' -a check -d 'tell the first fault of each document'
-complete -c bsonwide -n 'not __bsonwide_command dump check wrap order' -a wrap -d 'rewrite doubles and decimal128, for bsonfind dump'
-complete -c bsonwide -n 'not __bsonwide_command dump check wrap order' -a order -d 'rewrite numbers as whole numbers, for bsonfind find and serve'
-complete -c bsonwide -n 'not __bsonwide_command dump check wrap order' -s h -l help -d 'print the usage'
-complete -c bsonwide -n '__bsonwide_needs_file dump check wrap order' -a - -d 'standard input'
-complete -c bsonwide -n '__bsonwide_needs_file dump check wrap order' -k -a '(__fish_complete_suffix .bson)'
+complete -c bsonwide -n 'not __bsonwide_command dump check order' -a dump -d 'print each document as a line'
+complete -c bsonwide -n 'not __bsonwide_command dump check order' -a check -d 'tell the first fault of each document'
+complete -c bsonwide -n 'not __bsonwide_command dump check order' -a order -d 'rewrite numbers as whole numbers, for bsonfind find and serve'
+complete -c bsonwide -n 'not __bsonwide_command dump check order' -s h -l help -d 'print the usage'
+complete -c bsonwide -n '__bsonwide_needs_file dump check order' -a - -d 'standard input'
+complete -c bsonwide -n '__bsonwide_needs_file dump check order' -k -a '(__fish_complete_suffix .bson)'

@@ -25,7 +25,7 @@ import reference
 
 PAGES = sorted([*ROOT.glob("*.md"), *ROOT.glob("docs/*.md"), ROOT / "python/README.md"])
 # Commands, names of formats and of the system, which docs/PROVED.md has in backquotes.
-WORDS = {"main", "check", "dump", "pack", "find", "serve", "wrap", "order", "$oid", '{"$oid":..}'}
+WORDS = {"main", "check", "dump", "pack", "find", "serve", "order", "$oid", '{"$oid":..}'}
 
 
 def text_of(path: Path) -> str:

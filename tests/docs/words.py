@@ -30,7 +30,7 @@ WORDS = {
     "asked asks": ("requested, requests", ""),
     "room rooms": ("depth_left, buffer, capacity", ""),
     # `held()` of `DocReader`; clap's own.
-    "held": ("buffered, contents, node_tree", "bd_bson_stream bd_bson_tests bd_cli_args bd_wide_args"),
+    "held": ("buffered, contents, node_tree", "bd_bson_stream bd_bson_tests bd_cli_args"),
     # An operator of a filter, and what is said of a value of the JSON kit, holds or does not.
     "hold holds": ("contains, buffers", "bd_query bd_query_filter bd_index_bounds bd_wide_order bd_extjson bd_cursor_request"),
     "told tells tell untold": ("reports, reported, explain", ""),

@@ -40,11 +40,11 @@ from growths import (
     INT32,
     INT32_LINE,
     INT64,
+    ORDERED,
     SEVERAL,
     STARVED,
     TALK,
     USAGE,
-    WRAPPED,
     counted,
     frames,
     lines,
@@ -91,7 +91,7 @@ def checked(parts: list[Part], given: int) -> Ran:
     return Ran(1, shown(read), UNREAD + b"%d documents, %d faulty\n" % (len(read), sum(text != b"" for _, text in read)))
 
 
-def wrapped(parts: list[Part], given: int) -> Ran:
+def ordered(parts: list[Part], given: int) -> Ran:
     return Ran(1, shown(whole(parts, given)), UNREAD)
 
 
@@ -127,12 +127,12 @@ SMALL = [
 
 WIDE_DUMP = [(DOUBLE, DOUBLE_LINE.encode()), *DUMP]
 WIDE_CHECK = [(DOUBLE, b""), (INT32, b""), (BAD, b'document 2, byte 52, path "a.0.1": bad boolean\n')]
-WRAP = [(DOUBLE, WRAPPED), (INT32, INT32)]
+ORDER = [(DOUBLE, ORDERED), (b"\5\0\0\0\0", b"\x10\0\0\0\x12~n\0\1\0\0\0\0\0\0\0\0")]
 
 WIDE = [
     Case("bsonwide, dump", ["dump", FILE], joined(WIDE_DUMP), Ran(0, shown(WIDE_DUMP), b"4 objects found\n"), partial(dumped, WIDE_DUMP), program="bsonwide"),
     Case("bsonwide, check", ["check", FILE], joined(WIDE_CHECK), Ran(1, shown(WIDE_CHECK), b"3 documents, 1 faulty\n"), partial(checked, WIDE_CHECK), program="bsonwide"),
-    Case("bsonwide, wrap", ["wrap", FILE], joined(WRAP), Ran(0, shown(WRAP), b""), partial(wrapped, WRAP), program="bsonwide"),
+    Case("bsonwide, order", ["order", FILE], joined(ORDER), Ran(0, shown(ORDER), b""), partial(ordered, ORDER), program="bsonwide"),
 ]
 
 # What is told on standard error, alone and beside lines, and the usage.

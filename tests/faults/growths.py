@@ -4,7 +4,7 @@
 usage: tests/faults/growths.py     The last line is 'N passed, M failed'.
 
 The inputs and the whole answers are written by hand, or are those of examples/; tests/program/tokens.py makes tokens. With a growth
-refused a run gives the whole answer, where it does without; else it writes lines of it from the front (`pack`, `wrap` and `order` documents),
+refused a run gives the whole answer, where it does without; else it writes lines of it from the front (`pack` and `order` documents),
 tells `bsonfind: no memory`, or the same of `bsonwide`, and nothing else, and has status 1.
 """
 
@@ -33,7 +33,6 @@ usage: bsonfind dump FILE
 WIDE_USAGE = """\
 usage: bsonwide dump FILE
        bsonwide check FILE
-       bsonwide wrap FILE
        bsonwide order FILE [PATH..]
 """
 
@@ -43,8 +42,7 @@ INT64 = bytes.fromhex("10000000 12 6100 0000008000000000 00")
 BINARY = bytes.fromhex("13000000 05 7800 06000000 02 02000000 ffff 00")
 DOUBLE = bytes.fromhex("10000000 01 6400 000000000000f03f 00")
 DOUBLE_LINE = '{"d":{"$numberDouble":"1.0"}}\n'
-# {"d":{"$numberDouble":"1.0"}}, a document, and {"~n":0,"d":1} of two int64.
-WRAPPED = bytes.fromhex("24000000 03 6400 1c000000 02 246e756d626572446f75626c6500 04000000 312e3000 00 00")
+# {"~n":0,"d":1} of two int64.
 ORDERED = bytes.fromhex("1c000000 12 7e6e00 0000000000000000 12 6400 0100000000000000 00")
 # The second element of an array in an array is a boolean of 2.
 BAD = bytes.fromhex("1c000000 04 6100 14000000 04 3000 0c000000 0a 3000 08 3100 02 00 00 00")
@@ -172,7 +170,6 @@ def wide_runs() -> list[Run]:
         wide("dump of orders", ["dump", "-"], b"".join(orders), order_lines, "8 objects found\n"),
         wide("dump with a fault", ["dump", "-"], DOUBLE + BAD, lines(DOUBLE_LINE), f"bsonwide: {fault}1 objects found\n", 1),
         wide("check", ["check", "-"], DOUBLE + BAD + INT32, lines(fault), "3 documents, 1 faulty\n", 1),
-        wide("wrap", ["wrap", "-"], DOUBLE + INT32, [WRAPPED, INT32], ""),
         wide("order", ["order", "-"], DOUBLE, [ORDERED], ""),
         wide("no words", [], b"", [], WIDE_USAGE, 2),
         wide("--help", ["--help"], b"", [WIDE_USAGE.encode()], ""),

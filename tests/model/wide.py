@@ -1,4 +1,4 @@
-"""What `bsonwide` writes of a dump, by Python: `check`, the end of `dump`, `wrap` with texts of numbers, `order` with their codes."""
+"""What `bsonwide` writes of a dump, by Python: `check`, the end of `dump` and its texts of numbers, `order` with their codes."""
 
 import json
 import re
@@ -35,10 +35,6 @@ def size_of(kind: int, data: bytes) -> int | None:
     else:
         return None
     return size if size <= len(data) else None
-
-
-class TooDeep(Exception):
-    """Nothing can stand in the place of a number at the deepest level."""
 
 
 class Place(NamedTuple):
@@ -160,38 +156,6 @@ def decimal_of(data: bytes) -> Decimal:
 def decimal_text(data: bytes) -> bytes:
     """To-scientific-string, by Python's `decimal`, of the 16 bytes."""
     return str(decimal_of(data)).encode()
-
-
-def wrapper(name: bytes, text: bytes) -> bytes:
-    body = b"\x02" + name + b"\0" + (len(text) + 1).to_bytes(4, "little") + text + b"\0"
-    return (len(body) + 5).to_bytes(4, "little") + body + b"\0"
-
-
-def wrap(data: bytes) -> tuple[bytes, int]:
-    """What is written, and how many documents stay as they are."""
-
-    def element(kind: int, name: bytes, value: bytes, place: Place) -> bytes:
-        if kind in (0x01, 0x13) and place.room == 0:
-            raise TooDeep
-        if kind == 0x01:
-            return b"\x03" + name + wrapper(b"$numberDouble", double_text(value))
-        if kind == 0x13:
-            return b"\x03" + name + wrapper(b"$numberDecimal", decimal_text(value))
-        return bytes([kind]) + name + value
-
-    made, kept = [], 0
-    documents, rest = frames(data)
-    for it in documents:
-        try:
-            new = document(it, Place(0, (), LEVELS - 1), False, element)
-        except TooDeep:
-            new = b""
-        if new and len(new) <= LONGEST:
-            made.append(new)
-        else:
-            made.append(it)
-            kept += 1
-    return b"".join(made) + rest, kept
 
 
 # The codes of numbers, which are in the order of their values.

@@ -21,7 +21,7 @@ from support import ROOT
 
 COMPLETIONS = ROOT / "completions"
 COMMANDS = {"dump", "check", "pack", "find", "serve"}
-FILTERS = {"dump", "check", "wrap", "order"}
+FILTERS = {"dump", "check", "order"}
 OPTIONS = {"--query", "--sort", "--skip", "--limit", "--batch", "--index", "--after"}
 DUMPS = {"one.bson", "two.bson", "room/"}
 OTHERS = {"lines.jsonl"}
@@ -64,7 +64,7 @@ OF_BSONFIND: list[Row] = [
 OF_BSONWIDE: list[Row] = [
     ("", FILTERS, HELP),
     ("-", {"--help"}, HELP),
-    ("w", {"wrap"}, set()),
+    ("o", {"order"}, set()),
     *(
         row
         for name in sorted(FILTERS)

@@ -18,12 +18,13 @@ from pathlib import Path
 sys.path.insert(0, str(Path(__file__).resolve().parents[1]))
 
 from model.dumps import LONGEST
-from model.wide import check, decimal_text, double_text, end_of_dump, frames, order, wrap
+from model.wide import check, decimal_text, double_text, end_of_dump, frames, order
 from support import ROOT, Tests
 
 PROGRAM = Path(sys.argv[1]).resolve() if len(sys.argv) > 1 else ROOT / "bsonwide"
 DOCUMENTS = int(sys.argv[2]) if len(sys.argv) > 2 else 20_000
-USAGE = b"usage: bsonwide dump FILE\n       bsonwide check FILE\n       bsonwide wrap FILE\n       bsonwide order FILE [PATH..]\n"
+VERSION = b"bsonwide " + (ROOT / "VERSION").read_bytes()
+USAGE = b"usage: bsonwide dump FILE\n       bsonwide check FILE\n       bsonwide order FILE [PATH..]\n"
 # What tests/faults/failing.c counts: whether it was loaded, the reads of standard input, the writes to standard output.
 LAYOUT, LOADED, READS, WRITES = struct.Struct("19q"), 0, 3, 12
 
@@ -315,10 +316,6 @@ def main() -> int:
         tests.want(f"check, {name}", made == check(data), made[1:])
         made = ran("dump", data)
         tests.want(f"dump, {name}", (made[0].count(b"\n"), *made[1:]) == end_of_dump(data), made[1:])
-        wanted, kept = wrap(data)
-        message = f"{kept} documents too long or too deep to wrap\n".encode() if kept else b""
-        made = ran("wrap", data)
-        tests.want(f"wrap, {name}", made == (wanted, message, 0), made[1:])
         for paths in ([], PATHS):
             made = ran("order", data, *paths)
             tests.want(f"order, {name}, {len(paths)} paths", made == ordered(data, *paths), made[1:])
@@ -340,19 +337,18 @@ def main() -> int:
     else:
         cut = document(b"\x13a\0" + bytes(15))
         fail_each(tests, ["check", "-"], cut + small + cut[:9], check)
-        fail_each(tests, ["wrap", "-"], small + small[:9], lambda it: (wrap(it)[0], b"", 0))
         fail_each(tests, ["order", "-", *PATHS], small + small[:9], lambda it: ordered(it, *PATHS))
 
     for words, status, out, err in (
         ([], 2, b"", USAGE), (["check"], 2, b"", USAGE), (["sort", "-"], 2, b"", USAGE), (["check", "-", "-"], 2, b"", USAGE),
         (["order"], 2, b"", USAGE), (["order", "absent", "a", "b"], 1, b"", b"bsonwide: cannot open absent\n"),
-        (["order", "-", "--", "-a"], 0, b"", b""), (["order", "-", "-a"], 2, b"", USAGE), (["--help"], 0, USAGE, b""), (["wrap", "-h"], 0, USAGE, b""), (["check", "absent"], 1, b"", b"bsonwide: cannot open absent\n"),
-        (["check", "--", "-x"], 1, b"", b"bsonwide: cannot open -x\n"), (["wrap", "/"], 1, b"", b"bsonwide: cannot read\n"),
-        (["check", "/"], 1, b"", b"bsonwide: cannot read\n0 documents, 0 faulty\n"), (["mask", "-"], 2, b"", USAGE),
+        (["order", "-", "--", "-a"], 0, b"", b""), (["order", "-", "-a"], 2, b"", USAGE), (["--help"], 0, USAGE, b""), (["order", "-h"], 0, USAGE, b""), (["check", "absent"], 1, b"", b"bsonwide: cannot open absent\n"),
+        (["check", "--", "-x"], 1, b"", b"bsonwide: cannot open -x\n"), (["order", "/"], 1, b"", b"bsonwide: cannot read\n"),
+        (["check", "/"], 1, b"", b"bsonwide: cannot read\n0 documents, 0 faulty\n"), (["mask", "-"], 2, b"", USAGE), (["--version"], 0, VERSION, b""), (["--version", "-"], 2, b"", USAGE), (["wrap", "-"], 2, b"", USAGE),
     ):  # fmt: skip
         got = subprocess.run([PROGRAM, *words], input=b"", capture_output=True, check=False)
         tests.want(f"words {words}", (got.returncode, got.stdout, got.stderr) == (status, out, err), got)
-    for command, data in (("check", small[:9]), ("wrap", small)):
+    for command, data in (("check", small[:9]), ("order", small)):
         with open("/dev/full", "wb") as full:
             got = subprocess.run([PROGRAM, command, "-"], input=data, stdout=full, stderr=subprocess.PIPE, check=False)
         tests.want(f"{command}, a full device", (got.returncode, got.stderr) == (1, b"bsonwide: cannot write\n"), got)

@@ -1,16 +1,13 @@
 -- What a run of each command prints.
-use Rattle.std.specs.Prelude.{◌⊎◌, ◌<◌, [], List, ℕ, Option}
+use Rattle.std.specs.Prelude.{◌⊎◌, ◌<◌, ◌++◌, List, ℕ, Option, codes}
 use Rattle.bd_io_device.specs.Devices.{Over, Reader, Writer}
 use Rattle.bd_cli_scan.specs.{Check.check_run, Dump.dump_run, Run.Run}
 use Rattle.bd_cli_files.specs.{Pack.pack_run}
-use Rattle.bd_cli_scan.specs.declared.output.Status.TheVariants.{Done, Usage}
-use Rattle.bd_cli_scan.specs.Output.{no_memory, refusal_output, Transcript}
 use Rattle.bd_cli_args.specs.{declared.order.Order.Order}
-use Rattle.bd_cli_args.specs.{declared.command_line.TheConstants.USAGE, declared.order.WordsFault.WordsFault}
+use Rattle.bd_cli_main.specs.Usage.{WriterFails}
 use Rattle.bd_cli_find.specs.{Find.find_run, Options.RequestsNothing}
 use Rattle.bd_cli.specs.Serve.{serve_run}
 use Rattle.bd_cli_args.specs.declared.order.Order.TheVariants as orders
-use Rattle.bd_cli_args.specs.declared.order.WordsFault.TheVariants as words
 
 -- For the reader of the commands of `serve`: what its reads may give, and its state before and after.
 module _ {C : Type 0} (state : C → Reader) (gives : C → Option (List ℕ) → C → Type 0) (old new : C) where
@@ -32,18 +29,16 @@ abbrev pub ReadsNoCommands : Order → Type 0
 ReadsNoCommands (orders.Serve path) = ⊥
 ReadsNoCommands _ = Unit {0}
 
--- A write failed: a count of failures rose.
-abbrev pub WriterFails : Over Writer → Over Writer → Type 0
-WriterFails out err = (out.before.failures < out.after.failures) ⊎ (err.before.failures < err.after.failures)
-
 -- A read or a write failed: a count of failures rose.
 abbrev pub DeviceFails : Over Reader → Over Reader → Over Writer → Over Writer → Type 0
 DeviceFails file commands out err =
     (file.before.failures < file.after.failures) ⊎ (commands.before.failures < commands.after.failures)
     ⊎ WriterFails out err
 
--- the output for arguments that are not a command: the usage, for `--help` on standard output
-abbrev pub report_output : WordsFault → Transcript
-report_output words.Help = record { out = USAGE.now; err = λ program. []; status = Done }
-report_output words.Usage = record { out = []; err = λ program. USAGE.now; status = Usage }
-report_output words.NoMemory = refusal_output no_memory
+-- the usage of `bsonfind`
+abbrev pub usage : List ℕ
+usage = codes "usage: bsonfind dump FILE\n"
+    ++ codes "       bsonfind check FILE\n"
+    ++ codes "       bsonfind pack FILE\n"
+    ++ codes "       bsonfind find FILE [--query Q] [--sort S] [--skip N] [--limit N] [--batch N] [--index PATH] [--after TOKEN]\n"
+    ++ codes "       bsonfind serve FILE\n"

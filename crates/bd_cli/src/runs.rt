@@ -3,7 +3,8 @@
 ghost use Rattle.std.specs.Prelude.{◌≡◌, codes};
 ghost use Rattle.bd_io_device.specs.{Devices.over};
 ghost use Rattle.bd_cli_scan.specs.{Input.ReadsNoFurther, Run.Prints, Run.run_of};
-ghost use Rattle.bd_cli.specs.Runs.{DeviceFails, ReadsNoCommands, ReadsNoFile, WriterFails, order_run, report_output};
+ghost use Rattle.bd_cli_main.specs.Usage.{WriterFails, report_output};
+ghost use Rattle.bd_cli.specs.Runs.{DeviceFails, ReadsNoCommands, ReadsNoFile, order_run, usage};
 
 use crate::serve::serve;
 use bd_cli_args::{Order, USAGE, WordsFault};
@@ -12,8 +13,7 @@ use bd_cli_find::find::find;
 use bd_cli_scan::Status;
 use bd_cli_scan::check::check;
 use bd_cli_scan::dump::dump;
-use bd_cli_scan::output::{report_no_memory, report_unwritten, status_of};
-use bd_io_device::{Input, Output, write_all};
+use bd_io_device::{Input, Output};
 use std::alloc::Global;
 
 /// The name of the program, before each message.
@@ -60,17 +60,10 @@ pub fn run<F: Input, C: Input, O: Output, E: Output>(
 /// A request for help prints the usage on `out`, with status 0; invalid arguments print it on `err`, with
 /// status 2; out of memory is reported on `err`, with status 1. A device that fails makes the status 1.
 pub fn report<O: Output, E: Output>(fault: &WordsFault, out: &mut O, err: &mut E) -> Status
-    ensures output { Prints (codes "bsonfind") (run_of (report_output fault.now))
+    ensures output { Prints (codes "bsonfind") (run_of (report_output usage fault.now))
         (over O.state out.old out.new) (over E.state err.old err.new) result }
     ensures failed { WriterFails (over O.state out.old out.new) (over E.state err.old err.new) →
         result ≡ Status.Failed }
 {
-    match fault {
-        WordsFault::Help => match write_all(out, USAGE.as_bytes()) {
-            Ok(()) => Status::Done,
-            Err(_) => report_unwritten(PROGRAM, err),
-        },
-        WordsFault::Usage => status_of(write_all(err, USAGE.as_bytes()), Status::Usage),
-        WordsFault::NoMemory => report_no_memory(PROGRAM, err),
-    }
+    bd_cli_main::report(PROGRAM, USAGE, fault, out, err)
 }

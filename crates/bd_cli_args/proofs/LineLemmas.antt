@@ -25,105 +25,30 @@ use Rattle.bd_cli_args.specs.CommandLine.{number_read}
 use Rattle.bd_cli_args.specs.inside.CommandLine.{is_serve_input_line}
 use Rattle.bd_cli_args.specs.declared.order.WordsFault.TheVariants.{NoMemory, Usage}
 use Rattle.bd_cli_args.specs.{declared.order.Order.Order, declared.order.WordsFault.WordsFault}
-use Rattle.bd_cli_args.proofs.FaultLemmas.{SameExplained, given_first, is_plain, level-sound, same-entered, same-fault}
-
-pub refused : (k : ErrorKind) → k ∷ [] ≡ [] → ⊥
-refused k e = cc
-
-pub line_simple : is_simple line_app ≡ true
-line_simple = refl
-
-pub line_free : is_simple_and_free line_app ≡ true
-line_free = refl
-
--- each of the commands has the property
-unfoldable pub EachShape : (Shape → Type 0) → List Shape → Type 0
-EachShape P [] = ⊤
-EachShape P (s ∷ rest) = P s × EachShape P rest
-
-pub found_shape : (P : Shape → Type 0) (p : Shape → Bool) (shapes : List Shape) → EachShape P shapes → IfSome (find p shapes) P
-unfolding EachShape
-found_shape P p [] each = tt
-found_shape P p (s ∷ rest) each = elim (p s) as (λ b. IfSome (cond b (Some s) (find p rest)) P) [ true ↦ each.0 | false ↦ found_shape P p rest each.1 ]
-
--- arguments of the command without a fault have an `Order`
-abbrev HasOrders : Shape → Type 0
-HasOrders s = (words : List Text) → level_fault s [] nothing_held words false [] ≡ [] → is_some (ordered_by s.name (rows_after s.rules [] words)) ≡ true
-
-pub file_given : (given rest : Bool) → check_kinds false false (not given || rest) ≡ [] → given ≡ true
-file_given true rest e = refl
-file_given false rest e = absurd (refused MissingRequiredArgument e)
-
--- if a command requires FILE, FILE is given
-pub file_there : (s : Shape) (words : List Text) → is_plain s ≡ true
-    → ((rows : List Row) → check_fault s rows false ≡ [] → is_given (codes "file") rows ≡ true)
-    → level_fault s [] nothing_held words false [] ≡ [] → is_some (first_of (codes "file") (rows_after s.rules [] words)) ≡ true
-file_there s words plain given e =
-    let rows = rows_after s.rules [] words in
-    let level = (level-sound s [] words false [] plain tt).leaves e in
-    given_first (codes "file") rows level.0 (given rows level.2)
-
-pub some_mapped : {X Y : Type 0} (f : X → Y) (o : Option X) → is_some o ≡ true → is_some (option_map f o) ≡ true
-some_mapped f None e = let bad : ⊥ = cc in absurd bad
-some_mapped f (Some x) e = refl
+use Rattle.bd_cli_args.proofs.ProgramLemmas.{EachShape, HasOrders, IsProgram, file_given, file_orders, refusal_none, refused, shape_in}
 
 -- a command that takes only a file, as it is built
 abbrev pub file_shape : Text → Shape
-file_shape name = built_leaf (inherited (on_top with_leaf_noted (on_top marked_built line_app)).top (file_app name).top)
+file_shape name = shape_in line_app (file_app name)
 
-file_orders : (name : Text) (order : Text → OrderView) → ((rows : List Row) → ordered_by name rows ≡ option_map order (first_of (codes "file") rows)) → HasOrders (file_shape name)
-file_orders name order is words e =
-    let rows = rows_after (file_shape name).rules [] words in
-    ap is_some (is rows) ∙ some_mapped order (first_of (codes "file") rows) (file_there (file_shape name) words refl (λ rows c. file_given _ _ c) e)
-
--- the command `find`, as it is built
-abbrev pub find_shape : Shape
-find_shape = built_leaf (inherited (on_top with_leaf_noted (on_top marked_built line_app)).top find_app.top)
-
-find_orders : HasOrders find_shape
-find_orders words e =
-    let rows = rows_after find_shape.rules [] words in
-    some_mapped (λ file. OrderView.find file (find_options_in rows)) (first_of (codes "file") rows)
-    (file_there find_shape words refl (λ rows c. file_given _ _ c) e)
-
-commands_order : EachShape HasOrders (built line_app).subs
+pub is_program : IsProgram line_app ordered_by
 unfolding EachShape
-commands_order = (
-  file_orders (codes "dump") dump (λ rows. refl),
-  (
-    file_orders (codes "check") check (λ rows. refl),
-    (file_orders (codes "pack") pack (λ rows. refl), (file_orders (codes "serve") serve (λ rows. refl), (find_orders, tt))),
-  ),
-)
-
--- arguments without a fault have an `Order`
-pub order_there : (words : List Text) → fault_of line_app words ≡ [] → is_some (order_of words) ≡ true
-order_there words e =
-    let stop = (walk top.rules names nothing_held words).stopped in
-    let level = level-sound top names words (is_some (entered (built line_app) stop)) (entered_fault (built line_app) stop) refl (same-entered (built line_app) stop refl) in
-    let checks = level.leaves e in
-    at_stop stop checks.1 checks.2
+is_program = record {
+  simple = refl;
+  free = refl;
+  plain = refl;
+  requires_one = λ rows c. refused MissingSubcommand c;
+  each = (
+    of_file (codes "dump") dump (λ rows. refl),
+    (of_file (codes "check") check (λ rows. refl), (of_file (codes "pack") pack (λ rows. refl), (of_file (codes "serve") serve (λ rows. refl), (finds, tt)))),
+  );
+}
   where
-    top : Shape
-    top = (built line_app).top
+    of_file : (name : Text) (says : Text → OrderView) → ((rows : List Row) → ordered_by name rows ≡ option_map says (first_of (codes "file") rows)) → HasOrders line_app ordered_by (file_shape name)
+    of_file name says is = file_orders line_app ordered_by (file_shape name) (λ rows. says) refl (λ rows c. file_given _ _ c) is
 
-    names : List (Text × List Text)
-    names = names_of (built line_app)
-
-    rows : List Row
-    rows = finished top.rules (walk top.rules names nothing_held words).held
-
-    at_shape : (p : Text × List Text) (o : Option Shape) → IfSome o HasOrders → option_map_or (λ s. level_fault s [] nothing_held p.1 false []) o [] ≡ []
-        → check_fault top rows (is_some (option_map (λ s. rows_at s p.1) o)) ≡ []
-        → is_some (option_and_then (λ q. ordered_by q.0 q.1) (option_map (λ s. rows_at s p.1) o)) ≡ true
-    at_shape p None orders e c = absurd (refused MissingSubcommand c)
-    at_shape p (Some s) orders e c = orders p.1 e
-
-    at_stop : (stop : Option (Text × List Text)) → entered_fault (built line_app) stop ≡ [] → check_fault top rows (is_some (entered (built line_app) stop)) ≡ []
-        → is_some (option_and_then (λ q. ordered_by q.0 q.1) (entered (built line_app) stop)) ≡ true
-    at_stop None e c = absurd (refused MissingSubcommand c)
-    at_stop (Some p) e c = at_shape p (find (λ s. answers_to p.0 (label_of s)) (built line_app).subs)
-        (found_shape HasOrders (λ s. answers_to p.0 (label_of s)) (built line_app).subs commands_order) e c
+    finds : HasOrders line_app ordered_by (shape_in line_app find_app)
+    finds = file_orders line_app ordered_by (shape_in line_app find_app) (λ rows file. OrderView.find file (find_options_in rows)) refl (λ rows c. file_given _ _ c) (λ rows. refl)
 
 -- the word `help` is not a command, whatever follows
 pub help_fault : (rest : List Text) → fault_of line_app (codes "help" ∷ rest) ≡ UnknownArgument ∷ InvalidSubcommand ∷ []
@@ -166,19 +91,6 @@ IsTaken words order = (fault_of line_app words ≡ []) × (order_of words ≡ So
 
 -- ---- how a refusal is reported
 
-pub first_explained : (kinds : Kinds) (k : ErrorKind) → SameExplained kinds → IsAmong k kinds → option_map explain_refusal (slice_get kinds 0) ≡ Some (explain_refusal k)
-first_explained [] k same a = absurd a
-first_explained (x ∷ xs) k same (inl is) = ap (λ y. Some (explain_refusal y)) (sym is)
-first_explained (x ∷ xs) k same (inr more) = ap (λ f. Some f) (sym (same k more))
-
-kind_explained : (words : List Text) (e : Error) → HasKind (fault_of line_app words) e
-    → (explain_refusal (kind_of e) ≡ NoMemory) ⊎ (parser_refusal words ≡ Some (explain_refusal (kind_of e)))
-kind_explained words e (inl memory) = inl (ap explain_refusal memory)
-kind_explained words e (inr among) = inr (first_explained (fault_of line_app words) (kind_of e) (same-fault (built line_app) words refl) among)
-
-pub refusal_none : (words : List Text) → fault_of line_app words ≡ [] → parser_refusal words ≡ None
-refusal_none words is = ap (λ ks. option_map explain_refusal (slice_get ks 0)) is
-
 -- arguments without a fault are refused only if memory runs out
 pub only_memory : (words : List Text) (f : WordsFault) → fault_for words ≡ None → (f ≡ NoMemory) ⊎ (fault_for words ≡ Some f) → f ≡ NoMemory
 only_memory words f is (inl memory) = memory
@@ -187,17 +99,6 @@ only_memory words f is (inr explained) =
     let bad : ⊥ = cc in absurd bad
 
 -- ---- from the matches that the code reads to the command
-
-pub names_read : {Z : Type 0} (s : Option (Box SubCommand Z)) → option_map (λ b. (out-SubCommand (box_value b)).name.now) s ≡ option_map (λ p. p.0) (subcommand_rows s)
-names_read None = refl
-names_read (Some b) = refl
-
-pub pair_read : (o : Option (Text × List Row)) (name : Text) (rows : List Row) → Some name ≡ option_map (λ p. p.0) o → Some rows ≡ option_map (λ p. p.1) o → o ≡ Some (name, rows)
-pair_read None name rows n r = let bad : ⊥ = cc in absurd bad
-pair_read (Some p) name rows n r =
-    let n' : name ≡ p.0 = ap (λ o. unwrap_or o name) n in
-    let r' : rows ≡ p.1 = ap (λ o. unwrap_or o rows) r in
-    ap₂ (λ (a : Text) (b : List Row). Some (a, b)) (sym n') (sym r')
 
 -- what the getters read from the matches
 pub ruleset readings = (first_value-rows, one_text-rows)
@@ -210,29 +111,6 @@ no_order (Some order) = refl
 -- without FILE there is no command
 pub no_file : (name : Text) (rows : List Row) → first_of (codes "file") rows ≡ None → ordered_by name rows ≡ None
 no_file name rows e = rw e (no_order (lookup (bytes_eq name) (commands rows)))
-
--- ---- the clauses of the parse, for the program's command line
-
-pub refused_as : (a : App) (words : List Text) (e : Error) (f : WordsFault) → a ≡ line_app → (is_simple_and_free a ≡ true → HasKind (fault_of a words) e)
-    → f ≡ explain_refusal (kind_of e) → (f ≡ NoMemory) ⊎ (parser_refusal words ≡ Some f)
-refused_as a words e f is h explained =
-    let kinds = subst (λ (x : App). is_simple_and_free x ≡ true → HasKind (fault_of x words) e) is h line_free in
-    subst (λ (x : WordsFault). (x ≡ NoMemory) ⊎ (parser_refusal words ≡ Some x)) (sym explained) (kind_explained words e kinds)
-
-pub refused_taken : (a : App) (words : List Text) (e : Error) → a ≡ line_app → (takes a words ≡ true → kind_of e ≡ OutOfMemory) → takes line_app words ≡ true
-    → explain_refusal (kind_of e) ≡ NoMemory
-refused_taken a words e is h taken = ap explain_refusal (h (ap (λ (x : App). takes x words) is ∙ taken))
-
-pub no_fault : (a : App) (words : List Text) → a ≡ line_app → (is_simple_and_free a ≡ true → fault_of a words ≡ []) → fault_of line_app words ≡ []
-no_fault a words is h = subst (λ (x : App). is_simple_and_free x ≡ true → fault_of x words ≡ []) is h line_free
-
--- the name and the rows that the code reads determine the command
-pub order_read : (a : App) (words : List Text) (m inner : ArgMatches) (name : Text) → a ≡ line_app → HasMatchesOf a words m → Some name ≡ subcommand_name_of m
-    → Some (rows_of (found_of inner)) ≡ option_map (λ p. p.1) (subcommand_rows_of m) → order_of words ≡ ordered_by name (rows_of (found_of inner))
-order_read a words m inner name is has named rows =
-    let sub : subcommand_rows_of m ≡ subcommand_of line_app words = (subst (λ (x : App). HasMatchesOf x words m) is has line_simple).1 in
-    ap (option_and_then (λ p. ordered_by p.0 p.1))
-    (sym sub ∙ pair_read (subcommand_rows_of m) name (rows_of (found_of inner)) (named ∙ names_read (out-ArgMatches m).subcommand) rows)
 
 same_order : (words : List Text) (a b : OrderView) → order_of words ≡ Some a → order_of words ≡ Some b → a ≡ b
 same_order words a b e f = ap (λ o. unwrap_or o a) (sym e ∙ f)
@@ -248,7 +126,7 @@ pub answered : (r : Result Order WordsFault) (words line : List Text) (order : O
     → IfErr r (λ f. (f ≡ NoMemory) ⊎ (fault_for words ≡ Some f)) → GivesOrder r order
 answered (Ok o) words line order is taken other ok err = orders_when (Ok o) words order (ap order_of is ∙ taken.1) ok err
 answered (Err f) words line order is taken other ok err =
-    let refusal = refusal_none words (ap (fault_of line_app) is ∙ taken.0) in
+    let refusal = refusal_none line_app ordered_by words (ap (fault_of line_app) is ∙ taken.0) in
     only_memory words f (explained_by words None false refusal (served_as words order false (ap order_of is ∙ taken.1) other)) err
 
 -- ---- commands that take only a file
@@ -312,7 +190,7 @@ IsOfInput words = (serves_input words ≡ true) × (fault_for words ≡ Some Usa
 taken_of_input : (words : List Text) → IsTaken words (serve (codes "-")) → IsOfInput words
 taken_of_input words taken =
     let served = served_as words (serve (codes "-")) true taken.1 refl in
-    (served, explained_by words None true (refusal_none words taken.0) served)
+    (served, explained_by words None true (refusal_none line_app ordered_by words taken.0) served)
 
 pub line_of_input : (words : List Text) → is_serve_input_line words ≡ true → IsOfInput words
 line_of_input (a ∷ b ∷ []) e =

@@ -5,12 +5,12 @@ use Rattle.std.specs.Prelude.{slice_get, codes, String, string_bytes, Option, So
 use Rattle.std.specs.{Prelude.unwrap_or, Prelude.Result, Prelude.MatchResult, Option.option_map_or, Option.option_or}
 use Rattle.std.specs.Map.{lookup}
 use Rattle.std.specs.Str.{bytes_eq, Parse.digits_value, Parse.without_leading_plus}
-use Rattle.clap.specs.Simple.{App, new_rule, subcommand_of, with_rule}
+use Rattle.clap.specs.Simple.{App, new_rule, with_rule}
 use Rattle.clap.specs.Walk.{Row, Rule, Text, first_of, one_of}
 use Rattle.clap.specs.declared.builder.{value_parser.ValueParser.ValueParser, action.ArgAction.ArgAction}
-use Rattle.clap.specs.{Faults.fault_of, ValueTests.is_unsigned_in}
+use Rattle.clap.specs.ValueTests.{is_unsigned_in}
 use Rattle.bd_value.specs.Limits.{greatest_count}
-use Rattle.bd_cli_args.specs.FileCommands.{explain_refusal, file_app, program_app}
+use Rattle.bd_cli_args.specs.FileCommands.{file_app, order_by, program_app, refusal_by}
 use Rattle.bd_cli_args.specs.FindOptions.{FindOptions}
 use Rattle.bd_cli_args.specs.declared.order.{Order.Order, WordsFault.WordsFault}
 
@@ -61,6 +61,19 @@ meant (Order.Pack file) = pack (string_bytes file)
 meant (Order.Find file options) = find (string_bytes file) options
 meant (Order.Serve file) = serve (string_bytes file)
 
+-- the file of a command
+abbrev pub file_in : OrderView → Text
+file_in (dump file) = file
+file_in (check file) = file
+file_in (pack file) = file
+file_in (find file options) = file
+file_in (serve file) = file
+
+-- whether the command is a session
+abbrev pub is_serve : OrderView → Bool
+is_serve (serve file) = true
+is_serve _ = false
+
 -- arguments in memory, each as its UTF-8 bytes
 abbrev pub words_of : {Z : Type 0} → List (String Z) → List Text
 words_of = map string_bytes
@@ -98,12 +111,11 @@ ordered_by name rows =
 
 -- the command that arguments mean; None if they are refused
 abbrev pub order_of : List Text → Option OrderView
-order_of words = option_and_then (λ p. ordered_by p.0 p.1) (subcommand_of line_app words)
+order_of = order_by line_app ordered_by
 
--- how the parser's refusal of arguments is reported; None if it accepts them.
--- All its faults are reported as the first one.
+-- how the parser's refusal of arguments is reported; None if it accepts them
 abbrev pub parser_refusal : List Text → Option WordsFault
-parser_refusal words = option_map explain_refusal (slice_get (fault_of line_app words) 0)
+parser_refusal = refusal_by line_app
 
 -- whether the command is `serve -`: the commands come from standard input, so the dump cannot
 abbrev pub is_serve_of_input : OrderView → Bool

@@ -1,10 +1,9 @@
 -- What the command lines of both programs share: commands that take a FILE, and how a refusal of `clap` is reported.
-use Rattle.std.specs.Prelude.{◌≡◌, List, [], ◌∷◌, true, false, Some, codes}
-use Rattle.clap.specs.Simple.{App, new_app, new_rule, on_top, with_rule, with_subcommand}
-use Rattle.clap.specs.Walk.{Rule, Text}
-use Rattle.clap.specs.Words.{app_of}
-use Rattle.clap.specs.declared.builder.{action.ArgAction.ArgAction, command.Command.Command}
-use Rattle.clap.specs.declared.builder.command.Command.TheViews.{out-Command}
+use Rattle.std.specs.Prelude.{List, [], ◌∷◌, true, Option, Some, codes, option_and_then, option_map, slice_get}
+use Rattle.clap.specs.Simple.{App, new_app, new_rule, on_top, subcommand_of, with_rule, with_subcommand}
+use Rattle.clap.specs.Walk.{Row, Rule, Text}
+use Rattle.clap.specs.Faults.{fault_of}
+use Rattle.clap.specs.declared.builder.action.ArgAction.{ArgAction}
 use Rattle.clap.specs.declared.error.kind.ErrorKind.{ErrorKind}
 use Rattle.bd_cli_args.specs.declared.order.WordsFault.{WordsFault}
 
@@ -30,12 +29,18 @@ with_file_commands app (name ∷ names) = with_file_commands (with_subcommand ap
 abbrev pub program_app : Text → List Text → App → App
 program_app name files more = with_subcommand (with_file_commands (top_app name) files) more.top
 
--- The command is built as this line or command, and no argument of it is global.
-abbrev pub IsBuiltAs : App → Command → Type 0
-IsBuiltAs app command = (app_of command ≡ app) × ((out-Command command).has_globals ≡ false)
-
 -- how a refusal of the parser is reported: as a request for help, as out of memory, else by the usage
 abbrev pub explain_refusal : ErrorKind → WordsFault
 explain_refusal ErrorKind.DisplayHelp = WordsFault.Help
 explain_refusal ErrorKind.OutOfMemory = WordsFault.NoMemory
 explain_refusal _ = WordsFault.Usage
+
+-- the command that arguments mean for a program with this command line, by the meaning of the parsed arguments of each command;
+-- None if they are refused
+abbrev pub order_by : {V : Type 0} → App → (Text → List Row → Option V) → List Text → Option V
+order_by line ordered words = option_and_then (λ p. ordered p.0 p.1) (subcommand_of line words)
+
+-- how the parser's refusal of arguments is reported; None if it accepts them.
+-- All its faults are reported as the first one.
+abbrev pub refusal_by : App → List Text → Option WordsFault
+refusal_by line words = option_map explain_refusal (slice_get (fault_of line words) 0)

@@ -1,4 +1,5 @@
 pub mod CommandLine
 pub mod FileCommands
 pub mod FindOptions
+pub mod WideLine
 pub mod inside

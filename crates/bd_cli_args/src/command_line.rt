@@ -5,7 +5,7 @@ ghost use Rattle.clap.specs.Words.{app_of, first_of, found_of, rows_of, rule_of,
 ghost use Rattle.clap.specs.declared.builder.command.Command.TheViews.{out-Command as fields_of};
 ghost use Rattle.bd_cli_args.specs.CommandLine.{GivesOrder, IsFileCommand, OrderView, fault_for, find_app, find_options_in, is_file_word, is_help_line, is_serve_of_input, line_app, meant, option_number, option_rule, order_of, ordered_by, parser_refusal, serves_input, with_options, words_of};
 ghost use Rattle.bd_cli_args.specs.inside.CommandLine.{is_serve_input_line};
-ghost use Rattle.bd_cli_args.specs.FileCommands.{IsBuiltAs};
+ghost use Rattle.bd_cli_args.specs.inside.FileCommands.{IsBuiltAs};
 ghost use Rattle.bd_cli_args.specs.declared.order.WordsFault.TheVariants.{NoMemory};
 
 use crate::file_commands::{Made, explain_error, of_file, program_command};

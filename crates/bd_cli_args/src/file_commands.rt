@@ -3,7 +3,8 @@
 ghost use Rattle.std.specs.Prelude.{◌≡◌, map, false, IfOk};
 ghost use Rattle.clap.specs.Words.{app_of, kind_of, rule_of};
 ghost use Rattle.clap.specs.declared.builder.command.Command.TheViews.{out-Command as fields_of};
-ghost use Rattle.bd_cli_args.specs.FileCommands.{IsBuiltAs, explain_refusal, file_app, file_rule, program_app, top_app, with_file_commands};
+ghost use Rattle.bd_cli_args.specs.inside.FileCommands.{IsBuiltAs};
+ghost use Rattle.bd_cli_args.specs.FileCommands.{explain_refusal, file_app, file_rule, program_app, top_app, with_file_commands};
 
 use crate::order::WordsFault;
 use clap::error::ErrorKind;
@@ -11,10 +12,10 @@ use clap::{Arg, ArgAction, Command, Error};
 use std::alloc::{AllocError, Global};
 
 /// A command, unless memory ran out.
-pub type Made<'a> = Result<Command<'a>, AllocError>;
+pub(crate) type Made<'a> = Result<Command<'a>, AllocError>;
 
 /// The command line of a program, which has these commands, each with a FILE alone, and one more.
-pub fn program_command<'a>(
+pub(crate) fn program_command<'a>(
     alloc: Global,
     name: &'a str,
     files: &[&'a str],
@@ -53,7 +54,7 @@ fn with_file_commands<'a>(alloc: Global, line: Command<'a>, names: &[&'a str]) -
 }
 
 /// The command of this name, which takes a FILE and nothing else.
-pub fn of_file<'a>(alloc: Global, name: &'a str) -> Made<'a>
+pub(crate) fn of_file<'a>(alloc: Global, name: &'a str) -> Made<'a>
     ensures { IfOk result (IsBuiltAs (file_app name.entry.now)) }
 {
     let file = file_argument(alloc);
@@ -69,7 +70,7 @@ fn file_argument<'a>(alloc: Global) -> Arg<'a>
 }
 
 /// How a refusal of `clap` is reported: as a request for help, as out of memory, else by the usage text.
-pub fn explain_error(error: &Error) -> WordsFault
+pub(crate) fn explain_error(error: &Error) -> WordsFault
     ensures { result ≡ explain_refusal (kind_of error.now) }
 {
     match error.kind() {

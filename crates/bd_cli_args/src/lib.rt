@@ -1,7 +1,7 @@
 //! The arguments of the command line, and the command that they mean.
 //!
-//! Which arguments are accepted, and what they mean: `specs/CommandLine.antt`; the options of `find`:
-//! `specs/FindOptions.antt`.
+//! Which arguments are accepted, and what they mean: `specs/CommandLine.antt`, for `bsonwide` `specs/WideLine.antt`; the options of
+//! `find`: `specs/FindOptions.antt`.
 //!
 //! An example, which `bd_cli_tests` proves and runs as `examples::command_line`:
 //!
@@ -16,13 +16,15 @@
 //!
 //! - `order`: `Order`, the command, and `WordsFault`, why there is none.
 //! - `command_line`: `parse_words`, by `clap`.
-//! - `file_commands`: what the command line of `bsonwide` shares: `specs/FileCommands.antt`.
+//! - `wide_line`: `parse_wide_words` and `WideOrder`, the same for `bsonwide`.
+//! - `file_commands`: what both command lines share: `specs/FileCommands.antt`.
 #![tactic(auto)]
 
 mod command_line;
 mod file_commands;
 mod order;
+mod wide_line;
 
 pub use command_line::{USAGE, parse_words};
-pub use file_commands::{Made, explain_error, of_file, program_command};
 pub use order::{FindOptions, Order, WordsFault};
+pub use wide_line::{WideOrder, parse_wide_words};

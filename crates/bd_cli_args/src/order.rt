@@ -21,6 +21,30 @@ pub enum Order {
     Serve { file: String },
 }
 
+impl Order {
+    ghost use Rattle.std.specs.Prelude.{◌≡◌};
+    ghost use Rattle.bd_cli_args.specs.CommandLine.{file_in, is_serve, meant};
+
+    /// The file of the command.
+    pub fn file(&self) -> &str
+        ensures { result.now ≡ file_in (meant self.now) }
+    {
+        let (Order::Dump { file }
+        | Order::Check { file }
+        | Order::Pack { file }
+        | Order::Find { file, .. }
+        | Order::Serve { file }) = self;
+        file
+    }
+
+    /// Whether the command is a session, whose commands come from standard input.
+    pub fn is_serve(&self) -> bool
+        ensures { result ≡ is_serve (meant self.now) }
+    {
+        matches!(self, Order::Serve { .. })
+    }
+}
+
 /// Which documents `find` returns, and in which order. The numbers are 0 to 2,147,483,647 in accepted arguments.
 #[derive(Debug, Drop)]
 pub struct FindOptions {

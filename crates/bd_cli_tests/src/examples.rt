@@ -1,8 +1,9 @@
-//! The examples of use in the roots of `bd_cli`, `bd_cli_args`, `bd_cli_scan`, `bd_cli_files` and `bd_cli_find`.
+//! The examples of use in the roots of `bd_cli`, `bd_cli_args`, `bd_cli_main`, `bd_cli_scan`, `bd_cli_files` and `bd_cli_find`.
 use bd_cli::run;
-use bd_cli_args::{FindOptions, Order, parse_words};
+use bd_cli_args::{FindOptions, Order, WideOrder, WordsFault, parse_wide_words, parse_words};
 use bd_cli_files::pack::pack;
 use bd_cli_find::find::find;
+use bd_cli_main::{is_standard_input, report, requests_version};
 use bd_cli_scan::Status;
 use bd_cli_scan::check::check;
 use bd_io_device::{MemoryInput, MemoryOutput};
@@ -81,5 +82,35 @@ fn command_line(rt: HostRuntime) -> Result<(), Fail> {
     ];
     let order = parse_words(alloc, &words);
     assert!(rt; matches!(order, Ok(Order::Dump { .. })));
+    Ok(())
+}
+
+#[test]
+fn help(rt: HostRuntime) {
+    let mut buffer = [0; 100];
+    let mut out = MemoryOutput::new(&mut buffer, 100, None);
+    let mut err = MemoryOutput::new(&mut [], 1, None);
+    let usage = "usage: bsonfind dump FILE\n";
+    let status = report("bsonfind", usage, &WordsFault::Help, &mut out, &mut err);
+    assert!(rt; status == Status::Done);
+    assert!(rt; out.bytes() == usage.as_bytes());
+}
+
+/// What arguments say without a parser, and a command of `bsonwide`.
+#[test]
+fn other_words(rt: HostRuntime) -> Result<(), Fail> {
+    let alloc = rt.alloc();
+    let version = [String::from_str(alloc, "--version")?];
+    assert!(rt; requests_version(&version) && !requests_version(&[]));
+    assert!(rt; is_standard_input("-") && !is_standard_input("./-"));
+    let words = [
+        String::from_str(alloc, "order")?,
+        String::from_str(alloc, "a.bson")?,
+        String::from_str(alloc, "price*100")?,
+        String::from_str(alloc, "b")?,
+    ];
+    let order = parse_wide_words(alloc, &words);
+    assert!(rt; matches!(&order, Ok(WideOrder::Order { paths, .. }) if paths.len() == 2));
+    assert!(rt; matches!(parse_wide_words(alloc, &version), Err(WordsFault::Usage)));
     Ok(())
 }

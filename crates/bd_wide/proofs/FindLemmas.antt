@@ -5,7 +5,6 @@ use Rattle.bd_wide.specs.declared.element.Part.{Part}
 use Rattle.bd_wide.specs.Rewritten.{first_element, part_of, path_of}
 use Rattle.bd_bson_view.specs.declared.raw_parts.Holder.{Holder}
 use Rattle.bd_bson_view.specs.declared.raw_parts.Holder.TheVariants as holders
-use Rattle.bd_wide.specs.declared.find.Refusal.{Refusal}
 use Rattle.std.specs.Option.{is_some}
 use Rattle.bd_wide.specs.declared.find.Found.{Found}
 use Rattle.bd_wide.specs.Refused.{Refused, Refuses, Element, Finds, first_of_two, refused_body, refused_element, refused_elements, refused_nested, refused_part, refused_scope}
@@ -100,21 +99,21 @@ pub kept_path : (F : List ℕ → Option Refused) (b : Bool) (old head path_in a
 kept_path F b old head path_in after None is located yes_is = absurd (true≢false (sym yes_is))
 kept_path F b old head path_in after (Some f) is located yes_is = ap F (sym is) ∙ located
 
-pub part_refused : (refuses : List ℕ → ElementType → List ℕ → Option Refusal) (nested : Holder → List ℕ → ℕ → List ℕ → Option Refused) (part : Option Part) (type : ElementType) (path : List ℕ) (at k : ℕ) (value : List ℕ)
+pub part_refused : (refuses : Refuses) (nested : Holder → List ℕ → ℕ → List ℕ → Option Refused) (part : Option Part) (type : ElementType) (path : List ℕ) (at k : ℕ) (value : List ℕ)
     → part ≡ part_of type → refused_element refuses nested type path at k value ≡ refused_part refuses nested part type path at k value
 unfolding refused_element
 part_refused refuses nested part type path at k value is = ap (λ p. refused_part refuses nested p type path at k value) (sym is)
 
 pub deeper : (refuses : Refuses) (depth_left : ℕ) (path : List ℕ) (at : ℕ) (value : List ℕ) → 0 < depth_left
-    → (refused_nested refuses depth_left holders.Document path at value ≡ refused_body (refused_element (refuses (depth_left - 1)) (refused_nested refuses (depth_left - 1))) (path_of false path) at value)
-    × (refused_nested refuses depth_left holders.Array path at value ≡ refused_body (refused_element (refuses (depth_left - 1)) (refused_nested refuses (depth_left - 1))) (path_of true path) at value)
+    → (refused_nested refuses depth_left holders.Document path at value ≡ refused_body (refused_element refuses (refused_nested refuses (depth_left - 1))) (path_of false path) at value)
+    × (refused_nested refuses depth_left holders.Array path at value ≡ refused_body (refused_element refuses (refused_nested refuses (depth_left - 1))) (path_of true path) at value)
     × (refused_nested refuses depth_left holders.CodeScope path at value ≡ refused_scope (refused_nested refuses (depth_left - 1) holders.Document path) at value)
 unfolding refused_nested
 deeper refuses zero path at value some = absurd (omega arith)
 deeper refuses (suc depth_left) path at value some =
     let s : depth_left ≡ suc depth_left - 1 = omega arith in (
-      ap (λ r. refused_body (refused_element (refuses r) (refused_nested refuses r)) (path_of false path) at value) s,
-      ap (λ r. refused_body (refused_element (refuses r) (refused_nested refuses r)) (path_of true path) at value) s,
+      ap (λ r. refused_body (refused_element refuses (refused_nested refuses r)) (path_of false path) at value) s,
+      ap (λ r. refused_body (refused_element refuses (refused_nested refuses r)) (path_of true path) at value) s,
       ap (λ r. refused_scope (refused_nested refuses r holders.Document path) at value) s,
     )
 

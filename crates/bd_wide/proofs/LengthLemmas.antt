@@ -7,7 +7,7 @@ use Rattle.bd_bson_view.specs.declared.raw_parts.ElementType.TheVariants.{Kept, 
 use Rattle.bd_bson_view.specs.declared.raw_parts.Holder.{Holder}
 use Rattle.bd_bson_view.specs.declared.raw_parts.Holder.TheVariants as holders
 use Rattle.bd_bson_view.specs.{Spelling.type_at, Spelling.number, Sizes.number_of, Unique.number_length}
-use Rattle.bd_wide.specs.Rewritten.{◌>>=◌, Writes, Others, Nested, fixed, counted, first_zero, two_texts, size_at, first_element, least, part_of, path_of, separator, scope_at, IsElement, AreElements, IsBody, IsScoped, IsNested, IsRewritten}
+use Rattle.bd_wide.specs.Rewritten.{◌>>=◌, Writes, Nested, fixed, counted, first_zero, two_texts, size_at, first_element, least, part_of, path_of, separator, scope_at, IsElement, AreElements, IsBody, IsScoped, IsNested, IsRewritten}
 use Rattle.bd_wide.specs.inside.Rewritten.{holder_least}
 use Rattle.bd_wide.proofs.RewriteLemmas.{Turn, to_turn, none_only, no_turn, ScopeTurn, to_scope}
 
@@ -123,11 +123,11 @@ pub long_enough : (bytes : List ℕ) → nat_lt (length bytes) 5 ≡ false → 5
 long_enough bytes at = grind (arith, nat_tests)
 
 -- what may be written for a document's bytes, by whether there are fewer than five
-abbrev pub WholeTurn : Writes → Others → List ℕ → List ℕ → Bool → Type 0
-WholeTurn Is others bytes new true = new ≡ bytes
-WholeTurn Is others bytes new false = IsNested Is others 200 holders.Document [] bytes new
+abbrev pub WholeTurn : Writes → List ℕ → List ℕ → Bool → Type 0
+WholeTurn Is bytes new true = new ≡ bytes
+WholeTurn Is bytes new false = IsNested Is 200 holders.Document [] bytes new
 
 -- what may be written for bytes is what may be written for a document, if there are five or more
-pub to_whole : (Is : Writes) (others : Others) (bytes new : List ℕ) → IsRewritten Is others bytes new → WholeTurn Is others bytes new (nat_lt (length bytes) 5)
+pub to_whole : (Is : Writes) (bytes new : List ℕ) → IsRewritten Is bytes new → WholeTurn Is bytes new (nat_lt (length bytes) 5)
 unfolding IsRewritten
-to_whole Is others bytes new = elim (nat_lt (length bytes) 5) as (λ b. (elim b [ true ↦ new ≡ bytes | false ↦ IsNested Is others 200 holders.Document [] bytes new ]) → WholeTurn Is others bytes new b) [ true ↦ λ h. h | false ↦ λ h. h ]
+to_whole Is bytes new = elim (nat_lt (length bytes) 5) as (λ b. (elim b [ true ↦ new ≡ bytes | false ↦ IsNested Is 200 holders.Document [] bytes new ]) → WholeTurn Is bytes new b) [ true ↦ λ h. h | false ↦ λ h. h ]

@@ -5,40 +5,40 @@ use Rattle.bd_bson_view.specs.{Spelling.number, Unique.number_length}
 use Rattle.bd_wide.specs.Order.{IsNumbered, IsOrdered, numbered, start}
 use Rattle.bd_wide.specs.Paths.{ends_with_power, path_read}
 use Rattle.bd_wide.specs.declared.paths.OrderPath.{OrderPath}
-use Rattle.bd_wide.specs.Rewritten.{Adds, Writes, Others, Nested, IsBody, IsNested, IsRewritten}
+use Rattle.bd_wide.specs.Rewritten.{Adds, Writes, Nested, IsBody, IsNested, IsRewritten}
 use Rattle.bd_wide.proofs.LengthLemmas.{to_whole, WholeTurn}
 
 -- ---- the result is still a document
 
-body_some : (Is : Writes) (others : Others) (f : Nested) (path_in : List ℕ → List ℕ) (value new : List ℕ) → 5 ≤ length value → IsBody Is others f path_in value new → 5 ≤ length new
+body_some : (Is : Writes) (f : Nested) (path_in : List ℕ → List ℕ) (value new : List ℕ) → 5 ≤ length value → IsBody Is f path_in value new → 5 ≤ length new
 unfolding IsBody
-body_some Is others f path_in value new some h =
+body_some Is f path_in value new some h =
     let last : List ℕ = drop (length value - 1) value in
     omega (arith, some, ap (λ xs. length xs) h.2, length-append (number (length h.0 + 5)) (h.0 ++ last), number_length (length h.0 + 5), length-append h.0 last, length-drop (length value - 1) value)
 
-nested_some : (Is : Writes) (others : Others) (depth_left : ℕ) (path value new : List ℕ) → 5 ≤ length value → IsNested Is others depth_left holders.Document path value new → 5 ≤ length new
+nested_some : (Is : Writes) (depth_left : ℕ) (path value new : List ℕ) → 5 ≤ length value → IsNested Is depth_left holders.Document path value new → 5 ≤ length new
 unfolding IsNested
-nested_some Is others zero path value new some h = omega (arith, some, ap (λ xs. length xs) h)
-nested_some Is others (suc depth_left) path value new some h = body_some Is others _ _ value new some h
+nested_some Is zero path value new some h = omega (arith, some, ap (λ xs. length xs) h)
+nested_some Is (suc depth_left) path value new some h = body_some Is _ _ value new some h
 
-pub rewritten_some : (Is : Writes) (others : Others) (bytes new : List ℕ) → 5 ≤ length bytes → IsRewritten Is others bytes new → 5 ≤ length new
-rewritten_some Is others bytes new some h =
-    let cases : (b : Bool) → WholeTurn Is others bytes new b → 5 ≤ length new = elim [
+pub rewritten_some : (Is : Writes) (bytes new : List ℕ) → 5 ≤ length bytes → IsRewritten Is bytes new → 5 ≤ length new
+rewritten_some Is bytes new some h =
+    let cases : (b : Bool) → WholeTurn Is bytes new b → 5 ≤ length new = elim [
       | true ↦ λ t. omega (arith, some, ap (λ xs. length xs) t)
-      | false ↦ λ t. nested_some Is others 200 [] bytes new some t
+      | false ↦ λ t. nested_some Is 200 [] bytes new some t
     ] in
-    cases (nat_lt (length bytes) 5) (to_whole Is others bytes new h)
+    cases (nat_lt (length bytes) 5) (to_whole Is bytes new h)
 
 -- the document at the end of the output, after space for its number
 pub has_start : (paths : List OrderPath) (at : ℕ) (bytes old space begun mid : List ℕ) → at ≡ length old → begun ≡ old ++ space → length space ≡ 12 → 5 ≤ length bytes
-    → Adds (IsRewritten (IsOrdered paths) (λ others. others) bytes) begun mid → at + 16 ≤ length mid
+    → Adds (IsRewritten (IsOrdered paths) bytes) begun mid → at + 16 ≤ length mid
 has_start paths at bytes old space begun mid here begins twelve some h =
-    let five = rewritten_some (IsOrdered paths) (λ others. others) bytes h.0 some h.1 in
+    let five = rewritten_some (IsOrdered paths) bytes h.0 some h.1 in
     omega (arith, five, ap (λ xs. length xs) h.2, length-append begun h.0, ap (λ xs. length xs) begins, length-append old space)
 
 -- it gets its number
 pub numbered_here : (paths : List OrderPath) (n at : ℕ) (bytes old space begun mid out : List ℕ) → at ≡ length old → begun ≡ old ++ space → length space ≡ 12
-    → Adds (IsRewritten (IsOrdered paths) (λ others. others) bytes) begun mid
+    → Adds (IsRewritten (IsOrdered paths) bytes) begun mid
     → out ≡ take at mid ++ (start (length mid - at) n ++ drop (at + 16) mid) → Adds (IsNumbered paths n bytes) old out
 unfolding numbered
 numbered_here paths n at bytes old space begun mid out here begins twelve h is =

@@ -1,9 +1,9 @@
 -- Elements one after the other.
-use Rattle.std.proofs.Common.{◌≡◌, ℕ, zero, suc, ◌+◌, ◌-◌, ◌<◌, ◌≤◌, List, [], ◌∷◌, ◌++◌, length, take, drop, Option, Some, None, refl, sym, ap, ap₂, ◌∙◌, arith, append_assoc, length-append, length-drop, append-nil, Result, Ok, Err, OnOk, OnErr, take_at, drop_at, subst, Bool, true, false, ◌==◌}
+use Rattle.std.proofs.Common.{◌≡◌, ℕ, zero, suc, ◌+◌, ◌-◌, ◌<◌, ◌≤◌, List, [], ◌∷◌, ◌++◌, length, take, drop, Option, Some, None, refl, sym, ap, ap₂, ◌∙◌, arith, append_assoc, length-append, length-drop, append-nil, Result, Ok, Err, OnOk, OnErr, take_at, drop_at, subst, Bool, true, false, ◌==◌, if◌then◌else◌}
 use Rattle.std.proofs.lemmas.{Bool.eqb-true, List.nil_from_length, List.length-take-le}
 use Rattle.std.proofs.Math.Seq.{take-append_seam, take-length}
 use Rattle.bd_bson_view.specs.{Spelling.type_at, Spelling.number, Unique.number_length}
-use Rattle.std.specs.Io.{StartsWith}
+use Rattle.std.specs.{Io.StartsWith, Result.is_ok}
 use Rattle.bd_value.proofs.PrefixLemmas.{prefix_then, prefix_all}
 use Rattle.bd_bson_view.specs.declared.raw_parts.ElementType.{ElementType}
 use Rattle.bd_bson_view.specs.declared.raw_parts.Holder.{Holder}
@@ -12,7 +12,7 @@ use Rattle.bd_value.specs.declared.node.Kind.TheVariants as kinds
 use Rattle.bd_bson_view.specs.declared.raw_parts.ElementType.TheVariants.{Kept}
 use Rattle.bd_wide.specs.declared.element.Part.{Part}
 use Rattle.bd_wide.specs.declared.element.Part.TheVariants as parts
-use Rattle.bd_wide.specs.Rewritten.{Writes, Others, Nested, Adds, first_element, least, part_of, name_in, path_of, IsPart, IsElement, AreElements, IsBody, IsScoped, IsNested, scope_at, ◌>>=◌, first_zero, size_at}
+use Rattle.bd_wide.specs.Rewritten.{Writes, Nested, Adds, first_element, least, part_of, name_in, path_of, separator, IsPart, IsElement, AreElements, IsBody, IsScoped, IsNested, scope_at, ◌>>=◌, first_zero, size_at}
 use Rattle.bd_wide.specs.inside.Rewritten.{holder_least}
 
 -- ---- the first element
@@ -40,81 +40,81 @@ shorter b bytes x is = omega (arith, first_element_takes (b ∷ bytes) x is, len
 -- ---- elements
 
 -- what may be written from there on, by the first element
-abbrev pub Turn : Writes → Others → Nested → (List ℕ → List ℕ) → ℕ → List ℕ → Option (ElementType × ℕ × ℕ) → List ℕ → Type 0
-Turn Is others nested path_in n bytes None new = new ≡ others bytes
-Turn Is others nested path_in n bytes (Some x) new = (one : List ℕ) × (two : List ℕ) × IsElement Is nested (path_in (take x.1 bytes)) x.0 (take x.1 bytes) (take x.2 (drop x.1 bytes)) one
-    × AreElements Is others nested path_in n (drop x.2 (drop x.1 bytes)) two × (new ≡ one ++ two)
+abbrev pub Turn : Writes → Nested → (List ℕ → List ℕ) → ℕ → List ℕ → Option (ElementType × ℕ × ℕ) → List ℕ → Type 0
+Turn Is nested path_in n bytes None new = new ≡ bytes
+Turn Is nested path_in n bytes (Some x) new = (one : List ℕ) × (two : List ℕ) × IsElement Is nested (path_in (take x.1 bytes)) x.0 (take x.1 bytes) (take x.2 (drop x.1 bytes)) one
+    × AreElements Is nested path_in n (drop x.2 (drop x.1 bytes)) two × (new ≡ one ++ two)
 
 -- the step of the definition, which is the same
-abbrev Turned : Writes → Others → Nested → (List ℕ → List ℕ) → ℕ → List ℕ → Option (ElementType × ℕ × ℕ) → List ℕ → Type 0
-Turned Is others nested path_in n bytes f new = elim f [
-  | None ↦ new ≡ others bytes
+abbrev Turned : Writes → Nested → (List ℕ → List ℕ) → ℕ → List ℕ → Option (ElementType × ℕ × ℕ) → List ℕ → Type 0
+Turned Is nested path_in n bytes f new = elim f [
+  | None ↦ new ≡ bytes
   | Some x ↦
       let rest = drop x.1 bytes in
       let head = take x.1 bytes in
       (one : List ℕ) × (two : List ℕ) × IsElement Is nested (path_in head) x.0 head (take x.2 rest) one
-      × AreElements Is others nested path_in n (drop x.2 rest) two × (new ≡ one ++ two)
+      × AreElements Is nested path_in n (drop x.2 rest) two × (new ≡ one ++ two)
 ]
 
 -- what may be written for elements is what may be written for the first one and for the others
-pub to_turn : (Is : Writes) (others : Others) (nested : Nested) (path_in : List ℕ → List ℕ) (n b : ℕ) (bytes new : List ℕ) → AreElements Is others nested path_in (suc n) (b ∷ bytes) new → Turn Is others nested path_in n (b ∷ bytes) (first_element (b ∷ bytes)) new
+pub to_turn : (Is : Writes) (nested : Nested) (path_in : List ℕ → List ℕ) (n b : ℕ) (bytes new : List ℕ) → AreElements Is nested path_in (suc n) (b ∷ bytes) new → Turn Is nested path_in n (b ∷ bytes) (first_element (b ∷ bytes)) new
 unfolding AreElements
-to_turn Is others nested path_in n b bytes new = elim (first_element (b ∷ bytes)) as (λ f. Turned Is others nested path_in n (b ∷ bytes) f new → Turn Is others nested path_in n (b ∷ bytes) f new) [ None ↦ λ h. h | Some x ↦ λ h. h ]
+to_turn Is nested path_in n b bytes new = elim (first_element (b ∷ bytes)) as (λ f. Turned Is nested path_in n (b ∷ bytes) f new → Turn Is nested path_in n (b ∷ bytes) f new) [ None ↦ λ h. h | Some x ↦ λ h. h ]
 
-pub from_turn : (Is : Writes) (others : Others) (nested : Nested) (path_in : List ℕ → List ℕ) (n b : ℕ) (bytes new : List ℕ) → Turn Is others nested path_in n (b ∷ bytes) (first_element (b ∷ bytes)) new → AreElements Is others nested path_in (suc n) (b ∷ bytes) new
+pub from_turn : (Is : Writes) (nested : Nested) (path_in : List ℕ → List ℕ) (n b : ℕ) (bytes new : List ℕ) → Turn Is nested path_in n (b ∷ bytes) (first_element (b ∷ bytes)) new → AreElements Is nested path_in (suc n) (b ∷ bytes) new
 unfolding AreElements
-from_turn Is others nested path_in n b bytes new = elim (first_element (b ∷ bytes)) as (λ f. Turn Is others nested path_in n (b ∷ bytes) f new → Turned Is others nested path_in n (b ∷ bytes) f new) [ None ↦ λ h. h | Some x ↦ λ h. h ]
+from_turn Is nested path_in n b bytes new = elim (first_element (b ∷ bytes)) as (λ f. Turn Is nested path_in n (b ∷ bytes) f new → Turned Is nested path_in n (b ∷ bytes) f new) [ None ↦ λ h. h | Some x ↦ λ h. h ]
 
 -- after the last step the rest is unchanged
-pub no_turn : (Is : Writes) (others : Others) (nested : Nested) (path_in : List ℕ → List ℕ) (bytes new : List ℕ) → AreElements Is others nested path_in zero bytes new → new ≡ bytes
+pub no_turn : (Is : Writes) (nested : Nested) (path_in : List ℕ → List ℕ) (bytes new : List ℕ) → AreElements Is nested path_in zero bytes new → new ≡ bytes
 unfolding AreElements
-no_turn Is others nested path_in bytes new h = h
+no_turn Is nested path_in bytes new h = h
 
-pub none : (Is : Writes) (others : Others) (nested : Nested) (path_in : List ℕ → List ℕ) (n : ℕ) → AreElements Is others nested path_in n [] []
+pub none : (Is : Writes) (nested : Nested) (path_in : List ℕ → List ℕ) (n : ℕ) → AreElements Is nested path_in n [] []
 unfolding AreElements
-none Is others nested path_in zero = refl
-none Is others nested path_in (suc n) = refl
+none Is nested path_in zero = refl
+none Is nested path_in (suc n) = refl
 
 -- for no elements nothing is written
-pub none_only : (Is : Writes) (others : Others) (nested : Nested) (path_in : List ℕ → List ℕ) (n : ℕ) (new : List ℕ) → AreElements Is others nested path_in n [] new → new ≡ []
+pub none_only : (Is : Writes) (nested : Nested) (path_in : List ℕ → List ℕ) (n : ℕ) (new : List ℕ) → AreElements Is nested path_in n [] new → new ≡ []
 unfolding AreElements
-none_only Is others nested path_in zero new h = h
-none_only Is others nested path_in (suc n) new h = h
+none_only Is nested path_in zero new h = h
+none_only Is nested path_in (suc n) new h = h
 
 -- any number of steps is enough that is at least the count of the bytes
-enough : (Is : Writes) (others : Others) (nested : Nested) (path_in : List ℕ → List ℕ) (n m : ℕ) (bytes new : List ℕ) → length bytes ≤ n → length bytes ≤ m → AreElements Is others nested path_in n bytes new → AreElements Is others nested path_in m bytes new
-enough Is others nested path_in n m [] new p q h = subst (λ (x : List ℕ). AreElements Is others nested path_in m [] x) (sym (none_only Is others nested path_in n new h)) (none Is others nested path_in m)
-enough Is others nested path_in zero m (b ∷ bytes) new p q h = absurd (omega arith)
-enough Is others nested path_in (suc n) zero (b ∷ bytes) new p q h = absurd (omega arith)
-enough Is others nested path_in (suc n) (suc m) (b ∷ bytes) new p q h =
-    let here : (f : Option (ElementType × ℕ × ℕ)) → first_element (b ∷ bytes) ≡ f → Turn Is others nested path_in n (b ∷ bytes) f new → Turn Is others nested path_in m (b ∷ bytes) f new = elim [
+enough : (Is : Writes) (nested : Nested) (path_in : List ℕ → List ℕ) (n m : ℕ) (bytes new : List ℕ) → length bytes ≤ n → length bytes ≤ m → AreElements Is nested path_in n bytes new → AreElements Is nested path_in m bytes new
+enough Is nested path_in n m [] new p q h = subst (λ (x : List ℕ). AreElements Is nested path_in m [] x) (sym (none_only Is nested path_in n new h)) (none Is nested path_in m)
+enough Is nested path_in zero m (b ∷ bytes) new p q h = absurd (omega arith)
+enough Is nested path_in (suc n) zero (b ∷ bytes) new p q h = absurd (omega arith)
+enough Is nested path_in (suc n) (suc m) (b ∷ bytes) new p q h =
+    let here : (f : Option (ElementType × ℕ × ℕ)) → first_element (b ∷ bytes) ≡ f → Turn Is nested path_in n (b ∷ bytes) f new → Turn Is nested path_in m (b ∷ bytes) f new = elim [
       | None ↦ λ is h. h
       | Some x ↦ λ is h.
           let less = shorter b bytes x is in
-          (h.0, h.1, h.2, enough Is others nested path_in n m (drop x.2 (drop x.1 (b ∷ bytes))) h.1 (omega (arith, less)) (omega (arith, less)) h.3, h.4)
+          (h.0, h.1, h.2, enough Is nested path_in n m (drop x.2 (drop x.1 (b ∷ bytes))) h.1 (omega (arith, less)) (omega (arith, less)) h.3, h.4)
     ] in
-    from_turn Is others nested path_in m b bytes new (here (first_element (b ∷ bytes)) refl (to_turn Is others nested path_in n b bytes new h))
+    from_turn Is nested path_in m b bytes new (here (first_element (b ∷ bytes)) refl (to_turn Is nested path_in n b bytes new h))
 
 pub first_element_nil : first_element [] ≡ None
 unfolding first_element
 first_element_nil = refl
 
 -- the first element, and the others
-goes_on : (Is : Writes) (others : Others) (nested : Nested) (path_in : List ℕ → List ℕ) (bytes : List ℕ) (x : ElementType × ℕ × ℕ) (one two : List ℕ) → Some x ≡ first_element bytes
+goes_on : (Is : Writes) (nested : Nested) (path_in : List ℕ → List ℕ) (bytes : List ℕ) (x : ElementType × ℕ × ℕ) (one two : List ℕ) → Some x ≡ first_element bytes
     → IsElement Is nested (path_in (take x.1 bytes)) x.0 (take x.1 bytes) (take x.2 (drop x.1 bytes)) one
-    → AreElements Is others nested path_in (length (drop x.2 (drop x.1 bytes))) (drop x.2 (drop x.1 bytes)) two
-    → AreElements Is others nested path_in (length bytes) bytes (one ++ two)
-goes_on Is others nested path_in [] x one two is e r = let e = is ∙ first_element_nil in absurd cc
-goes_on Is others nested path_in (b ∷ bytes) x one two is e r =
+    → AreElements Is nested path_in (length (drop x.2 (drop x.1 bytes))) (drop x.2 (drop x.1 bytes)) two
+    → AreElements Is nested path_in (length bytes) bytes (one ++ two)
+goes_on Is nested path_in [] x one two is e r = let e = is ∙ first_element_nil in absurd cc
+goes_on Is nested path_in (b ∷ bytes) x one two is e r =
     let less = shorter b bytes x (sym is) in
     let rest : List ℕ = drop x.2 (drop x.1 (b ∷ bytes)) in
-    from_turn Is others nested path_in (length bytes) b bytes (one ++ two) (subst (λ (f : Option (ElementType × ℕ × ℕ)). Turn Is others nested path_in (length bytes) (b ∷ bytes) f (one ++ two)) is
-    (one, two, e, enough Is others nested path_in (length rest) (length bytes) rest two (omega arith) less r, refl))
+    from_turn Is nested path_in (length bytes) b bytes (one ++ two) (subst (λ (f : Option (ElementType × ℕ × ℕ)). Turn Is nested path_in (length bytes) (b ∷ bytes) f (one ++ two)) is
+    (one, two, e, enough Is nested path_in (length rest) (length bytes) rest two (omega arith) less r, refl))
 
-pub ends : (Is : Writes) (others : Others) (nested : Nested) (path_in : List ℕ → List ℕ) (bytes : List ℕ) → 0 < length bytes → None ≡ first_element bytes → AreElements Is others nested path_in (length bytes) bytes (others bytes)
-ends Is others nested path_in [] some is = absurd (omega arith)
-ends Is others nested path_in (b ∷ bytes) some is = from_turn Is others nested path_in (length bytes) b bytes (others (b ∷ bytes))
-    (subst (λ (f : Option (ElementType × ℕ × ℕ)). Turn Is others nested path_in (length bytes) (b ∷ bytes) f (others (b ∷ bytes))) is refl)
+pub ends : (Is : Writes) (nested : Nested) (path_in : List ℕ → List ℕ) (bytes : List ℕ) → None ≡ first_element bytes → AreElements Is nested path_in (length bytes) bytes bytes
+ends Is nested path_in [] is = none Is nested path_in 0
+ends Is nested path_in (b ∷ bytes) is = from_turn Is nested path_in (length bytes) b bytes (b ∷ bytes)
+    (subst (λ (f : Option (ElementType × ℕ × ℕ)). Turn Is nested path_in (length bytes) (b ∷ bytes) f (b ∷ bytes)) is refl)
 
 -- ---- what was appended
 
@@ -125,39 +125,32 @@ pub headed : (Is : List ℕ → Type 0) (a b c head : List ℕ) → b ≡ a ++ h
 headed Is a b c head begun h = (head ++ h.0, (h.0, h.1, refl), h.2 ∙ ap (λ x. x ++ h.0) begun ∙ append_assoc a head h.0)
 
 -- the output so far, with the output for the rest, is the output for all
-abbrev pub Comes : Writes → Others → Nested → (List ℕ → List ℕ) → List ℕ → List ℕ → List ℕ → List ℕ → Type 0
-Comes Is others nested path_in bytes rest old out = (more : List ℕ) → AreElements Is others nested path_in (length rest) rest more → Adds (AreElements Is others nested path_in (length bytes) bytes) old (out ++ more)
+abbrev pub Comes : Writes → Nested → (List ℕ → List ℕ) → List ℕ → List ℕ → List ℕ → List ℕ → Type 0
+Comes Is nested path_in bytes rest old out = (more : List ℕ) → AreElements Is nested path_in (length rest) rest more → Adds (AreElements Is nested path_in (length bytes) bytes) old (out ++ more)
 
-pub begins : (Is : Writes) (others : Others) (nested : Nested) (path_in : List ℕ → List ℕ) (bytes old : List ℕ) → Comes Is others nested path_in bytes bytes old old
-begins Is others nested path_in bytes old = λ more h. (more, h, refl)
+pub begins : (Is : Writes) (nested : Nested) (path_in : List ℕ → List ℕ) (bytes old : List ℕ) → Comes Is nested path_in bytes bytes old old
+begins Is nested path_in bytes old = λ more h. (more, h, refl)
 
 -- after one more element is written, the output is for the bytes up to the next
-pub stepped : (Is : Writes) (others : Others) (nested : Nested) (path_in : List ℕ → List ℕ) (bytes old out now rest head more value remaining path : List ℕ) (t : ElementType) (k n : ℕ)
-    → Comes Is others nested path_in bytes rest old out → Some (t, k, n) ≡ first_element rest
+pub stepped : (Is : Writes) (nested : Nested) (path_in : List ℕ → List ℕ) (bytes old out now rest head more value remaining path : List ℕ) (t : ElementType) (k n : ℕ)
+    → Comes Is nested path_in bytes rest old out → Some (t, k, n) ≡ first_element rest
     → head ≡ take k rest → more ≡ drop k rest → value ≡ take n more → remaining ≡ drop n more → path ≡ path_in head → Adds (IsElement Is nested path t head value) out now
-    → Comes Is others nested path_in bytes remaining old now
-stepped Is others nested path_in bytes old out now rest head more value remaining path t k n comes is p q r s w e = λ later h.
+    → Comes Is nested path_in bytes remaining old now
+stepped Is nested path_in bytes old out now rest head more value remaining path t k n comes is p q r s w e = λ later h.
     let after : List ℕ = drop n (drop k rest) in
     let v : value ≡ take n (drop k rest) = r ∙ ap (take n) q in
     let l : remaining ≡ after = s ∙ ap (drop n) q in
     let one : IsElement Is nested (path_in (take k rest)) t (take k rest) (take n (drop k rest)) e.0 =
     subst (λ (x : List ℕ). IsElement Is nested (path_in x) t x (take n (drop k rest)) e.0) p
     (subst (λ (x : List ℕ). IsElement Is nested x t head (take n (drop k rest)) e.0) w (subst (λ (x : List ℕ). IsElement Is nested path t head x e.0) v e.1)) in
-    let two : AreElements Is others nested path_in (length after) after later = subst (λ (x : List ℕ). AreElements Is others nested path_in (length x) x later) l h in
-    let whole = comes (e.0 ++ later) (goes_on Is others nested path_in rest (t, k, n) e.0 later is one two) in
+    let two : AreElements Is nested path_in (length after) after later = subst (λ (x : List ℕ). AreElements Is nested path_in (length x) x later) l h in
+    let whole = comes (e.0 ++ later) (goes_on Is nested path_in rest (t, k, n) e.0 later is one two) in
     (whole.0, whole.1, ap (λ x. x ++ later) e.2 ∙ append_assoc out e.0 later ∙ whole.2)
 
-pub all_written : (Is : Writes) (others : Others) (nested : Nested) (path_in : List ℕ → List ℕ) (bytes old out rest : List ℕ) → Comes Is others nested path_in bytes rest old out → true ≡ (length rest == 0)
-    → Adds (AreElements Is others nested path_in (length bytes) bytes) old out
-all_written Is others nested path_in bytes old out rest comes is =
-    let nil = nil_from_length rest (eqb-true (length rest) 0 (sym is)) in
-    let whole = comes [] (subst (λ (x : List ℕ). AreElements Is others nested path_in (length x) x []) (sym nil) (none Is others nested path_in 0)) in
-    (whole.0, whole.1, sym (append-nil out) ∙ whole.2)
-
-pub others_written : (Is : Writes) (others : Others) (nested : Nested) (path_in : List ℕ → List ℕ) (bytes old out now rest : List ℕ) → Comes Is others nested path_in bytes rest old out → None ≡ first_element rest → 0 < length rest
-    → now ≡ out ++ others rest → Adds (AreElements Is others nested path_in (length bytes) bytes) old now
-others_written Is others nested path_in bytes old out now rest comes is some e =
-    let whole = comes (others rest) (ends Is others nested path_in rest some is) in
+pub all_written : (Is : Writes) (nested : Nested) (path_in : List ℕ → List ℕ) (bytes old out now rest : List ℕ) → Comes Is nested path_in bytes rest old out → None ≡ first_element rest
+    → now ≡ out ++ rest → Adds (AreElements Is nested path_in (length bytes) bytes) old now
+all_written Is nested path_in bytes old out now rest comes is e =
+    let whole = comes rest (ends Is nested path_in rest is) in
     (whole.0, whole.1, e ∙ whole.2)
 
 -- ---- results
@@ -165,6 +158,10 @@ others_written Is others nested path_in bytes old out now rest comes is some e =
 pub err_then : {A B : Type 0} (r : Result A B) (a b c x : List ℕ) → OnErr r (StartsWith c b) → b ≡ a ++ x → OnErr r (StartsWith c a)
 err_then (Ok y) a b c x h is = _
 err_then (Err e) a b c x h is = prefix_then a b c (prefix_all a x is) h
+
+pub ok_if : {A B : Type 0} (r : Result A B) (now new old : List ℕ) → now ≡ (if is_ok r then new else old) → OnOk r (now ≡ new)
+ok_if (Ok x) now new old is = is
+ok_if (Err e) now new old is = _
 
 pub ok_on : {A B : Type 0} (r : Result A B) (P Q : Type 0) → OnOk r P → (P → Q) → OnOk r Q
 ok_on (Ok x) P Q p q = q p
@@ -206,12 +203,12 @@ opened old one two three x y p q r = omega (
 pub three_parts : (old one two three x y : List ℕ) → one ≡ old ++ number 0 → two ≡ one ++ x → three ≡ two ++ y → three ≡ (old ++ number 0) ++ (x ++ y)
 three_parts old one two three x y p q r = rw (r, q, p) (append_assoc (old ++ number 0) x y)
 
-pub body_ok : (Is : Writes) (others : Others) (nested : Nested) (path_in : List ℕ → List ℕ) (value old one two three out more inner last : List ℕ) (at : ℕ) → 5 ≤ length value
+pub body_ok : (Is : Writes) (nested : Nested) (path_in : List ℕ → List ℕ) (value old one two three out more inner last : List ℕ) (at : ℕ) → 5 ≤ length value
     → more ≡ drop 4 value → inner ≡ take (length value - 5) more → last ≡ drop (length value - 1) value → at ≡ length old
-    → one ≡ old ++ number 0 → Adds (AreElements Is others nested path_in (length inner) inner) one two → three ≡ two ++ last
-    → out ≡ take at three ++ (number (length three - at) ++ drop (at + 4) three) → Adds (IsBody Is others nested path_in value) old out
+    → one ≡ old ++ number 0 → Adds (AreElements Is nested path_in (length inner) inner) one two → three ≡ two ++ last
+    → out ≡ take at three ++ (number (length three - at) ++ drop (at + 4) three) → Adds (IsBody Is nested path_in value) old out
 unfolding IsBody
-body_ok Is others nested path_in value old one two three out more inner last at some splits_more splits_inner splits_last here p q r is =
+body_ok Is nested path_in value old one two three out more inner last at some splits_more splits_inner splits_last here p q r is =
     let new : List ℕ = q.0 in
     let ended : length (new ++ last) + 4 ≡ length new + 5 = omega (arith, length-append new last, ap (λ xs. length xs) splits_last, length-drop (length value - 1) value) in
     let whole : out ≡ old ++ (number (length new + 5) ++ (new ++ last)) =
@@ -219,7 +216,7 @@ body_ok Is others nested path_in value old one two three out more inner last at 
     ∙ ap (λ n. old ++ (number n ++ (new ++ last))) ended in
     let same : inner ≡ take (length value - 5) (drop 4 value) = splits_inner ∙ ap (take (length value - 5)) splits_more in (
       number (length new + 5) ++ (new ++ drop (length value - 1) value),
-      (new, subst (λ (i : List ℕ). AreElements Is others nested path_in (length i) i new) same q.1, refl),
+      (new, subst (λ (i : List ℕ). AreElements Is nested path_in (length i) i new) same q.1, refl),
       subst (λ (l : List ℕ). out ≡ old ++ (number (length new + 5) ++ (new ++ l))) splits_last whole,
     )
 
@@ -267,24 +264,24 @@ scoped_ok document value old two three out scope start at gives eight fits split
 -- ---- with n levels left
 
 -- a body with one level fewer left is a nested document, array or code with scope
-pub below : (Is : Writes) (others : Others) (depth_left : ℕ) (path value new : List ℕ) → 0 < depth_left
-    → (IsBody Is others (IsNested Is others (depth_left - 1)) (path_of false path) value new → IsNested Is others depth_left holders.Document path value new)
-    × (IsBody Is others (IsNested Is others (depth_left - 1)) (path_of true path) value new → IsNested Is others depth_left holders.Array path value new)
-    × (IsScoped (IsNested Is others (depth_left - 1) holders.Document path) value new → IsNested Is others depth_left holders.CodeScope path value new)
+pub below : (Is : Writes) (depth_left : ℕ) (path value new : List ℕ) → 0 < depth_left
+    → (IsBody Is (IsNested Is (depth_left - 1)) (path_of false path) value new → IsNested Is depth_left holders.Document path value new)
+    × (IsBody Is (IsNested Is (depth_left - 1)) (path_of true path) value new → IsNested Is depth_left holders.Array path value new)
+    × (IsScoped (IsNested Is (depth_left - 1) holders.Document path) value new → IsNested Is depth_left holders.CodeScope path value new)
 unfolding IsNested
-below Is others zero path value new some = absurd (omega arith)
-below Is others (suc depth_left) path value new some =
+below Is zero path value new some = absurd (omega arith)
+below Is (suc depth_left) path value new some =
     let s : suc depth_left - 1 ≡ depth_left = omega arith in (
-      λ h. subst (λ (r : ℕ). IsBody Is others (IsNested Is others r) (path_of false path) value new) s h,
-      λ h. subst (λ (r : ℕ). IsBody Is others (IsNested Is others r) (path_of true path) value new) s h,
-      λ h. subst (λ (r : ℕ). IsScoped (IsNested Is others r holders.Document path) value new) s h,
+      λ h. subst (λ (r : ℕ). IsBody Is (IsNested Is r) (path_of false path) value new) s h,
+      λ h. subst (λ (r : ℕ). IsBody Is (IsNested Is r) (path_of true path) value new) s h,
+      λ h. subst (λ (r : ℕ). IsScoped (IsNested Is r holders.Document path) value new) s h,
     )
 
-pub nested_ok : {A B : Type 0} (r : Result A B) (Is : Writes) (others : Others) (depth_left : ℕ) (holder h : Holder) (path value a c : List ℕ) (P : List ℕ → Type 0)
-    → holder ≡ h → ((x : List ℕ) → P x → IsNested Is others depth_left h path value x) → OnOk r (Adds P a c) → OnOk r (Adds (IsNested Is others depth_left holder path value) a c)
-nested_ok (Err e) Is others depth_left holder h path value a c P is f ok = _
-nested_ok (Ok y) Is others depth_left holder h path value a c P is f ok =
-    (ok.0, subst (λ (k : Holder). IsNested Is others depth_left k path value ok.0) (sym is) (f ok.0 ok.1), ok.2)
+pub nested_ok : {A B : Type 0} (r : Result A B) (Is : Writes) (depth_left : ℕ) (holder h : Holder) (path value a c : List ℕ) (P : List ℕ → Type 0)
+    → holder ≡ h → ((x : List ℕ) → P x → IsNested Is depth_left h path value x) → OnOk r (Adds P a c) → OnOk r (Adds (IsNested Is depth_left holder path value) a c)
+nested_ok (Err e) Is depth_left holder h path value a c P is f ok = _
+nested_ok (Ok y) Is depth_left holder h path value a c P is f ok =
+    (ok.0, subst (λ (k : Holder). IsNested Is depth_left k path value ok.0) (sym is) (f ok.0 ok.1), ok.2)
 
 -- ---- elements that are examined
 
@@ -297,6 +294,18 @@ part_of_element Is nested path type part head value new is h = subst (λ (p : Op
 pub as_part : (Is : Writes) (nested : Nested) (path : List ℕ) (type : ElementType) (part : Part) (head value a c : List ℕ) → Some part ≡ part_of type
     → Adds (IsPart Is nested (Some part) path type head value) a c → Adds (IsElement Is nested path type head value) a c
 as_part Is nested path type part head value a c is h = (h.0, part_of_element Is nested path type (Some part) head value h.0 is h.1, h.2)
+
+pub part_added : (Is : Writes) (nested : Nested) (part : Part) (path other : List ℕ) (type : ElementType) (head value a c : List ℕ) → path ≡ other
+    → Adds (IsPart Is nested (Some part) path type head value) a c → Adds (IsPart Is nested (Some part) other type head value) a c
+part_added Is nested part path other type head value a c same h = subst (λ (p : List ℕ). Adds (IsPart Is nested (Some part) p type head value) a c) same h
+
+pub values_added : {A B : Type 0} (r : Result A B) (Is : Writes) (nested : Nested) (part : Part) (holder : Holder) (path path_in : List ℕ) (type : ElementType) (head value a b c : List ℕ)
+    → part ≡ parts.Values holder → path ≡ path_in ++ separator holder → b ≡ a ++ head
+    → OnOk r (Adds (nested holder path value) b c) → OnOk r (Adds (IsPart Is nested (Some part) path_in type head value) a c)
+values_added (Err e) Is nested part holder path path_in type head value a b c is inside begun ok = _
+values_added (Ok x) Is nested part holder path path_in type head value a b c is inside begun ok =
+    subst (λ (p : Part). Adds (IsPart Is nested (Some p) path_in type head value) a c) (sym is)
+    (headed (nested holder (path_in ++ separator holder) value) a b c head begun (subst (λ (p : List ℕ). Adds (nested holder p value) b c) inside ok))
 
 -- an element that contains values has at least the bytes that its kind needs
 pub holder_takes_least : (type : ElementType) (holder : Holder) → part_of type ≡ Some (parts.Values holder) → holder_least holder ≤ least type
@@ -314,5 +323,6 @@ path_in_begins false old head = take-append_seam old (name_in head)
 pub path_splits : (old path_in after new : List ℕ) (size : ℕ) → StartsWith path_in old → size ≡ length old → StartsWith after path_in → new ≡ take size after → new ≡ old
 path_splits old path_in after new size begins here begun splits = splits ∙ ap (λ n. take n after) here ∙ prefix_then old path_in after begins begun
 
+-- the path of an element is truncated to that before it
 pub path_back : (b : Bool) (old head path_in after new : List ℕ) (size : ℕ) → path_in ≡ path_of b old head → size ≡ length old → StartsWith after path_in → new ≡ take size after → new ≡ old
 path_back b old head path_in after new size is here begun splits = path_splits old path_in after new size (subst (λ (p : List ℕ). StartsWith p old) (sym is) (path_in_begins b old head)) here begun splits

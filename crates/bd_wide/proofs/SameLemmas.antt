@@ -8,7 +8,7 @@ use Rattle.bd_bson_view.specs.declared.raw_parts.ElementType.TheVariants.{Kept, 
 use Rattle.bd_bson_view.specs.declared.raw_parts.Holder.{Holder}
 use Rattle.bd_bson_view.specs.declared.raw_parts.Holder.TheVariants as holders
 use Rattle.bd_bson_view.specs.{Spelling.type_at, Spelling.number, Sizes.number_of}
-use Rattle.bd_wide.specs.Rewritten.{◌>>=◌, Writes, Others, Nested, counted, first_zero, size_at, first_element, least, part_of, path_of, separator, scope_at, IsElement, AreElements, IsBody, IsScoped, IsNested, IsRewritten}
+use Rattle.bd_wide.specs.Rewritten.{◌>>=◌, Writes, Nested, counted, first_zero, size_at, first_element, least, part_of, path_of, separator, scope_at, IsElement, AreElements, IsBody, IsScoped, IsNested, IsRewritten}
 use Rattle.bd_wide.specs.inside.Rewritten.{holder_least}
 use Rattle.bd_wide.specs.Refused.{Refused, Refuses, Element, first_of_two, first_refused, refused_body, refused_element, refused_elements, refused_nested, refused_scope}
 use Rattle.bd_wide.proofs.RewriteLemmas.{Turn, to_turn, none_only, no_turn, ScopeTurn, to_scope}
@@ -30,10 +30,9 @@ bytes_take n bytes h i = elim (cases_lt i n) [
 
 -- ---- a writer that changes only what is refused
 
--- A number that is not refused is unchanged, and so are bytes that cannot be read.
-pub record Same (Is : Writes) (others : Others) (refuses : Refuses) : Type 0 where
-  pub element : (depth_left : ℕ) (path : List ℕ) (t : ElementType) (head value new : List ℕ) → refuses depth_left path t value ≡ None → Is path t head value new → new ≡ head ++ value
-  pub rest : (bytes : List ℕ) → others bytes ≡ bytes
+-- a number that is not refused is unchanged
+abbrev pub Same : Writes → Refuses → Type 0
+Same Is refuses = (path : List ℕ) (t : ElementType) (head value new : List ℕ) → refuses path t value ≡ None → Is path t head value new → new ≡ head ++ value
 
 -- documents, arrays and code with scope that count their bytes are unchanged
 abbrev SameNested : Nested → (Holder → List ℕ → ℕ → List ℕ → Option Refused) → Type 0
@@ -102,47 +101,47 @@ first_element_counts (b ∷ bytes) x is =
 headed_same : (f : List ℕ → Type 0) (head value new : List ℕ) → ((v : List ℕ) → f v → v ≡ value) → (v : List ℕ) × f v × (new ≡ head ++ v) → new ≡ head ++ value
 headed_same f head value new below h = h.2 ∙ ap (λ v. head ++ v) (below h.0 h.1)
 
-element_same : (Is : Writes) (others : Others) (refuses : Refuses) → Same Is others refuses → (f : Nested) (g : Holder → List ℕ → ℕ → List ℕ → Option Refused) → SameNested f g
-    → (depth_left : ℕ) (t : ElementType) (path : List ℕ) (at k : ℕ) (head value new : List ℕ) → least t ≤ length value → Counts t value → IsBytes value
-    → refused_element (refuses depth_left) g t path at k value ≡ None → IsElement Is f path t head value new → new ≡ head ++ value
+element_same : (Is : Writes) (refuses : Refuses) → Same Is refuses → (f : Nested) (g : Holder → List ℕ → ℕ → List ℕ → Option Refused) → SameNested f g
+    → (t : ElementType) (path : List ℕ) (at k : ℕ) (head value new : List ℕ) → least t ≤ length value → Counts t value → IsBytes value
+    → refused_element refuses g t path at k value ≡ None → IsElement Is f path t head value new → new ≡ head ++ value
 unfolding IsElement refused_element part_of least holder_least
-element_same Is others refuses same f g below depth_left Double path at k head value new some counts fits clear h = same.element depth_left path Double head value new (none_mapped _ _ clear) h
-element_same Is others refuses same f g below depth_left Decimal128 path at k head value new some counts fits clear h = same.element depth_left path Decimal128 head value new (none_mapped _ _ clear) h
-element_same Is others refuses same f g below depth_left (Kept kinds.Int32) path at k head value new some counts fits clear h = same.element depth_left path (Kept kinds.Int32) head value new (none_mapped _ _ clear) h
-element_same Is others refuses same f g below depth_left (Kept kinds.Int64) path at k head value new some counts fits clear h = same.element depth_left path (Kept kinds.Int64) head value new (none_mapped _ _ clear) h
-element_same Is others refuses same f g below depth_left (Kept kinds.Doc) path at k head value new some counts fits clear h =
+element_same Is refuses same f g below Double path at k head value new some counts fits clear h = same path Double head value new (none_mapped _ _ clear) h
+element_same Is refuses same f g below Decimal128 path at k head value new some counts fits clear h = same path Decimal128 head value new (none_mapped _ _ clear) h
+element_same Is refuses same f g below (Kept kinds.Int32) path at k head value new some counts fits clear h = same path (Kept kinds.Int32) head value new (none_mapped _ _ clear) h
+element_same Is refuses same f g below (Kept kinds.Int64) path at k head value new some counts fits clear h = same path (Kept kinds.Int64) head value new (none_mapped _ _ clear) h
+element_same Is refuses same f g below (Kept kinds.Doc) path at k head value new some counts fits clear h =
     let inner : List ℕ = path ++ separator holders.Document in
     headed_same (f holders.Document inner value) head value new (λ v. below holders.Document inner (at + k) value v some counts fits clear) h
-element_same Is others refuses same f g below depth_left (Kept kinds.Array) path at k head value new some counts fits clear h =
+element_same Is refuses same f g below (Kept kinds.Array) path at k head value new some counts fits clear h =
     let inner : List ℕ = path ++ separator holders.Array in
     headed_same (f holders.Array inner value) head value new (λ v. below holders.Array inner (at + k) value v some counts fits clear) h
-element_same Is others refuses same f g below depth_left (Kept kinds.CodeScope) path at k head value new some counts fits clear h =
+element_same Is refuses same f g below (Kept kinds.CodeScope) path at k head value new some counts fits clear h =
     let inner : List ℕ = path ++ separator holders.CodeScope in
     headed_same (f holders.CodeScope inner value) head value new (λ v. below holders.CodeScope inner (at + k) value v some counts fits clear) h
-element_same Is others refuses same f g below depth_left (Kept _) path at k head value new some counts fits clear h = h
+element_same Is refuses same f g below (Kept _) path at k head value new some counts fits clear h = h
 
-elements_same : (Is : Writes) (others : Others) (refuses : Refuses) → Same Is others refuses → (f : Nested) (g : Holder → List ℕ → ℕ → List ℕ → Option Refused) → SameNested f g
-    → (depth_left : ℕ) (path_in : List ℕ → List ℕ) (n at : ℕ) (bytes new : List ℕ) → IsBytes bytes → refused_elements (refused_element (refuses depth_left) g) path_in n at bytes ≡ None
-    → AreElements Is others f path_in n bytes new → new ≡ bytes
-elements_same Is others refuses same f g below depth_left path_in zero at bytes new fits clear h = no_turn Is others f path_in bytes new h
-elements_same Is others refuses same f g below depth_left path_in (suc n) at [] new fits clear h = none_only Is others f path_in (suc n) new h
-elements_same Is others refuses same f g below depth_left path_in (suc n) at (b ∷ bytes) new fits clear h =
+elements_same : (Is : Writes) (refuses : Refuses) → Same Is refuses → (f : Nested) (g : Holder → List ℕ → ℕ → List ℕ → Option Refused) → SameNested f g
+    → (path_in : List ℕ → List ℕ) (n at : ℕ) (bytes new : List ℕ) → IsBytes bytes → refused_elements (refused_element refuses g) path_in n at bytes ≡ None
+    → AreElements Is f path_in n bytes new → new ≡ bytes
+elements_same Is refuses same f g below path_in zero at bytes new fits clear h = no_turn Is f path_in bytes new h
+elements_same Is refuses same f g below path_in (suc n) at [] new fits clear h = none_only Is f path_in (suc n) new h
+elements_same Is refuses same f g below path_in (suc n) at (b ∷ bytes) new fits clear h =
     let all : List ℕ = b ∷ bytes in
-    let element : Element = refused_element (refuses depth_left) g in
-    let here : (r : Option (ElementType × ℕ × ℕ)) → first_element all ≡ r → finds.Turn element path_in n at all r ≡ None → Turn Is others f path_in n all r new → new ≡ all = elim [
-      | None ↦ λ is none t. t ∙ same.rest all
+    let element : Element = refused_element refuses g in
+    let here : (r : Option (ElementType × ℕ × ℕ)) → first_element all ≡ r → finds.Turn element path_in n at all r ≡ None → Turn Is f path_in n all r new → new ≡ all = elim [
+      | None ↦ λ is none t. t
       | Some x ↦ λ is none t.
           let apart = first_none _ _ none in
           let rest : List ℕ = drop x.1 all in
           let fit = first_element_fits all x is in
           let vs : length (take x.2 rest) ≡ x.2 = length-take-le x.2 rest (omega (arith, fit.2, length-drop x.1 all)) in
           let valued : IsBytes (take x.2 rest) = bytes_take x.2 rest (bytes_drop x.1 all fits) in
-          let one = element_same Is others refuses same f g below depth_left x.0 (path_in (take x.1 all)) at x.1 (take x.1 all) (take x.2 rest) t.0 (omega (arith, vs, fit.1)) (first_element_counts all x is) valued apart.0 t.2 in
-          let two = elements_same Is others refuses same f g below depth_left path_in n (at + x.1 + x.2) (drop x.2 rest) t.1 (bytes_drop x.2 rest (bytes_drop x.1 all fits)) apart.1 t.3 in
+          let one = element_same Is refuses same f g below x.0 (path_in (take x.1 all)) at x.1 (take x.1 all) (take x.2 rest) t.0 (omega (arith, vs, fit.1)) (first_element_counts all x is) valued apart.0 t.2 in
+          let two = elements_same Is refuses same f g below path_in n (at + x.1 + x.2) (drop x.2 rest) t.1 (bytes_drop x.2 rest (bytes_drop x.1 all fits)) apart.1 t.3 in
           t.4 ∙ ap₂ (λ (a c : List ℕ). a ++ c) one two ∙ append_assoc (take x.1 all) (take x.2 rest) (drop x.2 rest)
           ∙ ap (λ l. take x.1 all ++ l) (take-append-drop x.2 rest) ∙ take-append-drop x.1 all
     ] in
-    here (first_element all) refl (sym (turned element path_in n at b bytes) ∙ clear) (to_turn Is others f path_in n b bytes new h)
+    here (first_element all) refl (sym (turned element path_in n at b bytes) ∙ clear) (to_turn Is f path_in n b bytes new h)
 
 -- ---- documents, arrays and code with scope
 
@@ -150,16 +149,16 @@ number_back : (value : List ℕ) → 4 ≤ length value → IsBytes value → nu
 unfolding number
 number_back value some fits = le_bytes_4 (take 4 value) _ (length-take-le 4 value some) (bytes_take 4 value fits) refl
 
-body_same : (Is : Writes) (others : Others) (refuses : Refuses) → Same Is others refuses → (f : Nested) (g : Holder → List ℕ → ℕ → List ℕ → Option Refused) → SameNested f g
-    → (depth_left : ℕ) (path_in : List ℕ → List ℕ) (at : ℕ) (value new : List ℕ) → 5 ≤ length value → number_of value ≡ length value → IsBytes value
-    → refused_body (refused_element (refuses depth_left) g) path_in at value ≡ None → IsBody Is others f path_in value new → new ≡ value
+body_same : (Is : Writes) (refuses : Refuses) → Same Is refuses → (f : Nested) (g : Holder → List ℕ → ℕ → List ℕ → Option Refused) → SameNested f g
+    → (path_in : List ℕ → List ℕ) (at : ℕ) (value new : List ℕ) → 5 ≤ length value → number_of value ≡ length value → IsBytes value
+    → refused_body (refused_element refuses g) path_in at value ≡ None → IsBody Is f path_in value new → new ≡ value
 unfolding IsBody refused_body
-body_same Is others refuses same f g below depth_left path_in at value new some counts fits clear h =
+body_same Is refuses same f g below path_in at value new some counts fits clear h =
     let rest : List ℕ = drop 4 value in
     let inner : List ℕ = take (length value - 5) rest in
     let last : List ℕ = drop (length value - 1) value in
     let i : length inner ≡ length value - 5 = length-take-le (length value - 5) rest (omega (arith, length-drop 4 value)) in
-    let body : h.0 ≡ inner = elements_same Is others refuses same f g below depth_left path_in (length inner) (at + 4) inner h.0 (bytes_take (length value - 5) rest (bytes_drop 4 value fits)) clear h.1 in
+    let body : h.0 ≡ inner = elements_same Is refuses same f g below path_in (length inner) (at + 4) inner h.0 (bytes_take (length value - 5) rest (bytes_drop 4 value fits)) clear h.1 in
     let size : length h.0 + 5 ≡ number_of value = omega (arith, ap (λ xs. length xs) body, i, counts) in
     let end : drop (length value - 5) rest ≡ last = drop-drop (length value - 5) 4 value ∙ ap (λ n. drop n value) (omega arith) in
     h.2 ∙ (λ t. number (size t) ++ (body t ++ last)) ∙ ap₂ (λ (a c : List ℕ). a ++ (inner ++ c)) (number_back value (omega (arith, some)) fits) (sym end)
@@ -204,23 +203,23 @@ scoped_same document g below at value new some counts fits clear h =
     ] in
     cases (scope_at value) refl (sym (scope_found g at value) ∙ clear) (to_scope document value new h)
 
-nested_same : (Is : Writes) (others : Others) (refuses : Refuses) → Same Is others refuses → (depth_left : ℕ) → SameNested (IsNested Is others depth_left) (refused_nested refuses depth_left)
+nested_same : (Is : Writes) (refuses : Refuses) → Same Is refuses → (depth_left : ℕ) → SameNested (IsNested Is depth_left) (refused_nested refuses depth_left)
 unfolding IsNested refused_nested holder_least
-nested_same Is others refuses same zero h path at value new some counts fits clear is = is
-nested_same Is others refuses same (suc depth_left) holders.Document path at value new some counts fits clear is =
-    body_same Is others refuses same (IsNested Is others depth_left) (refused_nested refuses depth_left) (nested_same Is others refuses same depth_left) depth_left (path_of false path) at value new some counts fits clear is
-nested_same Is others refuses same (suc depth_left) holders.Array path at value new some counts fits clear is =
-    body_same Is others refuses same (IsNested Is others depth_left) (refused_nested refuses depth_left) (nested_same Is others refuses same depth_left) depth_left (path_of true path) at value new some counts fits clear is
-nested_same Is others refuses same (suc depth_left) holders.CodeScope path at value new some counts fits clear is =
-    scoped_same (IsNested Is others depth_left holders.Document path) (refused_nested refuses depth_left holders.Document path) (λ a v n s c b e i. nested_same Is others refuses same depth_left holders.Document path a v n s c b e i) at value new some counts fits clear is
+nested_same Is refuses same zero h path at value new some counts fits clear is = is
+nested_same Is refuses same (suc depth_left) holders.Document path at value new some counts fits clear is =
+    body_same Is refuses same (IsNested Is depth_left) (refused_nested refuses depth_left) (nested_same Is refuses same depth_left) (path_of false path) at value new some counts fits clear is
+nested_same Is refuses same (suc depth_left) holders.Array path at value new some counts fits clear is =
+    body_same Is refuses same (IsNested Is depth_left) (refused_nested refuses depth_left) (nested_same Is refuses same depth_left) (path_of true path) at value new some counts fits clear is
+nested_same Is refuses same (suc depth_left) holders.CodeScope path at value new some counts fits clear is =
+    scoped_same (IsNested Is depth_left holders.Document path) (refused_nested refuses depth_left holders.Document path) (λ a v n s c b e i. nested_same Is refuses same depth_left holders.Document path a v n s c b e i) at value new some counts fits clear is
 
 -- a document in which no number is refused is unchanged
-pub rewritten_same : (Is : Writes) (others : Others) (refuses : Refuses) → Same Is others refuses → (bytes new : List ℕ) → number_of bytes ≡ length bytes → IsBytes bytes
-    → first_refused refuses bytes ≡ None → IsRewritten Is others bytes new → new ≡ bytes
+pub rewritten_same : (Is : Writes) (refuses : Refuses) → Same Is refuses → (bytes new : List ℕ) → number_of bytes ≡ length bytes → IsBytes bytes
+    → first_refused refuses bytes ≡ None → IsRewritten Is bytes new → new ≡ bytes
 unfolding first_refused holder_least
-rewritten_same Is others refuses same bytes new counts fits clear h =
-    let cases : (b : Bool) → nat_lt (length bytes) 5 ≡ b → (if b then None else refused_nested refuses 200 holders.Document [] 0 bytes) ≡ None → WholeTurn Is others bytes new b → new ≡ bytes = elim [
+rewritten_same Is refuses same bytes new counts fits clear h =
+    let cases : (b : Bool) → nat_lt (length bytes) 5 ≡ b → (if b then None else refused_nested refuses 200 holders.Document [] 0 bytes) ≡ None → WholeTurn Is bytes new b → new ≡ bytes = elim [
       | true ↦ λ is none t. t
-      | false ↦ λ is none t. nested_same Is others refuses same 200 holders.Document [] 0 bytes new (long_enough bytes is) counts fits none t
+      | false ↦ λ is none t. nested_same Is refuses same 200 holders.Document [] 0 bytes new (long_enough bytes is) counts fits none t
     ] in
-    cases (nat_lt (length bytes) 5) refl clear (to_whole Is others bytes new h)
+    cases (nat_lt (length bytes) 5) refl clear (to_whole Is bytes new h)

@@ -14,7 +14,7 @@ use Rattle.bd_bson_view.specs.Sizes.{number_of, size_of}
 use Rattle.bd_bson_view.specs.Sound.{Sound, extent_is}
 use Rattle.bd_bson_view.specs.Unique.{type_is, number_length, number_after, string_number, string_length, regex_whole, zero_offset, scalar_size}
 use Rattle.bd_bson_view.proofs.ValueAtLemmas as values
-use Rattle.bd_wide.specs.Rewritten.{◌>>=◌, Writes, Others, Nested, fixed, counted, first_zero, two_texts, size_at, first_element, part_of, path_of, scope_at, IsElement, AreElements, IsBody, IsScoped, IsNested, IsRewritten}
+use Rattle.bd_wide.specs.Rewritten.{◌>>=◌, Writes, Nested, fixed, counted, first_zero, two_texts, size_at, first_element, part_of, path_of, scope_at, IsElement, AreElements, IsBody, IsScoped, IsNested, IsRewritten}
 use Rattle.bd_wide.proofs.RewriteLemmas.{Turn, to_turn, none_only, no_turn, ScopeTurn, to_scope}
 use Rattle.bd_wide.proofs.LengthLemmas.{to_whole, WholeTurn}
 use Rattle.bd_wide.proofs.SameLemmas.{scope_count}
@@ -114,20 +114,20 @@ first_element_there t name v r named h short =
 abbrev pub KeepsOthers : Writes → Type 0
 KeepsOthers Is = (path : List ℕ) (kind : Kind) (head value new : List ℕ) → Is path (Kept kind) head value new → new ≡ head ++ value
 
-module _ (Is : Writes) (others : Others) (keeps : KeepsOthers Is) where
+module _ (Is : Writes) (keeps : KeepsOthers Is) where
   -- elements that are unchanged at each level
   abbrev Stay : List ℕ → Type 0
-  Stay bytes = (depth_left n : ℕ) (path_in : List ℕ → List ℕ) (new : List ℕ) → AreElements Is others (IsNested Is others depth_left) path_in n bytes new → new ≡ bytes
+  Stay bytes = (depth_left n : ℕ) (path_in : List ℕ → List ℕ) (new : List ℕ) → AreElements Is (IsNested Is depth_left) path_in n bytes new → new ≡ bytes
 
   none_stay : (bytes : List ℕ) → bytes ≡ [] → Stay bytes
-  none_stay bytes nil depth_left n path_in new h = none_only Is others (IsNested Is others depth_left) path_in n new (subst (λ (x : List ℕ). AreElements Is others (IsNested Is others depth_left) path_in n x new) nil h) ∙ sym nil
+  none_stay bytes nil depth_left n path_in new h = none_only Is (IsNested Is depth_left) path_in n new (subst (λ (x : List ℕ). AreElements Is (IsNested Is depth_left) path_in n x new) nil h) ∙ sym nil
 
   first_stays : (t : Tree) (name value rest bytes : List ℕ) → IsName name → IsValue t value → length value ≤ longest_document
-      → ((depth_left : ℕ) (path head new : List ℕ) → IsElement Is (IsNested Is others depth_left) path (Kept (kind_of t)) head value new → new ≡ head ++ value)
+      → ((depth_left : ℕ) (path head new : List ℕ) → IsElement Is (IsNested Is depth_left) path (Kept (kind_of t)) head value new → new ≡ head ++ value)
       → Stay rest → bytes ≡ element t name value ++ rest → Stay bytes
-  first_stays t name value rest bytes named spells short one two is depth_left zero path_in new h = no_turn Is others (IsNested Is others depth_left) path_in bytes new h
+  first_stays t name value rest bytes named spells short one two is depth_left zero path_in new h = no_turn Is (IsNested Is depth_left) path_in bytes new h
   first_stays t name value rest bytes named spells short one two is depth_left (suc n) path_in new h =
-      let nested : Nested = IsNested Is others depth_left in
+      let nested : Nested = IsNested Is depth_left in
       let tail : List ℕ = name ++ 0 ∷ (value ++ rest) in
       let b : ℕ = type_byte (kind_of t) in
       let head : List ℕ = b ∷ (name ++ 0 ∷ []) in
@@ -135,8 +135,8 @@ module _ (Is : Writes) (others : Others) (keeps : KeepsOthers Is) where
       let whole : bytes ≡ b ∷ tail = is ∙ ap (λ (x : List ℕ). b ∷ x) (append_assoc name (0 ∷ value) rest) in
       let splits : b ∷ tail ≡ head ++ (value ++ rest) = ap (λ (x : List ℕ). b ∷ x) (sym (append_assoc name (0 ∷ []) (value ++ rest))) in
       let long : length head ≡ k = omega (arith, length-append name (0 ∷ [])) in
-      let begun = to_turn Is others nested path_in n b tail new (subst (λ (x : List ℕ). AreElements Is others nested path_in (suc n) x new) whole h) in
-      let turn = subst (λ o. Turn Is others nested path_in n (b ∷ tail) o new) (first_element_there t name value rest named spells short) begun in
+      let begun = to_turn Is nested path_in n b tail new (subst (λ (x : List ℕ). AreElements Is nested path_in (suc n) x new) whole h) in
+      let turn = subst (λ o. Turn Is nested path_in n (b ∷ tail) o new) (first_element_there t name value rest named spells short) begun in
       let headed : take k (b ∷ tail) ≡ head = ap (take k) splits ∙ take_at head (value ++ rest) k long in
       let after : drop k (b ∷ tail) ≡ value ++ rest = ap (drop k) splits ∙ drop_at head (value ++ rest) k long in
       let valued : take (length value) (drop k (b ∷ tail)) ≡ value = ap (take (length value)) after ∙ take_at value rest (length value) refl in
@@ -145,12 +145,12 @@ module _ (Is : Writes) (others : Others) (keeps : KeepsOthers Is) where
       let first : turn.0 ≡ head ++ value =
       one depth_left path head turn.0 (subst (λ (x : List ℕ). IsElement Is nested path (Kept (kind_of t)) x value turn.0) headed
       (subst (λ (x : List ℕ). IsElement Is nested path (Kept (kind_of t)) (take k (b ∷ tail)) x turn.0) valued turn.2)) in
-      let second : turn.1 ≡ rest = two depth_left n path_in turn.1 (subst (λ (x : List ℕ). AreElements Is others nested path_in n x turn.1) remaining turn.3) in
+      let second : turn.1 ≡ rest = two depth_left n path_in turn.1 (subst (λ (x : List ℕ). AreElements Is nested path_in n x turn.1) remaining turn.3) in
       turn.4 ∙ ap₂ (λ (x y : List ℕ). x ++ y) first second ∙ append_assoc head value rest ∙ sym splits ∙ sym whole
 
   -- ---- documents, arrays and code with scope
 
-  body_stays : (depth_left : ℕ) (path_in : List ℕ → List ℕ) (body new : List ℕ) → Stay body → IsBody Is others (IsNested Is others depth_left) path_in (framed body) new → new ≡ framed body
+  body_stays : (depth_left : ℕ) (path_in : List ℕ → List ℕ) (body new : List ℕ) → Stay body → IsBody Is (IsNested Is depth_left) path_in (framed body) new → new ≡ framed body
   unfolding IsBody
   body_stays depth_left path_in body new stay h =
       let value : List ℕ = framed body in
@@ -158,23 +158,23 @@ module _ (Is : Writes) (others : Others) (keeps : KeepsOthers Is) where
       let inner : take (length value - 5) (drop 4 value) ≡ body =
       ap (take (length value - 5)) (number_after (length body + 5) (body ++ 0 ∷ [])) ∙ take_at body (0 ∷ []) (length value - 5) (omega (arith, size)) in
       let same : h.0 ≡ body = stay depth_left (length (take (length value - 5) (drop 4 value))) path_in h.0
-      (subst (λ (x : List ℕ). AreElements Is others (IsNested Is others depth_left) path_in (length (take (length value - 5) (drop 4 value))) x h.0) inner h.1) in
+      (subst (λ (x : List ℕ). AreElements Is (IsNested Is depth_left) path_in (length (take (length value - 5) (drop 4 value))) x h.0) inner h.1) in
       let last : drop (length value - 1) value ≡ 0 ∷ [] =
       ap (drop (length value - 1)) (sym (append_assoc (number (length body + 5)) body (0 ∷ [])))
       ∙ drop_at (number (length body + 5) ++ body) (0 ∷ []) (length value - 1) (omega (arith, size, length-append (number (length body + 5)) body, number_length (length body + 5))) in
       h.2 ∙ ap₂ (λ (x y : List ℕ). number (length x + 5) ++ (x ++ y)) same last
 
-  document_stays : (depth_left : ℕ) (path body value new : List ℕ) → Stay body → value ≡ framed body → IsNested Is others depth_left holders.Document path value new → new ≡ value
+  document_stays : (depth_left : ℕ) (path body value new : List ℕ) → Stay body → value ≡ framed body → IsNested Is depth_left holders.Document path value new → new ≡ value
   unfolding IsNested
   document_stays zero path body value new stay is h = h
   document_stays (suc depth_left) path body value new stay is h =
-      body_stays depth_left (path_of false path) body new stay (subst (λ (x : List ℕ). IsBody Is others (IsNested Is others depth_left) (path_of false path) x new) is h) ∙ sym is
+      body_stays depth_left (path_of false path) body new stay (subst (λ (x : List ℕ). IsBody Is (IsNested Is depth_left) (path_of false path) x new) is h) ∙ sym is
 
-  array_stays : (depth_left : ℕ) (path body value new : List ℕ) → Stay body → value ≡ framed body → IsNested Is others depth_left holders.Array path value new → new ≡ value
+  array_stays : (depth_left : ℕ) (path body value new : List ℕ) → Stay body → value ≡ framed body → IsNested Is depth_left holders.Array path value new → new ≡ value
   unfolding IsNested
   array_stays zero path body value new stay is h = h
   array_stays (suc depth_left) path body value new stay is h =
-      body_stays depth_left (path_of true path) body new stay (subst (λ (x : List ℕ). IsBody Is others (IsNested Is others depth_left) (path_of true path) x new) is h) ∙ sym is
+      body_stays depth_left (path_of true path) body new stay (subst (λ (x : List ℕ). IsBody Is (IsNested Is depth_left) (path_of true path) x new) is h) ∙ sym is
 
   scope_begins : (value : List ℕ) (at : ℕ) → scope_at value ≡ Some at → 8 + number_of (drop 4 value) ≡ at
   unfolding scope_at
@@ -183,9 +183,9 @@ module _ (Is : Writes) (others : Others) (keeps : KeepsOthers Is) where
       (scope_count count (length value) (number_of (drop (8 + count) value)) at (count == 0 || nat_lt (length value) (8 + count + 5) || not (number_of (drop (8 + count) value) == length value - (8 + count))) refl h).1
 
   scoped_stays : (depth_left : ℕ) (path code body new : List ℕ) → Stay body → IsText code
-      → IsScoped (IsNested Is others depth_left holders.Document path) (scoped code (framed body)) new → new ≡ scoped code (framed body)
+      → IsScoped (IsNested Is depth_left holders.Document path) (scoped code (framed body)) new → new ≡ scoped code (framed body)
   scoped_stays depth_left path code body new stay text h =
-      let document : List ℕ → List ℕ → Type 0 = IsNested Is others depth_left holders.Document path in
+      let document : List ℕ → List ℕ → Type 0 = IsNested Is depth_left holders.Document path in
       let scope : List ℕ = framed body in
       let value : List ℕ = scoped code scope in
       let count : List ℕ = number (length (string code ++ scope) + 4) in
@@ -203,30 +203,30 @@ module _ (Is : Writes) (others : Others) (keeps : KeepsOthers Is) where
       ] in
       cases (scope_at value) refl (to_scope document value new h)
 
-  code_stays : (depth_left : ℕ) (path code body value new : List ℕ) → Stay body → IsText code → value ≡ scoped code (framed body) → IsNested Is others depth_left holders.CodeScope path value new → new ≡ value
+  code_stays : (depth_left : ℕ) (path code body value new : List ℕ) → Stay body → IsText code → value ≡ scoped code (framed body) → IsNested Is depth_left holders.CodeScope path value new → new ≡ value
   unfolding IsNested
   code_stays zero path code body value new stay text is h = h
   code_stays (suc depth_left) path code body value new stay text is h =
-      scoped_stays depth_left path code body new stay text (subst (λ (x : List ℕ). IsScoped (IsNested Is others depth_left holders.Document path) x new) is h) ∙ sym is
+      scoped_stays depth_left path code body new stay text (subst (λ (x : List ℕ). IsScoped (IsNested Is depth_left holders.Document path) x new) is h) ∙ sym is
 
   -- ---- values
 
-  leaf_element : (a : Scalar) (depth_left : ℕ) (path head value new : List ℕ) → IsElement Is (IsNested Is others depth_left) path (Kept (scalar_kind a)) head value new → new ≡ head ++ value
+  leaf_element : (a : Scalar) (depth_left : ℕ) (path head value new : List ℕ) → IsElement Is (IsNested Is depth_left) path (Kept (scalar_kind a)) head value new → new ≡ head ++ value
   unfolding IsElement part_of
   leaf_element (trees.int32 z) depth_left path head value new h = keeps path kinds.Int32 head value new h
   leaf_element (trees.int64 z) depth_left path head value new h = keeps path kinds.Int64 head value new h
   leaf_element _ depth_left path head value new h = h
 
-  doc_element : (depth_left : ℕ) (path head body value new : List ℕ) → Stay body → value ≡ framed body → IsElement Is (IsNested Is others depth_left) path (Kept kinds.Doc) head value new → new ≡ head ++ value
+  doc_element : (depth_left : ℕ) (path head body value new : List ℕ) → Stay body → value ≡ framed body → IsElement Is (IsNested Is depth_left) path (Kept kinds.Doc) head value new → new ≡ head ++ value
   unfolding IsElement part_of
   doc_element depth_left path head body value new stay is h = h.2 ∙ ap (λ (x : List ℕ). head ++ x) (document_stays depth_left _ body value h.0 stay is h.1)
 
-  array_element : (depth_left : ℕ) (path head body value new : List ℕ) → Stay body → value ≡ framed body → IsElement Is (IsNested Is others depth_left) path (Kept kinds.Array) head value new → new ≡ head ++ value
+  array_element : (depth_left : ℕ) (path head body value new : List ℕ) → Stay body → value ≡ framed body → IsElement Is (IsNested Is depth_left) path (Kept kinds.Array) head value new → new ≡ head ++ value
   unfolding IsElement part_of
   array_element depth_left path head body value new stay is h = h.2 ∙ ap (λ (x : List ℕ). head ++ x) (array_stays depth_left _ body value h.0 stay is h.1)
 
   code_element : (depth_left : ℕ) (path head code body value new : List ℕ) → Stay body → IsText code → value ≡ scoped code (framed body)
-      → IsElement Is (IsNested Is others depth_left) path (Kept kinds.CodeScope) head value new → new ≡ head ++ value
+      → IsElement Is (IsNested Is depth_left) path (Kept kinds.CodeScope) head value new → new ≡ head ++ value
   unfolding IsElement part_of
   code_element depth_left path head code body value new stay text is h = h.2 ∙ ap (λ (x : List ℕ). head ++ x) (code_stays depth_left _ code body value h.0 stay text is h.1)
 
@@ -245,7 +245,7 @@ module _ (Is : Writes) (others : Others) (keeps : KeepsOthers Is) where
 
   mutual
     value_stays : (t : Tree) (value : List ℕ) → IsValue t value → length value ≤ longest_document
-        → (depth_left : ℕ) (path head new : List ℕ) → IsElement Is (IsNested Is others depth_left) path (Kept (kind_of t)) head value new → new ≡ head ++ value
+        → (depth_left : ℕ) (path head new : List ℕ) → IsElement Is (IsNested Is depth_left) path (Kept (kind_of t)) head value new → new ≡ head ++ value
     value_stays (leaf a) value v short depth_left path head new h = leaf_element a depth_left path head value new h
     value_stays (doc fs) value v short depth_left path head new h =
         doc_element depth_left path head v.0 value new (fields_stay fs v.0 v.1 (body_short v.0 value v.2 short)) v.2 h
@@ -266,11 +266,11 @@ module _ (Is : Writes) (others : Others) (keeps : KeepsOthers Is) where
         let s = parts_short t f.0 f.1 f.2 bytes f.6 short in
         first_stays t f.0 f.1 f.2 bytes f.3 f.4 s.0 (value_stays t f.1 f.4 s.0) (items_stay ts f.2 f.5 s.1) f.6
 
-  pub document_same : (d : Doc) (bytes new : List ℕ) → IsDocument d bytes → IsRewritten Is others bytes new → new ≡ bytes
+  pub document_same : (d : Doc) (bytes new : List ℕ) → IsDocument d bytes → IsRewritten Is bytes new → new ≡ bytes
   document_same d bytes new is h =
       let v = is.spells in
-      let cases : (b : Bool) → WholeTurn Is others bytes new b → new ≡ bytes = elim [
+      let cases : (b : Bool) → WholeTurn Is bytes new b → new ≡ bytes = elim [
         | true ↦ λ t. t
         | false ↦ λ t. document_stays 200 [] v.0 bytes new (fields_stay (fields_of d) v.0 v.1 (body_short v.0 bytes v.2 is.short)) v.2 t
       ] in
-      cases (nat_lt (length bytes) 5) (to_whole Is others bytes new h)
+      cases (nat_lt (length bytes) 5) (to_whole Is bytes new h)

@@ -75,7 +75,12 @@ refusal_in (outcomes.Nothing why) = Some why
 
 -- why `order` refuses a number: no int64 represents it at its path
 abbrev pub refuses_unordered : List OrderPath → Refuses
-refuses_unordered paths depth_left path type value = refusal_in (outcome_at paths path type value)
+refuses_unordered paths path type value = refusal_in (outcome_at paths path type value)
+
+-- each double and decimal128 is refused; the reason has no meaning
+abbrev pub refuses_wide : Refuses
+refuses_wide path (Kept _) value = None
+refuses_wide path _ value = Some NotWhole
 
 -- ---- a document
 
@@ -90,7 +95,7 @@ numbered n document = start (length document + 12) n ++ drop 4 document
 -- This may be written for the document with number n, however long it is.
 abbrev pub IsNumbered : List OrderPath → ℕ → List ℕ → List ℕ → Type 0
 IsNumbered paths n bytes new = (document : List ℕ)
-    × IsRewritten (IsOrdered paths) (λ others. others) bytes document × (new ≡ numbered n document)
+    × IsRewritten (IsOrdered paths) bytes document × (new ≡ numbered n document)
 
 -- This may be written for the document with number n:
 -- none of its numbers is refused, and the result is not too long.

@@ -10,9 +10,9 @@ use Rattle.bd_wide.specs.declared.element.Part.{Part}
 use Rattle.bd_wide.specs.declared.element.Part.TheVariants as parts
 use Rattle.bd_wide.specs.Rewritten.{first_element, part_of, path_of, scope_at, separator}
 
--- why a number is refused, if it is: by how many levels are left below it, its path, its type and its value
+-- why a number is refused, if it is: by its path, its type and its value
 abbrev pub Refuses : Type 0
-Refuses = ℕ → List ℕ → ElementType → List ℕ → Option Refusal
+Refuses = List ℕ → ElementType → List ℕ → Option Refusal
 
 -- a refused number: the byte offset of its element in the document, its path, and why it is refused
 pub record Refused : Type 0 where
@@ -42,14 +42,14 @@ first_of_two None next = next
 first_of_two (Some first) next = Some first
 
 -- the first refused number in an element, by its part that is examined
-abbrev pub refused_part : (List ℕ → ElementType → List ℕ → Option Refusal) → Nested → Option Part → Element
+abbrev pub refused_part : Refuses → Nested → Option Part → Element
 refused_part refuses nested None type path at k value = None
 refused_part refuses nested (Some parts.Number) type path at k value = refused_at at path (refuses path type value)
 refused_part refuses nested (Some (parts.Values holder)) type path at k value =
     nested holder (path ++ separator holder) (at + k) value
 
 -- the first refused number in an element: the element itself, or one inside it
-unfoldable pub refused_element : (List ℕ → ElementType → List ℕ → Option Refusal) → Nested → Element
+unfoldable pub refused_element : Refuses → Nested → Element
 refused_element refuses nested type path at k value = refused_part refuses nested (part_of type) type path at k value
 
 -- the first refused number among elements, from left to right, up to the first that cannot be read.
@@ -80,9 +80,9 @@ refused_scope document at value = elim (scope_at value) [ None ↦ None | Some k
 unfoldable pub refused_nested : Refuses → ℕ → Nested
 refused_nested refuses zero holder path at value = None
 refused_nested refuses (suc depth_left) holders.Document path at value =
-    refused_body (refused_element (refuses depth_left) (refused_nested refuses depth_left)) (path_of false path) at value
+    refused_body (refused_element refuses (refused_nested refuses depth_left)) (path_of false path) at value
 refused_nested refuses (suc depth_left) holders.Array path at value =
-    refused_body (refused_element (refuses depth_left) (refused_nested refuses depth_left)) (path_of true path) at value
+    refused_body (refused_element refuses (refused_nested refuses depth_left)) (path_of true path) at value
 refused_nested refuses (suc depth_left) holders.CodeScope path at value =
     refused_scope (refused_nested refuses depth_left holders.Document path) at value
 

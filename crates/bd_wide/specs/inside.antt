@@ -1,4 +1,2 @@
-pub mod Changes
 pub mod Refused
 pub mod Rewritten
-pub mod Wrap

@@ -19,8 +19,6 @@ use bd_value::{MOST_LEVELS, NoMemory};
 /// Why a number is refused.
 #[derive(Clone, Copy, Debug, PartialEq, Eq)]
 pub enum Refusal {
-    /// A document in its place would be one level too deep.
-    TooDeep,
     /// The number, or the number times a power of ten, is not a whole number of 64 bits.
     NotWhole,
     /// No double equals it.
@@ -37,20 +35,14 @@ pub struct Found {
 
 /// Which numbers are refused.
 pub trait Refuser {
-    /// Why a number is refused, by how many levels are left below it, its path, its type and its value.
+    /// Why a number is refused, by its path, its type and its value.
     ghost refuses: { Self →
-        ℕ → List ℕ → element_type.ElementType → List ℕ → Option refusal.Refusal };
+        List ℕ → element_type.ElementType → List ℕ → Option refusal.Refusal };
 
     /// Why a number is refused; None if it is not.
-    fn refuse(
-        &self,
-        depth_left: u32,
-        path: &[u8],
-        typed: ElementType,
-        value: &[u8],
-    ) -> Option<Refusal>
+    fn refuse(&self, path: &[u8], typed: ElementType, value: &[u8]) -> Option<Refusal>
         requires { least typed ≤ length value.now }
-        ensures { result ≡ refuses self.now depth_left path.now typed value.now };
+        ensures { result ≡ refuses self.now path.now typed value.now };
 }
 
 /// The first refused number of the document that all of the bytes are. `path` is empty, and gets the number's path.
@@ -89,7 +81,7 @@ fn elements<R: Refuser>(
 ) -> Result<Option<Found>, NoMemory>
     requires { at + length bytes.now < 2 ^ 64 }
     ensures { IfOk result
-        (Finds (refused_elements (refused_element (R.refuses refuser.now depth_left)
+        (Finds (refused_elements (refused_element (R.refuses refuser.now)
         (refused_nested (R.refuses refuser.now) depth_left)) (path_of in_array path.old.items)
         (length bytes.now) at bytes.now) path.old.items path.new.items) }
 {
@@ -126,7 +118,7 @@ fn element<R: Refuser>(
     requires head { 2 ≤ length head.now }
     requires value { least typed ≤ length value.now }
     requires fits { at + length head.now + length value.now < 2 ^ 64 }
-    ensures { IfOk result (Finds (refused_element (R.refuses refuser.now depth_left) (refused_nested
+    ensures { IfOk result (Finds (refused_element (R.refuses refuser.now) (refused_nested
         (R.refuses refuser.now) depth_left) typed (path_of in_array path.old.items head.now) at
         (length head.now) value.now) path.old.items path.new.items) }
 {
@@ -168,11 +160,11 @@ fn entered<R: Refuser>(
     requires value { least typed ≤ length value.now }
     requires fits { at + size + length value.now < 2 ^ 64 }
     ensures { IfOk result (FindsLocated (refused_part
-        (R.refuses refuser.now depth_left) (refused_nested (R.refuses refuser.now) depth_left)
+        (R.refuses refuser.now) (refused_nested (R.refuses refuser.now) depth_left)
         (Some part) typed path.old.items at size value.now) path.old.items path.new.items) }
 {
     let holder = match part {
-        Part::Number => return Ok(number(refuser, depth_left, at, typed, value, path)),
+        Part::Number => return Ok(number(refuser, at, typed, value, path)),
         Part::Values(holder) => holder,
     };
     path.extend_from_slice(separator(holder))?;
@@ -182,7 +174,6 @@ fn entered<R: Refuser>(
 /// The number itself, if it is refused.
 fn number<R: Refuser>(
     refuser: &R,
-    depth_left: u32,
     at: usize,
     typed: ElementType,
     value: &[u8],
@@ -190,9 +181,9 @@ fn number<R: Refuser>(
 ) -> Option<Found>
     requires { least typed ≤ length value.now }
     ensures { Finds (refused_at at path.now
-        (R.refuses refuser.now depth_left path.now typed value.now)) path.now path.now result }
+        (R.refuses refuser.now path.now typed value.now)) path.now path.now result }
 {
-    match refuser.refuse(depth_left, path, typed, value) {
+    match refuser.refuse(path, typed, value) {
         Some(why) => Some(Found { at, why }),
         None => None,
     }
@@ -238,7 +229,7 @@ fn body<R: Refuser>(
     requires least { 5 ≤ length value.now }
     requires fits { at + length value.now < 2 ^ 64 }
     ensures { IfOk result (Finds (refused_body (refused_element
-        (R.refuses refuser.now depth_left) (refused_nested (R.refuses refuser.now) depth_left))
+        (R.refuses refuser.now) (refused_nested (R.refuses refuser.now) depth_left))
         (path_of in_array path.old.items) at value.now) path.old.items path.new.items) }
 {
     let (_, more) = value.split_at(4);

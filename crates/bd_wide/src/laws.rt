@@ -4,30 +4,20 @@ ghost use Rattle.std.specs.Prelude.{◌≡◌, ◌<◌, [], List, ℕ, None, len
 ghost use Rattle.bd_bson_view.specs.Sizes.{number_of};
 ghost use Rattle.bd_bson_view.specs.Spelling.{IsDocument};
 ghost use Rattle.bd_value.specs.Tree.{Doc};
-ghost use Rattle.bd_wide.specs.Order.{IsOrdered};
+ghost use Rattle.bd_wide.specs.Order.{IsOrdered, refuses_wide};
 ghost use Rattle.bd_wide.specs.Refused.{first_refused};
 ghost use Rattle.bd_wide.specs.Rewritten.{IsRewritten};
-ghost use Rattle.bd_wide.specs.Wrap.{IsWrapped, refuses_wide};
 
-/// `wrap` leaves a document unchanged if no double and no decimal128 is found in it.
-pub fn wrap_leaves_others()
-    ensures { (bytes new : List ℕ) → ((i : ℕ) → slice_index bytes i < 256)
-        → number_of bytes ≡ length bytes → first_refused refuses_wide bytes ≡ None
-        → IsRewritten IsWrapped (λ others. others) bytes new → new ≡ bytes }
-{}
-
-/// So does `order` if no path is requested, apart from the number of the document.
+/// `order` leaves a document unchanged, apart from its number, if no path is requested and no double and no decimal128 is found in
+/// it.
 pub fn order_leaves_others()
     ensures { (bytes new : List ℕ) → ((i : ℕ) → slice_index bytes i < 256)
         → number_of bytes ≡ length bytes → first_refused refuses_wide bytes ≡ None
-        → IsRewritten (IsOrdered []) (λ others. others) bytes new → new ≡ bytes }
+        → IsRewritten (IsOrdered []) bytes new → new ≡ bytes }
 {}
 
-/// Each filter leaves a document unchanged that `bsonfind` reads: `wrap`, and, apart from the document's number, `order` if no
-/// path is requested.
+/// So it leaves each document that `bsonfind` reads.
 pub fn read_documents_stay()
-    ensures wrapped { (d : Doc) (bytes new : List ℕ) → IsDocument d bytes
-        → IsRewritten IsWrapped (λ others. others) bytes new → new ≡ bytes }
-    ensures ordered { (d : Doc) (bytes new : List ℕ) → IsDocument d bytes
-        → IsRewritten (IsOrdered []) (λ others. others) bytes new → new ≡ bytes }
+    ensures { (d : Doc) (bytes new : List ℕ) → IsDocument d bytes
+        → IsRewritten (IsOrdered []) bytes new → new ≡ bytes }
 {}

@@ -2,25 +2,25 @@
 //!
 //! What may be written for a document's bytes, whatever they are: `specs/Rewritten.antt`.
 //!
-//! An example, which `bd_wide_tests` proves and runs as `examples::wrapped`:
+//! An example, which `bd_wide_tests` proves and runs as `examples::ordered`:
 //!
 //! ```
-//! // {"d":1.0}, and {"d":{"$numberDouble":"1.0"}}
+//! // {"d":1.0}, and {"~n":7,"d":1} with two int64
 //! let bytes = b"\x10\0\0\0\x01d\0\0\0\0\0\0\0\xf0\x3f\0";
-//! let wanted = b"\x24\0\0\0\x03d\0\x1c\0\0\0\x02$numberDouble\0\x04\0\0\01.0\0\0\0";
+//! let wanted = b"\x1c\0\0\0\x12~n\0\x07\0\0\0\0\0\0\0\x12d\0\x01\0\0\0\0\0\0\0\0";
+//! let order = read_order(alloc, &[])?;
 //! let mut path = Vec::new(alloc);
 //! let mut out = Vec::new(alloc);
-//! assert!(rt; write_wrapped(bytes, &mut path, &mut out)?);
+//! assert!(rt; write_ordered(&order, 7, bytes, &mut path, &mut out).is_ok());
 //! assert!(rt; out.as_slice() == wanted.as_slice());
 //! ```
 //!
 //! - `find`: `find_refused`, the first number that a `Refuser` refuses: `specs/Refused.antt`.
 //! - `rewrite`: `write_rewritten`, the one walker, and `NumberWriter`, which it calls for each number.
-//! - `wrap`: `Wrap`, which makes doubles and decimal128 documents that contain their texts: `specs/Wrap.antt`.
 //! - `element`: the first element of bytes, by sizes alone.
 //! - `order`: `write_ordered`, a document whose numbers are whole numbers in the same order: `specs/Order.antt`.
 //! - `paths`: the paths whose numbers become codes: `specs/Paths.antt`.
-//! - `laws`: `wrap` and `order` leave documents without doubles and decimal128 unchanged.
+//! - `laws`: `order` leaves documents without doubles and decimal128 unchanged.
 #![tactic(auto)]
 
 mod element;
@@ -29,12 +29,10 @@ mod laws;
 mod order;
 mod paths;
 mod rewrite;
-mod wrap;
 
 pub use element::Part;
 pub use find::{Found, Refusal, Refuser, find_refused};
-pub use laws::{order_leaves_others, read_documents_stay, wrap_leaves_others};
+pub use laws::{order_leaves_others, read_documents_stay};
 pub use order::{Order, Outcome, Unfiltered, Unordered, write_ordered};
 pub use paths::{OrderPath, read_order};
 pub use rewrite::{NumberWriter, write_rewritten};
-pub use wrap::{Number, Wrap, write_wrapped};

@@ -6,10 +6,10 @@ ghost use Rattle.bd_bson_view.specs.Spelling.{long as long_bytes};
 ghost use Rattle.bd_wide.specs.Rewritten.{Adds, least};
 ghost use Rattle.bd_wide.specs.Order.{IsNumbered, IsOrdered, IsOrderedDocument, IsUnfiltered, IsUnordered, became, code_at, coded as coded_as, int64_element, number_at, outcome_at, refusal_in, refuses_unordered, start as start_of, whole_at};
 
+use crate::element::long;
 use crate::find::{Found, Refusal, Refuser, find_refused};
 use crate::paths::{OrderPath, requested};
 use crate::rewrite::{NumberWriter, low_bytes, write_rewritten};
-use crate::wrap::long;
 use bd_bson_view::{ElementType, raw_parts as raw};
 use bd_value::{Kind, LONGEST_DOCUMENT, NoMemory};
 use bd_wide_number::{Number, code_of, whole_of};
@@ -49,16 +49,6 @@ pub enum Unfiltered {
 impl NumberWriter for Order {
     ghost is_written = { λ order. IsOrdered order.paths.items };
 
-    ghost others_of = { λ _ bytes. bytes };
-
-    fn ignores_paths(&self) -> bool {
-        false
-    }
-
-    fn leaves(&self, _typed: ElementType) -> bool {
-        false
-    }
-
     #[tactic(auto, using(bd_value::proofs::PrefixLemmas::prefixes))]
     fn element(
         &self,
@@ -76,23 +66,12 @@ impl NumberWriter for Order {
             }
         }
     }
-
-    fn others(&self, bytes: &[u8], out: &mut Vec<u8>) -> Result<(), NoMemory> {
-        out.extend_from_slice(bytes)?;
-        Ok(())
-    }
 }
 
 impl Refuser for Order {
     ghost refuses = { λ order. refuses_unordered order.paths.items };
 
-    fn refuse(
-        &self,
-        _depth_left: u32,
-        path: &[u8],
-        typed: ElementType,
-        value: &[u8],
-    ) -> Option<Refusal> {
+    fn refuse(&self, path: &[u8], typed: ElementType, value: &[u8]) -> Option<Refusal> {
         match becomes(&self.paths, path, typed, value) {
             Outcome::Nothing(why) => Some(why),
             Outcome::Itself | Outcome::Int64(_) => None,

@@ -1,17 +1,15 @@
 //! A document with other numbers, from left to right.
 
-ghost use Rattle.std.specs.Prelude.{◌≡◌, ◌≤◌, ◌<◌, ◌+◌, ◌-◌, ◌++◌, List, ℕ, length, take, drop, vec_len, OnOk, OnErr, IfSome, IsTrue, Some};
+ghost use Rattle.std.specs.Prelude.{◌≡◌, ◌≤◌, ◌<◌, ◌+◌, ◌-◌, ◌++◌, List, ℕ, length, take, drop, vec_len, OnOk, OnErr, IfSome, Some};
 ghost use Rattle.std.specs.Io.{StartsWith};
 ghost use Rattle.bd_bson_view.specs.Spelling.{number};
-ghost use Rattle.bd_wide.specs.Changes.{IgnoresPaths, Leaves};
-ghost use Rattle.bd_wide.specs.inside.Changes.{Allows, ServesAs};
-ghost use Rattle.bd_wide.specs.Rewritten.{least, Adds, IsElement, IsPart, AreElements, IsBody, IsScoped, IsNested, IsRewritten, part_of, path_of, separator as separator_of, scope_at as scope_at_of};
+ghost use Rattle.bd_wide.specs.Rewritten.{least, Adds, IsElement, IsPart, AreElements, IsBody, IsScoped, IsNested, IsRewritten, part_of, path_of, scope_at as scope_at_of};
 ghost use Rattle.bd_wide.specs.inside.Rewritten.{holder_least};
 ghost use Rattle.bd_wide.specs.declared.element.Part.TheVariants as parts;
 ghost use Rattle.bd_bson_view.specs.declared.raw_parts.ElementType as element_type;
 ghost use Rattle.bd_bson_view.specs.declared.raw_parts.Holder.TheVariants as holders;
 
-use crate::element::{Change, Part, enter, first_element, looked_into, separator};
+use crate::element::{Part, enter, first_element, looked_into, separator};
 use bd_bson_view::{ElementType, Holder, raw_parts as raw};
 use bd_value::{MOST_LEVELS, NoMemory};
 
@@ -20,16 +18,6 @@ pub trait NumberWriter {
     /// What may be written for an element with a number, by its path, its type, its head and its value.
     ghost is_written: { Self →
         List ℕ → element_type.ElementType → List ℕ → List ℕ → List ℕ → Type 0 };
-    /// What is written for bytes from the first element on that cannot be read.
-    ghost others_of: { Self → List ℕ → List ℕ };
-
-    /// Whether the same may be written for a number at every path. If so, `element` may get any path.
-    fn ignores_paths(&self) -> bool
-        ensures { IsTrue result → IgnoresPaths (is_written self.now) };
-
-    /// Whether each element with a number of this type may stay unchanged.
-    fn leaves(&self, typed: ElementType) -> bool
-        ensures { IsTrue result → Leaves (is_written self.now) typed };
 
     /// Appends what is written for an element with a number.
     fn element(
@@ -45,12 +33,6 @@ pub trait NumberWriter {
         ensures ok { OnOk result (Adds
             (is_written self.now path.now typed head.now value.now) out.old.items out.new.items) }
         ensures prefix { OnErr result (StartsWith out.new.items out.old.items) };
-
-    /// Appends what is written for bytes from the first element on that cannot be read.
-    fn others(&self, bytes: &[u8], out: &mut Vec<u8>) -> Result<(), NoMemory>
-        requires { 0 < length bytes.now }
-        ensures ok { OnOk result (out.new.items ≡ out.old.items ++ others_of self.now bytes.now) }
-        ensures prefix { OnErr result (StartsWith out.new.items out.old.items) };
 }
 
 /// Appends what is written for the document that all of the bytes are. `path` is a buffer.
@@ -64,7 +46,7 @@ pub fn write_rewritten<W: NumberWriter>(
     out: &mut Vec<u8>,
 ) -> Result<(), NoMemory>
     ensures ok { OnOk result (Adds (IsRewritten (W.is_written writer.now)
-        (W.others_of writer.now) bytes.now) out.old.items out.new.items) }
+        bytes.now) out.old.items out.new.items) }
     ensures err { OnErr result (out.new.items ≡ out.old.items) }
 {
     path.clear();
@@ -85,7 +67,7 @@ fn whole<W: NumberWriter>(
 ) -> Result<(), NoMemory>
     requires { length path.old.items ≡ 0 }
     ensures ok { OnOk result (Adds (IsRewritten (W.is_written writer.now)
-        (W.others_of writer.now) bytes.now) out.old.items out.new.items) }
+        bytes.now) out.old.items out.new.items) }
     ensures prefix { OnErr result (StartsWith out.new.items out.old.items) }
 {
     if bytes.len() < 5 {
@@ -113,8 +95,8 @@ fn elements<W: NumberWriter>(
     path: &mut Vec<u8>,
     out: &mut Vec<u8>,
 ) -> Result<(), NoMemory>
-    ensures ok { OnOk result (Adds (AreElements (W.is_written writer.now) (W.others_of writer.now)
-        (IsNested (W.is_written writer.now) (W.others_of writer.now) depth_left) (path_of
+    ensures ok { OnOk result (Adds (AreElements (W.is_written writer.now)
+        (IsNested (W.is_written writer.now) depth_left) (path_of
         in_array path.old.items) (length bytes.now) bytes.now) out.old.items out.new.items) }
     ensures path { OnOk result (path.new.items ≡ path.old.items) }
     ensures prefix { OnErr result (StartsWith out.new.items out.old.items) }
@@ -124,34 +106,16 @@ fn elements<W: NumberWriter>(
     while let Some((typed, k, n)) = first_element(rest) {
         let (head, more) = rest.split_at(k);
         let (value, after) = more.split_at(n);
-        match change(writer, typed) {
-            Change::Nothing => {}
-            Change::Part(part) => {
-                put_run(run, rest, out)?;
-                element(
-                    writer, depth_left, in_array, part, typed, head, value, path, out,
-                )?;
-                run = after;
-            }
+        if let Some(part) = looked_into(typed) {
+            put_run(run, rest, out)?;
+            element(
+                writer, depth_left, in_array, part, typed, head, value, path, out,
+            )?;
+            run = after;
         }
         rest = after;
     }
-    put_run(run, rest, out)?;
-    if rest.is_empty() {
-        return Ok(());
-    }
-    writer.others(rest, out)
-}
-
-/// The part of an element of this type that changes.
-fn change<W: NumberWriter>(writer: &W, typed: ElementType) -> Change
-    ensures { Allows (W.is_written writer.now) typed result }
-{
-    match looked_into(typed) {
-        None => Change::Nothing,
-        Some(Part::Number) if writer.leaves(typed) => Change::Nothing,
-        Some(part) => Change::Part(part),
-    }
+    out.extend_from_slice(run)
 }
 
 /// Appends the bytes of a run up to where the rest begins.
@@ -188,50 +152,16 @@ fn element<W: NumberWriter>(
     requires head { 2 ≤ length head.now }
     requires value { least typed ≤ length value.now }
     ensures ok { OnOk result (Adds (IsElement (W.is_written writer.now)
-        (IsNested (W.is_written writer.now) (W.others_of writer.now) depth_left) (path_of
+        (IsNested (W.is_written writer.now) depth_left) (path_of
         in_array path.old.items head.now) typed head.now value.now) out.old.items out.new.items) }
     ensures path { OnOk result (path.new.items ≡ path.old.items) }
     ensures prefix { OnErr result (StartsWith out.new.items out.old.items) }
 {
     let before = path.len();
-    enter_element(writer, in_array, head, path)?;
+    enter(in_array, head, path)?;
     entered(writer, depth_left, part, typed, head, value, path, out)?;
     path.truncate(before);
     Ok(())
-}
-
-/// Changes the path to that of an element, unless the writer ignores paths.
-fn enter_element<W: NumberWriter>(
-    writer: &W,
-    in_array: bool,
-    head: &[u8],
-    path: &mut Vec<u8>,
-) -> Result<(), NoMemory>
-    requires { 2 ≤ length head.now }
-    ensures serves { OnOk result (ServesAs (W.is_written writer.now)
-        path.new.items (path_of in_array path.old.items head.now)) }
-    ensures begins { OnOk result (StartsWith path.new.items path.old.items) }
-{
-    if writer.ignores_paths() {
-        return Ok(());
-    }
-    enter(in_array, head, path)
-}
-
-/// Changes the path to that before the names in a value, unless the writer ignores paths.
-fn enter_value<W: NumberWriter>(
-    writer: &W,
-    holder: Holder,
-    path: &mut Vec<u8>,
-) -> Result<(), NoMemory>
-    ensures serves { OnOk result (ServesAs (W.is_written writer.now)
-        path.new.items (path.old.items ++ separator_of holder)) }
-    ensures begins { OnOk result (StartsWith path.new.items path.old.items) }
-{
-    if writer.ignores_paths() {
-        return Ok(());
-    }
-    path.extend_from_slice(separator(holder))
 }
 
 /// Appends an element that is examined, and whose path this is.
@@ -251,7 +181,7 @@ fn entered<W: NumberWriter>(
     requires head { 2 ≤ length head.now }
     requires value { least typed ≤ length value.now }
     ensures ok { OnOk result (Adds (IsPart (W.is_written writer.now) (IsNested
-        (W.is_written writer.now) (W.others_of writer.now) depth_left) (Some part)
+        (W.is_written writer.now) depth_left) (Some part)
         path.old.items typed head.now value.now) out.old.items out.new.items) }
     ensures path { OnOk result (StartsWith path.new.items path.old.items) }
     ensures prefix { OnErr result (StartsWith out.new.items out.old.items) }
@@ -260,7 +190,7 @@ fn entered<W: NumberWriter>(
         Part::Number => return writer.element(path, typed, head, value, out),
         Part::Values(holder) => holder,
     };
-    enter_value(writer, holder, path)?;
+    path.extend_from_slice(separator(holder))?;
     out.extend_from_slice(head)?;
     nested(writer, depth_left, holder, value, path, out)
 }
@@ -277,7 +207,7 @@ fn nested<W: NumberWriter>(
     out: &mut Vec<u8>,
 ) -> Result<(), NoMemory>
     requires { holder_least holder ≤ length value.now }
-    ensures ok { OnOk result (Adds (IsNested (W.is_written writer.now) (W.others_of writer.now)
+    ensures ok { OnOk result (Adds (IsNested (W.is_written writer.now)
         depth_left holder path.old.items value.now) out.old.items out.new.items) }
     ensures path { OnOk result (path.new.items ≡ path.old.items) }
     ensures prefix { OnErr result (StartsWith out.new.items out.old.items) }
@@ -305,8 +235,8 @@ fn body<W: NumberWriter>(
     out: &mut Vec<u8>,
 ) -> Result<(), NoMemory>
     requires { 5 ≤ length value.now }
-    ensures ok { OnOk result (Adds (IsBody (W.is_written writer.now) (W.others_of writer.now)
-        (IsNested (W.is_written writer.now) (W.others_of writer.now) depth_left)
+    ensures ok { OnOk result (Adds (IsBody (W.is_written writer.now)
+        (IsNested (W.is_written writer.now) depth_left)
         (path_of in_array path.old.items) value.now) out.old.items out.new.items) }
     ensures path { OnOk result (path.new.items ≡ path.old.items) }
     ensures prefix { OnErr result (StartsWith out.new.items out.old.items) }
@@ -344,7 +274,7 @@ fn scoped<W: NumberWriter>(
 ) -> Result<(), NoMemory>
     requires { 14 ≤ length value.now }
     ensures ok { OnOk result
-        (Adds (IsScoped (IsNested (W.is_written writer.now) (W.others_of writer.now)
+        (Adds (IsScoped (IsNested (W.is_written writer.now)
         depth_left holders.Document path.old.items) value.now) out.old.items out.new.items) }
     ensures path { OnOk result (path.new.items ≡ path.old.items) }
     ensures prefix { OnErr result (StartsWith out.new.items out.old.items) }
@@ -372,7 +302,7 @@ fn with_scope<W: NumberWriter>(
     requires offset { scope_at_of value.now ≡ Some at }
     requires inside { (8 ≤ at) × (at + 5 ≤ length value.now) }
     ensures ok { OnOk result
-        (Adds (IsScoped (IsNested (W.is_written writer.now) (W.others_of writer.now)
+        (Adds (IsScoped (IsNested (W.is_written writer.now)
         depth_left holders.Document path.old.items) value.now) out.old.items out.new.items) }
     ensures path { OnOk result (path.new.items ≡ path.old.items) }
     ensures prefix { OnErr result (StartsWith out.new.items out.old.items) }

@@ -1,11 +1,11 @@
 -- The progress of a run, and how it ends.
-use Rattle.std.proofs.Common.{◌≡◌, ◌≤◌, ◌<◌, ◌⊎◌, ℕ, ◌+◌, Bool, true, false, cond, List, [], ◌++◌, length, take, refl, sym, ap, ◌∙◌, subst, inl, inr, arith, append_assoc, append-nil, length-append, Option, Result, Ok, Err, OnOk, IfErr, take_at}
+use Rattle.std.proofs.Common.{◌≡◌, ◌≤◌, ◌<◌, ◌⊎◌, ℕ, ◌+◌, List, [], ◌++◌, length, take, refl, sym, ap, ◌∙◌, subst, inl, inr, arith, append_assoc, append-nil, length-append, Option, Result, Ok, Err, OnOk, IfErr, take_at}
 use Rattle.std.proofs.KnownBytes.{Consumes-nil, Consumes-trans}
 use Rattle.std.specs.Io.KnownBytes.{Consumes}
 use Rattle.std.specs.Int.{w32, from_le_bytes}
 use Rattle.bd_io_device.specs.Devices.{WriteFailsWithin, Over, Reader, TakesPrefix, TakesText, Writer, between}
 use Rattle.bd_bson_view.specs.Sizes.{number_of}
-use Rattle.bd_wide_cli.specs.declared.filter.Filter.{Filter}
+use Rattle.bd_wide.specs.declared.paths.OrderPath.{OrderPath}
 use Rattle.bd_wide_cli.specs.declared.frame.Next.{Next}
 use Rattle.bd_wide_cli.specs.declared.frame.Next.TheVariants as nexts
 use Rattle.bd_wide_cli.specs.declared.running.Stop.{Stop}
@@ -15,24 +15,24 @@ use Rattle.bd_wide_cli.specs.inside.Filtered.{IsNext, CopiesRest, PassesOn, Stop
 use Rattle.bd_io_device.proofs.DevicesLemmas.{write_fails_second, takes_both, takes_none}
 
 -- the documents that were read so far, and what was written for them
-pub record Progress (filter : Filter) (file remaining : Reader) (old new : Writer) (number start kept : ℕ) : Type 0 where
+pub record Progress (paths : List OrderPath) (file remaining : Reader) (old new : Writer) (number start : ℕ) : Type 0 where
   pub documents : List ℕ
   pub written : List ℕ
-  pub are : AreDocuments filter number documents kept written
+  pub are : AreDocuments paths number documents written
   pub before : length documents ≡ start
   pub gave : Consumes file.remaining remaining.remaining documents
   pub took : TakesText (between old new) written
 
-pub begins : (filter : Filter) (file : Reader) (out : Writer) → Progress filter file file out out 0 0 0
-begins filter file out = record { documents = []; written = []; are = none; before = refl; gave = Consumes-nil file.remaining; took = takes_none out }
+pub begins : (paths : List OrderPath) (file : Reader) (out : Writer) → Progress paths file file out out 0 0
+begins paths file out = record { documents = []; written = []; are = none; before = refl; gave = Consumes-nil file.remaining; took = takes_none out }
 
-pub goes_on : (filter : Filter) (file remaining later : Reader) (old new last : Writer) (number start kept : ℕ) (bytes : List ℕ) (filtered : Bool) → Progress filter file remaining old new number start kept
-    → Consumes remaining.remaining later.remaining bytes → IsFrame bytes → WritesDocument filter number bytes (between new last) filtered
-    → Progress filter file later old last (number + 1) (start + length bytes) (cond filtered kept (kept + 1))
-goes_on filter file remaining later old new last number start kept bytes filtered p gave frame wrote = record {
+pub goes_on : (paths : List OrderPath) (file remaining later : Reader) (old new last : Writer) (number start : ℕ) (bytes : List ℕ) → Progress paths file remaining old new number start
+    → Consumes remaining.remaining later.remaining bytes → IsFrame bytes → WritesDocument paths number bytes (between new last)
+    → Progress paths file later old last (number + 1) (start + length bytes)
+goes_on paths file remaining later old new last number start bytes p gave frame wrote = record {
   documents = p.documents ++ bytes;
   written = p.written ++ wrote.0;
-  are = more number p.documents p.written bytes wrote.0 kept filtered p.are frame wrote.1;
+  are = more number p.documents p.written bytes wrote.0 p.are frame wrote.1;
   before = length-append p.documents bytes ∙ ap (λ n. n + length bytes) p.before;
   gave = Consumes-trans file.remaining remaining.remaining later.remaining p.documents bytes p.gave gave;
   took = takes_both old new last p.written wrote.0 p.took wrote.2;
@@ -106,15 +106,15 @@ write_fails_on next bytes file old new is other failed_write =
 
 -- ---- the ends
 
-ends : (filter : Filter) (bytes new : List ℕ) (out : Over Writer) (stop : Stop) → ArePartlyFiltered filter bytes new → IsWritten stop out new → Ends filter bytes new out stop
-ends filter bytes new out stops.Unwritten are is = (are, is)
-ends filter bytes new out stops.NoMemory are is = (are, is)
-ends filter bytes new out (stops.Unread f) are is = (are, is)
-ends filter bytes new out (stops.Refused text) are is = absurd is
+ends : (paths : List OrderPath) (bytes new : List ℕ) (out : Over Writer) (stop : Stop) → ArePartlyFiltered paths bytes new → IsWritten stop out new → Ends paths bytes new out stop
+ends paths bytes new out stops.Unwritten are is = (are, is)
+ends paths bytes new out stops.NoMemory are is = (are, is)
+ends paths bytes new out (stops.Unread f) are is = (are, is)
+ends paths bytes new out (stops.Refused text) are is = absurd is
 
-pub all_filtered : (filter : Filter) (file remaining mid last : Reader) (old new end : Writer) (number start kept : ℕ) (bytes : List ℕ) → Progress filter file remaining old new number start kept
-    → Consumes remaining.remaining mid.remaining bytes → PassesOn bytes (between mid last) (between new end) → FiltersAll filter (between file last) (between old end) kept
-all_filtered filter file remaining mid last old new end number start kept bytes p gave pass =
+pub all_filtered : (paths : List OrderPath) (file remaining mid last : Reader) (old new end : Writer) (number start : ℕ) (bytes : List ℕ) → Progress paths file remaining old new number start
+    → Consumes remaining.remaining mid.remaining bytes → PassesOn bytes (between mid last) (between new end) → FiltersAll paths (between file last) (between old end)
+all_filtered paths file remaining mid last old new end number start bytes p gave pass =
     let rest = bytes ++ pass.0 in (
       p.documents ++ rest,
       p.written ++ rest,
@@ -124,24 +124,24 @@ all_filtered filter file remaining mid last old new end number start kept bytes 
       takes_both old new end p.written rest p.took pass.4,
     )
 
-pub stops_passing : (filter : Filter) (file remaining mid last : Reader) (old new end : Writer) (number start kept : ℕ) (bytes : List ℕ) (stop : Stop) → Progress filter file remaining old new number start kept
-    → Consumes remaining.remaining mid.remaining bytes → StopsPassing bytes (between mid last) (between new end) stop → FiltersPartly filter (between file last) (between old end) stop
-stops_passing filter file remaining mid last old new end number start kept bytes stop p gave pass =
+pub stops_passing : (paths : List OrderPath) (file remaining mid last : Reader) (old new end : Writer) (number start : ℕ) (bytes : List ℕ) (stop : Stop) → Progress paths file remaining old new number start
+    → Consumes remaining.remaining mid.remaining bytes → StopsPassing bytes (between mid last) (between new end) stop → FiltersPartly paths (between file last) (between old end) stop
+stops_passing paths file remaining mid last old new end number start bytes stop p gave pass =
     let rest = bytes ++ pass.0 in (
       p.documents ++ rest,
       p.written ++ rest,
       Consumes-trans file.remaining remaining.remaining last.remaining p.documents rest p.gave (Consumes-trans remaining.remaining mid.remaining last.remaining bytes pass.0 gave pass.2),
-      ends filter (p.documents ++ rest) (p.written ++ rest) (between old end) stop (number, p.documents, p.written, rest, kept, p.are, refl, inr (pass.1, refl))
+      ends paths (p.documents ++ rest) (p.written ++ rest) (between old end) stop (number, p.documents, p.written, rest, p.are, refl, inr (pass.1, refl))
           (written_after stop old new end p.written rest p.took pass.3),
     )
 
-pub unread : (filter : Filter) (file remaining last : Reader) (old new : Writer) (number start kept : ℕ) (stop : Stop) → Progress filter file remaining old new number start kept
-    → (given : List ℕ) × Consumes remaining.remaining last.remaining given → IsWritten stop (between new new) [] → FiltersPartly filter (between file last) (between old new) stop
-unread filter file remaining last old new number start kept stop p gave wrote = (
+pub unread : (paths : List OrderPath) (file remaining last : Reader) (old new : Writer) (number start : ℕ) (stop : Stop) → Progress paths file remaining old new number start
+    → (given : List ℕ) × Consumes remaining.remaining last.remaining given → IsWritten stop (between new new) [] → FiltersPartly paths (between file last) (between old new) stop
+unread paths file remaining last old new number start stop p gave wrote = (
   p.documents ++ gave.0,
   p.written,
   Consumes-trans file.remaining remaining.remaining last.remaining p.documents gave.0 p.gave gave.1,
-  ends filter (p.documents ++ gave.0) p.written (between old new) stop (number, p.documents, p.written, gave.0, kept, p.are, refl, inl refl)
+  ends paths (p.documents ++ gave.0) p.written (between old new) stop (number, p.documents, p.written, gave.0, p.are, refl, inl refl)
       (subst (λ (x : List ℕ). IsWritten stop (between old new) x) (append-nil p.written) (written_after stop old new new p.written [] p.took wrote)),
 )
 
@@ -151,46 +151,44 @@ nothing_written out = is_prefix (between out out) [] (takes_none out)
 nothing_more_written : (old new end : Writer) (written : List ℕ) → TakesText (between old new) written → TakesText (between new end) [] → TakesText (between old end) written
 nothing_more_written old new end written took nothing = subst (λ (x : List ℕ). TakesText (between old end) x) (append-nil written) (takes_both old new end written [] took nothing)
 
-pub stops_document : (filter : Filter) (file remaining last : Reader) (old new end : Writer) (number start kept : ℕ) (bytes : List ℕ) (stop : Stop) → Progress filter file remaining old new number start kept
-    → Consumes remaining.remaining last.remaining bytes → IsFrame bytes → StopsDocument filter number start bytes (between new end) stop → FiltersPartly filter (between file last) (between old end) stop
-stops_document filter file remaining last old new end number start kept bytes stops.NoMemory p gave frame stop = (
+pub stops_document : (paths : List OrderPath) (file remaining last : Reader) (old new end : Writer) (number start : ℕ) (bytes : List ℕ) (stop : Stop) → Progress paths file remaining old new number start
+    → Consumes remaining.remaining last.remaining bytes → IsFrame bytes → StopsDocument paths number start bytes (between new end) stop → FiltersPartly paths (between file last) (between old end) stop
+stops_document paths file remaining last old new end number start bytes stops.NoMemory p gave frame stop = (
   p.documents ++ bytes,
   p.written,
   Consumes-trans file.remaining remaining.remaining last.remaining p.documents bytes p.gave gave,
-  ((number, p.documents, p.written, bytes, kept, p.are, refl, inl refl), is_prefix (between old end) p.written (nothing_more_written old new end p.written p.took stop)),
+  ((number, p.documents, p.written, bytes, p.are, refl, inl refl), is_prefix (between old end) p.written (nothing_more_written old new end p.written p.took stop)),
 )
-stops_document filter file remaining last old new end number start kept bytes stops.Unwritten p gave frame stop =
+stops_document paths file remaining last old new end number start bytes stops.Unwritten p gave frame stop =
     let documents = p.documents ++ bytes in
     let written = p.written ++ stop.0 in (
       documents,
       written,
       Consumes-trans file.remaining remaining.remaining last.remaining p.documents bytes p.gave gave,
       (
-        (number + 1, documents, written, [], cond stop.1 kept (kept + 1), more number p.documents p.written bytes stop.0 kept stop.1 p.are frame stop.2, sym (append-nil documents), inl refl),
-        write_fails_second old new end p.written stop.0 p.took stop.3,
+        (number + 1, documents, written, [], more number p.documents p.written bytes stop.0 p.are frame stop.1, sym (append-nil documents), inl refl),
+        write_fails_second old new end p.written stop.0 p.took stop.2,
       ),
     )
-stops_document filter file remaining last old new end number start kept bytes (stops.Unread f) p gave frame stop = absurd stop
-stops_document filter file remaining last old new end number start kept bytes (stops.Refused text) p gave frame (nothing, (path, why, is, reported)) = (
+stops_document paths file remaining last old new end number start bytes (stops.Unread f) p gave frame stop = absurd stop
+stops_document paths file remaining last old new end number start bytes (stops.Refused text) p gave frame (nothing, (path, why, is, reported)) = (
   p.documents ++ bytes,
   p.written,
   Consumes-trans file.remaining remaining.remaining last.remaining p.documents bytes p.gave gave,
   (
-    (number, p.documents, kept, bytes, path, why, p.are, frame, refl, is, reported ∙ ap (λ n. refusal_text number n path why) (sym p.before)),
+    (number, p.documents, bytes, path, why, p.are, frame, refl, is, reported ∙ ap (λ n. refusal_text number n path why) (sym p.before)),
     nothing_more_written old new end p.written p.took nothing,
   ),
 )
 
 -- ---- results
 
+-- if P holds without an error, and Q follows from P, then Q holds
 pub ok_map : {A E : Type 0} (r : Result A E) (P Q : Type 0) → OnOk r P → (P → Q) → OnOk r Q
 ok_map (Ok x) P Q h f = f h
 ok_map (Err e) P Q h f = _
 
+-- if P holds of an error, and Q follows from P, then Q holds
 pub err_map : {A E : Type 0} (r : Result A E) (P Q : E → Type 0) → IfErr r P → ((e : E) → P e → Q e) → IfErr r Q
 err_map (Ok x) P Q h f = _
 err_map (Err e) P Q h f = f e h
-
-pub count_most : (kept : ℕ) (filtered : Bool) → cond filtered kept (kept + 1) ≤ kept + 1
-count_most kept true = omega arith
-count_most kept false = omega arith

@@ -1,5 +1,5 @@
 -- What a run of each command prints.
-use Rattle.std.specs.Prelude.{codes}
+use Rattle.std.specs.Prelude.{codes, ℕ}
 use Rattle.bd_io_device.specs.Devices.{Over, Reader, Writer}
 use Rattle.bd_bson_check.specs.declared.profile.Profile.TheVariants.{All}
 use Rattle.bd_cli_scan.specs.{Check.check_run_under, Dump.dump_run_by, Run.Prints, declared.output.Status.Status}
@@ -10,4 +10,9 @@ use Rattle.bd_wide_cli.specs.declared.command.Command.TheVariants as commands
 abbrev pub RunsCommand : Command → Over Reader → Over Writer → Over Writer → Status → Type 0
 RunsCommand commands.Check file out err status = Prints (codes "bsonwide") (check_run_under All file) out err status
 RunsCommand commands.Dump file out err status = Prints (codes "bsonwide") (dump_run_by all_types file) out err status
-RunsCommand (commands.Filter filter) file out err status = FiltersInput filter file out err status
+RunsCommand (commands.Order order) file out err status = FiltersInput order.paths.items file out err status
+
+-- how many bytes of its file a command requests at once
+abbrev pub block_size : Command → ℕ
+block_size (commands.Order order) = 16384
+block_size _ = 65536

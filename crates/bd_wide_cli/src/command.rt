@@ -1,16 +1,17 @@
 //! Runs of a command over devices.
 
 ghost use Rattle.bd_io_device.specs.Devices.{over};
-ghost use Rattle.bd_wide_cli.specs.Command.{RunsCommand};
+ghost use Rattle.std.specs.Prelude.{◌≡◌};
+ghost use Rattle.bd_wide_cli.specs.Command.{RunsCommand, block_size};
 
 use crate::dump::WideLines;
-use crate::filter::Filter;
 use crate::output::PROGRAM;
 use crate::running::filter_file;
 use bd_cli_scan::Status;
 use bd_cli_scan::check::check_all_types;
 use bd_cli_scan::dump::dump_by;
 use bd_io_device::{Input, Output};
+use bd_wide::Order;
 use bd_wide_dump::WideTextBuffer;
 use std::alloc::Global;
 
@@ -21,8 +22,8 @@ pub enum Command {
     Check,
     /// Each document as canonical Extended JSON, one a line.
     Dump,
-    /// Each document is written in another form.
-    Filter(Filter),
+    /// Each document with its number, and with whole numbers in the same order.
+    Order(Order),
 }
 
 /// Runs a command over a file, and returns the exit status: 0 if all was done, 1 after a fault of the input or of a device, or
@@ -43,6 +44,17 @@ pub fn run<R: Input, O: Output, E: Output>(
             let buffer = WideTextBuffer::new(alloc);
             dump_by(alloc, PROGRAM, WideLines { buffer }, file, out, err)
         }
-        Command::Filter(filter) => filter_file(alloc, filter, file, out, err),
+        Command::Order(order) => filter_file(alloc, order, file, out, err),
+    }
+}
+
+/// How many bytes of its file a command requests from the system at once. The output of `order` is flushed before each request,
+/// so most writes are as large: a quarter of a pipe, so that its reader works beside this program, and not in turns with it.
+pub fn block_size(command: &Command) -> usize
+    ensures { result ≡ block_size command.now }
+{
+    match command {
+        Command::Check | Command::Dump => 65_536,
+        Command::Order(_) => 16_384,
     }
 }

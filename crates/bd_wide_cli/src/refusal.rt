@@ -74,7 +74,6 @@ fn refusal_words(why: Refusal) -> &'static [u8]
     ensures { result.now ≡ words_of why }
 {
     match why {
-        Refusal::TooDeep => b"too deep",
         Refusal::NotWhole => b"not a whole number of 64 bits",
         Refusal::NoDouble => b"no double equals it",
     }

@@ -1,20 +1,18 @@
-//! A filter over a whole file.
+//! `order` over a whole file.
 
-ghost use Rattle.std.specs.Prelude.{◌≡◌, ◌≢◌, ◌≤◌, ◌+◌, length, IfOk, IfErr, OnOk, if◌then◌else◌};
-ghost use Rattle.bd_value.specs.Limits.{longest_input};
+ghost use Rattle.std.specs.Prelude.{◌≡◌, ◌≢◌, ◌≤◌, length, IfErr, OnOk};
 ghost use Rattle.bd_io_device.specs.Devices.{over};
 ghost use Rattle.bd_wide_cli.specs.Filtered.{FiltersAll, FiltersPartly};
 ghost use Rattle.bd_wide_cli.specs.inside.Filtered.{CopiesRest, IsNext, PassesOn, StopsCopying, StopsDocument, StopsPassing, WritesDocument};
 ghost use Rattle.bd_wide_cli.specs.Output.{FiltersInput};
 
-use crate::filter::{Filter, write_filtered};
 use crate::frame::{Next, next_frame};
-use crate::output::{report_kept, report_stop};
+use crate::output::report_stop;
 use crate::refusal::{Place, refused};
 use bd_cli_scan::Status;
 use bd_io_device::{Input, Limits, Output, ReadFault, write_all};
 use bd_value::{LONGEST_INPUT, MOST_READS};
-use bd_wide::Unfiltered;
+use bd_wide::{Order, Unfiltered, write_ordered};
 use std::alloc::Global;
 
 /// Why no more of an input was filtered.
@@ -33,16 +31,16 @@ pub enum Stop {
 /// Filters an input document by document, and writes each before the next is read. It takes the memory of one document.
 pub(crate) fn filter_file<R: Input, O: Output, E: Output>(
     alloc: Global,
-    filter: &Filter,
+    order: &Order,
     input: &mut R,
     out: &mut O,
     err: &mut E,
 ) -> Status
-    ensures { FiltersInput filter.now (over R.state input.old input.new)
+    ensures { FiltersInput order.now.paths.items (over R.state input.old input.new)
         (over O.state out.old out.new) (over E.state err.old err.new) result }
 {
-    match filter_input(alloc, filter, input, out) {
-        Ok(kept) => report_kept(kept, err),
+    match filter_input(alloc, order, input, out) {
+        Ok(()) => Status::Done,
         Err(stop) => report_stop(&stop, err),
     }
 }
@@ -56,92 +54,81 @@ const LIMITS: Limits = Limits {
 /// How many bytes are copied together.
 const BLOCK: usize = 65_536;
 
-/// Filters the documents of an input, and returns how many of them are unchanged.
+/// Filters the documents of an input.
 fn filter_input<R: Input, O: Output>(
     alloc: Global,
-    filter: &Filter,
+    order: &Order,
     input: &mut R,
     out: &mut O,
-) -> Result<u64, Stop>
-    ensures all { IfOk result
-        (FiltersAll filter.now (over R.state input.old input.new) (over O.state out.old out.new)) }
-    ensures partly { IfErr result (FiltersPartly filter.now
+) -> Result<(), Stop>
+    ensures all { OnOk result (FiltersAll order.now.paths.items
+        (over R.state input.old input.new) (over O.state out.old out.new)) }
+    ensures partly { IfErr result (FiltersPartly order.now.paths.items
         (over R.state input.old input.new) (over O.state out.old out.new)) }
 {
     let mut buffer = Vec::new(alloc);
     let mut path = Vec::new(alloc);
     let mut written = Vec::new(alloc);
-    filter_documents(filter, input, &mut buffer, &mut path, &mut written, out)
+    filter_documents(order, input, &mut buffer, &mut path, &mut written, out)
 }
 
 /// The same with memory for a document, for a path in it, and for what is written of it.
 fn filter_documents<R: Input, O: Output>(
-    filter: &Filter,
+    order: &Order,
     input: &mut R,
     buffer: &mut Vec<u8>,
     path: &mut Vec<u8>,
     written: &mut Vec<u8>,
     out: &mut O,
-) -> Result<u64, Stop>
-    ensures all { IfOk result
-        (FiltersAll filter.now (over R.state input.old input.new) (over O.state out.old out.new)) }
-    ensures partly { IfErr result (FiltersPartly filter.now
+) -> Result<(), Stop>
+    ensures all { OnOk result (FiltersAll order.now.paths.items
+        (over R.state input.old input.new) (over O.state out.old out.new)) }
+    ensures partly { IfErr result (FiltersPartly order.now.paths.items
         (over R.state input.old input.new) (over O.state out.old out.new)) }
 {
     let mut remaining = LIMITS;
     let mut number = 0;
     let mut start = 0;
-    let mut kept = 0;
     loop {
         let next = match next_frame(input, &mut remaining, buffer) {
             Ok(next) => next,
             Err(fault) => return Err(Stop::Unread(fault)),
         };
         let Next::Document = next else {
-            pass_on(next, buffer, input, remaining, out)?;
-            return Ok(kept);
+            return pass_on(next, buffer, input, remaining, out);
         };
         let place = Place { number, start };
-        let filtered = write_document(filter, place, buffer, path, written, out)?;
+        write_document(order, place, buffer, path, written, out)?;
         number += 1;
         start += buffer.len() as u64;
-        kept = count_kept(kept, filtered);
     }
 }
 
-/// One more if a document is unchanged.
-fn count_kept(kept: u64, filtered: bool) -> u64
-    requires { kept ≤ longest_input }
-    ensures { result ≡ (if filtered then kept else kept + 1) }
-{
-    if filtered { kept } else { kept + 1 }
-}
-
-/// Writes the text for a document.
+/// Writes a document with its number, and with whole numbers.
 fn write_document<O: Output>(
-    filter: &Filter,
+    order: &Order,
     place: Place,
     bytes: &[u8],
     path: &mut Vec<u8>,
     written: &mut Vec<u8>,
     out: &mut O,
-) -> Result<bool, Stop>
+) -> Result<(), Stop>
     requires { 5 ≤ length bytes.now }
-    ensures ok { IfOk result
-        (WritesDocument filter.now place.number bytes.now (over O.state out.old out.new)) }
-    ensures err { IfErr result (StopsDocument filter.now place.number place.start bytes.now
+    ensures ok { OnOk result (WritesDocument order.now.paths.items place.number bytes.now
         (over O.state out.old out.new)) }
+    ensures err { IfErr result (StopsDocument order.now.paths.items place.number place.start
+        bytes.now (over O.state out.old out.new)) }
 {
     written.clear();
-    let filtered = match write_filtered(filter, place.number, bytes, path, written) {
-        Ok(filtered) => filtered,
+    match write_ordered(order, place.number, bytes, path, written) {
+        Ok(()) => {}
         Err(Unfiltered::NoMemory) => return Err(Stop::NoMemory),
         Err(Unfiltered::Refused(why)) => return Err(refused(place, path, why)),
     };
     if write_all(out, written).is_err() {
         return Err(Stop::Unwritten);
     }
-    Ok(filtered)
+    Ok(())
 }
 
 /// Copies bytes that begin with no document, and all that follow them.

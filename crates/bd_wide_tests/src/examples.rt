@@ -1,11 +1,11 @@
-//! The examples of use in the roots of `bd_wide_number`, `bd_wide_text`, `bd_wide_dump`, `bd_wide`, `bd_wide_args` and
+//! The examples of use in the roots of `bd_wide_number`, `bd_wide_text`, `bd_wide_dump`, `bd_wide` and `bd_wide_cli`, and runs of
 //! `bd_wide_cli`.
 use bd_bson_check::{Profile, check_bytes};
+use bd_cli_args::WordsFault;
 use bd_cli_scan::Status;
 use bd_io_device::{MemoryInput, MemoryOutput};
-use bd_wide::write_wrapped;
-use bd_wide_args::{Order, parse_words};
-use bd_wide_cli::{Command, Filter, run};
+use bd_wide::{read_order, write_ordered};
+use bd_wide_cli::{Command, report, run, version};
 use bd_wide_dump::WideTextBuffer;
 use bd_wide_number::{Number, code_of, whole_of};
 use bd_wide_text::write_double;
@@ -29,14 +29,15 @@ fn double_text(rt: HostRuntime) -> Result<(), Fail> {
 }
 
 #[test]
-fn wrapped(rt: HostRuntime) -> Result<(), Fail> {
+fn ordered(rt: HostRuntime) -> Result<(), Fail> {
     let alloc = rt.alloc();
-    // {"d":1.0}, and {"d":{"$numberDouble":"1.0"}}
+    // {"d":1.0}, and {"~n":7,"d":1} with two int64
     let bytes = b"\x10\0\0\0\x01d\0\0\0\0\0\0\0\xf0\x3f\0";
-    let wanted = b"\x24\0\0\0\x03d\0\x1c\0\0\0\x02$numberDouble\0\x04\0\0\01.0\0\0\0";
+    let wanted = b"\x1c\0\0\0\x12~n\0\x07\0\0\0\0\0\0\0\x12d\0\x01\0\0\0\0\0\0\0\0";
+    let order = read_order(alloc, &[])?;
     let mut path = Vec::new(alloc);
     let mut out = Vec::new(alloc);
-    assert!(rt; write_wrapped(bytes, &mut path, &mut out)?);
+    assert!(rt; write_ordered(&order, 7, bytes, &mut path, &mut out).is_ok());
     assert!(rt; out.as_slice() == wanted.as_slice());
     Ok(())
 }
@@ -53,31 +54,51 @@ fn all_types(rt: HostRuntime) -> Result<(), Fail> {
 }
 
 #[test]
-fn command_line(rt: HostRuntime) -> Result<(), Fail> {
-    let alloc = rt.alloc();
-    let words = [
-        String::from_str(alloc, "wrap")?,
-        String::from_str(alloc, "-")?,
-    ];
-    let order = parse_words(alloc, &words);
-    assert!(rt; matches!(order, Ok(Order::Wrap { .. })));
-    Ok(())
-}
-
-#[test]
-fn filtered(rt: HostRuntime) {
+fn dumped(rt: HostRuntime) {
     let mut input = MemoryInput::new(b"\x05\0\0\0\0", 100, None);
     let mut buffer = [0; 100];
     let mut out = MemoryOutput::new(&mut buffer, 100, None);
     let mut reported = [0; 100];
     let mut err = MemoryOutput::new(&mut reported, 100, None);
-    let status = run(
-        rt.alloc(),
-        &Command::Filter(Filter::Wrap),
-        &mut input,
-        &mut out,
-        &mut err,
-    );
+    let status = run(rt.alloc(), &Command::Dump, &mut input, &mut out, &mut err);
     assert!(rt; status == Status::Done);
-    assert!(rt; out.bytes() == b"\x05\0\0\0\0".as_slice());
+    assert!(rt; out.bytes() == b"{}\n".as_slice());
+}
+
+/// Out of a dump of two documents, the second cut short: each run of `order` that its devices allow.
+#[test]
+fn ordered_dump(rt: HostRuntime) -> Result<(), Fail> {
+    let alloc = rt.alloc();
+    let command = Command::Order(read_order(alloc, &[])?);
+    let numbered = b"\x10\0\0\0\x12~n\0\0\0\0\0\0\0\0\0\0\x05\0";
+    for (size, status, message) in [
+        (100, Status::Done, ""),
+        (18, Status::Done, ""),
+        (17, Status::Failed, "bsonwide: cannot write\n"),
+    ] {
+        let mut input = MemoryInput::new(b"\x05\0\0\0\0\x05\0", 100, None);
+        let mut buffer = [0; 100];
+        let mut out = MemoryOutput::new(&mut buffer[..size], 100, None);
+        let mut reported = [0; 100];
+        let mut err = MemoryOutput::new(&mut reported, 100, None);
+        assert!(rt; run(alloc, &command, &mut input, &mut out, &mut err) == status);
+        assert!(rt; numbered.starts_with(out.bytes()) && out.bytes().len() == size.min(18));
+        assert!(rt; err.bytes() == message.as_bytes());
+    }
+    Ok(())
+}
+
+/// The output for `--help` and for `--version`.
+#[test]
+fn reports(rt: HostRuntime) {
+    let usage = "usage: bsonwide dump FILE
+       bsonwide check FILE
+       bsonwide order FILE [PATH..]
+";
+    let mut buffer = [0; 200];
+    let mut out = MemoryOutput::new(&mut buffer, 200, None);
+    let mut err = MemoryOutput::new(&mut [], 1, None);
+    assert!(rt; report(&WordsFault::Help, &mut out, &mut err) == Status::Done);
+    assert!(rt; out.bytes() == usage.as_bytes());
+    assert!(rt; version() == "bsonwide 0.1.0\n");
 }

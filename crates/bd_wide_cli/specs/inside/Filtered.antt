@@ -1,15 +1,15 @@
--- What a filter writes for a dump.
-use Rattle.std.specs.Prelude.{◌≡◌, ◌<◌, ◌⊎◌, ℕ, ◌+◌, Bool, List, [], ◌++◌, length, Option}
+-- What `order` writes for a dump.
+use Rattle.std.specs.Prelude.{◌≡◌, ◌<◌, ◌⊎◌, ℕ, List, [], ◌++◌, length, Option}
 use Rattle.std.specs.Io.KnownBytes.{Consumes, IsAtEnd}
 use Rattle.bd_bson_view.specs.Sizes.{number_of}
 use Rattle.bd_io_device.specs.Devices.{WriteFailsWithin, Over, Reader, TakesText, Writer}
-use Rattle.bd_wide.specs.declared.order.Unordered.{Unordered}
-use Rattle.bd_wide_cli.specs.declared.filter.Filter.{Filter}
+use Rattle.bd_wide.specs.{Order.IsOrderedDocument, Order.IsUnordered}
+use Rattle.bd_wide.specs.declared.{order.Unordered.Unordered, paths.OrderPath.OrderPath}
 use Rattle.bd_wide_cli.specs.declared.frame.Next.{Next}
 use Rattle.bd_wide_cli.specs.declared.frame.Next.TheVariants as nexts
 use Rattle.bd_wide_cli.specs.declared.running.Stop.{Stop}
 use Rattle.bd_wide_cli.specs.declared.running.Stop.TheVariants as stops
-use Rattle.bd_wide_cli.specs.Filtered.{IsFiltered, IsRefused, IsFrame, IsBadLength, BeginsWithNone, refusal_text, IsWritten}
+use Rattle.bd_wide_cli.specs.Filtered.{IsFrame, IsBadLength, BeginsWithNone, refusal_text, IsWritten}
 
 -- The run stopped at the document that is refused, with its message, or memory ran out.
 abbrev pub ReportsRefusal : ℕ → ℕ → List ℕ → Unordered → Stop → Type 0
@@ -26,18 +26,18 @@ IsNext nexts.Last bytes remaining = IsAtEnd remaining × ((length bytes < 4) ⊎
 
 -- ---- its parts
 
--- The document with number n was written, filtered or unchanged.
-abbrev pub WritesDocument : Filter → ℕ → List ℕ → Over Writer → Bool → Type 0
-WritesDocument filter n bytes out filtered = (new : List ℕ) × IsFiltered filter n bytes filtered new × TakesText out new
+-- The document with number n was written.
+abbrev pub WritesDocument : List OrderPath → ℕ → List ℕ → Over Writer → Type 0
+WritesDocument paths n bytes out = (new : List ℕ) × IsOrderedDocument paths n bytes new × TakesText out new
 
 -- The document with number n was not written completely: memory ran out, it is refused, or a write failed.
-abbrev pub StopsDocument : Filter → ℕ → ℕ → List ℕ → Over Writer → Stop → Type 0
-StopsDocument filter n start bytes out stops.NoMemory = TakesText out []
-StopsDocument filter n start bytes out (stops.Refused text) = TakesText out []
-    × ((path : List ℕ) × (why : Unordered) × IsRefused filter n bytes path why × (text.items ≡ refusal_text n start path why))
-StopsDocument filter n start bytes out stops.Unwritten =
-    (new : List ℕ) × (filtered : Bool) × IsFiltered filter n bytes filtered new × WriteFailsWithin out new
-StopsDocument filter n start bytes out (stops.Unread fault) = ⊥
+abbrev pub StopsDocument : List OrderPath → ℕ → ℕ → List ℕ → Over Writer → Stop → Type 0
+StopsDocument paths n start bytes out stops.NoMemory = TakesText out []
+StopsDocument paths n start bytes out (stops.Refused text) = TakesText out []
+    × ((path : List ℕ) × (why : Unordered) × IsUnordered paths n bytes path why × (text.items ≡ refusal_text n start path why))
+StopsDocument paths n start bytes out stops.Unwritten =
+    (new : List ℕ) × IsOrderedDocument paths n bytes new × WriteFailsWithin out new
+StopsDocument paths n start bytes out (stops.Unread fault) = ⊥
 
 -- All remaining bytes of the input were written.
 abbrev pub CopiesRest : Over Reader → Over Writer → Type 0

@@ -1,31 +1,32 @@
 use Rattle.std.proofs.Common.{ap, sym, ◌∙◌, is_some}
-use Rattle.bd_cli_args.specs.CommandLine.{words_of}
-use Rattle.bd_cli_args.proofs.LineLemmas.{no_fault, order_read, order_there, refusal_none, refused_as, refused_taken}
+use Rattle.bd_cli_args.specs.CommandLine.{line_app, ordered_by, words_of}
+use Rattle.bd_cli_args.proofs.LineLemmas.{is_program}
+use Rattle.bd_cli_args.proofs.ProgramLemmas.{no_fault, order_read, order_there, refusal_none, refused_as, refused_taken}
 use Rattle.std.proofs.lemmas.Result.{IfOk-weaker}
 use Rattle.bd_cli_args.proofs.command_line.order_in.Goals as goal
 
 pub returns-in-Err-clause-fault : goal.returns-in-Err-clause-fault
 returns-in-Err-clause-fault c =
-    refused_as _ (words_of c.args.words.now) c.in-Err.error c.explain_error.result c.in_ok-command.ensures.0 c.in-Err.ensures.kinds c.explain_error.ensures
+    refused_as line_app ordered_by is_program _ (words_of c.args.words.now) c.in-Err.error c.explain_error.result c.in_ok-command.ensures.0 c.in-Err.ensures.kinds c.explain_error.ensures
 
 pub returns-in-Err-clause-taken : goal.returns-in-Err-clause-taken
 returns-in-Err-clause-taken c taken =
-    c.explain_error.ensures ∙ refused_taken _ (words_of c.args.words.now) c.in-Err.error c.in_ok-command.ensures.0 c.in-Err.ensures.passes taken
+    c.explain_error.ensures ∙ refused_taken line_app ordered_by _ (words_of c.args.words.now) c.in-Err.error c.in_ok-command.ensures.0 c.in-Err.ensures.passes taken
 
 pub order_named-requires : goal.order_named-requires
 order_named-requires c =
     let words = words_of c.args.words.now in
-    let order = order_read _ words c.in-Ok.matches c.in-Some.inner.now c.in-Some.name.now c.in_ok-command.ensures.0 c.in-Ok.ensures.matches c.in-Some.ensures.name
+    let order = order_read line_app ordered_by is_program _ words c.in-Ok.matches c.in-Some.inner.now c.in-Some.name.now c.in_ok-command.ensures.0 c.in-Ok.ensures.matches c.in-Some.ensures.name
     c.in-Some.ensures.rows in
-    sym (ap is_some order) ∙ order_there words (no_fault _ words c.in_ok-command.ensures.0 c.in-Ok.ensures.kinds)
+    sym (ap is_some order) ∙ order_there line_app ordered_by is_program words (no_fault line_app ordered_by is_program _ words c.in_ok-command.ensures.0 c.in-Ok.ensures.kinds)
 
 pub returns-clause-order : goal.returns-clause-order
 returns-clause-order c =
-    let order = order_read _ (words_of c.args.words.now) c.in-Ok.matches c.in-Some.inner.now c.in-Some.name.now c.in_ok-command.ensures.0 c.in-Ok.ensures.matches
+    let order = order_read line_app ordered_by is_program _ (words_of c.args.words.now) c.in-Ok.matches c.in-Some.inner.now c.in-Some.name.now c.in_ok-command.ensures.0 c.in-Ok.ensures.matches
     c.in-Some.ensures.name c.in-Some.ensures.rows in
     IfOk-weaker c.order_named.result _ _ (λ o e. order ∙ e) c.order_named.ensures.order
 
 pub returns-clause-only_taken : goal.returns-clause-only_taken
 returns-clause-only_taken c =
-    let none = refusal_none _ (no_fault _ (words_of c.args.words.now) c.in_ok-command.ensures.0 c.in-Ok.ensures.kinds) in
+    let none = refusal_none line_app ordered_by _ (no_fault line_app ordered_by is_program _ (words_of c.args.words.now) c.in_ok-command.ensures.0 c.in-Ok.ensures.kinds) in
     IfOk-weaker c.order_named.result _ _ (λ o _. none) c.order_named.ensures.order

@@ -8,19 +8,19 @@ use Rattle.bd_wide.proofs.find.+finding.Goals as goal
 
 pub element-returns-in_default : goal.element-returns-in_default
 element-returns-in_default g t c =
-    (finds.part_refused (g.R.Refuser.refuses c.args.refuser.now c.args.depth_left) (refused_nested (g.R.Refuser.refuses c.args.refuser.now) c.args.depth_left) None c.args.typed (path_of c.args.in_array c.args.path.now.items c.args.head.now) c.args.at (length c.args.head.now) c.args.value.now c.in_default.ensures, refl)
+    (finds.part_refused (g.R.Refuser.refuses c.args.refuser.now) (refused_nested (g.R.Refuser.refuses c.args.refuser.now) c.args.depth_left) None c.args.typed (path_of c.args.in_array c.args.path.now.items c.args.head.now) c.args.at (length c.args.head.now) c.args.value.now c.in_default.ensures, refl)
 
 pub element-returns-then-is_none : goal.element-returns-then-is_none
 element-returns-then-is_none g t c =
-    let F : List ℕ → Option Refused = λ p. refused_part (g.R.Refuser.refuses c.args.refuser.now c.args.depth_left) (refused_nested (g.R.Refuser.refuses c.args.refuser.now) c.args.depth_left) (Some c.in-Some.part) c.args.typed p c.args.at (length c.args.head.now) c.args.value.now in
+    let F : List ℕ → Option Refused = λ p. refused_part (g.R.Refuser.refuses c.args.refuser.now) (refused_nested (g.R.Refuser.refuses c.args.refuser.now) c.args.depth_left) (Some c.in-Some.part) c.args.typed p c.args.at (length c.args.head.now) c.args.value.now in
     finds.finds_same c.in_ok-found.found _ _ c.args.path.now.items c.truncate.new.self.items
-    (finds.part_refused (g.R.Refuser.refuses c.args.refuser.now c.args.depth_left) (refused_nested (g.R.Refuser.refuses c.args.refuser.now) c.args.depth_left) (Some c.in-Some.part) c.args.typed (path_of c.args.in_array c.args.path.now.items c.args.head.now) c.args.at (length c.args.head.now) c.args.value.now c.in-Some.ensures)
+    (finds.part_refused (g.R.Refuser.refuses c.args.refuser.now) (refused_nested (g.R.Refuser.refuses c.args.refuser.now) c.args.depth_left) (Some c.in-Some.part) c.args.typed (path_of c.args.in_array c.args.path.now.items c.args.head.now) c.args.at (length c.args.head.now) c.args.value.now c.in-Some.ensures)
     (finds.restored F c.args.in_array c.args.path.now.items c.args.head.now c.enter.new.path.items c.entered.new.path.items c.truncate.new.self.items c.len-before.result c.in_ok-found.found c.in_ok-enter.ensures (search rules)
     c.in_ok-found.ensures (c.is_none.ensures ∙ ap not c.if-is_none.true) c.truncate.ensures.items)
 
 pub elements-returns-then-is_some : goal.elements-returns-then-is_some
 elements-returns-then-is_some g t c =
-    finds.found_here (refused_element (g.R.Refuser.refuses c.args.refuser.now c.args.depth_left) (refused_nested (g.R.Refuser.refuses c.args.refuser.now) c.args.depth_left))
+    finds.found_here (refused_element (g.R.Refuser.refuses c.args.refuser.now) (refused_nested (g.R.Refuser.refuses c.args.refuser.now) c.args.depth_left))
     c.args.in_array c.args.path.now.items c.args.at c.loop-typed.here c.args.bytes.now c.loop-typed.rest.now c.split_at.result.0.now c.split_at.result.1.now c.split_at-in-Some.result.0.now
     c.loop-typed.path.items c.element.new.path.items c.in-Some.typed c.in-Some.k c.in-Some.n c.in_ok-found.found
     c.loop-typed.invariant.passed c.in-Some.ensures.gives c.split_at.ensures.front c.split_at.ensures.front_len c.split_at.ensures.back c.split_at-in-Some.ensures.front c.loop-typed.invariant.path_is
@@ -28,7 +28,7 @@ elements-returns-then-is_some g t c =
 
 pub elements-loop-typed-preserved : goal.elements-loop-typed-preserved
 elements-loop-typed-preserved g t c =
-    let on = finds.passed_on (refused_element (g.R.Refuser.refuses c.args.refuser.now c.args.depth_left) (refused_nested (g.R.Refuser.refuses c.args.refuser.now) c.args.depth_left))
+    let on = finds.passed_on (refused_element (g.R.Refuser.refuses c.args.refuser.now) (refused_nested (g.R.Refuser.refuses c.args.refuser.now) c.args.depth_left))
     c.args.in_array c.args.path.now.items c.args.at c.loop-typed.here c.args.bytes.now c.loop-typed.rest.now c.split_at.result.0.now c.split_at.result.1.now c.split_at-in-Some.result.0.now c.split_at-in-Some.result.1.now
     c.loop-typed.path.items c.element.new.path.items c.in-Some.typed c.in-Some.k c.in-Some.n c.in_ok-found.found
     c.loop-typed.invariant.passed c.in-Some.ensures.gives c.split_at.ensures.front c.split_at.ensures.front_len c.split_at.ensures.back c.split_at-in-Some.ensures.front c.split_at-in-Some.ensures.back c.loop-typed.invariant.path_is
@@ -41,7 +41,7 @@ elements-loop-typed-preserved g t c =
 pub elements-returns : goal.elements-returns
 elements-returns g t c = (
   c.loop-typed.invariant.passed
-      ∙ finds.ends (refused_element (g.R.Refuser.refuses c.args.refuser.now c.args.depth_left) (refused_nested (g.R.Refuser.refuses c.args.refuser.now) c.args.depth_left)) (path_of c.args.in_array c.args.path.now.items) c.loop-typed.here c.loop-typed.rest.now c.in_default.ensures.gives,
+      ∙ finds.ends (refused_element (g.R.Refuser.refuses c.args.refuser.now) (refused_nested (g.R.Refuser.refuses c.args.refuser.now) c.args.depth_left)) (path_of c.args.in_array c.args.path.now.items) c.loop-typed.here c.loop-typed.rest.now c.in_default.ensures.gives,
   c.loop-typed.invariant.path_is,
 )
 

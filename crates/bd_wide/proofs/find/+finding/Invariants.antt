@@ -23,7 +23,7 @@ decreases-scoped g l = 5 * l.depth_left + 4
 
 abbrev pub invariant-elements-loop-typed : goal.invariant-elements-loop-typed
 invariant-elements-loop-typed g l =
-    let element = refused_element (g.R.Refuser.refuses l.refuser l.depth_left) (refused_nested (g.R.Refuser.refuses l.refuser) l.depth_left) in
+    let element = refused_element (g.R.Refuser.refuses l.refuser) (refused_nested (g.R.Refuser.refuses l.refuser) l.depth_left) in
     let path_in = path_of l.in_array l.fn.path.items in
     record {
       passed : refused_elements element path_in (length l.bytes) l.at l.bytes ≡ refused_elements element path_in (length l.rest) l.here l.rest;

@@ -2,12 +2,9 @@ use Rattle.std.proofs.Common.{◌≡◌, ◌++◌, List, [], ℕ, Option, None, 
 use Rattle.bd_value.specs.declared.node.Kind.{Kind}
 use Rattle.bd_bson_view.specs.declared.raw_parts.ElementType.TheVariants.{Kept}
 use Rattle.bd_wide_number.specs.declared.number.Number.{Number}
-use Rattle.bd_wide.specs.{Order.IsOrdered, Order.became, Order.number_at, Order.outcome_of, Wrap.IsWrapped}
+use Rattle.bd_wide.specs.{Order.IsOrdered, Order.became, Order.number_at, Order.outcome_of}
 use Rattle.bd_wide.proofs.SpelledLemmas.{KeepsOthers, document_same}
 use Rattle.bd_wide.proofs.laws.read_documents_stay.Goals as goal
-
-wrapped : KeepsOthers IsWrapped
-wrapped path kind head value new is = is
 
 stays : (kind : Kind) (head value : List ℕ) (number : Option Number) → became head value (outcome_of None (Kept kind) number) ≡ head ++ value
 stays kind head value None = refl
@@ -16,8 +13,5 @@ stays kind head value (Some number) = refl
 ordered : KeepsOthers (IsOrdered [])
 ordered path kind head value new is = is ∙ stays kind head value (number_at (Kept kind) value)
 
-pub returns-clause-wrapped : goal.returns-clause-wrapped
-returns-clause-wrapped c = document_same IsWrapped (λ others. others) wrapped
-
-pub returns-clause-ordered : goal.returns-clause-ordered
-returns-clause-ordered c = document_same (IsOrdered []) (λ others. others) ordered
+pub returns : goal.returns
+returns c = document_same (IsOrdered []) ordered

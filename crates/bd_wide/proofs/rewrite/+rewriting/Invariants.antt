@@ -28,8 +28,8 @@ decreases-with_scope g l = 5 * l.depth_left + 1
 
 abbrev pub invariant-elements-loop-typed : goal.invariant-elements-loop-typed
 invariant-elements-loop-typed g l = record {
-  comes : Comes (g.W.NumberWriter.is_written l.writer) (g.W.NumberWriter.others_of l.writer)
-      (IsNested (g.W.NumberWriter.is_written l.writer) (g.W.NumberWriter.others_of l.writer) l.depth_left) (path_of l.in_array l.fn.path.items) l.bytes l.rest l.fn.out.items (l.out.items ++ before l.run l.rest);
+  comes : Comes (g.W.NumberWriter.is_written l.writer)
+      (IsNested (g.W.NumberWriter.is_written l.writer) l.depth_left) (path_of l.in_array l.fn.path.items) l.bytes l.rest l.fn.out.items (l.out.items ++ before l.run l.rest);
   run_is : l.run ≡ before l.run l.rest ++ l.rest;
   path_is : l.path.items ≡ l.fn.path.items;
   begun : StartsWith l.out.items l.fn.out.items;

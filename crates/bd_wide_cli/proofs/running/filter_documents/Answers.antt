@@ -1,4 +1,4 @@
-use Rattle.std.proofs.Common.{◌≡◌, cond, List, ℕ, ◌+◌, length, ap, sym, subst, arith, rules}
+use Rattle.std.proofs.Common.{◌≡◌, List, ℕ, ◌+◌, length, ap, sym, subst, arith, rules}
 use Rattle.std.proofs.lemmas.Result.{err_from_is_err_and}
 use Rattle.std.specs.Io.KnownBytes.{Consumes}
 use Rattle.bd_wide_cli.specs.Filtered.{IsFrame}
@@ -10,10 +10,9 @@ use Rattle.bd_wide_cli.proofs.running.filter_documents.Goals as goal
 
 pub loop-next-init : goal.loop-next-init
 loop-next-init g c = record {
-  so_far = runs.begins c.args.filter.now (g.R.Input.state c.args.input.now) (g.O.Output.state c.args.out.now);
+  so_far = runs.begins c.args.order.now.paths.items (g.R.Input.state c.args.input.now) (g.O.Output.state c.args.out.now);
   remaining_is = search rules;
   numbered = search rules;
-  counted = search rules;
 }
 
 pub loop-next-preserved : goal.loop-next-preserved
@@ -24,21 +23,16 @@ loop-next-preserved g c =
     let e = c.deref-in-loop-next.ensures.value in
     let gave = subst (λ (x : List ℕ). Consumes (r l.input).remaining (r c.next_frame.new.input).remaining x) (sym e) c.in-Ok.ensures.gave in
     let frame : IsFrame c.next_frame.new.buffer.items = subst (λ (n : Next). IsNext n c.next_frame.new.buffer.items (r c.next_frame.new.input).remaining) c.in-Document.is c.in-Ok.ensures.next in
-    let k = c.count_kept-kept.ensures in
-    let most = runs.count_most l.kept c.in_ok-filtered.filtered in
     let counted = c.in-Ok.ensures.counted in
-    let before = l.invariant.counted in
     let least = frame.least in
     let size : length c.deref-in-loop-next.result.now ≡ length c.next_frame.new.buffer.items = ap (λ xs. length xs) e in
     let len : c.len.result ≡ length c.deref-in-loop-next.result.now = search rules in
     record {
-      so_far = subst (λ (n : ℕ). runs.Progress c.args.filter.now (r c.args.input.now) (r c.next_frame.new.input) (o c.args.out.now) (o c.write_document.new.out) (l.number + 1) (l.start + c.len.result) n) (sym k)
-          (subst (λ (m : ℕ). runs.Progress c.args.filter.now (r c.args.input.now) (r c.next_frame.new.input) (o c.args.out.now) (o c.write_document.new.out) (l.number + 1) (l.start + m) (cond c.in_ok-filtered.filtered l.kept (l.kept + 1))) (sym len)
-          (runs.goes_on c.args.filter.now (r c.args.input.now) (r l.input) (r c.next_frame.new.input) (o c.args.out.now) (o l.out) (o c.write_document.new.out) l.number l.start l.kept c.deref-in-loop-next.result.now c.in_ok-filtered.filtered
-          l.invariant.so_far gave (subst IsFrame (sym e) frame) c.in_ok-filtered.ensures.ok));
+      so_far = subst (λ (m : ℕ). runs.Progress c.args.order.now.paths.items (r c.args.input.now) (r c.next_frame.new.input) (o c.args.out.now) (o c.write_document.new.out) (l.number + 1) (l.start + m)) (sym len)
+          (runs.goes_on c.args.order.now.paths.items (r c.args.input.now) (r l.input) (r c.next_frame.new.input) (o c.args.out.now) (o l.out) (o c.write_document.new.out) l.number l.start c.deref-in-loop-next.result.now
+          l.invariant.so_far gave (subst IsFrame (sym e) frame) c.in_ok-write_document.ensures.ok);
       remaining_is = omega (arith, counted, l.invariant.remaining_is, size, len);
       numbered = omega (arith, counted, l.invariant.numbered, least);
-      counted = omega (arith, k, most, counted, before, least);
     }
 
 pub returns-in-Err-clause-partly : goal.returns-in-Err-clause-partly
@@ -46,18 +40,18 @@ returns-in-Err-clause-partly g c =
     let l = c.loop-next in
     let r = g.R.Input.state in
     let o = g.O.Output.state in
-    runs.unread c.args.filter.now (r c.args.input.now) (r l.input) (r c.next_frame.new.input) (o c.args.out.now) (o l.out) l.number l.start l.kept (stops.Unread c.in-Err.fault) l.invariant.so_far c.in-Err.ensures.fault (runs.nothing_written (o l.out))
+    runs.unread c.args.order.now.paths.items (r c.args.input.now) (r l.input) (r c.next_frame.new.input) (o c.args.out.now) (o l.out) l.number l.start (stops.Unread c.in-Err.fault) l.invariant.so_far c.in-Err.ensures.fault (runs.nothing_written (o l.out))
 
-pub returns-in_err-pass_on-clause-partly : goal.returns-in_err-pass_on-clause-partly
-returns-in_err-pass_on-clause-partly g c =
+pub returns-in_default-clause-partly : goal.returns-in_default-clause-partly
+returns-in_default-clause-partly g c =
     let l = c.loop-next in
     let r = g.R.Input.state in
     let o = g.O.Output.state in
     let e = c.deref.ensures.value in
     let gave = subst (λ (x : List ℕ). Consumes (r l.input).remaining (r c.next_frame.new.input).remaining x) (sym e) c.in-Ok.ensures.gave in
-    let p = err_from_is_err_and c.from_residual.result c.from_residual.ensures.1 in
-    rw (p.1, p.2) (runs.stops_passing c.args.filter.now (r c.args.input.now) (r l.input) (r c.next_frame.new.input) (r c.pass_on.new.input) (o c.args.out.now) (o l.out) (o c.pass_on.new.out) l.number l.start l.kept c.deref.result.now c.in_err-pass_on.field-0.0
-    l.invariant.so_far gave c.in_err-pass_on.ensures.err)
+    runs.err_map c.pass_on.result _ _ c.pass_on.ensures.err
+    (λ stop. runs.stops_passing c.args.order.now.paths.items (r c.args.input.now) (r l.input) (r c.next_frame.new.input) (r c.pass_on.new.input) (o c.args.out.now) (o l.out) (o c.pass_on.new.out) l.number l.start c.deref.result.now stop
+    l.invariant.so_far gave)
 
 pub returns-in_default-clause-all : goal.returns-in_default-clause-all
 returns-in_default-clause-all g c =
@@ -66,17 +60,18 @@ returns-in_default-clause-all g c =
     let o = g.O.Output.state in
     let e = c.deref.ensures.value in
     let gave = subst (λ (x : List ℕ). Consumes (r l.input).remaining (r c.next_frame.new.input).remaining x) (sym e) c.in-Ok.ensures.gave in
-    runs.all_filtered c.args.filter.now (r c.args.input.now) (r l.input) (r c.next_frame.new.input) (r c.pass_on.new.input) (o c.args.out.now) (o l.out) (o c.pass_on.new.out) l.number l.start l.kept c.deref.result.now
-    l.invariant.so_far gave c.in_ok-pass_on.ensures.ok
+    runs.ok_map c.pass_on.result _ _ c.pass_on.ensures.ok
+    (runs.all_filtered c.args.order.now.paths.items (r c.args.input.now) (r l.input) (r c.next_frame.new.input) (r c.pass_on.new.input) (o c.args.out.now) (o l.out) (o c.pass_on.new.out) l.number l.start c.deref.result.now
+    l.invariant.so_far gave)
 
-pub returns-in_err-filtered-clause-partly : goal.returns-in_err-filtered-clause-partly
-returns-in_err-filtered-clause-partly g c =
+pub returns-in_err-write_document-clause-partly : goal.returns-in_err-write_document-clause-partly
+returns-in_err-write_document-clause-partly g c =
     let l = c.loop-next in
     let r = g.R.Input.state in
     let o = g.O.Output.state in
     let e = c.deref-in-loop-next.ensures.value in
     let gave = subst (λ (x : List ℕ). Consumes (r l.input).remaining (r c.next_frame.new.input).remaining x) (sym e) c.in-Ok.ensures.gave in
     let frame : IsFrame c.next_frame.new.buffer.items = subst (λ (n : Next). IsNext n c.next_frame.new.buffer.items (r c.next_frame.new.input).remaining) c.in-Document.is c.in-Ok.ensures.next in
-    let p = err_from_is_err_and c.from_residual-in_err-filtered.result c.from_residual-in_err-filtered.ensures.1 in
-    rw (p.1, p.2) (runs.stops_document c.args.filter.now (r c.args.input.now) (r l.input) (r c.next_frame.new.input) (o c.args.out.now) (o l.out) (o c.write_document.new.out) l.number l.start l.kept c.deref-in-loop-next.result.now c.in_err-filtered.field-0.0
-    l.invariant.so_far gave (subst IsFrame (sym e) frame) c.in_err-filtered.ensures.err)
+    let p = err_from_is_err_and c.from_residual.result c.from_residual.ensures.1 in
+    rw (p.1, p.2) (runs.stops_document c.args.order.now.paths.items (r c.args.input.now) (r l.input) (r c.next_frame.new.input) (o c.args.out.now) (o l.out) (o c.write_document.new.out) l.number l.start c.deref-in-loop-next.result.now c.in_err-write_document.field-0.0
+    l.invariant.so_far gave (subst IsFrame (sym e) frame) c.in_err-write_document.ensures.err)

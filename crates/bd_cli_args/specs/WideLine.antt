@@ -1,16 +1,15 @@
 -- The command lines that `bsonwide` accepts, by the parser's own definition,
 -- and the command that each one means.
-use Rattle.std.specs.Prelude.{List, [], ◌∷◌, map, slice_get, codes, string_bytes, unwrap_or, Option, Some, None, option_map, option_and_then, true}
+use Rattle.std.specs.Prelude.{List, [], ◌∷◌, map, codes, string_bytes, unwrap_or, Option, Some, option_map, option_and_then, true}
 use Rattle.std.specs.Map.{lookup}
 use Rattle.std.specs.Str.{bytes_eq}
 use Rattle.clap.specs.Lexer.{usize_max}
-use Rattle.clap.specs.Simple.{App, new_rule, subcommand_of, with_rule, with_subcommand}
+use Rattle.clap.specs.Simple.{App, new_rule, with_rule}
 use Rattle.clap.specs.Walk.{Row, Rule, Text, all_of, first_of}
 use Rattle.clap.specs.declared.builder.action.ArgAction.{ArgAction}
-use Rattle.clap.specs.Faults.{fault_of}
-use Rattle.bd_cli_args.specs.FileCommands.{explain_refusal, file_app, program_app}
+use Rattle.bd_cli_args.specs.FileCommands.{file_app, order_by, program_app, refusal_by}
 use Rattle.bd_cli_args.specs.declared.order.WordsFault.{WordsFault}
-use Rattle.bd_wide_args.specs.declared.command_line.Order.{Order}
+use Rattle.bd_cli_args.specs.declared.wide_line.WideOrder.{WideOrder}
 
 -- the argument PATH, which may be given any number of times
 abbrev pub paths_rule : Rule
@@ -23,24 +22,22 @@ paths_rule = record (new_rule (codes "path")) {
 abbrev pub order_app : App
 order_app = with_rule (file_app (codes "order")) paths_rule
 
--- the command lines that `bsonwide` accepts: `dump`, `check` or `wrap` with one file,
+-- the command lines that `bsonwide` accepts: `dump` or `check` with one file,
 -- and `order` with one file and any paths
 abbrev pub line_app : App
-line_app = program_app (codes "bsonwide") (codes "dump" ∷ codes "check" ∷ codes "wrap" ∷ []) order_app
+line_app = program_app (codes "bsonwide") (codes "dump" ∷ codes "check" ∷ []) order_app
 
 -- a command: the meaning of the arguments, with texts as their bytes
 pub data OrderView : Type 0 where
   dump : Text → OrderView
   check : Text → OrderView
-  wrap : Text → OrderView
   order : Text → List Text → OrderView
 
--- the command that an `Order` in memory represents
-abbrev pub meant : Order → OrderView
-meant (Order.Dump file) = dump (string_bytes file)
-meant (Order.Check file) = check (string_bytes file)
-meant (Order.Wrap file) = wrap (string_bytes file)
-meant (Order.Order file paths) = order (string_bytes file) (map string_bytes paths.items)
+-- the command that a `WideOrder` in memory represents
+abbrev pub meant : WideOrder → OrderView
+meant (WideOrder.Dump file) = dump (string_bytes file)
+meant (WideOrder.Check file) = check (string_bytes file)
+meant (WideOrder.Order file paths) = order (string_bytes file) (map string_bytes paths.items)
 
 -- the texts of an argument; empty if it is not given
 abbrev pub texts_in : Text → List Row → List Text
@@ -48,7 +45,7 @@ texts_in name rows = unwrap_or (all_of name rows) []
 
 -- what each command does with its FILE, by its name
 abbrev pub wide_commands : List Row → List (Text × (Text → OrderView))
-wide_commands rows = (codes "dump", dump) ∷ (codes "check", check) ∷ (codes "wrap", wrap)
+wide_commands rows = (codes "dump", dump) ∷ (codes "check", check)
     ∷ (codes "order", λ file. order file (texts_in (codes "path") rows)) ∷ []
 
 -- the command that a name and its parsed arguments mean
@@ -58,9 +55,8 @@ ordered_by name rows =
 
 -- the command that arguments mean; None if they are refused
 abbrev pub order_of : List Text → Option OrderView
-order_of words = option_and_then (λ p. ordered_by p.0 p.1) (subcommand_of line_app words)
+order_of = order_by line_app ordered_by
 
--- how the parser's refusal of arguments is reported; None if it accepts them.
--- All its faults are reported as the first one.
+-- how arguments are refused; None if they are accepted
 abbrev pub fault_for : List Text → Option WordsFault
-fault_for words = option_map explain_refusal (slice_get (fault_of line_app words) 0)
+fault_for = refusal_by line_app

@@ -1,5 +1,5 @@
 use Rattle.std.proofs.Common.{◌≡◌, ◌++◌, drop, map, string_bytes}
-use Rattle.bd_wide_args.proofs.command_line.copied.Given as goal
+use Rattle.bd_cli_args.proofs.wide_line.copied.Given as goal
 
 -- with the remaining texts they are all
 abbrev pub invariant-loop-text : goal.invariant-loop-text

@@ -1,38 +1,36 @@
-//! Parses the command line, by `clap`: which arguments are accepted, and the command that they mean.
+//! The command line of `bsonwide`: which arguments are accepted, and the command that they mean.
 
 ghost use Rattle.std.specs.Prelude.{◌≡◌, ◌⊎◌, map, string_bytes, true, false, IfErr, IfOk, IsSome, None, Some};
 ghost use Rattle.clap.specs.Words.{found_of, rows_of, rule_of, takes};
 ghost use Rattle.bd_cli_args.specs.CommandLine.{words_of};
-ghost use Rattle.bd_cli_args.specs.FileCommands.{IsBuiltAs};
+ghost use Rattle.bd_cli_args.specs.inside.FileCommands.{IsBuiltAs};
 ghost use Rattle.bd_cli_args.specs.declared.order.WordsFault.TheVariants.{NoMemory};
-ghost use Rattle.bd_wide_args.specs.CommandLine.{fault_for, line_app, meant, order_app, order_of, ordered_by, paths_rule, texts_in};
+ghost use Rattle.bd_cli_args.specs.WideLine.{fault_for, line_app, meant, order_app, order_of, ordered_by, paths_rule, texts_in};
 
-use bd_cli_args::{Made, WordsFault, explain_error, of_file, program_command};
+use crate::file_commands::{Made, explain_error, of_file, program_command};
+use crate::order::WordsFault;
 use clap::{Arg, ArgAction, ArgMatches};
 use std::alloc::Global;
 
 /// A command with its file and paths. The file `-` is standard input.
 #[derive(Debug, Drop)]
-pub enum Order {
+pub enum WideOrder {
     /// Each document as canonical Extended JSON, one a line.
     Dump { file: String },
     /// A line for each document that has a fault.
     Check { file: String },
-    /// Doubles and decimal128 as documents that contain their texts.
-    Wrap { file: String },
     /// Numbers as whole numbers in the same order; at these paths by their codes.
     Order { file: String, paths: Vec<String> },
 }
 
-/// The command that the arguments mean, without the program's name. `dump FILE`, `check FILE`, `wrap FILE` and `order FILE [PATH..]` are
-/// accepted. A file or a path whose name looks like a flag comes after `--`.
+/// The command that the arguments mean, without the program's name. `dump FILE`, `check FILE` and `order FILE [PATH..]` are accepted. A file or a path whose name looks like a flag comes after `--`.
 ///
 /// # Errors
 ///
 /// - `Help` if the arguments request help by a flag, such as `--help` and `check -h`.
 /// - `Usage` if they are invalid otherwise.
 /// - `NoMemory` if memory runs out.
-pub fn parse_words(alloc: Global, words: &[String]) -> Result<Order, WordsFault>
+pub fn parse_wide_words(alloc: Global, words: &[String]) -> Result<WideOrder, WordsFault>
     ensures order { IfOk result (λ o. order_of (words_of words.now) ≡ Some (meant o)) }
     ensures only_taken { IfOk result (λ _. fault_for (words_of words.now) ≡ None) }
     ensures fault { IfErr result (λ f. (f ≡ NoMemory) ⊎ (fault_for (words_of words.now) ≡ Some f)) }
@@ -50,8 +48,8 @@ pub fn parse_words(alloc: Global, words: &[String]) -> Result<Order, WordsFault>
 }
 
 /// The command `name` with these matches.
-#[tactic(auto, using(crate::proofs::LineLemmas::no_file, crate::proofs::LineLemmas::readings))]
-fn order_named(alloc: Global, name: &str, matches: &ArgMatches<'_>) -> Result<Order, WordsFault>
+#[tactic(auto, using(crate::proofs::WideLineLemmas::no_file, crate::proofs::WideLineLemmas::readings))]
+fn order_named(alloc: Global, name: &str, matches: &ArgMatches<'_>) -> Result<WideOrder, WordsFault>
     requires { IsSome (ordered_by name.now (rows_of (found_of matches.now))) }
     ensures order { IfOk result (λ o. ordered_by name.now (rows_of (found_of matches.now)) ≡ Some
         (meant o)) }
@@ -62,19 +60,18 @@ fn order_named(alloc: Global, name: &str, matches: &ArgMatches<'_>) -> Result<Or
     };
     let file = String::from_str(alloc, file)?;
     match name {
-        "dump" => Ok(Order::Dump { file }),
-        "check" => Ok(Order::Check { file }),
-        "wrap" => Ok(Order::Wrap { file }),
+        "dump" => Ok(WideOrder::Dump { file }),
+        "check" => Ok(WideOrder::Check { file }),
         "order" => {
             let paths = texts_of(alloc, matches, "path")?;
-            Ok(Order::Order { file, paths })
+            Ok(WideOrder::Order { file, paths })
         }
         _ => unreachable!(),
     }
 }
 
 /// The texts of an argument, in their order; empty if it is not given.
-#[tactic(auto, using(crate::proofs::LineLemmas::readings))]
+#[tactic(auto, using(crate::proofs::WideLineLemmas::readings))]
 fn texts_of(alloc: Global, found: &ArgMatches<'_>, name: &str) -> Result<Vec<String>, WordsFault>
     ensures texts { IfOk result (λ v.
         map string_bytes v.items ≡ texts_in name.now (rows_of (found_of found.now))) }
@@ -124,4 +121,4 @@ fn paths_argument<'a>(alloc: Global) -> Arg<'a>
 }
 
 /// The commands that take only a file.
-const FILE_COMMANDS: [&str; 3] = ["dump", "check", "wrap"];
+const FILE_COMMANDS: [&str; 2] = ["dump", "check"];
