@@ -1,20 +1,18 @@
 -- Accepted command lines have a command; `dump`, `check`, `pack` and `serve` with one file are accepted.
-use Rattle.std.proofs.Common.{ap₂, subst, ◌⊎◌, inl, inr, ◌≡◌, ◌∙◌, ◌||◌, Bool, cond, true, false, not, refl, sym, ap, List, [], ◌∷◌, codes, Option, Some, None}
-use Rattle.std.proofs.Common.{true≢false, ℕ, Result, Ok, Err, IfOk, IfErr, Box, find, slice_get, unwrap_or, IfSome, is_some, option_and_then, option_map, if◌then◌else◌}
+use Rattle.std.proofs.Common.{ap₂, subst, ◌⊎◌, inl, inr, ◌≡◌, ◌∙◌, Bool, true, false, refl, sym, ap, List, [], ◌∷◌, codes, Option, Some, None}
+use Rattle.std.proofs.Common.{true≢false, ℕ, Result, Ok, Err, IfOk, IfErr, slice_get, unwrap_or, option_and_then, option_map, if◌then◌else◌}
 use Rattle.std.proofs.Common.{◌==◌, ◌<◌, ◌^◌, arith}
-use Rattle.std.specs.{Prelude.⊤, Map.lookup, Str.bytes_eq}
+use Rattle.std.specs.{Map.lookup, Str.bytes_eq}
 use Rattle.std.specs.Str.Parse.{ParsesUnsigned, digits_value, without_leading_plus, IsNumeral}
-use Rattle.std.specs.{Option.option_map_or, Option.option_or, Box.box_value}
+use Rattle.std.specs.{Option.option_map_or, Option.option_or}
 use Rattle.std.proofs.lemmas.{Slice.Eq.bytes_eq-Decides, Bool.and_parts, Bool.cond_both}
 use Rattle.std.proofs.Math.Bool.{and-false}
-use Rattle.clap.specs.Simple.{App, HasMatchesOf, Shape, built, built_leaf, entered, inherited, marked_built, on_top, subcommand_rows, with_leaf_noted, is_simple}
-use Rattle.clap.specs.Simple.{label_of, names_of, rows_at, subcommand_of, subcommand_rows_of}
-use Rattle.clap.specs.declared.error.kind.ErrorKind.TheVariants.{OutOfMemory, MissingRequiredArgument, MissingSubcommand, UnknownArgument, InvalidSubcommand}
-use Rattle.clap.specs.declared.parser.matches.ArgMatches.TheViews.{out-ArgMatches, out-SubCommand}
-use Rattle.clap.specs.{Kinds.HasKind, Kinds.IsAmong, Kinds.Kinds, Kinds.check_kinds, Kinds.or_else, Values.kind_of, Matches.found_of, Matches.subcommand_name_of}
-use Rattle.clap.specs.{declared.parser.matches.SubCommand.SubCommand, declared.error.Error.Error, declared.parser.matches.ArgMatches.ArgMatches, Walk.Row, Walk.rows_of}
-use Rattle.clap.specs.{Walk.Text, Walk.answers_to, Walk.finished, Walk.first_of, Walk.nothing_held, Walk.rows_after, Walk.walk, Faults.check_fault, Faults.entered_fault}
-use Rattle.clap.specs.{Faults.fault_of, Faults.is_simple_and_free, Faults.level_fault, Takes.is_given, Takes.takes, declared.error.kind.ErrorKind.ErrorKind}
+use Rattle.clap.specs.Simple.{Shape}
+use Rattle.clap.specs.declared.error.kind.ErrorKind.TheVariants.{MissingSubcommand, UnknownArgument, InvalidSubcommand}
+use Rattle.clap.specs.{Kinds.or_else}
+use Rattle.clap.specs.{Walk.Row}
+use Rattle.clap.specs.{Walk.Text, Walk.first_of, Walk.nothing_held, Walk.rows_after}
+use Rattle.clap.specs.{Faults.fault_of, Faults.level_fault, Takes.takes}
 use Rattle.clap.specs.{Words.ReadsOne, ValueTests.is_unsigned_in, declared.builder.value_parser.ValueParser.TheVariants.Unsigned}
 use Rattle.clap.proofs.ValueTestLemmas.{accepts-Accepts, Accepts-accepts}
 use Rattle.clap.proofs.{OnLiterals.clap_on_literals, WalkLemmas.first_value-rows, WalkLemmas.one_text-rows}

@@ -1,5 +1,5 @@
 -- Accepted command lines of `bsonwide` have a command.
-use Rattle.std.proofs.Common.{◌≡◌, refl, List, [], ◌∷◌, codes, Option, Some, None, option_and_then, option_map}
+use Rattle.std.proofs.Common.{◌≡◌, refl, List, codes, Option, Some, None, option_and_then, option_map}
 use Rattle.std.specs.{Map.lookup, Str.bytes_eq}
 use Rattle.clap.specs.declared.error.kind.ErrorKind.TheVariants.{MissingSubcommand}
 use Rattle.clap.specs.Walk.{Row, Text, first_of}

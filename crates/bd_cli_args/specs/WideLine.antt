@@ -1,6 +1,6 @@
 -- The command lines that `bsonwide` accepts, by the parser's own definition,
 -- and the command that each one means.
-use Rattle.std.specs.Prelude.{List, [], ◌∷◌, map, codes, string_bytes, unwrap_or, Option, Some, option_map, option_and_then, true}
+use Rattle.std.specs.Prelude.{List, [], ◌∷◌, map, codes, string_bytes, unwrap_or, Option, Some, option_map, option_and_then}
 use Rattle.std.specs.Map.{lookup}
 use Rattle.std.specs.Str.{bytes_eq}
 use Rattle.clap.specs.Lexer.{usize_max}

@@ -37,7 +37,10 @@ pub fn run<P: Program>(rt: &HostRuntime, program: &P) -> Status {
 }
 
 /// Standard output and standard error over the buffer.
-fn outputs<'a>(rt: &HostRuntime, output_buffer: &'a Waiting) -> (StandardOutput<'a>, StandardError<'a>) {
+fn outputs<'a>(
+    rt: &HostRuntime,
+    output_buffer: &'a Waiting,
+) -> (StandardOutput<'a>, StandardError<'a>) {
     let writer = rt.stderr();
     let out = SystemOutput::new(BufferedOutput { output_buffer });
     let err = SystemOutput::new(FlushingError {

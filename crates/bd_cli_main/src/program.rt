@@ -41,10 +41,5 @@ pub trait Program {
     ) -> Status;
 
     /// Reports why arguments are not a command, and returns the exit status.
-    fn report<O: Output, E: Output>(
-        &self,
-        fault: &WordsFault,
-        out: &mut O,
-        err: &mut E,
-    ) -> Status;
+    fn report<O: Output, E: Output>(&self, fault: &WordsFault, out: &mut O, err: &mut E) -> Status;
 }

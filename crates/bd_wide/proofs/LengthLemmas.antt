@@ -1,15 +1,12 @@
 -- What the first element of bytes, a scope and a whole document have at least.
-use Rattle.std.proofs.Common.{◌≡◌, ℕ, zero, suc, ◌+◌, ◌-◌, ◌≤◌, List, [], ◌∷◌, ◌++◌, length, take, drop, Option, Some, None, refl, sym, ap, ◌∙◌, arith, length-append, length-drop, Bool, true, false, if◌then◌else◌, nat_lt, ◌==◌, ◌||◌, not, subst}
-use Rattle.std.proofs.lemmas.{Bool.Decides.nat_tests, List.length-take-le, List.Quantifiers.position-Some}
+use Rattle.std.proofs.Common.{◌≡◌, ℕ, ◌+◌, ◌-◌, ◌≤◌, List, [], ◌∷◌, length, drop, Option, Some, None, refl, sym, ap, arith, length-drop, Bool, true, false, if◌then◌else◌, nat_lt, ◌==◌, ◌||◌, not, subst}
+use Rattle.std.proofs.lemmas.{Bool.Decides.nat_tests, List.Quantifiers.position-Some}
 use Rattle.bd_value.specs.declared.node.Kind.TheVariants as kinds
 use Rattle.bd_bson_view.specs.declared.raw_parts.ElementType.{ElementType}
 use Rattle.bd_bson_view.specs.declared.raw_parts.ElementType.TheVariants.{Kept, Double, Decimal128}
-use Rattle.bd_bson_view.specs.declared.raw_parts.Holder.{Holder}
 use Rattle.bd_bson_view.specs.declared.raw_parts.Holder.TheVariants as holders
-use Rattle.bd_bson_view.specs.{Spelling.type_at, Spelling.number, Sizes.number_of, Unique.number_length}
-use Rattle.bd_wide.specs.Rewritten.{◌>>=◌, Writes, Nested, fixed, counted, first_zero, two_texts, size_at, first_element, least, part_of, path_of, separator, scope_at, IsElement, AreElements, IsBody, IsScoped, IsNested, IsRewritten}
-use Rattle.bd_wide.specs.inside.Rewritten.{holder_least}
-use Rattle.bd_wide.proofs.RewriteLemmas.{Turn, to_turn, none_only, no_turn, ScopeTurn, to_scope}
+use Rattle.bd_bson_view.specs.{Spelling.type_at, Sizes.number_of}
+use Rattle.bd_wide.specs.Rewritten.{◌>>=◌, Writes, fixed, counted, first_zero, two_texts, size_at, first_element, least, scope_at, IsNested, IsRewritten}
 
 -- ---- sizes
 

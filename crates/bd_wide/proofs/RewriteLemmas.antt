@@ -1,6 +1,6 @@
 -- Elements one after the other.
-use Rattle.std.proofs.Common.{◌≡◌, ℕ, zero, suc, ◌+◌, ◌-◌, ◌<◌, ◌≤◌, List, [], ◌∷◌, ◌++◌, length, take, drop, Option, Some, None, refl, sym, ap, ap₂, ◌∙◌, arith, append_assoc, length-append, length-drop, append-nil, Result, Ok, Err, OnOk, OnErr, take_at, drop_at, subst, Bool, true, false, ◌==◌, if◌then◌else◌}
-use Rattle.std.proofs.lemmas.{Bool.eqb-true, List.nil_from_length, List.length-take-le}
+use Rattle.std.proofs.Common.{◌≡◌, ℕ, zero, suc, ◌+◌, ◌-◌, ◌<◌, ◌≤◌, List, [], ◌∷◌, ◌++◌, length, take, drop, Option, Some, None, refl, sym, ap, ap₂, ◌∙◌, arith, append_assoc, length-append, length-drop, Result, Ok, Err, OnOk, OnErr, take_at, drop_at, subst, Bool, true, false, if◌then◌else◌}
+use Rattle.std.proofs.lemmas.{List.length-take-le}
 use Rattle.std.proofs.Math.Seq.{take-append_seam, take-length}
 use Rattle.bd_bson_view.specs.{Spelling.type_at, Spelling.number, Unique.number_length}
 use Rattle.std.specs.{Io.StartsWith, Result.is_ok}

@@ -1,5 +1,5 @@
 -- Runs of unchanged elements, whose bytes are written at once.
-use Rattle.std.proofs.Common.{◌≡◌, ◌≤◌, ◌+◌, ap₂, zero, suc, inl, inr, ℕ, ◌-◌, List, [], ◌∷◌, ◌++◌, length, take, drop, Some, None, refl, sym, ap, ◌∙◌, arith, append_assoc, append-nil, length-append, take_at, subst}
+use Rattle.std.proofs.Common.{◌≡◌, ℕ, ◌-◌, List, [], ◌++◌, length, take, drop, Some, None, refl, sym, ap, ◌∙◌, arith, append_assoc, append-nil, length-append, take_at, subst}
 use Rattle.std.proofs.lemmas.List.{take-append-drop}
 use Rattle.bd_bson_view.specs.declared.raw_parts.ElementType.{ElementType}
 use Rattle.bd_wide.specs.Rewritten.{Writes, Nested, first_element, part_of, IsElement}

@@ -1,10 +1,9 @@
-use Rattle.std.proofs.Common.{◌≡◌, ◌<◌, ◌-◌, ◌∙◌, length, arith, rules, ap, sym, drop, ◌++◌, Some, refl, true, false, List, ℕ, [], ◌∷◌}
+use Rattle.std.proofs.Common.{◌≡◌, ◌-◌, ◌∙◌, length, arith, rules, ap, sym, drop, ◌++◌, Some, refl, true, false, List, ℕ}
 use Rattle.bd_bson_view.specs.Spelling.{number}
 use Rattle.bd_wide.specs.Rewritten.{path_of, IsBody, IsScoped, IsNested}
 use Rattle.bd_wide.specs.inside.Rewritten.{holder_least}
 use Rattle.bd_bson_view.specs.declared.raw_parts.Holder.TheVariants as holders
 use Rattle.std.proofs.Common.{length-drop}
-use Rattle.std.proofs.lemmas.Bool.Decides.{nat_tests}
 use Rattle.bd_value.proofs.PrefixLemmas.{prefix_more}
 use Rattle.bd_wide.proofs.RunLemmas as runs
 use Rattle.bd_wide.proofs.RewriteLemmas as rewrites
