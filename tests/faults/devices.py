@@ -127,7 +127,7 @@ SMALL = [
 
 WIDE_DUMP = [(DOUBLE, DOUBLE_LINE.encode()), *DUMP]
 WIDE_CHECK = [(DOUBLE, b""), (INT32, b""), (BAD, b'document 2, byte 52, path "a.0.1": bad boolean\n')]
-ORDER = [(DOUBLE, ORDERED), (b"\5\0\0\0\0", b"\x10\0\0\0\x12~n\0\1\0\0\0\0\0\0\0\0")]
+ORDER = [(DOUBLE, ORDERED), (b"\5\0\0\0\0", b"\x11\0\0\0\x12~n\0\1\0\0\0\0\0\0\0\0")]
 
 WIDE = [
     Case("bsonwide, dump", ["dump", FILE], joined(WIDE_DUMP), Ran(0, shown(WIDE_DUMP), b"4 objects found\n"), partial(dumped, WIDE_DUMP), program="bsonwide"),

@@ -70,11 +70,11 @@ fn dumped(rt: HostRuntime) {
 fn ordered_dump(rt: HostRuntime) -> Result<(), Fail> {
     let alloc = rt.alloc();
     let command = Command::Order(read_order(alloc, &[])?);
-    let numbered = b"\x10\0\0\0\x12~n\0\0\0\0\0\0\0\0\0\0\x05\0";
+    let numbered = b"\x11\0\0\0\x12~n\0\0\0\0\0\0\0\0\0\0\x05\0";
     for (size, status, message) in [
         (100, Status::Done, ""),
-        (18, Status::Done, ""),
-        (17, Status::Failed, "bsonwide: cannot write\n"),
+        (19, Status::Done, ""),
+        (18, Status::Failed, "bsonwide: cannot write\n"),
     ] {
         let mut input = MemoryInput::new(b"\x05\0\0\0\0\x05\0", 100, None);
         let mut buffer = [0; 100];
@@ -82,7 +82,7 @@ fn ordered_dump(rt: HostRuntime) -> Result<(), Fail> {
         let mut reported = [0; 100];
         let mut err = MemoryOutput::new(&mut reported, 100, None);
         assert!(rt; run(alloc, &command, &mut input, &mut out, &mut err) == status);
-        assert!(rt; numbered.starts_with(out.bytes()) && out.bytes().len() == size.min(18));
+        assert!(rt; numbered.starts_with(out.bytes()) && out.bytes().len() == size.min(19));
         assert!(rt; err.bytes() == message.as_bytes());
     }
     Ok(())
