@@ -18,6 +18,7 @@
 //! - `rewrite`: `write_rewritten`, the one walker, and `NumberWriter`, which it calls for each number.
 //! - `wrap`: `Wrap`, which makes doubles and decimal128 documents that contain their texts: `specs/Wrap.antt`.
 //! - `element`: the first element of bytes, by sizes alone.
+//! - `numbers`: `number_in`, the number in a value: `specs/Numbers.antt`.
 //! - `order`: `write_ordered`, a document whose numbers are whole numbers in the same order: `specs/Order.antt`.
 //! - `paths`: the paths whose numbers become codes: `specs/Paths.antt`.
 //! - `laws`: `wrap` and `order` leave documents without doubles and decimal128 unchanged.
@@ -26,6 +27,7 @@
 mod element;
 mod find;
 mod laws;
+mod numbers;
 mod order;
 mod paths;
 mod rewrite;
@@ -34,6 +36,7 @@ mod wrap;
 pub use element::Part;
 pub use find::{Found, Refusal, Refuser, find_refused};
 pub use laws::{order_leaves_others, read_documents_stay, wrap_leaves_others};
+pub use numbers::number_in;
 pub use order::{Order, Outcome, Unfiltered, Unordered, write_ordered};
 pub use paths::{OrderPath, read_order};
 pub use rewrite::{NumberWriter, write_rewritten};
