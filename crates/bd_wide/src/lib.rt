@@ -33,11 +33,11 @@ mod paths;
 mod rewrite;
 mod wrap;
 
-pub use element::Part;
+pub use element::{Part, first_element, looked_into};
 pub use find::{Found, Refusal, Refuser, find_refused};
 pub use laws::{order_leaves_others, read_documents_stay, wrap_leaves_others};
 pub use numbers::number_in;
 pub use order::{Order, Outcome, Unfiltered, Unordered, write_ordered};
 pub use paths::{OrderPath, read_order};
-pub use rewrite::{NumberWriter, write_rewritten};
+pub use rewrite::{NumberWriter, scope_at, write_rewritten};
 pub use wrap::{Number, Wrap, write_wrapped};
