@@ -1,15 +1,13 @@
 -- Numbers as whole numbers in the same order: by their codes at the requested paths, otherwise unchanged.
 use Rattle.std.specs.Prelude.{◌≡◌, ◌<◌, ◌≤◌, ℕ, ◌+◌, List, ◌∷◌, ◌++◌, length, drop, Option, Some, None, codes, ℤ}
-use Rattle.std.specs.Int.{w32, w64, cast_signed, cast_unsigned}
-use Rattle.bd_value.specs.declared.node.Kind.TheVariants as kinds
+use Rattle.std.specs.Int.{w64, cast_unsigned}
 use Rattle.bd_value.specs.Limits.{longest_document}
 use Rattle.bd_bson_view.specs.declared.raw_parts.ElementType.{ElementType}
-use Rattle.bd_bson_view.specs.declared.raw_parts.ElementType.TheVariants.{Kept, Double, Decimal128}
-use Rattle.bd_bson_view.specs.{Sizes.long_of, Sizes.number_of, Spelling.long, Spelling.number}
+use Rattle.bd_bson_view.specs.declared.raw_parts.ElementType.TheVariants.{Kept}
+use Rattle.bd_bson_view.specs.{Spelling.long, Spelling.number}
 use Rattle.bd_wide_number.specs.{Code.number_code, Code.whole_code, Value.value_of}
 use Rattle.bd_wide_number.specs.declared.number.Number.{Number}
-use Rattle.bd_wide_number.specs.declared.number.Number.TheVariants as numbers
-use Rattle.bd_wide.specs.{Paths.requested_at, Rewritten.IsRewritten, Rewritten.Writes, Refused.Refuses, Refused.first_refused}
+use Rattle.bd_wide.specs.{Numbers.number_at, Paths.requested_at, Rewritten.IsRewritten, Rewritten.Writes, Refused.Refuses, Refused.first_refused}
 use Rattle.bd_wide.specs.declared.paths.OrderPath.{OrderPath}
 use Rattle.bd_wide.specs.declared.find.Refusal.{Refusal}
 use Rattle.bd_wide.specs.declared.find.Refusal.TheVariants.{NotWhole, NoDouble}
@@ -17,14 +15,6 @@ use Rattle.bd_wide.specs.declared.order.{Outcome.Outcome, Unfiltered.Unfiltered,
 use Rattle.bd_wide.specs.declared.order.Outcome.TheVariants as outcomes
 use Rattle.bd_wide.specs.declared.order.Unfiltered.TheVariants as unfiltered
 use Rattle.bd_wide.specs.declared.order.Unordered.TheVariants as unordered
-
--- the number in a value of this type, if it is a numeric one
-unfoldable pub number_at : ElementType → List ℕ → Option Number
-number_at Double value = Some (numbers.Double (long_of value))
-number_at Decimal128 value = Some (numbers.Decimal128 (long_of value) (long_of (drop 8 value)))
-number_at (Kept kinds.Int32) value = Some (numbers.Whole (cast_signed w32 (number_of value)))
-number_at (Kept kinds.Int64) value = Some (numbers.Whole (cast_signed w64 (long_of value)))
-number_at (Kept _) value = None
 
 -- an int64, or the refusal of a number that has no code
 abbrev pub coded : Refusal → Option ℤ → Outcome

@@ -18,6 +18,7 @@
 //! - `find`: `find_refused`, the first number that a `Refuser` refuses: `specs/Refused.antt`.
 //! - `rewrite`: `write_rewritten`, the one walker, and `NumberWriter`, which it calls for each number.
 //! - `element`: the first element of bytes, by sizes alone.
+//! - `numbers`: `number_in`, the number in a value: `specs/Numbers.antt`.
 //! - `order`: `write_ordered`, a document whose numbers are whole numbers in the same order: `specs/Order.antt`.
 //! - `paths`: the paths whose numbers become codes: `specs/Paths.antt`.
 //! - `laws`: `order` leaves documents without doubles and decimal128 unchanged.
@@ -26,13 +27,15 @@
 mod element;
 mod find;
 mod laws;
+mod numbers;
 mod order;
 mod paths;
 mod rewrite;
 
-pub use element::Part;
+pub use element::{Part, first_element, looked_into};
 pub use find::{Found, Refusal, Refuser, find_refused};
 pub use laws::{order_leaves_others, read_documents_stay};
+pub use numbers::number_in;
 pub use order::{Order, Outcome, Unfiltered, Unordered, write_ordered};
 pub use paths::{OrderPath, read_order};
-pub use rewrite::{NumberWriter, write_rewritten};
+pub use rewrite::{NumberWriter, scope_at, write_rewritten};

@@ -4,14 +4,14 @@ ghost use Rattle.std.specs.Prelude.{◌≡◌, ◌≤◌, ◌+◌, ◌-◌, ◌+
 ghost use Rattle.std.specs.Io.{StartsWith};
 ghost use Rattle.bd_bson_view.specs.Spelling.{long as long_bytes};
 ghost use Rattle.bd_wide.specs.Rewritten.{Adds, least};
-ghost use Rattle.bd_wide.specs.Order.{IsNumbered, IsOrdered, IsOrderedDocument, IsUnfiltered, IsUnordered, became, code_at, coded as coded_as, int64_element, number_at, outcome_at, refusal_in, refuses_unordered, start as start_of, whole_at};
+ghost use Rattle.bd_wide.specs.Order.{IsNumbered, IsOrdered, IsOrderedDocument, IsUnfiltered, IsUnordered, became, code_at, coded as coded_as, int64_element, outcome_at, refusal_in, refuses_unordered, start as start_of, whole_at};
 
-use crate::element::long;
 use crate::find::{Found, Refusal, Refuser, find_refused};
+use crate::numbers::number_in;
 use crate::paths::{OrderPath, requested};
 use crate::rewrite::{NumberWriter, low_bytes, write_rewritten};
-use bd_bson_view::{ElementType, raw_parts as raw};
-use bd_value::{Kind, LONGEST_DOCUMENT, NoMemory};
+use bd_bson_view::ElementType;
+use bd_value::{LONGEST_DOCUMENT, NoMemory};
 use bd_wide_number::{Number, code_of, whole_of};
 
 /// The result for a number.
@@ -123,27 +123,6 @@ fn coded(why: Refusal, code: Option<i64>) -> Outcome
     match code {
         Some(z) => Outcome::Int64(z),
         None => Outcome::Nothing(why),
-    }
-}
-
-/// The number in a value, if it is numeric.
-#[tactic(auto, unfolding(crate::specs::Order::number_at, crate::specs::Rewritten::least))]
-fn number_in(typed: ElementType, value: &[u8]) -> Option<Number>
-    requires { least typed ≤ length value.now }
-    ensures { result ≡ number_at typed value.now }
-{
-    let kind = match typed {
-        ElementType::Kept(kind) => kind,
-        ElementType::Double => return Some(Number::Double(long(value))),
-        ElementType::Decimal128 => {
-            let (_, upper) = value.split_at(8);
-            return Some(Number::Decimal128(long(value), long(upper)));
-        }
-    };
-    match kind {
-        Kind::Int32 => Some(Number::Whole(raw::number(value).cast_signed() as i64)),
-        Kind::Int64 => Some(Number::Whole(long(value).cast_signed())),
-        _ => None,
     }
 }
 

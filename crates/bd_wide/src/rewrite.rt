@@ -331,7 +331,7 @@ fn write_code(at: usize, value: &[u8], out: &mut Vec<u8>) -> Result<(), NoMemory
 
 /// The offset of the scope in code with scope; None if the scope does not end where the code with scope does.
 #[tactic(auto, unfolding(crate::specs::Rewritten::scope_at))]
-pub(crate) fn scope_at(value: &[u8]) -> Option<usize>
+pub fn scope_at(value: &[u8]) -> Option<usize>
     requires { 14 ≤ length value.now }
     ensures gives { result ≡ scope_at_of value.now }
     ensures inside { IfSome result (λ at. (8 ≤ at) × (at + 5 ≤ length value.now)) }

@@ -2,7 +2,7 @@ use Rattle.std.proofs.Common.{◌≡◌, ◌++◌, List, [], ℕ, Option, None, 
 use Rattle.bd_bson_view.specs.declared.raw_parts.ElementType.{ElementType}
 use Rattle.bd_bson_view.specs.declared.raw_parts.ElementType.TheVariants.{Kept, Double, Decimal128}
 use Rattle.bd_wide_number.specs.declared.number.Number.{Number}
-use Rattle.bd_wide.specs.{Order.IsOrdered, Order.became, Order.number_at, Order.outcome_of, Order.refuses_wide}
+use Rattle.bd_wide.specs.{Numbers.number_at, Order.IsOrdered, Order.became, Order.outcome_of, Order.refuses_wide}
 use Rattle.bd_wide.proofs.SameLemmas.{rewritten_same}
 use Rattle.bd_wide.proofs.laws.order_leaves_others.Goals as goal
 

@@ -2,7 +2,7 @@ use Rattle.std.proofs.Common.{◌≡◌, ◌++◌, List, [], ℕ, Option, None, 
 use Rattle.bd_value.specs.declared.node.Kind.{Kind}
 use Rattle.bd_bson_view.specs.declared.raw_parts.ElementType.TheVariants.{Kept}
 use Rattle.bd_wide_number.specs.declared.number.Number.{Number}
-use Rattle.bd_wide.specs.{Order.IsOrdered, Order.became, Order.number_at, Order.outcome_of}
+use Rattle.bd_wide.specs.{Numbers.number_at, Order.IsOrdered, Order.became, Order.outcome_of}
 use Rattle.bd_wide.proofs.SpelledLemmas.{KeepsOthers, document_same}
 use Rattle.bd_wide.proofs.laws.read_documents_stay.Goals as goal
 
