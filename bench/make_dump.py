@@ -21,7 +21,7 @@ from typing import Any
 
 sys.path.append(str(Path(__file__).resolve().parent.parent / "tests"))
 
-from model.wide import double_text
+from model.answers import double_text
 
 WORDS = "red green blue alpha omega Łódź 東京 São Paulo queue river “quoted” back\\slash tab\t line\n naïve stone".split(" ")
 
@@ -91,7 +91,7 @@ def wrapped(value: Any) -> Any:
         case Long():
             return {"$numberLong": str(int(value))}
         case float():
-            return {"$numberDouble": double_text(struct.pack("<d", value)).decode()}
+            return {"$numberDouble": double_text(struct.pack("<d", value))}
         case None | bool() | str():
             return value
         case _:

@@ -23,7 +23,7 @@ LEVELS = 50  # of a filter
 class Value(NamedTuple):
     """A value: of an object its pairs, of an array its elements, of others what their kind wants.
 
-    A double is its eight bytes, and a decimal128 a `Decimal`.
+    A double is its eight bytes, and a decimal128 its sixteen.
     """
 
     kind: str
@@ -40,7 +40,7 @@ KINDS = {
     "javascriptWithScope": (0x0F, 15), "maxKey": (0x7F, 16),
 }  # fmt: skip
 
-# Kinds that the program reads by way of the filter.
+# Kinds that `bsonwide` reads alone.
 WIDE_KINDS = {"double": (0x01, 3), "decimal": (0x13, 3)}
 
 NULL, UNDEFINED = Value("null"), Value("undefined")
@@ -88,10 +88,8 @@ def encoded(value: Value) -> bytes:
             return little(of)
         case "long" | "date":
             return little(of, 8)
-        case "objectId" | "double":
+        case "objectId" | "double" | "decimal":
             return of
-        case "decimal":
-            return decimal_bytes(of)
         case "bool":
             return bytes([of])
         case "timestamp":
@@ -110,13 +108,48 @@ def encoded(value: Value) -> bytes:
     return b""
 
 
-def decimal_bytes(value: Decimal) -> bytes:
-    """The 16 bytes of a decimal128."""
-    sign, digits, power = value.as_tuple()
-    if not value.is_finite():
-        return (sign << 127 | (0x1E if value.is_infinite() else 0x1F) << 122).to_bytes(16, "little")
-    coefficient = int("".join(map(str, digits)))
-    return (sign << 127 | (int(power) + 6176) << 113 | coefficient).to_bytes(16, "little")
+def double_of(data: bytes) -> float:
+    """The double of 8 bytes."""
+    return struct.unpack("<d", data)[0]
+
+
+def double_text(data: bytes) -> str:
+    """As Go's `strconv.FormatFloat(x, 'G', -1, 64)` lays it out, with `.0` where it would have neither point nor power."""
+    value = double_of(data)
+    if value != value:
+        return "NaN"
+    sign = "-" if data[7] & 0x80 else ""
+    if abs(value) == float("inf"):
+        return f"{sign}Infinity"
+    if value == 0:
+        return f"{sign}0.0"
+    # `repr` gives the shortest digits that read back.
+    _, digits, power = Decimal(repr(abs(value))).normalize().as_tuple()
+    text = "".join(map(str, digits))
+    first = int(power) + len(text) - 1
+    if not -4 <= first <= 5:
+        mantissa = text[0] + ("." + text[1:] if text[1:] else "")
+        return f"{sign}{mantissa}E{'-' if first < 0 else '+'}{abs(first):02}"
+    if first < 0:
+        return f"{sign}0.{'0' * (-first - 1)}{text}"
+    whole = text[: first + 1].ljust(first + 1, "0")
+    return f"{sign}{whole}.{text[first + 1 :] or '0'}"
+
+
+def decimal_of(data: bytes) -> Decimal:
+    """The decimal128 of 16 bytes."""
+    bits = int.from_bytes(data, "little")
+    sign = bits >> 127
+    five = bits >> 122 & 31
+    if five >= 30:
+        return Decimal("NaN" if five == 31 else "-Infinity" if sign else "Infinity")
+    if five >= 24:
+        coefficient, power = 0, bits >> 111 & 0x3FFF
+    else:
+        coefficient, power = bits & (1 << 113) - 1, bits >> 113 & 0x3FFF
+    if coefficient >= 10**34:
+        coefficient = 0
+    return Decimal((sign, tuple(map(int, str(coefficient))), power - 6176))
 
 
 def written(value: Value) -> str:
@@ -138,10 +171,10 @@ def written(value: Value) -> str:
         case "int" | "long":
             return f'{{"$number{kind.title()}":"{of}"}}'
         case "double":
-            number = struct.unpack("<d", of)[0]
-            return f'{{"$numberDouble":"{str(number).replace("nan", "NaN").replace("inf", "Infinity")}"}}'
+            return f'{{"$numberDouble":"{double_text(of)}"}}'
         case "decimal":
-            return f'{{"$numberDecimal":"{of}"}}'
+            # Python's text of it is to-scientific-string.
+            return f'{{"$numberDecimal":"{decimal_of(of)}"}}'
         case "symbol":
             return f'{{"$symbol":{quoted(of)}}}'
         case "javascript":
@@ -172,7 +205,7 @@ def written(value: Value) -> str:
 
 def magnitude(value: Value) -> tuple:
     """What a number is compared by, exactly: NaN is the least."""
-    of = struct.unpack("<d", value.of)[0] if value.kind == "double" else value.of
+    of = double_of(value.of) if value.kind == "double" else decimal_of(value.of)
     if of != of:
         return (0, 0)
     return (1, Fraction(of) if abs(of) != float("inf") else float(of))

@@ -2,7 +2,7 @@
 
 from typing import NamedTuple
 
-from model.answers import KINDS, Value, written
+from model.answers import KINDS, WIDE_KINDS, Value, written
 
 LONGEST, LEVELS = 16793600, 200
 (
@@ -13,8 +13,8 @@ FAULT_WORDS = (
     "length cut short", "bad length", "no terminator", "unknown type", "double", "decimal128", "name not ended", "not UTF-8",
     "bad string length", "string not ended", "bad boolean", "bad binary length", "bad scope length", "too deep", "value cut short",
 )  # fmt: skip
-TYPES = {byte: kind for kind, (byte, _) in KINDS.items()} | {0x01: "double", 0x13: "decimal128"}
-SIZES = {"objectId": 12, "bool": 1, "date": 8, "int": 4, "timestamp": 8, "long": 8, "double": 8, "decimal128": 16}
+TYPES = {byte: kind for kind, (byte, _) in (KINDS | WIDE_KINDS).items()}
+SIZES = {"objectId": 12, "bool": 1, "date": 8, "int": 4, "timestamp": 8, "long": 8, "double": 8, "decimal": 16}
 
 Path = tuple[str, ...]
 
@@ -77,7 +77,7 @@ class Walk:
             raise ByteFault(NAME_UNENDED, at + 1, path)
         name = self.utf8(at + 1, zero, path)
         path = (*path, name if place is None else str(place))
-        if kind in ("double", "decimal128") and not self.is_wide:
+        if kind in WIDE_KINDS and not self.is_wide:
             raise ByteFault(DOUBLE if kind == "double" else DECIMAL128, at, path)
         if level + {"object": 1, "array": 1, "javascriptWithScope": 2}.get(kind, 0) > LEVELS:
             raise ByteFault(TOO_DEEP, at, path)
@@ -114,7 +114,7 @@ class Walk:
 
     def scalar(self, kind: str, data: bytes, at: int, path: Path) -> object:
         match kind:
-            case "objectId":
+            case "objectId" | "double" | "decimal":
                 return data
             case "bool":
                 if data[0] > 1:

@@ -1,8 +1,9 @@
-"""Random documents, filters, sorts and paths for tests: of few names and small values, so that much matches."""
+"""Random documents, filters, sorts and paths for tests: of few names and small values, so that much matches. And random numbers."""
 
 import base64
 import json
 import random
+import struct
 
 from model.answers import INT32, LEFT_OUT, LOGICAL, MOST, NULL, RELATIONS, TYPES, UNDEFINED, Token, Value, candidates, number, obj, path_fault, reach, string, written
 from model.sessions import GREATEST, Find, Session
@@ -14,13 +15,52 @@ PATHS = ["a", "a", "a", "b", "c", "a.b", "a.a", "b.a", "a.0", "a.1", "a.0.b", "a
 BAD_PATHS = ["", ".", "a.", ".a", "a..b", ".".join(["a"] * 101)]
 BYTES = [b"", b"\0", b"\1\2\3", b"\1\2\3\4\5\6\7"]
 IDS = [bytes(12), bytes(11) + b"\1", b"\xff" * 12]
+# Coefficients at which digits are added or refused: 10^34 is the first of too many digits.
+COEFFICIENTS = [0, 1, 5, 10, (1 << 64) - 1, 1 << 64, 10**33, 10**34 - 1, 10**34, (1 << 113) - 1]
+
+
+def a_double(rng: random.Random) -> bytes:
+    """The bytes of a double: half of them are random, the others near the ends of what can be, and near where the form of a text changes."""
+    if rng.random() < 0.5:
+        return rng.randbytes(8)
+    near = rng.choice(
+        [
+            lambda: 2.0 ** rng.randrange(-1074, 1024),
+            lambda: float(f"{rng.choice([1, rng.randrange(1, 10**6)])}e{rng.randrange(-324, 303)}"),
+            lambda: 10.0 ** rng.randrange(-8, 10),
+            lambda: float(rng.randrange(1 << 54)),
+            lambda: round(rng.uniform(0, 10.0 ** rng.randrange(8)), rng.randrange(8)),
+            lambda: rng.choice([0.0, 5e-324, 2.2250738585072014e-308, 1.7976931348623157e308, float("inf"), float("nan")]),
+        ]
+    )()
+    (bits,) = struct.unpack("<Q", struct.pack("<d", near))
+    return struct.pack("<Q", (bits + rng.randrange(-3, 4) ^ rng.getrandbits(1) << 63) & (1 << 64) - 1)
+
+
+def a_decimal(rng: random.Random) -> bytes:
+    """The bytes of a decimal128, chosen in the same way."""
+    if rng.random() < 0.5:
+        return rng.randbytes(16)
+    coefficient = rng.choice([rng.choice(COEFFICIENTS), 10 ** rng.randrange(35), rng.randrange(10 ** rng.randrange(1, 36))])
+    coefficient = max(0, coefficient + rng.randrange(-2, 3)) & (1 << 113) - 1
+    # The form changes at a power of 0, and where the first digit is worth 10^-6.
+    turn = 6176 - rng.choice([0, 6 + len(str(coefficient)) - 1])
+    power = rng.choice([rng.randrange(12288), 0, 12287, turn, turn, turn]) + rng.randrange(-2, 3)
+    bits = rng.getrandbits(1) << 127 | (power & 0x3FFF) << 113 | coefficient
+    if rng.random() < 0.1:
+        bits |= rng.choice([0x60, 0x78, 0x7C, 0x7E]) << 120
+    return bits.to_bytes(16, "little")
 
 
 class Inputs:
-    """Makes inputs by a generator of random numbers. Operands are mostly values of the documents that were made last, on few paths."""
+    """Makes inputs by a generator of random numbers. Operands are mostly values of the documents that were made last, on few paths.
 
-    def __init__(self, rng: random.Random) -> None:
+    Where it is wide some scalars are doubles and decimal128.
+    """
+
+    def __init__(self, rng: random.Random, is_wide: bool = False) -> None:
         self.rng = rng
+        self.is_wide = is_wide
         self.made: list[Value] = []
         self.paths: list[str] = []
         self.kinds: list[int] = []
@@ -31,6 +71,8 @@ class Inputs:
     def scalar(self) -> Value:
         """A value that is no object and no array: mostly a small number, or of the kinds that these documents mostly have."""
         rng = self.rng
+        if self.is_wide and self.chance(0.3):
+            return Value("double", a_double(rng)) if self.chance(0.5) else Value("decimal", a_decimal(rng))
         if not self.kinds and self.chance(0.5):
             return Value(rng.choice(["int", "int", "long"]), rng.choice([0, 1, 1, 2, 2, 3, 5, -1]))
         match rng.choice(self.kinds) if self.kinds and self.chance(0.9) else rng.randrange(16):

@@ -334,15 +334,15 @@ def request_text(query: str = "{}", sort: str = "{}", skip: int = 0, limit: int 
     return Find(query, sort, skip, limit).request().text()
 
 
-def packed(text: bytes) -> tuple[int, bytes, str]:
-    """The status of `pack`, what it writes, and what it tells."""
+def packed(text: bytes, program: str = "bsonfind") -> tuple[int, bytes, str]:
+    """The status of `pack` of a program, what it writes, and what it tells."""
     documents = []
     for number, line in enumerate(text.split(b"\n"), 1):
         if not line.strip(b" \t\r"):
             continue
         try:
-            documents.append(encoded(read_document(line)))
+            documents.append(encoded(read_document(line, program == "bsonwide")))
         except TextFault as fault:
             byte = "" if fault.number == NOT_A_DOCUMENT else f", byte {fault.at}"
-            return 1, b"".join(documents), f"bsonfind: line {number}{byte}: {TEXT_WORDS[fault.number - 1]}\n{len(documents)} objects packed\n"
+            return 1, b"".join(documents), f"{program}: line {number}{byte}: {TEXT_WORDS[fault.number - 1]}\n{len(documents)} objects packed\n"
     return 0, b"".join(documents), f"{len(documents)} objects packed\n"

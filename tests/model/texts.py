@@ -1,10 +1,12 @@
 """Texts of Extended JSON read by Python: the document that a text is, or its first fault and the byte of it.
 
 First a text is taken as JSON, from left to right; then the tree that it is, from left to right; last it has to be a document.
+Doubles and decimal128 are read where that is said, as `bsonwide` does; else they are faults, as of `bsonfind`.
 """
 
 import base64
 import re
+import struct
 from collections.abc import Callable, Iterator
 from typing import NamedTuple
 
@@ -22,6 +24,12 @@ WRAPPERS = (
 )  # fmt: skip
 WHITE = " \t\n\r"
 WHOLE = re.compile(r"-?(?:0|[1-9][0-9]*)", re.ASCII)
+# A number of RFC 8259, and a numeric-string of the decimal128 specification that is finite: a sign, digits, a fraction, an exponent.
+NUMBER = re.compile(rf"{WHOLE.pattern}(?:\.[0-9]+)?(?:[eE][+-]?[0-9]+)?", re.ASCII)
+DECIMAL = re.compile(r"([+-]?)(?=\.?[0-9])([0-9]*)(?:\.([0-9]*))?(?:[eE]([+-]?)([0-9]+))?", re.ASCII)
+WORD_OF_DECIMAL = re.compile(r"([+-]?)(?:(inf|infinity)|nan)", re.ASCII | re.IGNORECASE)
+# A decimal128 has at most so many digits, and its exponent is in this range.
+DIGITS, LEAST, GREATEST = 34, -6176, 6111
 ESCAPES = {'"': '"', "\\": "\\", "/": "/", "b": "\b", "f": "\f", "n": "\n", "r": "\r", "t": "\t"}
 
 
@@ -187,10 +195,10 @@ def is_wrapper(node: Node) -> bool:
     return node.kind == "object" and names_of(node)[:1] != [] and names_of(node)[0] in WRAPPERS
 
 
-def value_of(node: Node, level: int) -> Value:
+def value_of(node: Node, level: int, is_wide: bool = False) -> Value:
     """The value of a node, which is at that level where it is a document or an array."""
     if is_wrapper(node):
-        return wrapped(node, level)
+        return wrapped(node, level, is_wide)
     if node.kind in ("object", "array") and level > LEVELS:
         raise TextFault(TOO_DEEP, node.at)
     match node.kind:
@@ -199,15 +207,17 @@ def value_of(node: Node, level: int) -> Value:
             for name, at, it in node.of:
                 if "\0" in name:
                     raise TextFault(NUL_IN_NAME, at)
-                pairs.append((name, value_of(it, level + 1)))
+                pairs.append((name, value_of(it, level + 1, is_wide)))
             return Value("object", tuple(pairs))
         case "array":
-            return Value("array", tuple(value_of(it, level + 1) for it in node.of))
+            return Value("array", tuple(value_of(it, level + 1, is_wide) for it in node.of))
         case "string":
             return Value("string", node.of)
         case "word":
             return Value("null") if node.of is None else Value("bool", node.of)
     if not WHOLE.fullmatch(node.of):
+        if is_wide:
+            return number_in("$numberDouble", node.of, node.at)
         raise TextFault(NOT_IN_PROFILE, node.at)
     number = whole(node.of)
     if number not in INT64:
@@ -220,13 +230,61 @@ def whole(text: str) -> int:
     return int(text) if len(text) < 30 else int(text[:30])
 
 
-def wrapped(node: Node, level: int) -> Value:
+def number_in(name: str, text: str, at: int) -> Value:
+    """The number that a wrapper's text is, or a bare number as that of a double; its faults are told at a place."""
+    made = double_in(text) if name == "$numberDouble" else decimal_in(text)
+    if isinstance(made, int):
+        raise TextFault(made, at)
+    return Value(name.removeprefix("$number").lower(), made)
+
+
+def double_in(text: str) -> bytes | int:
+    """The bytes of the nearest double, or the fault of a text."""
+    words = {"NaN": "nan", "Infinity": "inf", "-Infinity": "-inf"}
+    if text not in words and not NUMBER.fullmatch(text):
+        return BAD_WRAPPER
+    # Python's is the nearest, and of two the even one.
+    number = float(words.get(text, text))
+    return NUMBER_RANGE if abs(number) == float("inf") and text not in words else struct.pack("<d", number)
+
+
+def decimal_in(text: str) -> bytes | int:
+    """The bytes of the decimal128 that is the number of a text, with the nearest exponent of those that it can have, or a fault."""
+    word, number = WORD_OF_DECIMAL.fullmatch(text), DECIMAL.fullmatch(text)
+    if word:
+        return decimal_bytes(word[1] == "-" and word[2] is not None, 0, (0x1E if word[2] else 0x1F) << 9)
+    if not number:
+        return BAD_WRAPPER
+    sign, before, after, power_sign, power = number.groups(default="")
+    digits = (before + after).lstrip("0")
+    # No text is so long that more digits of an exponent are wanted.
+    exponent = int(f"{power_sign}0{power.lstrip('0')[:20]}") - len(after)
+    short = digits.rstrip("0")
+    if not short:
+        return decimal_bytes(sign == "-", 0, min(max(exponent, LEAST), GREATEST) - LEAST)
+    # Zeros at its end are digits or are in the exponent: as many are digits as bring it nearest to that of the text.
+    last, most = exponent + len(digits) - len(short), DIGITS - len(short)
+    nearest = min(max(exponent, LEAST, last - most), GREATEST)
+    if not 0 <= last - nearest <= most:
+        return NUMBER_RANGE
+    return decimal_bytes(sign == "-", int(short) * 10 ** (last - nearest), nearest - LEAST)
+
+
+def decimal_bytes(is_negative: bool, coefficient: int, biased: int) -> bytes:
+    """The bytes of a decimal128, by its coefficient and its exponent plus 6176."""
+    return (is_negative << 127 | biased << 113 | coefficient).to_bytes(16, "little")
+
+
+def wrapped(node: Node, level: int, is_wide: bool) -> Value:
     """The value of an object that begins as a wrapper: its faults are told at its brace."""
     name, _, inside = node.of[0]
-    if name in ("$uuid", "$numberDouble", "$numberDecimal") or (name in ("$date", "$binary") and inside.kind == "string"):
+    is_number = name in ("$numberDouble", "$numberDecimal")
+    if name == "$uuid" or (is_number and not is_wide) or (name in ("$date", "$binary") and inside.kind == "string"):
         raise TextFault(NOT_IN_PROFILE, node.at)
     if name in ("$code", "$scope"):
-        return code(node, level)
+        return code(node, level, is_wide)
+    if is_number and len(node.of) == 1 and inside.kind == "string":
+        return number_in(name, inside.of, node.at)
     made = made_of(name, inside) if len(node.of) == 1 else None
     if made is None:
         raise TextFault(BAD_WRAPPER, node.at)
@@ -281,7 +339,7 @@ def strict_base64(text: str) -> bytes | None:
     return data if base64.b64encode(data).decode() == text else None
 
 
-def code(node: Node, level: int) -> Value:
+def code(node: Node, level: int, is_wide: bool) -> Value:
     """Code, with or without a scope: the names and the code, then how deep it stands, then what is in the scope."""
     alone, both = part(node, "$code"), part(node, "$code", "$scope")
     texts = alone or both
@@ -291,13 +349,13 @@ def code(node: Node, level: int) -> Value:
         return Value("javascript", alone[0].of)
     if level + 1 > LEVELS:
         raise TextFault(TOO_DEEP, node.at)
-    scope = value_of(both[1], level + 1)
+    scope = value_of(both[1], level + 1, is_wide)
     if scope.kind != "object":
         raise TextFault(BAD_WRAPPER, node.at)
     return Value("javascriptWithScope", (both[0].of, scope))
 
 
-def read_document(line: bytes) -> Value:
+def read_document(line: bytes, is_wide: bool = False) -> Value:
     """The document that a text is; raises its first fault."""
     try:
         text = line.decode()
@@ -308,7 +366,7 @@ def read_document(line: bytes) -> Value:
         root = reader.value()
         if reader.white():
             raise reader.stop(number=TRAILING_TEXT)
-        value = value_of(root, 1)
+        value = value_of(root, 1, is_wide)
     except TextFault as fault:
         raise TextFault(fault.number, len(text[: fault.at].encode())) from None
     if value.kind != "object":

@@ -1,4 +1,4 @@
-"""What `bsonwide` writes of a dump, by Python: `check`, the end of `dump` and its texts of numbers, `order` with their codes."""
+"""What `bsonwide` writes of a dump, by Python: `check`, `dump`, and `order` with the codes of numbers."""
 
 import json
 import re
@@ -8,7 +8,7 @@ from decimal import Decimal
 from fractions import Fraction
 from typing import NamedTuple
 
-from model.answers import INT64
+from model.answers import INT64, decimal_of, double_of, written
 from model.dumps import LEVELS, LONGEST, read_dump
 
 FIXED = {0x01: 8, 0x06: 0, 0x07: 12, 0x08: 1, 0x09: 8, 0x0A: 0, 0x10: 4, 0x11: 8, 0x12: 8, 0x13: 16, 0x7F: 0, 0xFF: 0}
@@ -107,55 +107,12 @@ def check(data: bytes) -> tuple[bytes, bytes, int]:
     return "".join(faults).encode(), f"{len(read.documents)} documents, {len(faults)} faulty\n".encode(), int(faults != [])
 
 
-def end_of_dump(data: bytes) -> tuple[int, bytes, int]:
-    """How many lines `dump` writes, the first fault and the line of counts, and the status."""
+def dump(data: bytes) -> tuple[bytes, bytes, int]:
+    """The lines of the documents before the first fault, that fault and the line of counts, and the status."""
     read = read_dump(data, is_wide=True)
-    faults, count = read.faults(), len(read.front())
-    return count, "".join([*(f"bsonwide: {it}" for it in faults[:1]), f"{count} objects found\n"]).encode(), int(faults != [])
-
-
-def double_text(bits: bytes) -> bytes:
-    """As Go's `strconv.FormatFloat(x, 'G', -1, 64)` lays it out, with `.0` where it would have neither point nor power."""
-    value = struct.unpack("<d", bits)[0]
-    if value != value:
-        return b"NaN"
-    sign = "-" if bits[7] & 0x80 else ""
-    if value in (float("inf"), float("-inf")):
-        return f"{sign}Infinity".encode()
-    if value == 0:
-        return f"{sign}0.0".encode()
-    # `repr` gives the shortest digits that read back.
-    _, digits, power = Decimal(repr(abs(value))).normalize().as_tuple()
-    text = "".join(map(str, digits))
-    first = int(power) + len(text) - 1
-    if not -4 <= first <= 5:
-        mantissa = text[0] + ("." + text[1:] if text[1:] else "")
-        return f"{sign}{mantissa}E{'-' if first < 0 else '+'}{abs(first):02}".encode()
-    if first < 0:
-        return f"{sign}0.{'0' * (-first - 1)}{text}".encode()
-    whole = text[: first + 1].ljust(first + 1, "0")
-    return f"{sign}{whole}.{text[first + 1 :] or '0'}".encode()
-
-
-def decimal_of(data: bytes) -> Decimal:
-    """The decimal128 of 16 bytes."""
-    bits = int.from_bytes(data, "little")
-    sign = bits >> 127
-    five = bits >> 122 & 31
-    if five >= 30:
-        return Decimal("NaN" if five == 31 else "-Infinity" if sign else "Infinity")
-    if five >= 24:
-        coefficient, power = 0, bits >> 111 & 0x3FFF
-    else:
-        coefficient, power = bits & (1 << 113) - 1, bits >> 113 & 0x3FFF
-    if coefficient >= 10**34:
-        coefficient = 0
-    return Decimal((sign, tuple(map(int, str(coefficient))), power - 6176))
-
-
-def decimal_text(data: bytes) -> bytes:
-    """To-scientific-string, by Python's `decimal`, of the 16 bytes."""
-    return str(decimal_of(data)).encode()
+    faults, lines = read.faults(), [f"{written(it)}\n" for it in read.front()]
+    told = "".join([*(f"bsonwide: {it}" for it in faults[:1]), f"{len(lines)} objects found\n"])
+    return "".join(lines).encode(), told.encode(), int(faults != [])
 
 
 # The codes of numbers, which are in the order of their values.
@@ -171,7 +128,7 @@ def value_of(kind: int, data: bytes) -> Fraction | Decimal:
     """The value of a number, exactly; NaN and the infinities as a `Decimal`."""
     if kind in (0x10, 0x12):
         return Fraction(int.from_bytes(data, "little", signed=True))
-    value = struct.unpack("<d", data)[0] if kind == 0x01 else decimal_of(data)
+    value = double_of(data) if kind == 0x01 else decimal_of(data)
     return Fraction(value) if Decimal(value).is_finite() else Decimal(value)
 
 

@@ -12,13 +12,13 @@ import random
 import struct
 import sys
 import tempfile
-from decimal import Decimal
 from pathlib import Path
 
 sys.path[:0] = [str(Path(__file__).resolve().parents[1]), str(Path(__file__).resolve().parents[2] / "python")]
 
 from model.answers import BadFilter, Dump, Request, Value, check_filter, encoded, obj, path_fault, sort_pairs
 from model.inputs import Inputs
+from model.texts import decimal_in
 from support import PROGRAM as BUILT
 from support import Tests
 
@@ -42,8 +42,12 @@ def double(value: float) -> Value:
     return Value("double", struct.pack("<d", value))
 
 
+def decimal(text: str) -> Value:
+    return Value("decimal", decimal_in(text))
+
+
 # Numbers with fractions, some of which are doubles and some amounts.
-MIXED = [*map(double, (0.1, 0.3, 9.99)), *(Value("decimal", Decimal(it)) for it in ("0.1", "0.3", "9.99"))]
+MIXED = [*map(double, (0.1, 0.3, 9.99)), *map(decimal, ("0.1", "0.3", "9.99"))]
 
 
 class WideInputs(Inputs):
@@ -61,11 +65,11 @@ class WideInputs(Inputs):
             whole = rng.choice(ANY if self.profile == "all" else WHOLE)
             return Value("int" if abs(whole) < 1 << 31 and self.chance(0.6) else "long", whole)
         if self.profile == "cents":
-            return double(rng.choice([0.0, 0.5, 0.25, 1.0, -1.25, 2.0])) if chosen == 4 else Value("decimal", Decimal(rng.choice(CENTS)))
+            return double(rng.choice([0.0, 0.5, 0.25, 1.0, -1.25, 2.0])) if chosen == 4 else decimal(rng.choice(CENTS))
         if self.profile == "whole":
-            return double(rng.choice(WHOLE_DOUBLES)) if chosen <= 6 else Value("decimal", Decimal(rng.choice(["0", "1.0", "2E+0", "-1.00", "5"])))
+            return double(rng.choice(WHOLE_DOUBLES)) if chosen <= 6 else decimal(rng.choice(["0", "1.0", "2E+0", "-1.00", "5"]))
         if chosen == 7:
-            return Value("decimal", Decimal(rng.choice([*DYADIC, *CENTS] if self.profile == "all" else DYADIC)))
+            return decimal(rng.choice([*DYADIC, *CENTS] if self.profile == "all" else DYADIC))
         value = rng.choice(DOUBLES)
         return double(value if value == value or self.chance(0.3) else 1.5)
 

@@ -1,48 +1,44 @@
 #!/usr/bin/env python3
-"""Runs `bsonwide` beside the model of it: over worked examples, random and damaged documents, and each prefix of a small dump; and
-with each growth of memory, each read and each write failed in turn.
+"""Runs `bsonwide` beside the model of it: over worked examples, random and damaged documents, and each prefix of a small dump.
 
 usage: tests/wide/wide.py [PROGRAM] [DOCUMENTS]     The last line is 'N passed, M failed'.
 """
 
 import random
 import re
-import shutil
 import struct
 import subprocess
 import sys
-import tempfile
-from collections.abc import Callable
 from pathlib import Path
 
 sys.path.insert(0, str(Path(__file__).resolve().parents[1]))
 
+from model.answers import decimal_of, double_text
 from model.dumps import LONGEST
-from model.wide import check, decimal_text, double_text, end_of_dump, frames, order
-from support import ROOT, Tests
+from model.inputs import a_decimal, a_double
+from model.wide import check, dump, order
+from support import ROOT, Tests, usage_of
 
 PROGRAM = Path(sys.argv[1]).resolve() if len(sys.argv) > 1 else ROOT / "bsonwide"
 DOCUMENTS = int(sys.argv[2]) if len(sys.argv) > 2 else 20_000
+USAGE = usage_of("bsonwide").encode()
 VERSION = b"bsonwide " + (ROOT / "VERSION").read_bytes()
-USAGE = b"usage: bsonwide dump FILE\n       bsonwide check FILE\n       bsonwide order FILE [PATH..]\n"
-# What tests/faults/failing.c counts: whether it was loaded, the reads of standard input, the writes to standard output.
-LAYOUT, LOADED, READS, WRITES = struct.Struct("19q"), 0, 3, 12
-
+RNG = random.Random(57)
 # Texts that stand in the pages of Go's driver, of bsondump, of Extended JSON v2 and of the decimal128 specification.
 DOUBLES = {
-    1234567.5: b"1.2345675E+06", 1e20: b"1E+20", 5e-324: b"5E-324", 999999.0: b"999999.0", 1e6: b"1E+06", 0.0: b"0.0",
-    1.0: b"1.0", 0.1: b"0.1", 1e-4: b"0.0001", 1e-5: b"1E-05", 0.00012: b"0.00012", 123456.7: b"123456.7", 100000.0: b"100000.0",
-    1.7976931348623157e308: b"1.7976931348623157E+308", 9007199254740993.0: b"9.007199254740992E+15", -1.5: b"-1.5",
-    float("inf"): b"Infinity", float("-inf"): b"-Infinity", 1.0001220703125e18: b"1.0001220703125E+18", 2.5e-7: b"2.5E-07",
+    1234567.5: "1.2345675E+06", 1e20: "1E+20", 5e-324: "5E-324", 999999.0: "999999.0", 1e6: "1E+06", 0.0: "0.0",
+    1.0: "1.0", 0.1: "0.1", 1e-4: "0.0001", 1e-5: "1E-05", 0.00012: "0.00012", 123456.7: "123456.7", 100000.0: "100000.0",
+    1.7976931348623157e308: "1.7976931348623157E+308", 9007199254740993.0: "9.007199254740992E+15", -1.5: "-1.5",
+    float("inf"): "Infinity", float("-inf"): "-Infinity", 1.0001220703125e18: "1.0001220703125E+18", 2.5e-7: "2.5E-07",
 }  # fmt: skip
 DECIMALS = {
-    (0, 0x3040000000000000): b"0", (0, 0xB040000000000000): b"-0", (1, 0x3040000000000000): b"1", (1, 0x3046000000000000): b"1E+3",
-    (0, 0x3046000000000000): b"0E+3", (5, 0x303E000000000000): b"0.5", (12345, 0x303C000000000000): b"123.45",
-    (1, 0x3032000000000000): b"1E-7", (1, 0x3034000000000000): b"0.000001", (1, 0x5FFE000000000000): b"1E+6111",
-    (0, 0x7C00000000000000): b"NaN", (0, 0xFC00000000000000): b"NaN", (0, 0x7800000000000000): b"Infinity",
-    (0, 0xF800000000000000): b"-Infinity", (0, 0x6C10000000000000): b"0", (0xFFFFFFFFFFFFFFFF, 0x3041FFFFFFFFFFFF): b"0",
-    (0x378D8E63FFFFFFFF, 0x3041ED09BEAD87C0): b"9999999999999999999999999999999999",
-    (0x378D8E63FFFFFFFF, 0x5FFFED09BEAD87C0): b"9.999999999999999999999999999999999E+6144", (1, 0x0000000000000000): b"1E-6176",
+    (0, 0x3040000000000000): "0", (0, 0xB040000000000000): "-0", (1, 0x3040000000000000): "1", (1, 0x3046000000000000): "1E+3",
+    (0, 0x3046000000000000): "0E+3", (5, 0x303E000000000000): "0.5", (12345, 0x303C000000000000): "123.45",
+    (1, 0x3032000000000000): "1E-7", (1, 0x3034000000000000): "0.000001", (1, 0x5FFE000000000000): "1E+6111",
+    (0, 0x7C00000000000000): "NaN", (0, 0xFC00000000000000): "NaN", (0, 0x7800000000000000): "Infinity",
+    (0, 0xF800000000000000): "-Infinity", (0, 0x6C10000000000000): "0", (0xFFFFFFFFFFFFFFFF, 0x3041FFFFFFFFFFFF): "0",
+    (0x378D8E63FFFFFFFF, 0x3041ED09BEAD87C0): "9999999999999999999999999999999999",
+    (0x378D8E63FFFFFFFF, 0x5FFFED09BEAD87C0): "9.999999999999999999999999999999999E+6144", (1, 0x0000000000000000): "1E-6176",
 }  # fmt: skip
 
 
@@ -87,69 +83,46 @@ WHOLES = {
 }  # fmt: skip
 
 
-def a_double() -> bytes:
-    chosen = random.randrange(7)
-    if chosen == 0:
-        return struct.pack("<d", random.choice([*DOUBLES, -0.0]))
-    if chosen == 1:
-        return struct.pack("<d", random.uniform(-1e7, 1e7))
-    if chosen == 2:
-        return struct.pack("<d", float(random.randrange(-(10**8), 10**8)))
-    if chosen == 3:
-        return struct.pack("<d", round(random.uniform(-1000, 1000), 2))
-    if chosen == 4:
-        return struct.pack("<d", random.choice([1, 3, 7, 12, 125]) * 10.0 ** random.randrange(-12, 25))
-    return random.randbytes(8)
-
-
-def a_decimal() -> bytes:
-    if random.randrange(3) == 0:
-        return random.randbytes(16)
-    coefficient = random.randrange(10 ** random.randrange(36))
-    power = random.choice([random.randrange(12288), 6176 + random.randrange(-45, 45)])
-    return (random.randrange(2) << 127 | power << 113 | coefficient & (1 << 113) - 1).to_bytes(16, "little")
-
-
 def a_value(levels: int) -> tuple[int, bytes]:
-    kind = random.choice([1, 1, 1, 2, 3, 3, 4, 5, 6, 7, 8, 9, 10, 11, 12, 13, 14, 15, 16, 17, 18, 19, 19, 127, 255])
+    kind = RNG.choice([1, 1, 1, 2, 3, 3, 4, 5, 6, 7, 8, 9, 10, 11, 12, 13, 14, 15, 16, 17, 18, 19, 19, 127, 255])
     if levels <= 0 and kind in (3, 4, 15):
         kind = 1
-    text = random.choices(b"xyz", k=random.randrange(6))
+    text = RNG.choices(b"xyz", k=RNG.randrange(6))
     string = four(len(text) + 1) + bytes(text) + b"\0"
     if kind == 1:
-        return kind, a_double()
+        return kind, a_double(RNG)
     if kind == 19:
-        return kind, a_decimal()
+        return kind, a_decimal(RNG)
     if kind in (3, 4):
         return kind, a_document(levels - 1)
     if kind == 15:
         inner = string + a_document(levels - 1)
         return kind, four(len(inner) + 4) + inner
     if kind == 5:
-        return kind, four(len(text)) + bytes([random.randrange(3)]) + bytes(text)
+        return kind, four(len(text)) + bytes([RNG.randrange(3)]) + bytes(text)
     if kind == 11:
         return kind, bytes(text) + b"\0" + bytes(text) + b"\0"
     sizes = {7: 12, 8: 1, 9: 8, 16: 4, 17: 8, 18: 8}
     if kind in sizes:
-        return kind, random.randbytes(sizes[kind])
-    return kind, {2: string, 12: string + random.randbytes(12), 13: string, 14: string}.get(kind, b"")
+        return kind, RNG.randbytes(sizes[kind])
+    return kind, {2: string, 12: string + RNG.randbytes(12), 13: string, 14: string}.get(kind, b"")
 
 
 def a_document(levels: int) -> bytes:
     body = b""
-    for _ in range(random.choice([0, 1, 2, 3, 5])):
+    for _ in range(RNG.choice([0, 1, 2, 3, 5])):
         kind, value = a_value(levels)
-        body += bytes([kind]) + bytes(random.choices(b"abc$.~", k=random.choice([0, 1, 1, 2, 3, 17]))) + b"\0" + value
+        body += bytes([kind]) + bytes(RNG.choices(b"abc$.~", k=RNG.choice([0, 1, 1, 2, 3, 17]))) + b"\0" + value
     return document(body)
 
 
 def damaged(data: bytes) -> bytes:
     """The same with some bytes changed, but with its length."""
     changed = bytearray(data)
-    for _ in range(random.choice([0, 0, 1, 1, 2])):
+    for _ in range(RNG.choice([0, 0, 1, 1, 2])):
         if len(data) > 5:
-            at = random.randrange(4, len(data))
-            changed[at] = random.choice([0, 1, 2, 3, 4, 5, 15, 19, 255, changed[at] ^ 1 << random.randrange(8)])
+            at = RNG.randrange(4, len(data))
+            changed[at] = RNG.choice([0, 1, 2, 3, 4, 5, 15, 19, 255, changed[at] ^ 1 << RNG.randrange(8)])
     return bytes(changed)
 
 
@@ -163,6 +136,12 @@ def deep(levels: int, kind: int) -> bytes:
         else:
             data = document(bytes([kind]) + b"a\0" + data)
     return data
+
+
+def longest(size: int) -> bytes:
+    """A document of so many bytes, with a double before its text and a decimal128 after it."""
+    text = size - 5 - 11 - 19 - 7
+    return document(b"\x01a\0" + struct.pack("<d", 0.1) + b"\x02b\0" + four(text) + b"x" * (text - 1) + b"\0" + b"\x13c\0" + bytes(16))
 
 
 def ran(command: str, data: bytes, *paths: bytes) -> tuple[bytes, bytes, int]:
@@ -240,68 +219,27 @@ def order_damage(tests: Tests) -> None:
         tests.want(f"order, {fault}", made[1:] == (b"", 0) and checked[0] == f"document 0, {fault}\n".encode(), (made[1:], checked))
 
 
-def fail_each(tests: Tests, words: list[str | bytes], data: bytes, of: Callable[[bytes], tuple[bytes, bytes, int]]) -> None:
-    """Fails each growth of memory, each read and each write of a byte in turn: what came before is written, and why no more is.
-
-    Each read finds the end in turn. No call follows one that failed or found the end. `of` is what the command is to write of an
-    input, to tell and to end with; no document of the data has another length than its own, but for one cut short at the end.
-    """
-    command, whole = words[0], of(data)
-    ways = (
-        (b"bsonwide: no memory\n", {}, "FAILING_GROWTH"),
-        (b"bsonwide: cannot read\n", {"FAILING_INPUT": "0", "FAILING_ERROR": "5"}, "FAILING_READ"),
-        (b"", {"FAILING_INPUT": "0", "FAILING_ERROR": "0"}, "FAILING_READ"),
-        (b"bsonwide: cannot write\n", {"FAILING_OUTPUT": "1", "FAILING_ERROR": "28"}, "FAILING_WRITE"),
-        (b"bsonwide: cannot write\n", {"FAILING_OUTPUT": "1", "FAILING_ERROR": "0"}, "FAILING_WRITE"),
-    )  # fmt: skip
-    with tempfile.TemporaryDirectory() as room:
-        library = f"{room}/failing.so"
-        subprocess.run(["cc", "-shared", "-fPIC", "-O2", "-o", library, ROOT / "tests/faults/failing.c"], check=True)
-        for message, how, name in ways:
-            failed = 0
-            for at in range(1, 1000):
-                counts = Path(room, "counts")
-                counts.write_bytes(bytes(19 * 8))
-                env = {"LD_PRELOAD": library, "FAILING_COUNTS": str(counts), "FAILING_SINGLE": "1", name: str(at), **how}
-                ran = subprocess.run([PROGRAM, *words], input=data, capture_output=True, env=env, check=False)
-                made, told = (ran.stdout, ran.stderr, ran.returncode), LAYOUT.unpack(counts.read_bytes())
-                tests.want(f"{command}: {name} {at}, loaded", told[LOADED] == 1)
-                if (made == whole) if message else (told[READS] < at):
-                    break
-                failed += 1
-                if name == "FAILING_GROWTH":
-                    tests.want(f"{command}: {name} {at}", made[1:] == (message, 1) and whole[0].startswith(made[0]), made)
-                    continue
-                read, calls = data[: at - 1], told[READS if name == "FAILING_READ" else WRITES]
-                if name == "FAILING_WRITE":
-                    wanted = (whole[0][: at - 1], message, 1)
-                elif message:
-                    out, counted, _ = of(b"".join(frames(read)[0]))
-                    wanted = (out, message + counted, 1)
-                else:
-                    wanted = of(read)
-                tests.want(f"{command}: {name} {at}", made == wanted, (made, wanted))
-                tests.want(f"{command}: {name} {at}, none follows", calls == at, calls)
-            tests.want(f"{command}: {name}, some failed", failed > 0)
-
-
 def main() -> int:
     tests = Tests()
-    random.seed(57)
-    tests.want("model of -0.0", double_text(bytes(7) + b"\x80") == b"-0.0")
+    tests.want("model of -0.0", double_text(bytes(7) + b"\x80") == "-0.0")
     for value, text in DOUBLES.items():
         tests.want(f"model of {value}", double_text(struct.pack("<d", value)) == text, double_text(struct.pack("<d", value)))
     for halves, text in DECIMALS.items():
-        tests.want(f"model of {text!r}", decimal_text(struct.pack("<QQ", *halves)) == text, decimal_text(struct.pack("<QQ", *halves)))
+        made = str(decimal_of(struct.pack("<QQ", *halves)))
+        tests.want(f"model of {text}", made == text, made)
 
+    documents = [a_document(RNG.choice([0, 1, 2, 4])) for _ in range(DOCUMENTS)]
     inputs = {
         "worked doubles": document(b"".join(b"\x01a\0" + struct.pack("<d", it) for it in [*DOUBLES, -0.0])),
         "worked decimals": document(b"".join(b"\x13a\0" + struct.pack("<QQ", *it) for it in DECIMALS)),
-        "random": b"".join(a_document(random.choice([0, 1, 2, 4])) for _ in range(DOCUMENTS)),
-        "damaged": b"".join(damaged(a_document(random.choice([0, 1, 2, 4]))) for _ in range(DOCUMENTS)),
+        "random": b"".join(documents),
+        "sound": b"".join(it for it in documents if not check(it)[0]),
+        "damaged": b"".join(map(damaged, documents)),
         "nested": b"".join(deep(levels, kind) for levels in (0, 3, 98, 99, 100, 101, 197, 198, 199, 200, 201) for kind in (3, 4, 15)),
-        "doubles": b"".join(document(b"\x01a\0" + a_double()) for _ in range(10 * DOCUMENTS)),
-        "decimals": b"".join(document(b"\x13a\0" + a_decimal()) for _ in range(10 * DOCUMENTS)),
+        "doubles": b"".join(document(b"\x01a\0" + a_double(RNG)) for _ in range(10 * DOCUMENTS)),
+        "decimals": b"".join(document(b"\x13a\0" + a_decimal(RNG)) for _ in range(10 * DOCUMENTS)),
+        "longest": longest(LONGEST) + documents[0],
+        "longer than that": longest(LONGEST + 1) + documents[0],
         "too long": document(b"\x02a\0" + four(16 << 20) + bytes((16 << 20) - 1) + b"\0" + (b"\x01b\0" + bytes(8)) * 100),
         "empty": b"",
     }
@@ -315,7 +253,7 @@ def main() -> int:
         made = ran("check", data)
         tests.want(f"check, {name}", made == check(data), made[1:])
         made = ran("dump", data)
-        tests.want(f"dump, {name}", (made[0].count(b"\n"), *made[1:]) == end_of_dump(data), made[1:])
+        tests.want(f"dump, {name}", made == dump(data), made[1:])
         for paths in ([], PATHS):
             made = ran("order", data, *paths)
             tests.want(f"order, {name}, {len(paths)} paths", made == ordered(data, *paths), made[1:])
@@ -323,7 +261,7 @@ def main() -> int:
     order_paths(tests)
     order_damage(tests)
     orders = {
-        paths: b"".join(it for it in (damaged(a_document(random.choice([0, 1, 2, 4]))) for _ in range(DOCUMENTS)) if not order(it, list(paths))[1])
+        paths: b"".join(it for it in (damaged(a_document(RNG.choice([0, 1, 2, 4]))) for _ in range(DOCUMENTS)) if not order(it, list(paths))[1])
         for paths in ((), PATHS, (b"*1000", b"a", b"b*10", b"c", b"$", b".", b"~", b"a.", b"b.a", b"c.c"))
     }
     for paths, data in orders.items():
@@ -332,26 +270,16 @@ def main() -> int:
         told, wanted = (re.sub(rb"byte \d+, ", b"", it) for it in (ran("check", made[0])[0], check(data)[0]))
         tests.want(f"order and check, {len(paths)} paths", told == wanted, (told, wanted))
 
-    if shutil.which("cc") is None:
-        print("there is no C compiler: nothing was made to fail")
-    else:
-        cut = document(b"\x13a\0" + bytes(15))
-        fail_each(tests, ["check", "-"], cut + small + cut[:9], check)
-        fail_each(tests, ["order", "-", *PATHS], small + small[:9], lambda it: ordered(it, *PATHS))
-
     for words, status, out, err in (
         ([], 2, b"", USAGE), (["check"], 2, b"", USAGE), (["sort", "-"], 2, b"", USAGE), (["check", "-", "-"], 2, b"", USAGE),
         (["order"], 2, b"", USAGE), (["order", "absent", "a", "b"], 1, b"", b"bsonwide: cannot open absent\n"),
-        (["order", "-", "--", "-a"], 0, b"", b""), (["order", "-", "-a"], 2, b"", USAGE), (["--help"], 0, USAGE, b""), (["order", "-h"], 0, USAGE, b""), (["check", "absent"], 1, b"", b"bsonwide: cannot open absent\n"),
-        (["check", "--", "-x"], 1, b"", b"bsonwide: cannot open -x\n"), (["order", "/"], 1, b"", b"bsonwide: cannot read\n"),
-        (["check", "/"], 1, b"", b"bsonwide: cannot read\n0 documents, 0 faulty\n"), (["mask", "-"], 2, b"", USAGE), (["--version"], 0, VERSION, b""), (["--version", "-"], 2, b"", USAGE), (["wrap", "-"], 2, b"", USAGE),
+        (["order", "-", "--", "-a"], 0, b"", b""), (["order", "-", "-a"], 2, b"", USAGE), (["--help"], 0, USAGE, b""), (["dump", "-h"], 0, USAGE, b""),
+        (["check", "absent"], 1, b"", b"bsonwide: cannot open absent\n"), (["check", "--", "-x"], 1, b"", b"bsonwide: cannot open -x\n"),
+        (["order", "/"], 1, b"", b"bsonwide: cannot read\n"), (["check", "/"], 1, b"", b"bsonwide: cannot read\n0 documents, 0 faulty\n"),
+        (["mask", "-"], 2, b"", USAGE), (["--version"], 0, VERSION, b""), (["--version", "-"], 2, b"", USAGE),
     ):  # fmt: skip
         got = subprocess.run([PROGRAM, *words], input=b"", capture_output=True, check=False)
         tests.want(f"words {words}", (got.returncode, got.stdout, got.stderr) == (status, out, err), got)
-    for command, data in (("check", small[:9]), ("order", small)):
-        with open("/dev/full", "wb") as full:
-            got = subprocess.run([PROGRAM, command, "-"], input=data, stdout=full, stderr=subprocess.PIPE, check=False)
-        tests.want(f"{command}, a full device", (got.returncode, got.stderr) == (1, b"bsonwide: cannot write\n"), got)
     print(f"{tests.passed} passed, {tests.failed} failed")
     return int(tests.failed > 0)
 
