@@ -26,18 +26,24 @@ add
 
 # The gate leaves the programs and the tests of the calls that grow, proved and built, so nothing is proved again.
 if cp crates/bsonfind/out/bsonfind bsonfind && cp crates/bsonwide/out/bsonwide bsonwide; then
-	for script in program/program.sh program/pages.py program/talk.py faults/growths.py faults/devices.py package/package.py package/wheels.py docs/usage.py; do
+	for script in program/program.sh program/pages.py program/talk.py package/package.py package/wheels.py docs/usage.py; do
 		"tests/$script" | tee "$log"
 		add
+	done
+	for program in bsonfind bsonwide; do
+		for script in faults/growths.py faults/devices.py; do
+			"tests/$script" "$program" | tee "$log"
+			add
+		done
 	done
 	# As LLVM builds it, and as Rattle's own compiler does.
 	tests/rows/rows.py --program crates/bsonfind/out/bsonfind --program crates/bsonfind/out/bsonfind.by-rattle | tee "$log"
 	add
-	tests/wide/wide.py bsonwide 2000 | tee "$log"
+	tests/wide/wide.py bsonwide 1000 | tee "$log"
 	add
-	tests/wide/questions.py bsonfind 50 | tee "$log"
+	tests/wide/questions.py bsonfind 25 | tee "$log"
 	add
-	tests/wide/others.py | tee "$log"
+	tests/wide/others.py --count 10000 | tee "$log"
 	add
 else
 	echo 'the gate did not build both programs: their tests were not run'

@@ -15,7 +15,7 @@ from pathlib import Path
 
 sys.path.insert(0, str(Path(__file__).resolve().parents[1]))
 
-from support import PROGRAM, ROOT, Tests
+from support import PROGRAM, ROOT, Tests, lines_of_synopsis
 
 PROGRAMS = ("bsonfind", "bsonwide")
 # Of each completion the lines, or the parts, that offer commands and options, and these in them.
@@ -30,17 +30,6 @@ def lines_of_usage(program: str) -> list[str]:
     """The command lines of the usage, each on one line without the name of the program."""
     text = subprocess.run([PROGRAM.with_name(program), "--help"], capture_output=True, text=True, check=True).stdout
     return [" ".join(it.split()) for it in re.split(rf"^(?:usage:)?\s+{program} ", text, flags=re.MULTILINE) if it]
-
-
-def lines_of_synopsis(page: str) -> list[str]:
-    """The command lines of a man page's synopsis, as the usage writes them."""
-    synopsis = re.search(r"^\.Sh SYNOPSIS\n(.*?)^\.Sh ", page, re.MULTILINE | re.DOTALL)[1]
-    lines = []
-    for line in synopsis.split(".Nm\n")[1:]:
-        line = re.sub(r"^\.Op (.*)$", r"[\1]", line, flags=re.MULTILINE)
-        line = re.sub(r"\bFl -", "--", re.sub(r"^\.", "", line, flags=re.MULTILINE))
-        lines.append(" ".join(re.sub(r"\b(?:Cm|Ar) ", "", line).split()))
-    return lines
 
 
 def words_of(lines: list[str]) -> set[str]:
@@ -67,7 +56,8 @@ def main() -> int:
     for program in PROGRAMS:
         usage = [*lines_of_usage(program), "--help"]
         page = (ROOT / f"man/{program}.1").read_text(encoding="utf-8")
-        tests.want(f"the synopsis of {program}", lines_of_synopsis(page) == usage, lines_of_synopsis(page))
+        synopsis = lines_of_synopsis(program)
+        tests.want(f"the synopsis of {program}", synopsis == usage, synopsis)
         for what, words in {
             f"the entries of man/{program}.1": words_of_entries(page),
             **{f"completions/{name.format(program)}": words_of_completion(program, name) for name in COMPLETIONS},

@@ -1,7 +1,9 @@
 #!/usr/bin/env python3
-"""Runs ./bsonfind and ./bsonwide over inputs and outputs that fail, each read and each write in turn.
+"""Runs a program over inputs and outputs that fail, each read and each write in turn.
 
-usage: tests/faults/devices.py     The last line is 'N passed, M failed'.
+usage: tests/faults/devices.py [PROGRAM]     The last line is 'N passed, M failed'.
+
+PROGRAM is ./bsonwide, or ./bsonfind, which runs without it.
 
 - Each read of an input fails, of a file and of pipes, with a block a read and with a byte a read: what is shown is that of the
   bytes before, and nothing is read again.
@@ -33,6 +35,9 @@ from failing import PATIENCE, PIPE, PROGRAM, Failing, Ran, Tests, await_stop, ma
 from growths import (
     BAD,
     BINARY,
+    COMMANDS,
+    DECIMAL,
+    DECIMAL_LINE,
     DOUBLE,
     DOUBLE_LINE,
     FIVE,
@@ -40,6 +45,7 @@ from growths import (
     INT32,
     INT32_LINE,
     INT64,
+    IS_WIDE,
     ORDERED,
     SEVERAL,
     STARVED,
@@ -48,6 +54,7 @@ from growths import (
     counted,
     frames,
     lines,
+    reported,
 )
 from model.answers import Dump, digest, token_of
 from model.sessions import Session, request_text
@@ -56,11 +63,13 @@ from support import ROOT
 
 # The file of an input, in the words of a run.
 FILE = "FILE"
-UNREAD = b"bsonfind: cannot read\n"
-UNWRITTEN = b"bsonfind: cannot write\n"
+UNREAD = reported(b"cannot read\n")
+UNWRITTEN = reported(b"cannot write\n")
 READ_ERRORS = [errno.EIO, errno.EINTR, errno.EAGAIN]
 # With 0 a write takes nothing.
 WRITE_ERRORS = [errno.EIO, 0, errno.ENOSPC, errno.EINTR, errno.EPIPE]
+# Before the words of a run in little memory.
+LIMITED = ["sh", "-c", 'ulimit -v 65536 && exec "$0" "$@"', PROGRAM]
 # What is read or written in turn: blocks, or single bytes.
 BLOCKS, SINGLE = 0, 1
 
@@ -109,44 +118,56 @@ class Case(NamedTuple):
     answer: Ran
     unread: Callable[[int], Ran] = untouched
     commands: bytes = b""
-    program: str = "bsonfind"
 
 
-DUMP = [(INT32, INT32_LINE.encode()), (b"\5\0\0\0\0", b"{}\n"), (BINARY, b'{"x":{"$binary":{"base64":"//8=","subType":"02"}}}\n')]
-CHECK = [(DOUBLE, b'document 0, byte 4, path "d": double\n'), (INT32, b""), (BAD, b'document 2, byte 52, path "a.0.1": bad boolean\n')]
-PACK = [(b'{"a":1}\n', INT32), (b'{"a":2147483648}\n', INT64), (b'{"a":1}\n', INT32)]
+def of_program(cases: list[Case]) -> list[Case]:
+    """Those of commands that the program has, or of no command."""
+    return [case for case in cases if not case.words or case.words[0] in [*COMMANDS, "--help"]]
+
+
+# `bsonfind` has a fault in place of a double.
+NUMBERS = [(DOUBLE, DOUBLE_LINE.encode()), (DECIMAL, DECIMAL_LINE.encode())] if IS_WIDE else []
+DOUBLE_FAULT = b"" if IS_WIDE else b'document 0, byte 4, path "d": double\n'
+DUMP = [*NUMBERS, (INT32, INT32_LINE.encode()), (b"\5\0\0\0\0", b"{}\n"), (BINARY, b'{"x":{"$binary":{"base64":"//8=","subType":"02"}}}\n')]
+CHECK = [(DOUBLE, DOUBLE_FAULT), (INT32, b""), (BAD, b'document 2, byte 52, path "a.0.1": bad boolean\n')]
+PACK = [*((line, document) for document, line in NUMBERS), (b'{"a":1}\n', INT32), (b'{"a":2147483648}\n', INT64), (b'{"a":1}\n', INT32)]
+# The second document is {"~n":1,"a":1}.
+ORDER = [(DOUBLE, ORDERED), (INT32, bytes.fromhex("18000000 12 7e6e00 0100000000000000 10 6100 01000000 00"))]
 SESSION = list(zip(lines(TALK)[::2], lines(TALK)[1::2]))
 
-SMALL = [
-    Case("dump", ["dump", FILE], joined(DUMP), Ran(0, shown(DUMP), b"3 objects found\n"), partial(dumped, DUMP)),
-    Case("check", ["check", FILE], joined(CHECK), Ran(1, shown(CHECK), b"3 documents, 2 faulty\n"), partial(checked, CHECK)),
-    Case("pack", ["pack", FILE], joined(PACK), Ran(0, shown(PACK), b"3 objects packed\n")),
-    Case("find", ["find", FILE, "--sort", '{"a":1}', "--index", "a"], FIVE_DUMP, Ran(0, shown(FIVE), counted(5, "end", 4, FIVE_DUMP, sort='{"a":1}').encode())),
-    Case("serve", ["serve", FILE], SEVERAL, Ran(0, shown(SESSION), b""), commands=joined(SESSION)),
-]
+SMALL = of_program(
+    [
+        Case("dump", ["dump", FILE], joined(DUMP), Ran(0, shown(DUMP), b"%d objects found\n" % len(DUMP)), partial(dumped, DUMP)),
+        Case("check", ["check", FILE], joined(CHECK), Ran(1, shown(CHECK), b"3 documents, %d faulty\n" % (2 - IS_WIDE)), partial(checked, CHECK)),
+        Case("pack", ["pack", FILE], joined(PACK), Ran(0, shown(PACK), b"%d objects packed\n" % len(PACK))),
+        Case("find", ["find", FILE, "--sort", '{"a":1}', "--index", "a"], FIVE_DUMP, Ran(0, shown(FIVE), counted(5, "end", 4, FIVE_DUMP, sort='{"a":1}').encode())),
+        Case("serve", ["serve", FILE], SEVERAL, Ran(0, shown(SESSION), b""), commands=joined(SESSION)),
+        Case("order", ["order", FILE], joined(ORDER), Ran(0, shown(ORDER), b""), partial(ordered, ORDER)),
+    ]
+)
 
-WIDE_DUMP = [(DOUBLE, DOUBLE_LINE.encode()), *DUMP]
-WIDE_CHECK = [(DOUBLE, b""), (INT32, b""), (BAD, b'document 2, byte 52, path "a.0.1": bad boolean\n')]
-ORDER = [(DOUBLE, ORDERED), (b"\5\0\0\0\0", b"\x11\0\0\0\x12~n\0\1\0\0\0\0\0\0\0\0")]
 
-WIDE = [
-    Case("bsonwide, dump", ["dump", FILE], joined(WIDE_DUMP), Ran(0, shown(WIDE_DUMP), b"4 objects found\n"), partial(dumped, WIDE_DUMP), program="bsonwide"),
-    Case("bsonwide, check", ["check", FILE], joined(WIDE_CHECK), Ran(1, shown(WIDE_CHECK), b"3 documents, 1 faulty\n"), partial(checked, WIDE_CHECK), program="bsonwide"),
-    Case("bsonwide, order", ["order", FILE], joined(ORDER), Ran(0, shown(ORDER), b""), partial(ordered, ORDER), program="bsonwide"),
-]
+def refused(reason: bytes) -> Ran:
+    """A run that writes nothing, and tells why."""
+    return Ran(1, b"", reported(reason))
 
+
+FAULT = b'document 0, byte 24, path "a.0.1": bad boolean\n'
 # What is told on standard error, alone and beside lines, and the usage.
-TOLD = [
-    Case("a dump with a fault", ["dump", FILE], INT32 + BAD, Ran(1, INT32_LINE.encode(), b'bsonfind: document 1, byte 36, path "a.0.1": bad boolean\n1 objects found\n')),
-    Case("a bad line", ["pack", FILE], b'{"a":1}\n{"a":1.5}\n', Ran(1, INT32, b"bsonfind: line 2, byte 5: not in the profile\n1 objects packed\n")),
-    Case("find in a dump with a fault", ["find", FILE], DOUBLE, Ran(1, b"", b'bsonfind: document 0, byte 4, path "d": double\n')),
-    Case("a bad query", ["find", FILE, "--query", "{"], INT32, Ran(1, b"", b"bsonfind: query: byte 1: not JSON\n")),
-    Case("a session over a fault", ["serve", FILE], DOUBLE, Ran(1, b"", b'bsonfind: document 0, byte 4, path "d": double\n')),
-    Case("no such file", ["check", "missing.bson"], b"", Ran(1, b"", b"bsonfind: cannot open missing.bson\n")),
-    Case("a directory", ["dump", "."], b"", Ran(1, b"", UNREAD + b"0 objects found\n")),
-    Case("no words", [], b"", Ran(2, b"", USAGE.encode())),
-    Case("a request for help", ["--help"], b"", Ran(0, USAGE.encode(), b"")),
-]
+TOLD = of_program(
+    [
+        Case("a dump with a fault", ["dump", FILE], INT32 + BAD, Ran(1, INT32_LINE.encode(), reported(b'document 1, byte 36, path "a.0.1": bad boolean\n') + b"1 objects found\n")),
+        Case("a bad line", ["pack", FILE], b'{"a":1}\n{"a":1.}\n', Ran(1, INT32, reported(b"line 2, byte 7: not JSON\n") + b"1 objects packed\n")),
+        Case("find in a dump with a fault", ["find", FILE], BAD, refused(FAULT)),
+        Case("a bad query", ["find", FILE, "--query", "{"], INT32, refused(b"query: byte 1: not JSON\n")),
+        Case("a session over a fault", ["serve", FILE], BAD, refused(FAULT)),
+        Case("a number without a code", ["order", FILE], DECIMAL, refused(b'document 0, byte 4, path "d": not a whole number of 64 bits\n')),
+        Case("no such file", ["check", "missing.bson"], b"", refused(b"cannot open missing.bson\n")),
+        Case("a directory", ["dump", "."], b"", Ran(1, b"", UNREAD + b"0 objects found\n")),
+        Case("no words", [], b"", Ran(2, b"", USAGE.encode())),
+        Case("a request for help", ["--help"], b"", Ran(0, USAGE.encode(), b"")),
+    ]
+)
 
 
 def large_cases() -> list[Case]:
@@ -154,20 +175,21 @@ def large_cases() -> list[Case]:
     shop, people = ((ROOT / f"examples/{name}.bson").read_bytes() for name in ("shop", "people"))
     shop_lines, people_lines = ((ROOT / f"examples/{name}.jsonl").read_bytes() for name in ("shop", "people"))
     orders = list(zip(frames(shop), shop_lines.splitlines(keepends=True)))
-    doubles = [(DOUBLE, b'document %d, byte %d, path "d": double\n' % (number, 16 * number + 4)) for number in range(6000)]
+    faults = [(b"\6\0\0\0\x63\0", b'document %d, byte %d, path "": unknown type\n' % (number, 6 * number + 4)) for number in range(6000)]
     tied = digest(shop, request_text())
     replies = b'{"ok":true,"cursor":{"$numberLong":"1"}}\n'
     for batch, given, end in ((orders[:150], 150, b"false"), (orders[150:], 400, b"true")):
         documents = b",".join(line.rstrip(b"\n") for _, line in batch)
         replies += b'{"ok":true,"documents":[%s],"end":%s,"token":"%s"}\n' % (documents, end, token_of(given, given - 1, tied).encode())
     commands = b'{"find":{}}\n{"getMore":1,"batch":150}\n{"getMore":1,"batch":250}\n'
-    return [
+    cases = [
         Case("a large dump", ["dump", FILE], shop, Ran(0, shop_lines, b"400 objects found\n"), partial(dumped, orders)),
-        Case("a large check", ["check", FILE], joined(doubles), Ran(1, shown(doubles), b"6000 documents, 6000 faulty\n"), partial(checked, doubles)),
+        Case("a large check", ["check", FILE], joined(faults), Ran(1, shown(faults), b"6000 documents, 6000 faulty\n"), partial(checked, faults)),
         Case("a large pack", ["pack", FILE], people_lines + shop_lines, Ran(0, people + shop, b"900 objects packed\n")),
         Case("a large find", ["find", FILE], shop, Ran(0, shop_lines, counted(400, "end", 399, shop).encode())),
         Case("a large session", ["serve", FILE], shop, Ran(0, replies, b""), commands=commands),
     ]
+    return of_program(cases)
 
 
 LARGE = large_cases()
@@ -181,16 +203,6 @@ class Way(NamedTuple):
     stdin: bytes | Path
     pipe: bytes
     descriptor: int
-    program: str = "bsonfind"
-
-    @property
-    def path(self) -> Path:
-        """Its program."""
-        return ROOT / self.program
-
-    def tells(self, ran: Ran) -> Ran:
-        """What `bsonfind` tells as its program does."""
-        return ran._replace(err=ran.err.replace(b"bsonfind: ", b"%s: " % self.program.encode()))
 
 
 def named(case: Case, name: str) -> list[str]:
@@ -199,16 +211,16 @@ def named(case: Case, name: str) -> list[str]:
 
 def of_file(failing: Failing, case: Case) -> Way:
     (failing.room / f"{case.name}.input").write_bytes(case.data)
-    return Way("a file", named(case, f"{case.name}.input"), case.commands, b"", 3, case.program)
+    return Way("a file", named(case, f"{case.name}.input"), case.commands, b"", 3)
 
 
 def ways(failing: Failing, case: Case) -> list[Way]:
-    by_name = [of_file(failing, case), Way("a pipe with a name", named(case, PIPE), case.commands, case.data, 3, case.program)]
+    by_name = [of_file(failing, case), Way("a pipe with a name", named(case, PIPE), case.commands, case.data, 3)]
     if case.words[0] == "serve":
         return by_name
     file = failing.room / f"{case.name}.input"
     stream = named(case, "-")
-    return [*by_name, Way("a file as standard input", stream, file, b"", 0, case.program), Way("a pipe", stream, case.data, b"", 0, case.program)]
+    return [*by_name, Way("a file as standard input", stream, file, b"", 0), Way("a pipe", stream, case.data, b"", 0)]
 
 
 def judge(tests: Tests, name: str, results: list[str], least: int, most: int | None = None) -> None:
@@ -221,7 +233,7 @@ def judge(tests: Tests, name: str, results: list[str], least: int, most: int | N
 def wrong_read(failing: Failing, way: Way, unread: Callable[[int], Ran], size: int, read: int) -> str | None:
     """What is wrong where a read fails, if anything; None where there are not so many reads."""
     error = READ_ERRORS[read % len(READ_ERRORS)]
-    ran, counts = failing.run(way.words, way.stdin, way.pipe, way.path, input=way.descriptor, read=read, error=error, single=size)
+    ran, counts = failing.run(way.words, way.stdin, way.pipe, input=way.descriptor, read=read, error=error, single=size)
     reads, given = counts.reads[way.descriptor], counts.given[way.descriptor]
     if reads < read:
         return None
@@ -231,11 +243,11 @@ def wrong_read(failing: Failing, way: Way, unread: Callable[[int], Ran], size: i
         return f"it reads standard input after read {read}"
     if size == SINGLE and given != read - 1:
         return f"{given} bytes before read {read}"
-    return "" if ran == way.tells(unread(given)) else f"read {read}: {ran}"
+    return "" if ran == unread(given) else f"read {read}: {ran}"
 
 
 def test_reads(tests: Tests, failing: Failing) -> None:
-    for case in SMALL + WIDE + LARGE:
+    for case in SMALL + LARGE:
         for way in ways(failing, case):
             name = f"{case.name}, each read of {way.name} fails"
             # One is of the bytes, and one of the end.
@@ -251,6 +263,8 @@ def replied(given: int) -> Ran:
 
 
 def test_commands(tests: Tests, failing: Failing) -> None:
+    if "serve" not in COMMANDS:
+        return
     data, file = joined(SESSION), failing.room / "commands"
     (failing.room / "several.bson").write_bytes(SEVERAL)
     file.write_bytes(data)
@@ -263,7 +277,7 @@ def test_commands(tests: Tests, failing: Failing) -> None:
 
 def wrong_write(failing: Failing, way: Way, answer: Ran, descriptor: int, size: int, error: int, write: int) -> str | None:
     """What is wrong where a write fails, if anything; None where there are not so many writes."""
-    ran, counts = failing.run(way.words, way.stdin, program=way.path, output=descriptor, write=write, error=error, single=size)
+    ran, counts = failing.run(way.words, way.stdin, output=descriptor, write=write, error=error, single=size)
     writes, taken = counts.writes[descriptor], counts.taken[descriptor]
     if writes < write:
         return None
@@ -272,11 +286,11 @@ def wrong_write(failing: Failing, way: Way, answer: Ran, descriptor: int, size: 
     if size == SINGLE and taken != write - 1:
         return f"{taken} bytes before write {write}"
     wanted = Ran(1, answer.out[:taken], UNWRITTEN) if descriptor == 1 else Ran(1, answer.out, answer.err[:taken])
-    return "" if ran == way.tells(wanted) else f"write {write}, error {error}: {ran}"
+    return "" if ran == wanted else f"write {write}, error {error}: {ran}"
 
 
 def test_writes(tests: Tests, failing: Failing) -> None:
-    for case in SMALL + WIDE + TOLD + LARGE:
+    for case in SMALL + TOLD + LARGE:
         way = of_file(failing, case)
         for descriptor, stream, text in ((1, "output", case.answer.out), (2, "error", case.answer.err)):
             name = f"{case.name}, each write to standard {stream} fails"
@@ -291,13 +305,13 @@ def test_writes(tests: Tests, failing: Failing) -> None:
 
 
 def wrong_whole(failing: Failing, case: Case, way: Way, size: int) -> str:
-    ran, _ = failing.run(way.words, way.stdin, way.pipe, way.path, single=size)
+    ran, _ = failing.run(way.words, way.stdin, way.pipe, single=size)
     return "" if ran == case.answer else str(ran)
 
 
 def test_whole(tests: Tests, failing: Failing) -> None:
     """A byte a read and a byte a write, and both as they come."""
-    each = [(case, way, size) for case in SMALL + WIDE + LARGE for way in ways(failing, case) for size in (BLOCKS, SINGLE)]
+    each = [(case, way, size) for case in SMALL + LARGE for way in ways(failing, case) for size in (BLOCKS, SINGLE)]
     each += [(case, of_file(failing, case), size) for case in TOLD for size in (BLOCKS, SINGLE)]
     for (case, way, size), wrong in zip(each, failing.pool.map(lambda it: wrong_whole(failing, *it), each)):
         tests.want(f"{case.name} of {way.name}{', byte by byte' if size == SINGLE else ''}", not wrong, wrong)
@@ -313,7 +327,7 @@ def cut(parts: list[Part], size: int) -> tuple[list[Part], bytes]:
 
 def cut_dump(size: int) -> Ran:
     read, fault = cut(DUMP, size)
-    return Ran(int(fault != b""), shown(read), (b"bsonfind: " + fault if fault else b"") + b"%d objects found\n" % len(read))
+    return Ran(int(fault != b""), shown(read), (reported(fault) if fault else b"") + b"%d objects found\n" % len(read))
 
 
 def cut_check(size: int) -> Ran:
@@ -329,14 +343,14 @@ def cut_pack(size: int) -> Ran:
     front = joined(PACK)[:size].split(b"\n")
     packed = [document for (line, document), text in zip(PACK, front) if line == text + b"\n"]
     bad = front[-1] if len(packed) < len(front) else b""
-    told = b"bsonfind: line %d, byte %d: not JSON\n" % (len(front), len(bad)) if bad else b""
+    told = reported(b"line %d, byte %d: not JSON\n" % (len(front), len(bad))) if bad else b""
     return Ran(int(bad != b""), b"".join(packed), told + b"%d objects packed\n" % len(packed))
 
 
 def cut_find(size: int) -> Ran:
     read, fault = cut(FIVE, size)
     if fault:
-        return Ran(1, b"", b"bsonfind: " + fault)
+        return refused(fault)
     return Ran(0, shown(read), counted(len(read), "end", len(read) - 1, FIVE_DUMP[:size]).encode() if read else b"0 documents, end\n")
 
 
@@ -347,7 +361,13 @@ def explained(documents: int) -> bytes:
 
 def cut_serve(size: int) -> Ran:
     read, fault = cut(FIVE, size)
-    return Ran(1, b"", b"bsonfind: " + fault) if fault else Ran(0, explained(len(read)), b"")
+    return refused(fault) if fault else Ran(0, explained(len(read)), b"")
+
+
+def cut_order(size: int) -> Ran:
+    """What is no document is copied."""
+    read, _ = cut(ORDER, size)
+    return Ran(0, shown(read) + joined(ORDER)[len(joined(read)) : size], b"")
 
 
 EXPLAIN = b'{"explain":{}}\n'
@@ -357,7 +377,9 @@ CUTS = {
     "pack": (joined(PACK), cut_pack),
     "find": (FIVE_DUMP, cut_find),
     "serve": (FIVE_DUMP, cut_serve),
+    "order": (joined(ORDER), cut_order),
 }
+CUTS = {command: cut for command, cut in CUTS.items() if command in COMMANDS}
 
 
 def wrong_end(failing: Failing, way: Way, wanted: Callable[[int], Ran], read: int) -> str | None:
@@ -383,10 +405,11 @@ def test_ends(tests: Tests, failing: Failing) -> None:
         for way in ways(failing, Case(command, [command, FILE], data, wanted(len(data)), commands=EXPLAIN)):
             results = failing.each(partial(wrong_end, failing, way, wanted))
             judge(tests, f"{command}, each read of {way.name} finds the end", results, len(data) + 1, len(data) + 1)
-    (failing.room / "several.bson").write_bytes(SEVERAL)
-    data = joined(SESSION)
-    results = failing.each(partial(wrong_end, failing, Way("", ["serve", "several.bson"], data, b"", 0), replied_to))
-    judge(tests, "each read of commands finds the end", results, len(data) + 1, len(data) + 1)
+    if "serve" in COMMANDS:
+        (failing.room / "several.bson").write_bytes(SEVERAL)
+        data = joined(SESSION)
+        results = failing.each(partial(wrong_end, failing, Way("", ["serve", "several.bson"], data, b"", 0), replied_to))
+        judge(tests, "each read of commands finds the end", results, len(data) + 1, len(data) + 1)
 
 
 def changed(failing: Failing, words: list[str], read: int, size: int, change: Callable[[], object]) -> Ran:
@@ -432,38 +455,38 @@ def direct(failing: Failing, words: list[object], commands: bytes = b"", **strea
     return Ran(run.returncode, run.stdout or b"", run.stderr or b"")
 
 
-def shut(redirections: str, program: Path = PROGRAM) -> list[object]:
+def shut(redirections: str) -> list[object]:
     """Before the words of a run: which descriptors are closed."""
-    return ["sh", "-c", f'exec "$0" "$@" {redirections}', program]
+    return ["sh", "-c", f'exec "$0" "$@" {redirections}', PROGRAM]
 
 
 def test_closed(tests: Tests, failing: Failing) -> None:
     """Outputs whose reader is gone, and descriptors that are closed. No signal ends a run, and nothing is written to its file."""
     ours, gone = os.pipe()
     os.close(ours)
-    for case in SMALL + WIDE + TOLD + LARGE:
+    for case in SMALL + TOLD + LARGE:
         way, (_, out, err) = of_file(failing, case), case.answer
         for name, redirections, streams, wanted in (
             ("output", ">&-", {"stdout": gone}, Ran(1, b"", UNWRITTEN) if out else case.answer),
             ("error", "2>&-", {"stderr": gone}, Ran(1, out, b"") if err else case.answer),
             ("output and error", ">&- 2>&-", {"stdout": gone, "stderr": gone}, Ran(1, b"", b"")),
         ):
-            ran = direct(failing, [way.path, *way.words], case.commands, **streams)
-            tests.want(f"{case.name}, no one reads standard {name}", ran == way.tells(wanted), ran)
-            ran = direct(failing, shut(redirections, way.path) + way.words, case.commands)
-            tests.want(f"{case.name}, closed standard {name}", ran == way.tells(wanted), ran)
+            ran = direct(failing, [PROGRAM, *way.words], case.commands, **streams)
+            tests.want(f"{case.name}, no one reads standard {name}", ran == wanted, ran)
+            ran = direct(failing, shut(redirections) + way.words, case.commands)
+            tests.want(f"{case.name}, closed standard {name}", ran == wanted, ran)
         if FILE in case.words:
             tests.want(f"{case.name}, its file", (failing.room / way.words[1]).read_bytes() == case.data)
     os.close(gone)
-    for case in SMALL[:4]:
+    for case in [case for case in SMALL if case.words[0] != "serve"]:
         ran = direct(failing, shut("<&-") + named(case, "-"))
         tests.want(f"{case.name}, closed standard input", ran == case.unread(0), ran)
 
 
 def test_full(tests: Tests, failing: Failing) -> None:
-    """Outputs that are full, of runs that tests/program/program.sh has not."""
+    """Outputs that are full."""
     with open("/dev/full", "wb") as full:
-        for case in SMALL[3:4] + TOLD[5:8] + LARGE:
+        for case in SMALL + TOLD + LARGE:
             way, (_, out, err) = of_file(failing, case), case.answer
             ran = direct(failing, [PROGRAM, *way.words], case.commands, stdout=full)
             tests.want(f"{case.name}, a full standard output", ran == (Ran(1, b"", UNWRITTEN) if out else case.answer), ran)
@@ -512,22 +535,25 @@ def test_endless(tests: Tests, failing: Failing) -> None:
     (failing.room / "five.bson").write_bytes(FIVE_DUMP)
     empty, line = b"\5\0\0\0\0" * 10000, b'{"a":1}\n' * 10000
     faults = b"".join(b'document %d, byte %d, path "": unknown type\n' % (number, 6 * number + 4) for number in range(1000))
+    marked = b"".join(bytes.fromhex("11000000 12 7e6e00") + number.to_bytes(8, "little") + b"\0" for number in range(1000))
     for name, words, data, out in (
         ("dump", ["dump", "-"], empty, b"{}\n" * 1000),
         ("check", ["check", "-"], b"\6\0\0\0\x63\0" * 10000, faults),
         ("serve", ["serve", "five.bson"], EXPLAIN * 1000, explained(5) * 1000),
+        ("order", ["order", "-"], empty, marked),
     ):
-        ran = endless(failing, [PROGRAM, *words], data, len(out))
-        tests.want(f"{name}, an input without end, and an output that is closed", ran == Ran(1, out, UNWRITTEN), ran)
-    limited = ["sh", "-c", 'ulimit -v 65536 && exec "$0" "$@"', PROGRAM]
+        if name in COMMANDS:
+            ran = endless(failing, [PROGRAM, *words], data, len(out))
+            tests.want(f"{name}, an input without end, and an output that is closed", ran == Ran(1, out, UNWRITTEN), ran)
     for name, words, data in (("find", ["find", "-"], empty), ("pack", ["pack", "-"], line), ("serve", ["serve", "/dev/stdin"], empty)):
-        ran = endless(failing, [*limited, *words], data, 0)
-        tests.want(f"{name}, an input without end in 64 MiB of memory", ran == Ran(1, b"", STARVED), ran)
+        if name in COMMANDS:
+            ran = endless(failing, [*LIMITED, *words], data, 0)
+            tests.want(f"{name}, an input without end in 64 MiB of memory", ran == Ran(1, b"", STARVED), ran)
 
 
-def fed(words: list[str], part: bytes, count: int, last: bytes) -> tuple[int, bytes]:
+def fed(words: list[object], part: bytes, count: int, last: bytes) -> tuple[int, bytes]:
     """The status and the standard error of a run over so many parts and then the last bytes."""
-    with subprocess.Popen([PROGRAM, *words], stdin=subprocess.PIPE, stdout=subprocess.DEVNULL, stderr=subprocess.PIPE) as run:
+    with subprocess.Popen(words, stdin=subprocess.PIPE, stdout=subprocess.DEVNULL, stderr=subprocess.PIPE) as run:
         for _ in range(count):
             run.stdin.write(part)
         run.stdin.write(last)
@@ -542,14 +568,18 @@ def test_too_long(tests: Tests, failing: Failing) -> None:
     # A document of 65,537 bytes: 65,535 of them are as many bytes as an input may have.
     one = (65537).to_bytes(4, "little") + b"\2a\0" + (65525).to_bytes(4, "little") + text + b"\0\0"
     part = one * 15
-    for name, words, count in (("check", ["check", "-"], b"65535 documents, 0 faulty\n"), ("dump", ["dump", "-"], b"65535 objects found\n")):
-        ran = fed(words, part, 4369, b"")
-        tests.want(f"{name} of the longest input", ran == (0, count), ran)
+    last = {"check": b"65535 documents, 0 faulty\n", "dump": b"65535 objects found\n", "order": b""}
+    for name in [name for name in last if name in COMMANDS]:
+        words: list[object] = [*LIMITED, name, "-"]
+        if name != "order":
+            ran = fed(words, part, 4369, b"")
+            tests.want(f"{name} of the longest input in 64 MiB of memory", ran == (0, last[name]), ran)
         ran = fed(words, part, 4369, b"\5")
-        tests.want(f"{name} of an input of one byte more", ran == (1, b"bsonfind: input too long\n" + count), ran)
+        tests.want(f"{name} of an input of one byte more", ran == (1, reported(b"input too long\n") + last[name]), ran)
     for name, words in (("find", ["find", "-"]), ("pack", ["pack", "-"]), ("serve", ["serve", "/dev/stdin"])):
-        ran = fed(words, part, 4369, b"\5")
-        tests.want(f"{name} of an input of one byte more", ran == (1, b"bsonfind: input too long\n"), ran)
+        if name in COMMANDS:
+            ran = fed([PROGRAM, *words], part, 4369, b"\5")
+            tests.want(f"{name} of an input of one byte more", ran == (1, reported(b"input too long\n")), ran)
 
 
 if __name__ == "__main__":

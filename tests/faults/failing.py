@@ -1,6 +1,7 @@
-"""Runs ./bsonfind and ./bsonwide over tests/faults/failing.c, by which growths of memory, reads and writes fail.
+"""Runs a program over tests/faults/failing.c, by which growths of memory, reads and writes fail.
 
-For tests/faults/growths.py and tests/faults/devices.py. Where there is no C compiler there is no library, and their tests are passed over.
+For tests/faults/growths.py and tests/faults/devices.py, whose argument is the program. Where there is no C compiler there is no library,
+and their tests are passed over.
 """
 
 import fcntl
@@ -11,6 +12,7 @@ import queue
 import shutil
 import struct
 import subprocess
+import sys
 import tempfile
 import time
 from collections.abc import Callable, Iterable, Iterator
@@ -19,8 +21,10 @@ from contextlib import ExitStack, contextmanager
 from pathlib import Path
 from typing import NamedTuple, TypeVar
 
-from support import PROGRAM, ROOT, Tests
+from support import PROGRAM as BUILT
+from support import ROOT, Tests
 
+PROGRAM = Path(sys.argv[1]).resolve() if len(sys.argv) > 1 else BUILT
 SOURCE = ROOT / "tests/faults/failing.c"
 # How many seconds a run may take.
 PATIENCE = 60.0
@@ -100,9 +104,7 @@ class Failing:
                 self.free.put((file, mmap.mmap(opened.fileno(), LAYOUT.size)))
 
     @contextmanager
-    def started(
-        self, words: Iterable[str], stdin: bytes | Path = b"", pipe: bytes = b"", program: Path = PROGRAM, **how: int
-    ) -> Iterator[tuple[subprocess.Popen, Callable[[], Counts]]]:
+    def started(self, words: Iterable[str], stdin: bytes | Path = b"", pipe: bytes = b"", **how: int) -> Iterator[tuple[subprocess.Popen, Callable[[], Counts]]]:
         """A run, with its counts so far. Standard input is a pipe or a file, and PIPE the name of a pipe that has these bytes.
 
         Of a word as growth=3 the library is told by the environment.
@@ -126,15 +128,15 @@ class Failing:
                 closing.callback(os.close, handed[0])
                 words = [f"/dev/fd/{handed[0]}" if word == PIPE else word for word in words]
             run = subprocess.Popen(
-                [program, *words], cwd=self.room, env=env, stdin=source, stdout=subprocess.PIPE, stderr=subprocess.PIPE, pass_fds=handed
+                [PROGRAM, *words], cwd=self.room, env=env, stdin=source, stdout=subprocess.PIPE, stderr=subprocess.PIPE, pass_fds=handed
             )
             closing.callback(run.communicate)
             closing.callback(run.kill)
             yield run, told
 
-    def run(self, words: Iterable[str], stdin: bytes | Path = b"", pipe: bytes = b"", program: Path = PROGRAM, **how: int) -> tuple[Ran, Counts]:
+    def run(self, words: Iterable[str], stdin: bytes | Path = b"", pipe: bytes = b"", **how: int) -> tuple[Ran, Counts]:
         """A run to its end."""
-        with self.started(words, stdin, pipe, program, **how) as (run, told):
+        with self.started(words, stdin, pipe, **how) as (run, told):
             out, err = run.communicate(timeout=PATIENCE)
             counts = told()
         if not counts.ready:

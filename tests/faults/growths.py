@@ -1,11 +1,12 @@
 #!/usr/bin/env python3
-"""Runs ./bsonfind and ./bsonwide with each growth of their memory refused in turn: alone, and with all that come after it.
+"""Runs a program with each growth of its memory refused in turn: alone, and with all that come after it.
 
-usage: tests/faults/growths.py     The last line is 'N passed, M failed'.
+usage: tests/faults/growths.py [PROGRAM]     The last line is 'N passed, M failed'.
 
-The inputs and the whole answers are written by hand, or are those of examples/; tests/program/tokens.py makes tokens. With a growth
-refused a run gives the whole answer, where it does without; else it writes lines of it from the front (`pack` and `order` documents),
-tells `bsonfind: no memory`, or the same of `bsonwide`, and nothing else, and has status 1.
+PROGRAM is ./bsonwide, or ./bsonfind, which runs without it. The inputs and the whole answers are written by hand, or are those of
+examples/; tests/program/tokens.py makes tokens. With a growth refused a run gives the whole answer, where it does without; else it writes
+lines of it from the front (`pack` and `order` documents), tells `bsonfind: no memory`, or the same of `bsonwide`, and nothing
+else, and has status 1.
 """
 
 import sys
@@ -17,31 +18,35 @@ from typing import NamedTuple
 
 sys.path.insert(0, str(Path(__file__).resolve().parents[1]))
 
-from failing import Counts, Failing, Ran, Tests, main
+from failing import PROGRAM, Counts, Failing, Ran, Tests, main
 from model.answers import digest, token_of
 from model.sessions import request_text
-from support import ROOT
+from support import ROOT, commands_of, usage_of
 
-STARVED = b"bsonfind: no memory\n"
-USAGE = """\
-usage: bsonfind dump FILE
-       bsonfind check FILE
-       bsonfind pack FILE
-       bsonfind find FILE [--query Q] [--sort S] [--skip N] [--limit N] [--batch N] [--index PATH] [--after TOKEN]
-       bsonfind serve FILE
-"""
-WIDE_USAGE = """\
-usage: bsonwide dump FILE
-       bsonwide check FILE
-       bsonwide order FILE [PATH..]
-"""
+# The name of the program, its commands, and whether it reads doubles and decimal128.
+NAME = PROGRAM.name
+COMMANDS = commands_of(NAME)
+IS_WIDE = NAME == "bsonwide"
+
+
+def reported(line: bytes) -> bytes:
+    """A line that the program tells, after its name."""
+    return NAME.encode() + b": " + line
+
+
+STARVED = reported(b"no memory\n")
+USAGE = usage_of(NAME)
 
 INT32 = bytes.fromhex("0c000000 10 6100 01000000 00")
 INT32_LINE = '{"a":{"$numberInt":"1"}}\n'
 INT64 = bytes.fromhex("10000000 12 6100 0000008000000000 00")
+# {"a":["x",{"b":null}]}
+NESTED = bytes.fromhex("21000000 04 6100 19000000 02 3000 02000000 7800 03 3100 08000000 0a 6200 00 00 00")
 BINARY = bytes.fromhex("13000000 05 7800 06000000 02 02000000 ffff 00")
 DOUBLE = bytes.fromhex("10000000 01 6400 000000000000f03f 00")
 DOUBLE_LINE = '{"d":{"$numberDouble":"1.0"}}\n'
+DECIMAL = bytes.fromhex("18000000 13 6400 9600000000000000 0000000000003c30 00")
+DECIMAL_LINE = '{"d":{"$numberDecimal":"1.50"}}\n'
 # {"~n":0,"d":1} of two int64.
 ORDERED = bytes.fromhex("1c000000 12 7e6e00 0000000000000000 12 6400 0100000000000000 00")
 # The second element of an array in an array is a boolean of 2.
@@ -112,19 +117,18 @@ class Run(NamedTuple):
     pieces: list[bytes]
     err: str
     status: int = 0
-    program: str = "bsonfind"
 
     def whole(self) -> Ran:
         return Ran(self.status, b"".join(self.pieces), self.err.encode())
 
     def on(self, failing: Failing, **how: int) -> tuple[Ran, Counts]:
         """A run to its end."""
-        return failing.run(self.words, self.stdin, program=ROOT / self.program, **how)
+        return failing.run(self.words, self.stdin, **how)
 
     def is_cut(self, ran: Ran) -> bool:
         """Whether it ended because memory ran out as it should."""
         is_front = self.whole().out.startswith(ran.out) and len(ran.out) in accumulate(map(len, self.pieces), initial=0)
-        return is_front and (ran.status, ran.err) == (1, STARVED.replace(b"bsonfind", self.program.encode()))
+        return is_front and (ran.status, ran.err) == (1, STARVED)
 
 
 def lines(text: str) -> list[bytes]:
@@ -156,33 +160,49 @@ def talk(name: str, dump: str, text: str) -> Run:
     return Run(f"serve, {name}", ["serve", dump], b"".join(lines(text)[::2]), lines(text)[1::2], "")
 
 
-def wide(name: str, words: list[str], stdin: bytes, pieces: list[bytes], err: str, status: int = 0) -> Run:
-    """A run of `bsonwide`."""
-    return Run(f"bsonwide, {name}", words, stdin, pieces, err, status, "bsonwide")
-
-
-def wide_runs() -> list[Run]:
+def both_runs() -> list[Run]:
+    """Runs of what both programs have. `bsonfind` refuses doubles and decimal128."""
+    # Most kinds of values stand in the first orders.
     orders = list(frames((ROOT / "examples/shop.bson").read_bytes()))[:8]
     order_lines = (ROOT / "examples/shop.jsonl").read_bytes().splitlines(keepends=True)[:8]
-    fault = 'document 1, byte 40, path "a.0.1": bad boolean\n'
+    first, line = (DOUBLE, DOUBLE_LINE) if IS_WIDE else (INT32, INT32_LINE)
+    fault = f'document 1, byte {len(first) + 24}, path "a.0.1": bad boolean'
+    doubles = [] if IS_WIDE else ['document 1, byte 32, path "d": double\n']
+    faults = ['document 0, byte 24, path "a.0.1": bad boolean\n', *doubles, 'document 3, byte 56, path "": bad length\n']
+    packed = [b'{"a":1}\n', b'{"a":2147483648}\n', b'{"a":["x",{"b":null}]}\n']
     return [
-        wide("dump", ["dump", "-"], DOUBLE + INT32, lines(DOUBLE_LINE + INT32_LINE), "2 objects found\n"),
-        wide("dump of orders", ["dump", "-"], b"".join(orders), order_lines, "8 objects found\n"),
-        wide("dump with a fault", ["dump", "-"], DOUBLE + BAD, lines(DOUBLE_LINE), f"bsonwide: {fault}1 objects found\n", 1),
-        wide("check", ["check", "-"], DOUBLE + BAD + INT32, lines(fault), "3 documents, 1 faulty\n", 1),
-        wide("order", ["order", "-"], DOUBLE, [ORDERED], ""),
-        wide("no words", [], b"", [], WIDE_USAGE, 2),
-        wide("--help", ["--help"], b"", [WIDE_USAGE.encode()], ""),
+        Run("dump", ["dump", "-"], BINARY, lines('{"x":{"$binary":{"base64":"//8=","subType":"02"}}}\n'), "1 objects found\n"),
+        Run("dump of orders", ["dump", "-"], b"".join(orders), order_lines, "8 objects found\n"),
+        Run("dump with a fault", ["dump", "-"], first + BAD, lines(line), f"{NAME}: {fault}\n1 objects found\n", 1),
+        Run("check", ["check", "-"], first + BAD + INT32, lines(f"{fault}\n"), "3 documents, 1 faulty\n", 1),
+        Run("check of several faults", ["check", "-"], BAD + DOUBLE + INT32 + BAD[:-1], lines("".join(faults)), f"4 documents, {len(faults)} faulty\n", 1),
+        Run("pack", ["pack", "-"], b"".join(packed) + b"[", [INT32, INT64, NESTED], f"{NAME}: line 4, byte 1: not JSON\n3 objects packed\n", 1),
+        Run("pack of orders", ["pack", "-"], b"".join(order_lines), orders, "8 objects packed\n"),
+        Run("pack of no document", ["pack", "-"], b'{"a":1}\n\n[{"a":1}]\n', [INT32], f"{NAME}: line 3: not a document\n1 objects packed\n", 1),
+        Run("no words", [], b"", [], USAGE, 2),
+        Run("--help", ["--help"], b"", [USAGE.encode()], ""),
     ]
 
 
-def runs(failing: Failing) -> list[Run]:
+def wide_runs() -> list[Run]:
+    """Runs over what `bsonwide` alone reads."""
+    numbers, number_lines = [DOUBLE, DECIMAL, INT32], lines(DOUBLE_LINE + DECIMAL_LINE + INT32_LINE)
+    refused = 'document 1, byte 20, path "d": not a whole number of 64 bits'
+    return [
+        Run("dump of numbers", ["dump", "-"], b"".join(numbers), number_lines, "3 objects found\n"),
+        Run("pack of numbers", ["pack", "-"], b"".join(number_lines), numbers, "3 objects packed\n"),
+        Run("pack of a bare double", ["pack", "-"], b'{"d":1.0}\n{"d":1e999}', [DOUBLE], f"{NAME}: line 2, byte 5: number out of range\n1 objects packed\n", 1),
+        Run("order", ["order", "-"], DOUBLE, [ORDERED], ""),
+        Run("order of a number without a code", ["order", "-"], DOUBLE + DECIMAL, [ORDERED], f"{NAME}: {refused}\n", 1),
+    ]
+
+
+def bsonfind_runs(failing: Failing) -> list[Run]:
+    """Runs of what `bsonfind` alone has or refuses."""
     shop = (ROOT / "examples/shop.bson").read_bytes()
     shop_lines = (ROOT / "examples/shop.jsonl").read_bytes().splitlines(keepends=True)
     for name, data in (("one.bson", INT32), ("several.bson", SEVERAL), ("five.bson", FIVE_DUMP), ("shop.bson", shop)):
         (failing.room / name).write_bytes(data)
-    # Most kinds of values stand in the first of them.
-    orders = list(frames(shop))[:8]
     after = token_of(2, 4, digest(FIVE_DUMP, request_text(sort='{"a":-1}')))
     up = digest(FIVE_DUMP, request_text(sort='{"a":1}'))
     either = '{"$or":[{"a":{"$in":[2,9]}},{"a":{"$elemMatch":{"$gt":2}}}]}'
@@ -191,21 +211,7 @@ def runs(failing: Failing) -> list[Run]:
         token_of(400, 399, digest(shop, request_text())).encode(),
     )
     return [
-        Run("dump", ["dump", "-"], BINARY, lines('{"x":{"$binary":{"base64":"//8=","subType":"02"}}}\n'), "1 objects found\n"),
-        Run("dump of orders", ["dump", "-"], b"".join(orders), shop_lines[:8], "8 objects found\n"),
-        Run("dump with a fault", ["dump", "-"], INT32 + BAD, lines(INT32_LINE), 'bsonfind: document 1, byte 36, path "a.0.1": bad boolean\n1 objects found\n', 1),
-        Run("check", ["check", "-"], DOUBLE + INT32, lines('document 0, byte 4, path "d": double\n'), "2 documents, 1 faulty\n", 1),
-        Run(
-            "check of several faults",
-            ["check", "-"],
-            BAD + DOUBLE + INT32 + BAD[:-1],
-            lines('document 0, byte 24, path "a.0.1": bad boolean\ndocument 1, byte 32, path "d": double\ndocument 3, byte 56, path "": bad length\n'),
-            "4 documents, 3 faulty\n",
-            1,
-        ),
-        Run("pack", ["pack", "-"], b'{"a":1}\n{"a":2147483648}\n{"a":1.5}\n', [INT32, INT64], "bsonfind: line 3, byte 5: not in the profile\n2 objects packed\n", 1),
-        Run("pack of orders", ["pack", "-"], b"".join(shop_lines[:8]), orders, "8 objects packed\n"),
-        Run("pack of no document", ["pack", "-"], b'{"a":1}\n\n[{"a":1}]\n', [INT32], "bsonfind: line 3: not a document\n1 objects packed\n", 1),
+        Run("pack of a double", ["pack", "-"], b'{"a":1}\n{"a":1.5}\n', [INT32], f"{NAME}: line 2, byte 5: not in the profile\n1 objects packed\n", 1),
         Run("find of 1", ["find", "one.bson", "--query", '{"a":1}'], b"", lines(INT32_LINE), counted(1, "end", 0, INT32, query='{"a":1}')),
         Run("find of 2", ["find", "one.bson", "--query", '{"a":2}'], b"", [], "0 documents, end\n"),
         found("of all", [], [0, 1, 2, 3, 4]),
@@ -233,8 +239,6 @@ def runs(failing: Failing) -> list[Run]:
         Run("find, a bad dump", ["find", "-"], INT32 + BAD, [], 'bsonfind: document 1, byte 36, path "a.0.1": bad boolean\n', 1),
         Run("find, no file", ["find", "missing.bson", "--query", '{"a":1}'], b"", [], "bsonfind: cannot open missing.bson\n", 1),
         Run("find, bad words", ["find", "one.bson", "--limit", "x"], b"", [], USAGE, 2),
-        Run("no words", [], b"", [], USAGE, 2),
-        Run("--help", ["--help"], b"", [USAGE.encode()], ""),
         talk("a talk", "several.bson", TALK),
         talk("an answer that is resumed", "five.bson", RESUMED % {"two": token_of(2, 1, up), "all": token_of(5, 4, up)}),
         talk("refusals", "five.bson", REFUSED),
@@ -250,7 +254,8 @@ def refused(failing: Failing, run: Run, onward: int, growth: int) -> Ran | None:
 
 
 def test_growths(tests: Tests, failing: Failing) -> None:
-    for run in runs(failing) + wide_runs():
+    runs = both_runs() + (wide_runs() if IS_WIDE else bsonfind_runs(failing))
+    for run in [run for run in runs if not run.words or run.words[0] in [*COMMANDS, "--help"]]:
         ran, counts = run.on(failing)
         tests.want(f"{run.name}, the whole", ran == run.whole(), ran)
         for onward, what in ((0, "alone"), (1, "with all after it")):
