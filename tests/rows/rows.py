@@ -3,7 +3,7 @@
 
 usage: tests/rows/rows.py [--program PATH].. [FILE..]     The last line is 'N passed, M failed'.
 
-Without --program each row runs over ./bsonfind, those of `order` over ./bsonwide, and those of `check` and `cut` over both. A failure
+Without --program each row runs over ./bsonfind, those of `order` over ./bsonwide, and those of `check`, `cut` and `pack` over both. A failure
 names its file and line. The kinds are the functions of KINDS.
 A row is JSON whose names may stand twice and in any order that matters; where the form of a text matters it is a string.
 """
@@ -23,7 +23,7 @@ sys.path.insert(0, str(Path(__file__).resolve().parents[1]))
 
 from model.answers import digest, token_of
 from model.sessions import request_text
-from support import PROGRAM, ROOT
+from support import PROGRAM, ROOT, commands_of
 
 ROWS = ROOT / "tests/rows"
 # How many seconds a run may take.
@@ -241,36 +241,36 @@ def talk(program: Program, row: Members) -> int:
     return len(wanted)
 
 
-def judge(program: Program, data: bytes, documents: list, faults: list[str], count: int, wide: list[str]) -> None:
-    """Wants the documents before the first fault of dump, all faults of check, of find the documents or the first fault, and of
-    `bsonwide` its faults; if these are the same, the documents too."""
-    shown = "".join(f"{text_of(it)}\n" for it in documents)
-    status = 1 if faults else 0
-    for dumping, name in ((program, "bsonfind"), (program.beside(), "bsonwide"))[: 2 if wide == faults else 1]:
-        first = "".join(f"{name}: {it}\n" for it in faults[:1])
-        ran = dumping.run("dump", "-", given=data)
-        want(ran.stdout.decode(), shown, f"dump of {name}")
-        want((ran.returncode, ran.stderr.decode()), (status, f"{first}{len(documents)} objects found\n"), f"the end of dump of {name}")
-    for checking, found in ((program, faults), (program.beside(), wide)):
-        ran = checking.run("check", "-", given=data)
-        want(ran.stdout.decode(), "".join(f"{it}\n" for it in found), f"check of {checking.path.name}")
+def judge(program: Program, data: bytes, documents: list, faults: list[str], count: int, shown: list, wide: list[str]) -> None:
+    """Wants the documents before the first fault of dump, all faults of check, and of find the documents or the first fault; and of
+    `bsonwide` the documents that are shown, and its own faults."""
+    for scanning, found, lines in ((program, faults, documents), (program.beside(), wide, shown)):
+        name = scanning.path.name.partition(".")[0]
+        status = int(found != [])
+        ran = scanning.run("dump", "-", given=data)
+        want(ran.stdout.decode(), "".join(f"{text_of(it)}\n" for it in lines), f"dump of {name}")
+        first = "".join(f"{name}: {it}\n" for it in found[:1])
+        want((ran.returncode, ran.stderr.decode()), (status, f"{first}{len(lines)} objects found\n"), f"the end of dump of {name}")
+        ran = scanning.run("check", "-", given=data)
+        want(ran.stdout.decode(), "".join(f"{it}\n" for it in found), f"check of {name}")
         told = f"{count} documents, {len(found)} faulty\n"
-        want((ran.returncode, ran.stderr.decode()), (int(found != []), told), f"the end of check of {checking.path.name}")
+        want((ran.returncode, ran.stderr.decode()), (status, told), f"the end of check of {name}")
     ran = program.run("find", "-", given=data)
-    want(ran.stdout.decode(), "" if faults else shown, "find")
+    want(ran.stdout.decode(), "" if faults else "".join(f"{text_of(it)}\n" for it in documents), "find")
     told = re.sub(r", token \S+$", "", ran.stderr.decode())
     first = "".join(f"bsonfind: {it}\n" for it in faults[:1])
-    want((ran.returncode, told), (status, first or f"{len(documents)} documents, end\n"), "the end of find")
+    want((ran.returncode, told), (int(faults != []), first or f"{len(documents)} documents, end\n"), "the end of find")
 
 
 @one_by_one
 def check(program: Program, row: Members) -> int:
     """{"bytes":HEX,"documents":[D..],"faults":["document 0, byte 4, path \\"d\\": double"..]}: the documents before the first fault
     as dump prints them, and the faults that check tells; "count" is of all documents, where it is not that of both. "wide" are the
-    faults that `bsonwide` tells, which reads doubles and decimal128, where they are others."""
+    faults that `bsonwide` tells, which reads doubles and decimal128, and "shown" the documents before them, where they are others."""
     documents, faults = row.get("documents", []), row.get("faults", [])
     count = row.get("count", len(documents) + len(faults))
-    judge(program, bytes_of(row, "bytes"), documents, faults, count, row.get("wide", faults))
+    shown = row.get("shown", []) if "wide" in row else documents
+    judge(program, bytes_of(row, "bytes"), documents, faults, count, shown, row.get("wide", faults))
     return 1
 
 
@@ -301,33 +301,43 @@ def cut(program: Program, row: Members) -> int:
             faults.append(f"document {len(documents) + len(faults)}, byte {len(data) + byte}, {fault}")
             data += holding(size)
     count = len(documents) + len(faults)
-    judge(program, data, [it for _, it in documents], faults, count, faults)
+    shown = [it for _, it in documents]
+    judge(program, data, shown, faults, count, shown, faults)
     return count
+
+
+def pack_line(program: Program, line: bytes, row: Members) -> None:
+    """Wants what `pack` of a program makes of a line, and what its dump prints of that."""
+    name = program.path.name.partition(".")[0]
+    ran = program.run("pack", "-", given=line + b"\n")
+    if "fault" in row:
+        fault = str(row.get("fault"))
+        told = f"{name}: line 1{', ' if fault.startswith('byte ') else ': '}{fault}\n0 objects packed\n"
+        want((ran.returncode, ran.stdout, ran.stderr.decode()), (1, b"", told), f"pack of {name}")
+        return
+    want((ran.returncode, ran.stderr), (0, b"1 objects packed\n"), f"the end of pack of {name}")
+    if "bytes" in row:
+        want(ran.stdout.hex(), bytes_of(row, "bytes").hex(), f"the bytes of {name}")
+    if "begins" in row:
+        begins = bytes_of(row, "begins")
+        want(ran.stdout[: len(begins)].hex(), begins.hex(), f"the first bytes of {name}")
+    shown = text_of(row.get("shown")) if "shown" in row else line.decode()
+    want(program.run("dump", "-", given=ran.stdout).stdout.decode(), f"{shown}\n", f"the document of {name}")
 
 
 @one_by_one
 def pack(program: Program, row: Members) -> int:
     """{"text":T,"bytes":HEX,"shown":D}: a line as the bytes of its document, and what dump prints of them (without "shown" the line
-    itself; "begins" are the first of many bytes); or {"text":T,"fault":"byte 5: not in the profile"}, which is told of a query too. In place of "text", "hex" gives a
-    line by its bytes, and "parts":[T,[TIMES,T]..] by texts, of which those with a number are repeated."""
+    itself; "begins" are the first of many bytes); or {"text":T,"fault":"byte 5: not in the profile"}, which is told of a query too. In
+    place of "text", "hex" gives a line by its bytes, and "parts":[T,[TIMES,T]..] by texts, of which those with a number are repeated.
+    "wide" is such a row of what `bsonwide` makes of the line, where that is something else."""
     line = line_of(row)
-    ran = program.run("pack", "-", given=line + b"\n")
-    if "fault" in row:
-        fault = str(row.get("fault"))
-        told = f"bsonfind: line 1{', ' if fault.startswith('byte ') else ': '}{fault}\n0 objects packed\n"
-        want((ran.returncode, ran.stdout, ran.stderr.decode()), (1, b"", told), "pack")
-        if "hex" not in row and len(line) < LONGEST_WORD:
-            ran = program.run("find", "-", "--query", line.decode())
-            want((ran.returncode, ran.stdout, ran.stderr.decode()), (1, b"", f"bsonfind: query: {fault}\n"), "find")
-        return 1
-    want((ran.returncode, ran.stderr), (0, b"1 objects packed\n"), "the end of pack")
-    if "bytes" in row:
-        want(ran.stdout.hex(), bytes_of(row, "bytes").hex(), "the bytes")
-    if "begins" in row:
-        begins = bytes_of(row, "begins")
-        want(ran.stdout[: len(begins)].hex(), begins.hex(), "the first bytes")
-    shown = text_of(row.get("shown")) if "shown" in row else line.decode()
-    want(program.run("dump", "-", given=ran.stdout).stdout.decode(), f"{shown}\n", "the document")
+    pack_line(program, line, row)
+    if "fault" in row and "hex" not in row and len(line) < LONGEST_WORD:
+        ran = program.run("find", "-", "--query", line.decode())
+        want((ran.returncode, ran.stdout, ran.stderr.decode()), (1, b"", f"bsonfind: query: {row.get('fault')}\n"), "find")
+    if "pack" in commands_of("bsonwide"):
+        pack_line(program.beside(), line, row.get("wide", row))
     return 1
 
 
