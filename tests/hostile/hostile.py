@@ -1,9 +1,9 @@
 #!/usr/bin/env python3
-"""Runs ./bsonfind over damaged dumps, texts and commands, and over random requests, and looks for a crash, a hang or a wrong answer.
+"""Runs a program over damaged dumps, texts and commands, and over random requests, and looks for a crash, a hang or a wrong answer.
 
-usage: tests/hostile/hostile.py SECONDS [SEED]
+usage: tests/hostile/hostile.py SECONDS [SEED [PROGRAM]]
 
-What is packed, found and replied is compared with what Python makes of the same input (tests/model/dumps.py, texts.py, answers.py, sessions.py).
+PROGRAM is ./bsonwide, or ./bsonfind, which runs without it. Of its commands all are tried. What is packed, found and replied is compared with what Python makes of the same input (tests/model/dumps.py, texts.py, answers.py, sessions.py).
 Each run has a stack of 1 MiB, and some have little memory. An input that fails is kept, in a directory that is named,
 with the command and the reason.
 The last line is 'N passed, M failed', which counts inputs.
@@ -26,8 +26,13 @@ from model.dumps import read_dump
 from model.inputs import Inputs
 from model.sessions import Find, Session, packed
 from model.texts import WRAPPERS, read_document
-from support import PROGRAM, ROOT
+from support import PROGRAM as BUILT
+from support import ROOT, commands_of
 
+PROGRAM = Path(sys.argv[3]).resolve() if len(sys.argv) > 3 else BUILT
+NAME = PROGRAM.name
+COMMANDS = commands_of(NAME)
+IS_WIDE = NAME == "bsonwide"
 STACK = 1 << 20
 TIMEOUT = 60
 SHALLOW = 300  # documents of the examples to begin with, which stand before others
@@ -52,10 +57,32 @@ OTHERS = [
     '{"a":' * 198 + '{"$code":"","$scope":{}}' + "}" * 198,
 ]
 
+# Those that `bsonwide` reads alone.
+NUMBERS = [
+    '{"d":1.5,"e":{"$numberDouble":"-0.0"},"n":[{"$numberDouble":"NaN"},{"$numberDouble":"-Infinity"}]}',
+    '{"p":{"$numberDecimal":"19.90"},"q":{"$numberDecimal":"-0E+3"},"n":[{"$numberDecimal":"NaN"},{"$numberDecimal":"Infinity"}]}',
+    '{"c":{"$code":"f()","$scope":{"x":1e-9,"y":{"$numberDecimal":"1E-6176"}}}}',
+    *('{"a":' * n + "1.5" + "}" * n for n in (199, 200)),
+    *('{"a":' + "[" * n + '{"$numberDecimal":"1.5"}' + "]" * n + "}" for n in (198, 199)),
+]
+
 # What is put into texts: values, names, and parts of them.
+TEXTS_OF_DOUBLES = [
+    "1.5", "-0.0", "NaN", "Infinity", "-Infinity", "inf", "nan", "+1", ".5", "1.", "-", "0x1p3", "1_0", " 1", "1 ", "", "01", "1e", "1e999",
+    "-1e999", "1e-999", "1.7976931348623157e308", "1.7976931348623159e308", "4.9e-324", "2.4e-324", "9007199254740993", "1" * 400, "0." + "1" * 800,
+    "1\\u002e5",
+]  # fmt: skip
+TEXTS_OF_DECIMALS = [
+    "1.50", "-0", "+1", ".5", "1.", ".", "NaN", "-nan", "sNaN", "NaN1", "Inf", "-INFINITY", "+infinity", "1E+6144", "1E+6145", "1E-6176",
+    "1E-6177", "10E-6177", "0E+9999", "0E-9999", "1" * 34, "1" * 35, "1" + "0" * 40, "9" * 34 + "E+6111", "1E", "1e+", "1 ", "", "0x1", "1_0",
+    "1E+99999999999999999999", "0." + "0" * 6175 + "1", "1\\u00301",
+]  # fmt: skip
 VALUES = [
-    "null", "true", "-0", "1.5", "1e9", "2147483648", "-9223372036854775809", "9" * 5000, '"\\u0000"', '"\\ud83d\\ude00"', "[]",
-    '{"$numberInt":"1"}', '{"$numberInt":"2147483648"}', '{"$numberInt":"01"}', '{"$numberDouble":"1.5"}', '{"$numberInt":1}',
+    *(f'{{"$numberDouble":"{it}"}}' for it in TEXTS_OF_DOUBLES), *(f'{{"$numberDecimal":"{it}"}}' for it in TEXTS_OF_DECIMALS),
+    *(it for it in TEXTS_OF_DOUBLES if it[-1:].isdigit()), '{"$numberDouble":1.5}', '{"$numberDecimal":1.5}', '{"$numberDouble":"1.5","a":1}',
+    '{"$symbol":1.5}', '{"$date":1.5}', '{"$timestamp":{"t":1e3,"i":1}}', '{"$numberInt":1.5}', '{"$numberLong":"1.5"}', '{"$numberFloat":"1.5"}',
+    "null", "true", "-0", "1e9", "2147483648", "-9223372036854775809", "9" * 5000, '"\\u0000"', '"\\ud83d\\ude00"', "[]",
+    '{"$numberInt":"1"}', '{"$numberInt":"2147483648"}', '{"$numberInt":"01"}', '{"$numberInt":1}',
     '{"$date":{"$numberLong":"1"}}', '{"$date":"x"}', '{"$uuid":"x"}', '{"$code":"","$scope":{}}', '{"$scope":{},"$code":""}',
     '{"$code":"","$scope":1}', '{"$oid":"0123456789ABCDEF01234567"}', '{"$binary":{"base64":"AA==","subType":"2"}}',
     '{"$binary":{"base64":"AB==","subType":"2"}}', '{"$timestamp":{"t":4294967296,"i":0}}', '{"$minKey":1.0}',
@@ -67,8 +94,8 @@ PARTS = [
     "\x7f", "NaN", "[" * 210, "]" * 210, '{"a":' * 210, "}" * 210,
 ]  # fmt: skip
 
-# Numbers of 32 bits and bytes where something often goes wrong.
-NUMBERS = [0, 1, 4, 5, 13, 14, 0x7F, 0x80, 0xFF, 0x7FFFFFFF, 0x80000000, 0xFFFFFFFF, 16793600, 16793601]
+# Counts of 32 bits and bytes where something often goes wrong.
+COUNTS = [0, 1, 4, 5, 13, 14, 0x7F, 0x80, 0xFF, 0x7FFFFFFF, 0x80000000, 0xFFFFFFFF, 16793600, 16793601]
 BYTES = [0, 1, 2, 3, 4, 5, 6, 7, 8, 9, 10, 11, 12, 13, 14, 15, 16, 17, 18, 19, 0x24, 0x7F, 0x80, 0xC0, 0xED, 0xF4, 0xFF]
 
 
@@ -89,14 +116,14 @@ class Search:
 
     def __init__(self, seed: int, room: Path) -> None:
         self.rng = random.Random(seed)
-        self.inputs = Inputs(self.rng)
+        self.inputs = Inputs(self.rng, IS_WIDE)
         self.room = room
         self.runs = 0
         self.input = self.served = b""
         self.command: list[str] = []
         lines = [line for name in ("people", "shop") for line in (ROOT / f"examples/{name}.jsonl").read_bytes().splitlines()]
-        self.lines = self.rng.sample(lines, SHALLOW) + [text.encode() for text in OTHERS]
-        self.documents = list(map(encoded, map(read_document, self.lines)))
+        self.lines = self.rng.sample(lines, SHALLOW) + [text.encode() for text in OTHERS + (NUMBERS if IS_WIDE else [])]
+        self.documents = [encoded(read_document(line, IS_WIDE)) for line in self.lines]
         self.least = self.least_memory()
 
     def want(self, holds: bool, reason: str) -> None:
@@ -137,26 +164,28 @@ class Search:
 
     def over_dump(self, data: bytes) -> None:
         """dump, check, find and pack of a dump show what Python reads in it."""
-        read = read_dump(data)
+        read = read_dump(data, IS_WIDE)
         lines = [written(it).encode() + b"\n" for it in read.front()]
         faults = read.faults()
-        fault = f"bsonfind: {faults[0]}" if faults else ""
+        fault = f"{NAME}: {faults[0]}" if faults else ""
         told = f"{fault}{len(lines)} objects found\n".encode()
         self.want(self.run("dump", data) == Ran(int(faults != []), b"".join(lines), told), f"dump; wanted {told!r}")
         checked = "".join(faults).encode(), f"{len(read.documents)} documents, {len(faults)} faulty\n".encode()
         self.want(self.run("check", data) == Ran(int(faults != []), *checked), f"check; wanted {checked!r}")
 
-        self.inputs.made = read.good()
-        find = self.inputs.find()
-        status, out, told = find.shown(Dump(read.front(), data))
-        if faults and status == 0:
-            status, out, told = 1, b"", fault
-        self.want(self.run("find", data, *find.words()) == Ran(status, out, told.encode()), f"what is found; wanted {status} {told!r}")
-        self.over_text(b"".join(lines))
+        if "find" in COMMANDS:
+            self.inputs.made = read.good()
+            find = self.inputs.find()
+            status, out, told = find.shown(Dump(read.front(), data))
+            if faults and status == 0:
+                status, out, told = 1, b"", fault
+            self.want(self.run("find", data, *find.words()) == Ran(status, out, told.encode()), f"what is found; wanted {status} {told!r}")
+        if "pack" in COMMANDS:
+            self.over_text(b"".join(lines))
 
     def over_text(self, text: bytes) -> None:
         """pack of a text writes the documents that Python reads, and tells the first fault that it finds."""
-        status, documents, told = packed(text)
+        status, documents, told = packed(text, NAME)
         self.want(self.run("pack", text) == Ran(status, documents, told.encode()), f"what is packed; wanted {status} {told!r}")
 
     def over_memory(self) -> None:
@@ -164,7 +193,7 @@ class Search:
 
         Nothing nests deep: where the system has no memory to let the stack grow, it ends the program by a signal.
         """
-        command = self.rng.choice(["dump", "check", "pack", "find", "serve"])
+        command = self.rng.choice(COMMANDS)
         words = self.rng.choice([["--query", '{"age":30}'], ["--sort", '{"name":1}'], ["--sort", '{"age":-1}', "--limit", "3"]])
         words = words if command == "find" else []
         from_all, between = (self.lines, b"\n") if command == "pack" else (self.documents, b"")
@@ -177,7 +206,7 @@ class Search:
         else:
             full, ran = self.run(command, data, *words), self.run(command, data, *words, limit=limit)
         if ran != full:
-            self.want(ran.status == 1 and ran.err == b"bsonfind: no memory\n", "what is told with little memory")
+            self.want(ran.status == 1 and ran.err == f"{NAME}: no memory\n".encode(), "what is told with little memory")
             self.want(full.out.startswith(ran.out), "what is written with little memory")
 
     def least_memory(self) -> int:
@@ -250,7 +279,7 @@ class Search:
             if way == 0:
                 changed[at : at + 1] = bytes([rng.choice(BYTES)])
             elif way == 1:
-                changed[at : at + 4] = rng.choice(NUMBERS).to_bytes(4, "little")
+                changed[at : at + 4] = rng.choice(COUNTS).to_bytes(4, "little")
             elif way == 2:
                 del changed[at:upto]
             elif way == 3:
@@ -312,8 +341,9 @@ class Search:
         return self.damaged(text.encode(), [part.encode() for part in PARTS]).replace(b"\0", b"").decode(errors="replace")
 
     def once(self) -> None:
-        ways = {"requests": 0.2, "talk": 0.25, "memory": 0.03, "words": 0.07, "dump": 0.25, "text": 0.2}
-        match self.rng.choices([*ways], [*ways.values()])[0]:
+        ways = {"find": {"requests": 0.2, "words": 0.07}, "serve": {"talk": 0.25}, "pack": {"text": 0.2}, "dump": {"dump": 0.25, "memory": 0.03}}
+        parts = {way: part for command, of in ways.items() if command in COMMANDS for way, part in of.items()}
+        match self.rng.choices([*parts], [*parts.values()])[0]:
             case "requests":
                 self.over_requests()
             case "talk":
@@ -337,11 +367,11 @@ class Search:
 
 
 def main() -> int:
-    if len(sys.argv) not in (2, 3) or not all(word.isdecimal() for word in sys.argv[1:]):
+    if len(sys.argv) not in (2, 3, 4) or not all(word.isdecimal() for word in sys.argv[1:3]):
         print(__doc__, file=sys.stderr)
         return 2
     seconds = int(sys.argv[1])
-    seed = int(sys.argv[2]) if len(sys.argv) == 3 else random.randrange(1 << 32)
+    seed = int(sys.argv[2]) if len(sys.argv) > 2 else random.randrange(1 << 32)
     print(f"seed {seed}", flush=True)
     # A value of 200 levels is read by as many calls, and more.
     sys.setrecursionlimit(5000)

@@ -1,9 +1,9 @@
 #!/usr/bin/env python3
-"""Runs ./bsonfind over inputs that are made to cost much, each in two sizes, and looks at the times beside the sizes.
+"""Runs a program over inputs that are made to cost much, each in two sizes, and looks at the times beside the sizes.
 
-usage: tests/hostile/malicious.py [full]     The last line is 'N passed, M failed'.
+usage: tests/hostile/malicious.py [PROGRAM] [full]     The last line is 'N passed, M failed'.
 
-A run has a stack of 1 MiB. It may not end by a signal, has to answer as it is stated here, and its processor time and its
+PROGRAM is ./bsonwide, or ./bsonfind, which runs without it. A run has a stack of 1 MiB. It may not end by a signal, has to answer as it is stated here, and its processor time and its
 memory may grow as the input does: one of eight times the size may take sixteen times as much, which leaves room for sorts, for
 caches and for other work of the machine. What is known to grow otherwise is held to its bound. With `full` the inputs go up to
 the limits, a document of 16 MiB among them.
@@ -12,6 +12,7 @@ the limits, a document of 16 MiB among them.
 import json
 import os
 import resource
+import struct
 import subprocess
 import sys
 import tempfile
@@ -23,8 +24,15 @@ sys.path.insert(0, str(Path(__file__).resolve().parents[1]))
 
 from model.answers import LEVELS, BadFilter, check_filter
 from model.texts import read_document
-from support import PROGRAM
+from support import PROGRAM as BUILT
+from support import commands_of
 
+WORDS = sys.argv[1:]
+IS_FULL = WORDS[-1:] == ["full"]
+PROGRAM = Path(WORDS[0]).resolve() if len(WORDS) > IS_FULL else BUILT
+NAME = PROGRAM.name
+COMMANDS = commands_of(NAME)
+IS_WIDE = NAME == "bsonwide"
 STACK = 1 << 20
 SECONDS = 300  # of processor time; then a signal ends the run
 MARGIN = 2.0
@@ -53,6 +61,10 @@ def text(data: bytes) -> bytes:
     return int32(len(data) + 1) + data + b"\0"
 
 
+def double(number: float) -> bytes:
+    return struct.pack("<d", number)
+
+
 def array(kind: int, values: list[bytes]) -> bytes:
     return document(b"".join(field(kind, str(place), value) for place, value in enumerate(values)))
 
@@ -65,9 +77,9 @@ def numbers(count: int) -> bytes:
     return b"".join(document(field(0x10, "a", int32(it))) for it in range(count, 0, -1))
 
 
-def deep(levels: int, name: str = "a") -> bytes:
-    """A document of so many levels."""
-    made = EMPTY
+def deep(levels: int, name: str = "a", bottom: bytes = b"") -> bytes:
+    """A document of so many levels, with fields at the deepest one."""
+    made = document(bottom)
     for _ in range(levels - 1):
         made = document(field(0x03, name, made))
     return made
@@ -100,13 +112,24 @@ LARGE: dict[str, Callable[[int], bytes]] = {
     ),
 }  # fmt: skip
 
+# Those of which no document grows.
+SHORT = ("documents of 5 bytes", "numbers downward", "documents of 200 levels", "documents of a double", "doubles below 199 levels")
+
+# Those that `bsonwide` alone reads: doubles whose texts have 17 digits, and decimal128 whose texts have 34.
+NUMBERS: dict[str, Callable[[int], bytes]] = {
+    "doubles of an array": lambda size: document(field(0x04, "a", array(0x01, [double(2.0 ** (it % 900) / 3) for it in range(size // 17)]))),
+    "decimals of an array": lambda size: document(field(0x04, "a", array(0x13, [(10**34 - 1 + (it % 12288 << 113)).to_bytes(16, "little") for it in range(size // 25)]))),
+    "documents of a double": lambda size: document(field(0x01, "a", double(-5e-324))) * (size // 16),
+    "doubles below 199 levels": lambda size: deep(200, bottom=field(0x01, "a", double(0.1))) * (size // len(deep(201))),
+}  # fmt: skip
+
 # Lines that pack reads, by their bytes; and the words that it tells of one that it refuses.
 LINES: dict[str, tuple[Callable[[int], bytes], str | None]] = {
     "brackets": (lambda size: b"[" * size, "line 1, byte 203: too deep"),
     "braces and names": (lambda size: b'{"a":' * (size // 5), "line 1, byte 1015: too deep"),
     "escapes": (lambda size: b'{"a":"' + b"\\u0000" * (size // 6) + b'"}', None),
     "digits": (lambda size: b'{"a":' + b"9" * size + b"}", "line 1, byte 5: number out of range"),
-    "digits of a fraction": (lambda size: b'{"a":0.' + b"9" * size + b"}", "line 1, byte 5: not in the profile"),
+    "digits of a fraction": (lambda size: b'{"a":0.' + b"9" * size + b"}", None if IS_WIDE else "line 1, byte 5: not in the profile"),
     "wrappers": (lambda size: b'{"a":[' + b",".join([b'{"$numberInt":"1"}'] * (size // 19)) + b"]}", None),
     "scopes": (lambda size: b'{"a":[' + b",".join([b'{"$code":"","$scope":{"a":' * 90 + b"1" + b"}}" * 90] * (size // 2600)) + b"]}", None),
     "scopes before their codes": (
@@ -119,6 +142,20 @@ LINES: dict[str, tuple[Callable[[int], bytes], str | None]] = {
     "white space in a document": (lambda size: b"{" + b" " * size + b"}", None),
     "base64": (lambda size: b'{"a":{"$binary":{"subType":"0","base64":"' + b"AAAA" * (size // 4) + b'"}}}', None),
     "lines": (lambda size: b"{}\n" * (size // 3), None),
+}
+# The same of numbers that `bsonwide` alone reads.
+LINES_OF_NUMBERS: dict[str, tuple[Callable[[int], bytes], str | None]] = {
+    "bare doubles": (lambda size: b'{"a":[' + b",".join([b"0.1"] * (size // 12)) + b"]}", None),
+    "doubles in wrappers": (lambda size: b'{"a":[' + b",".join([b'{"$numberDouble":"0.1"}'] * (size // 24)) + b"]}", None),
+    "decimals in wrappers": (lambda size: b'{"a":[' + b",".join([b'{"$numberDecimal":"0.1"}'] * (size // 25)) + b"]}", None),
+    "doubles in scopes": (lambda size: b'{"a":[' + b",".join([b'{"$code":"","$scope":{"a":' * 90 + b"1.5" + b"}}" * 90] * (size // 2600)) + b"]}", None),
+    "a double half way between two": (lambda size: b'{"a":1.00000000000000011102230246251565404236316680908203125' + b"0" * size + b"1}", None),
+    "zeros of a decimal": (lambda size: b'{"a":{"$numberDecimal":"' + b"0" * size + b"." + b"0" * 6000 + b'1"}}', None),
+    "digits of a decimal": (lambda size: b'{"a":{"$numberDecimal":"' + b"9" * size + b'"}}', "line 1, byte 5: number out of range"),
+    "digits of an exponent": (lambda size: b'{"a":1e' + b"9" * size + b"}", "line 1, byte 5: number out of range"),
+    "a wrapper without an end": (lambda size: b'{"a":{"$numberDouble":"' + b"1" * size, "line 1, byte"),
+    "wrappers with escapes": (lambda size: b'{"a":[' + b",".join([b'{"$numberDouble":"\\u0031"}'] * (size // 28)) + b"]}", None),
+    "wrappers that are begun": (lambda size: b'{"a":' + b'{"$numberDouble":' * (size // 17), "line 1, byte"),
 }
 # Those that are no line of one command.
 MANY_LINES = ("white space", "lines")
@@ -271,21 +308,23 @@ def large_cases(sizes: tuple[int, int]) -> Iterator[Case]:
         {"createIndex": "a"}, {"explain": {"a": {"$gte": 0}}}, {"createIndex": "b.a", "sparse": True}, {"find": {}, "sort": {"a": -1}},
         {"getMore": 1, "batch": 1},
     )  # fmt: skip
-    for name, make in LARGE.items():
+    for name, make in (LARGE | NUMBERS if IS_WIDE else LARGE).items():
         runs = [(["dump"], "{count} objects found\n"), (["check"], "{count} documents, 0 faulty\n")]
         for words in (["--query", '{"a":-1}'], ["--query", '{"none":1}', "--index", "none"], ["--query", '{"a":-1}', "--index", "a"]):
             runs.append((["find", *words], "0 documents, end\n"))
         for sort in ('{"a":1}', '{"a":-1,"none":1}', '{"b.a":-1}'):
             runs.append((["find", "--sort", sort, "--limit", "1"], "1 documents, end, token "))
         for (command, *words), told in runs:
-            yield Case(f"{' '.join([command, *words])}, {name}", [command, "-", *words], None, make, sizes, tells(told))
+            # Nothing is held but one document, and its line.
+            most = 8 if command in ("dump", "check") and name in SHORT else None
+            yield Case(f"{' '.join([command, *words])}, {name}", [command, "-", *words], None, make, sizes, tells(told), None, most)
         yield Case(f"serve, {name}", ["serve", "DUMP"], make, lambda _: commands, sizes, are_taken)
         yield Case(f"pack of what dump prints, {name}", ["pack", "-"], None, lambda size, it=make: dumped(it(size)), sizes, are_packed)
 
 
 def line_cases(sizes: tuple[int, int]) -> Iterator[Case]:
-    for name, (make, told) in LINES.items():
-        words = f"bsonfind: {told}\n0 objects packed\n" if told else None
+    for name, (make, told) in (LINES | LINES_OF_NUMBERS if IS_WIDE else LINES).items():
+        words = (f"{NAME}: {told}" if told.endswith("byte") else f"{NAME}: {told}\n0 objects packed\n") if told else None
         yield Case(f"pack, {name}", ["pack", "-"], None, make, sizes, tells(words) if words else are_packed)
         if name not in MANY_LINES:
             # A command of such a line is refused, for one thing or another.
@@ -439,6 +478,8 @@ def levels_of(name: str, levels: int) -> str:
 
 def test_limits(tests: Tests) -> None:
     """The deepest filters and the longest paths, and one more."""
+    if "find" not in COMMANDS:
+        return
     made(tests.given, lambda: deep(200))
     for name in ("$and", "$or", "$nor", "$not", "$elemMatch"):
         ran = tests.run(["find", "-", "--query", levels_of(name, LEVELS)])
@@ -463,14 +504,10 @@ def test_limits(tests: Tests) -> None:
 
 
 def main() -> int:
-    if sys.argv[1:] not in ([], ["full"]):
-        print(__doc__, file=sys.stderr)
-        return 2
-    full = sys.argv[1:] == ["full"]
     with tempfile.TemporaryDirectory() as room:
         tests = Tests(Path(room))
         test_limits(tests)
-        large, scale = ((2 * MIB, 16 * MIB), 4) if full else ((MIB // 8, MIB), 1)
+        large, scale = ((2 * MIB, 16 * MIB), 4) if IS_FULL else ((MIB // 8, MIB), 1)
         for cases in (
             large_cases(large),
             line_cases((large[0] - 25, large[1] - 200)),
@@ -482,7 +519,8 @@ def main() -> int:
             known_cases(scale),
         ):
             for case in cases:
-                tests.compare(case)
+                if case.words[0] in COMMANDS:
+                    tests.compare(case)
     print(f"{tests.passed} passed, {tests.failed} failed")
     return 1 if tests.failed else 0
 
