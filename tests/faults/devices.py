@@ -109,6 +109,12 @@ def untouched(_: int) -> Ran:
     return Ran(1, b"", UNREAD)
 
 
+def passed_on(given: int) -> Ran:
+    """What `order` writes of a dump that has a bad length: the documents, and from the length on all bytes."""
+    rest = (joined(ORDER) + REST)[len(joined(ORDER)) : given]
+    return Ran(1, shown(whole(ORDER, given)) + (rest if len(rest) >= 4 else b""), UNREAD)
+
+
 class Case(NamedTuple):
     """A run over an input, its whole answer, and the answer where only so many bytes of the input could be read."""
 
@@ -133,6 +139,8 @@ CHECK = [(DOUBLE, DOUBLE_FAULT), (INT32, b""), (BAD, b'document 2, byte 52, path
 PACK = [*((line, document) for document, line in NUMBERS), (b'{"a":1}\n', INT32), (b'{"a":2147483648}\n', INT64), (b'{"a":1}\n', INT32)]
 # The second document is {"~n":1,"a":1}.
 ORDER = [(DOUBLE, ORDERED), (INT32, bytes.fromhex("18000000 12 7e6e00 0100000000000000 10 6100 01000000 00"))]
+# A length that no document has, and what follows it.
+REST = b"\1\0\0\0and the rest"
 SESSION = list(zip(lines(TALK)[::2], lines(TALK)[1::2]))
 
 SMALL = of_program(
@@ -143,6 +151,7 @@ SMALL = of_program(
         Case("find", ["find", FILE, "--sort", '{"a":1}', "--index", "a"], FIVE_DUMP, Ran(0, shown(FIVE), counted(5, "end", 4, FIVE_DUMP, sort='{"a":1}').encode())),
         Case("serve", ["serve", FILE], SEVERAL, Ran(0, shown(SESSION), b""), commands=joined(SESSION)),
         Case("order", ["order", FILE], joined(ORDER), Ran(0, shown(ORDER), b""), partial(ordered, ORDER)),
+        Case("order of a bad length", ["order", FILE], joined(ORDER) + REST, Ran(0, shown(ORDER) + REST, b""), passed_on),
     ]
 )
 
@@ -571,9 +580,8 @@ def test_too_long(tests: Tests, failing: Failing) -> None:
     last = {"check": b"65535 documents, 0 faulty\n", "dump": b"65535 objects found\n", "order": b""}
     for name in [name for name in last if name in COMMANDS]:
         words: list[object] = [*LIMITED, name, "-"]
-        if name != "order":
-            ran = fed(words, part, 4369, b"")
-            tests.want(f"{name} of the longest input in 64 MiB of memory", ran == (0, last[name]), ran)
+        ran = fed(words, part, 4369, b"")
+        tests.want(f"{name} of the longest input in 64 MiB of memory", ran == (0, last[name]), ran)
         ran = fed(words, part, 4369, b"\5")
         tests.want(f"{name} of an input of one byte more", ran == (1, reported(b"input too long\n") + last[name]), ran)
     for name, words in (("find", ["find", "-"]), ("pack", ["pack", "-"]), ("serve", ["serve", "/dev/stdin"])):
