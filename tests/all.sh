@@ -26,7 +26,7 @@ add
 
 # The gate leaves the programs and the tests of the calls that grow, proved and built, so nothing is proved again.
 if cp crates/bsonfind/out/bsonfind bsonfind && cp crates/bsonwide/out/bsonwide bsonwide; then
-	for script in program/program.sh program/pages.py program/talk.py package/package.py package/wheels.py docs/usage.py; do
+	for script in program/program.sh program/pages.py program/talk.py package/package.py package/wheels.py docs/usage.py docs/guide.py; do
 		"tests/$script" | tee "$log"
 		add
 	done

@@ -1,10 +1,11 @@
 #!/usr/bin/env python3
-"""Runs what the documents show with ./bsonfind and ./bsonwide: README.md up to its first heading, the recipes of docs/GUIDE.md and
-docs/LARGE.md, the examples of the man pages.
+"""Runs what the documents show, with ./bsonfind, ./bsonwide and the package: the first screen of README.md, its first table and its
+script, the recipes of docs/GUIDE.md and docs/LARGE.md, the examples of the man pages.
 
-usage: tests/docs/guide.py     The last line is 'N passed, M failed'. It needs jq; recipes with pv and node are run where these are there.
+usage: tests/docs/guide.py [PAGE..]     Of these pages alone, such as README.md. The last line is 'N passed, M failed'. It needs jq;
+                                        without it nothing is run. Recipes with pv, node and pandas are run where these are there.
 
-- Of README.md and the recipes what is printed is compared, line by line in any order.
+- Of README.md and the recipes what is printed is compared, line by line in any order; `..` stands for a token.
 - The status is 0, unless the lines show a fault.
 - Each command that reads a file is also run where this file is damaged, and where it is missing. Its status is then not 0, and no
   script prints a traceback.
@@ -16,6 +17,7 @@ import gzip
 import os
 import re
 import shutil
+import struct
 import subprocess
 import sys
 import tempfile
@@ -24,17 +26,20 @@ from typing import NamedTuple
 
 sys.path.insert(0, str(Path(__file__).resolve().parents[1]))
 
-from support import ROOT
+from support import PROGRAM, ROOT
 
 # What a command writes, and a word of it that may name a file.
 WRITTEN = re.compile(r"\d?>>?\s*\S+|\bmv \S+ \S+|\btee \S+|\bof=\S+|--(?:good|bad|missing) \S+")
-WORD = re.compile(r"(?<![\w./$*-])(?<!bsonfind )(?<!bsonwide )\w[\w./*-]*")
+WORD = re.compile(r"(?<![\w./$*-])(?<!bsonfind )(?<!bsonwide )(?<!bsonkit )\w[\w./*-]*")
 FUNCTION = re.compile(r"(\w+)\(\) \{")
 # Programs that see a damaged file; cp, head and others take it as it is.
-JUDGES = re.compile(r"\b(?:bsonfind|bsonwide|python3|bash|node)\b")
-FAULT = re.compile(r"\b(?:bsonfind|bsonwide): |^\w+\.(?:py|sh|mjs): |, [1-9]\d* faulty(?:, \d+ with doubles or decimal128)?$|, [1-9]\d* to bad\.|, [1-9]\d* bytes left out$", re.MULTILINE)
+JUDGES = re.compile(r"\b(?:bsonfind|bsonwide|bsonkit|python3|bash|node)\b")
+FAULT = re.compile(r"\b(?:bsonfind|bsonwide|bsonkit): |^\w+\.(?:py|sh|mjs): |, [1-9]\d* faulty(?:, \d+ with doubles or decimal128)?$|, [1-9]\d* to bad\.|, [1-9]\d* bytes left out$", re.MULTILINE)
 # A program that a machine may not have, where a command begins with it or pipes to it.
 OPTIONAL = re.compile(r"(?:^|\| )(node|pv)\b")
+# A script that imports what a Python may not have.
+IMPORTS = re.compile(r"^import (pandas)$", re.MULTILINE)
+TOKEN = re.compile(r'(, token |"token":")A[\w+/]{59}\b')
 SCRIPTS = (".py", ".sh", ".mjs", ".jq")
 # The lines of a block, without what its commands print.
 MOST_LINES = 15
@@ -53,7 +58,10 @@ class Shell:
     LOOP = 'while IFS= read -rd "" command; do eval "$command" </dev/null >"$0" 2>&1; echo $?; done'
 
     def __init__(self, room: Path, printed: Path) -> None:
-        env = {**os.environ, "PATH": f"{ROOT}:{os.environ['PATH']}", "PYTHONPATH": f"{ROOT}/python", "LC_ALL": "C"}
+        kit = printed.with_name("bsonkit")
+        kit.write_text('#!/bin/sh\nexec python3 -m bsonfind "$@"\n', encoding="utf-8")
+        kit.chmod(0o755)
+        env = {**os.environ, "PATH": f"{kit.parent}:{PROGRAM.parent}:{os.environ['PATH']}", "PYTHONPATH": f"{ROOT}/python", "LC_ALL": "C"}
         env["PYTHONDONTWRITEBYTECODE"] = "1"
         self.printed = printed
         pipe = subprocess.PIPE
@@ -119,7 +127,7 @@ def examples(text: str) -> list[Step]:
 
 def printed(text: str) -> list[str]:
     """The lines of a text in order: the streams of a run may come one before the other."""
-    return sorted(line.strip() for line in text.splitlines())
+    return sorted(line.strip() for line in TOKEN.sub(r"\1..", text).splitlines())
 
 
 def inputs(command: str, room: Path) -> dict[str, list[Path]]:
@@ -157,15 +165,25 @@ def run_harmed(command: str, reads: str, shell: Shell, room: Path, counts: Count
             counts.want(status != 0 and "Traceback" not in text, f"with {word} {how} the status is {status}: {command}", text)
 
 
+def lacks(command: str, room: Path) -> str | None:
+    """What a command needs and is not there."""
+    if (program := OPTIONAL.search(command)) and not shutil.which(program[1]):
+        return program[1]
+    for script in re.findall(r"\b\w+\.py\b", command):
+        if (room / script).is_file() and (module := IMPORTS.search((room / script).read_text(encoding="utf-8"))):
+            if subprocess.run(["python3", "-c", f"import {module[1]}"], stderr=subprocess.DEVNULL).returncode:
+                return module[1]
+    return None
+
+
 def run(steps: list[Step], room: Path, counts: Counts) -> None:
     """Runs commands by one shell, one after the other."""
     functions: dict[str, str] = {}
     with tempfile.TemporaryDirectory() as folder:
         shell = Shell(room, Path(folder, "printed"))
         for command, wanted in steps:
-            program = OPTIONAL.search(command)
-            if program and not shutil.which(program[1]):
-                print(f"not run, since there is no {program[1]}: {command}")
+            if lacking := lacks(command, room):
+                print(f"not run, since there is no {lacking}: {command}")
                 continue
             if name := FUNCTION.match(command):
                 functions[name[1]] = command
@@ -178,13 +196,59 @@ def run(steps: list[Step], room: Path, counts: Counts) -> None:
         shell.bash.communicate()
 
 
+def number(value: float) -> bytes:
+    return b"\x01price\0" + struct.pack("<d", value)
+
+
+def backup(room: Path, is_damaged: bool) -> None:
+    """Makes what README.md names: a backup, and files beside it."""
+    shop = room / "backup/shop"
+    shop.mkdir(parents=True)
+    orders = bytearray((ROOT / "examples/shop.bson").read_bytes())
+    orders[90] = 2 if is_damaged else orders[90]
+    (shop / "orders.bson").write_bytes(orders)
+    prices = b""
+    for item, price, placed in ((b"pen", number(1.5), 1), (b"desk", number(1249.0), 2), (b"lamp", b"\x13price\0" + struct.pack("<QQ", 2950, 0x303C << 48), 3)):
+        day = b"\x09placed\0" + struct.pack("<q", 1764450000000 + placed * 45000000)
+        body = b"\x02item\0" + struct.pack("<i", len(item) + 1) + item + b"\0" + price + day
+        prices += struct.pack("<i", len(body) + 5) + body + b"\0"
+    (shop / "prices.bson").write_bytes(prices)
+    for name in ("orders", "prices"):
+        (shop / f"{name}.metadata.json").write_text('{"indexes":[]}\n', encoding="utf-8")
+    lines = "".join(f"2026-11-25T21:00:00.000+0000\tdone dumping shop.{name} ({count} documents)\n" for name, count in (("orders", 400), ("prices", 3)))
+    (room / "mongodump.log").write_text(lines, encoding="utf-8")
+    for name in ("monday", "tuesday"):
+        shutil.copytree(room / "backup", room / name)
+    shutil.copyfile(shop / "orders.bson", room / "orders.bson")
+    shutil.copyfile(room / "examples/people.bson", room / "people.bson")
+    shutil.copyfile(room / "examples/backup.archive", room / "night.archive")
+    (room / "lines.jsonl").write_text('{"a":1}\n', encoding="utf-8")
+
+
+def of_readme(text: str, counts: Counts) -> None:
+    """Runs the commands of its first table over a good backup, and its script."""
+    table = text[text.index("| To | Type |") :].partition("\n\n")[0]
+    with tempfile.TemporaryDirectory() as folder:
+        room = Path(folder, "room")
+        shutil.copytree(ROOT / "examples", room / "examples")
+        backup(room, is_damaged=False)
+        script = re.search(r"(?:^    .*\n|^\n(?=    ))+", text[text.index("From Python:") :], re.MULTILINE)
+        Path(folder, "script.py").write_text(re.sub("^    ", "", script[0].strip("\n") if script else "", flags=re.MULTILINE), encoding="utf-8")
+        run([*(Step(it, None) for it in re.findall(r"`([^`]*)` \|$", table, re.MULTILINE)), Step("python3 ../script.py", None)], room, counts)
+
+
 def main() -> int:
+    if not shutil.which("jq"):
+        print("not run, since there is no jq: what the documents show\n0 passed, 0 failed")
+        return 0
     counts = Counts()
-    for name in ("README.md", "docs/GUIDE.md", "docs/LARGE.md", "man/bsonfind.1", "man/bsonwide.1"):
+    for name in sys.argv[1:] or ("README.md", "docs/GUIDE.md", "docs/LARGE.md", "man/bsonfind.1", "man/bsonwide.1"):
         text = (ROOT / name).read_text(encoding="utf-8")
         with tempfile.TemporaryDirectory() as folder:
             room = Path(folder)
             shutil.copytree(ROOT / "examples", room / "examples")
+            if name == "README.md":
+                backup(room, is_damaged=True)
             if name.endswith(".1"):
                 shutil.copytree(ROOT / "examples", room, dirs_exist_ok=True)
                 (room / "people.bson.gz").write_bytes(gzip.compress((room / "people.bson").read_bytes()))
@@ -197,6 +261,8 @@ def main() -> int:
             if name.startswith("docs/") and name.endswith(".md"):
                 counts.want(not (long := long_blocks(text)), f"the blocks of {name} have at most {MOST_LINES} lines", "\n".join(long))
             run(steps, room, counts)
+        if name == "README.md":
+            of_readme(text, counts)
     print(f"{counts.passed} passed, {counts.failed} failed")
     return 1 if counts.failed else 0
 
