@@ -786,13 +786,13 @@ module _ (p : Profile) (g : Grammar) (skips : Skips p g) where
   some_written (array ts) name value h = rw (skips.holder (array ts) name value refl) (omega arith)
   some_written (code_scope s fs) name value h = rw (skips.holder (code_scope s fs) name value refl) (omega arith)
 
-  held_short : (t : Tree) (name value : List ℕ) → is_holder (kind_of t) ≡ true → length (g.written t name value) ≤ longest_document → length value ≤ longest_document
-  held_short t name value held short =
-      omega (arith, short, ap (λ (x : List ℕ). length x) (skips.holder t name value held), length-append name (0 ∷ value))
+  holder_short : (t : Tree) (name value : List ℕ) → is_holder (kind_of t) ≡ true → length (g.written t name value) ≤ longest_document → length value ≤ longest_document
+  holder_short t name value is_one short =
+      omega (arith, short, ap (λ (x : List ℕ). length x) (skips.holder t name value is_one), length-append name (0 ∷ value))
 
-  held_again : (nested : Nested) (index : Option ℕ) (e : ℕ) (t : Tree) (name value rest : List ℕ) → IsName name → is_holder (kind_of t) ≡ true
+  holder_again : (nested : Nested) (index : Option ℕ) (e : ℕ) (t : Tree) (name value rest : List ℕ) → IsName name → is_holder (kind_of t) ≡ true
       → ((q : ℕ) → skip_value nested (kind_of t) q e (value ++ rest) ≡ Ok rest) → skip_element p nested index e (g.written t name value ++ rest) ≡ Ok rest
-  held_again nested index e t name value rest named held h = rw (skips.holder t name value held) (element_again p nested index e t name value rest named h)
+  holder_again nested index e t name value rest named is_one h = rw (skips.holder t name value is_one) (element_again p nested index e t name value rest named h)
 
   mutual
     unfolding skip_nested
@@ -802,23 +802,23 @@ module _ (p : Profile) (g : Grammar) (skips : Skips p g) where
     value_again (leaf s) index depth_left e name value rest named h deep short = skips.scalar (skip_nested p depth_left) index e s name value rest named h
     value_again (doc fs) index zero e name value rest named h deep short = absurd (omega arith)
     value_again (doc fs) index (suc r) e name value rest named h deep short =
-        let size : length (framed h.0) ≤ longest_document = omega (arith, held_short (doc fs) name value refl short, ap length h.2) in
+        let size : length (framed h.0) ≤ longest_document = omega (arith, holder_short (doc fs) name value refl short, ap length h.2) in
         let less : length h.0 ≤ longest_document = omega (arith, size, framed_length h.0) in
-        held_again (skip_nested p (suc r)) index e (doc fs) name value rest named refl
+        holder_again (skip_nested p (suc r)) index e (doc fs) name value rest named refl
         (λ q. rw h.2 (body_again p (skip_nested p r) false e h.0 rest size (λ end. fields_again fs None r (length h.0) end h.0 h.1 (omega arith) less (omega arith))))
     value_again (array ts) index zero e name value rest named h deep short = absurd (omega arith)
     value_again (array ts) index (suc r) e name value rest named h deep short =
-        let size : length (framed h.0) ≤ longest_document = omega (arith, held_short (array ts) name value refl short, ap length h.2) in
+        let size : length (framed h.0) ≤ longest_document = omega (arith, holder_short (array ts) name value refl short, ap length h.2) in
         let less : length h.0 ≤ longest_document = omega (arith, size, framed_length h.0) in
-        held_again (skip_nested p (suc r)) index e (array ts) name value rest named refl
+        holder_again (skip_nested p (suc r)) index e (array ts) name value rest named refl
         (λ q. rw h.2 (body_again p (skip_nested p r) true e h.0 rest size (λ end. items_again ts (Some 0) r (length h.0) end h.0 h.1 (omega arith) less (omega arith))))
     value_again (code_scope s fs) index zero e name value rest named h deep short = absurd (omega arith)
     value_again (code_scope s fs) index (suc zero) e name value rest named h deep short = absurd (omega arith)
     value_again (code_scope s fs) index (suc (suc r)) e name value rest named h deep short =
         let parts : length (string s ++ framed h.0) ≤ longest_document
-        = omega (arith, held_short (code_scope s fs) name value refl short, ap (λ (x : List ℕ). length x) h.2, scoped_length s (framed h.0)) in
+        = omega (arith, holder_short (code_scope s fs) name value refl short, ap (λ (x : List ℕ). length x) h.2, scoped_length s (framed h.0)) in
         let less : length h.0 ≤ longest_document = omega (arith, parts, framed_length h.0, length-append (string s) (framed h.0)) in
-        held_again (skip_nested p (suc (suc r))) index e (code_scope s fs) name value rest named refl
+        holder_again (skip_nested p (suc (suc r))) index e (code_scope s fs) name value rest named refl
         (λ q. rw h.2 (code_nested p r q e s h.0 rest h.3 parts (λ end. fields_again fs None r (length h.0) end h.0 h.1 (omega arith) less (omega arith))))
 
     fields_again : (fs : Fields) (index : Option ℕ) (depth_left n e : ℕ) (bytes : List ℕ) → AreFieldsBy g fs bytes → fields_depth fs ≤ depth_left
@@ -855,7 +855,7 @@ nineteen_skips : (p : Profile) → Skips p nineteen
 nineteen_skips p = record {
   scalar = λ nested index e s name value rest named h. element_again p nested index e (leaf s) name value rest named (λ q. scalar_again nested s q e value rest h);
   some = λ s name value h. omega arith;
-  holder = λ t name value held. refl;
+  holder = λ t name value is_one. refl;
 }
 
 -- the bytes of a document have no fault

@@ -308,25 +308,25 @@ module _ (worth : ElementType → List ℕ → ℤ) where
   scalar_written trees.max_key name value h = omega arith
 
   holder_written : (t : Tree) (name value : List ℕ) → is_holder (kind_of t) ≡ true → written_typed t name value ≡ element t name value
-  holder_written (leaf (trees.int32 z)) name value held = absurd cc
-  holder_written (leaf (trees.int64 z)) name value held = absurd cc
-  holder_written (leaf trees.min_key) name value held = absurd cc
-  holder_written (leaf trees.undefined) name value held = absurd cc
-  holder_written (leaf trees.null) name value held = absurd cc
-  holder_written (leaf (trees.text s)) name value held = absurd cc
-  holder_written (leaf (trees.symbol s)) name value held = absurd cc
-  holder_written (leaf (trees.binary k s)) name value held = absurd cc
-  holder_written (leaf (trees.object_id s)) name value held = absurd cc
-  holder_written (leaf (trees.boolean b)) name value held = absurd cc
-  holder_written (leaf (trees.date z)) name value held = absurd cc
-  holder_written (leaf (trees.timestamp s i)) name value held = absurd cc
-  holder_written (leaf (trees.regex p o)) name value held = absurd cc
-  holder_written (leaf (trees.db_pointer s i)) name value held = absurd cc
-  holder_written (leaf (trees.code s)) name value held = absurd cc
-  holder_written (leaf trees.max_key) name value held = absurd cc
-  holder_written (doc fs) name value held = refl
-  holder_written (array ts) name value held = refl
-  holder_written (code_scope s fs) name value held = refl
+  holder_written (leaf (trees.int32 z)) name value is_one = absurd cc
+  holder_written (leaf (trees.int64 z)) name value is_one = absurd cc
+  holder_written (leaf trees.min_key) name value is_one = absurd cc
+  holder_written (leaf trees.undefined) name value is_one = absurd cc
+  holder_written (leaf trees.null) name value is_one = absurd cc
+  holder_written (leaf (trees.text s)) name value is_one = absurd cc
+  holder_written (leaf (trees.symbol s)) name value is_one = absurd cc
+  holder_written (leaf (trees.binary k s)) name value is_one = absurd cc
+  holder_written (leaf (trees.object_id s)) name value is_one = absurd cc
+  holder_written (leaf (trees.boolean b)) name value is_one = absurd cc
+  holder_written (leaf (trees.date z)) name value is_one = absurd cc
+  holder_written (leaf (trees.timestamp s i)) name value is_one = absurd cc
+  holder_written (leaf (trees.regex p o)) name value is_one = absurd cc
+  holder_written (leaf (trees.db_pointer s i)) name value is_one = absurd cc
+  holder_written (leaf (trees.code s)) name value is_one = absurd cc
+  holder_written (leaf trees.max_key) name value is_one = absurd cc
+  holder_written (doc fs) name value is_one = refl
+  holder_written (array ts) name value is_one = refl
+  holder_written (code_scope s fs) name value is_one = refl
 
   -- the bytes of a document by value have no fault under all types
   pub document_by_value_again : (e : ℕ) (bytes : List ℕ) (d : Doc) → IsDocumentBy (valued worth) d bytes → skip_document All e bytes ≡ Ok tt
