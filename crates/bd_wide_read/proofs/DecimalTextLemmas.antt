@@ -21,7 +21,7 @@ use Rattle.bd_wide_read.specs.DecimalText.{number, IsCanonical, IsRead, IsWorth,
 use Rattle.bd_wide_read.specs.inside.Digits.{scaled}
 use Rattle.bd_wide_read.proofs.DoubleLemmas.{AllDigits-zeros}
 use Rattle.bd_wide_read.proofs.DecimalLemmas.{value_append}
-use Rattle.bd_wide_read.proofs.ScanLemmas.{parts, scan_scientific, sign_byte}
+use Rattle.bd_wide_text.proofs.ReadBackLemmas.{parts, scan_scientific, sign_byte}
 use Rattle.bd_wide_read.proofs.TenLemmas.{ten_pos}
 
 -- ---- the numeral of a layout

@@ -2,4 +2,3 @@ pub mod DecimalTextLemmas
 pub mod DoubleLemmas
 pub mod TenLemmas
 pub mod DecimalLemmas
-pub mod ScanLemmas

@@ -57,7 +57,7 @@ tail_of : (bs : List ℕ) (b c : ℕ) (negative : Bool) (exponent : List ℕ) �
 tail_of bs b c negative exponent has start sign end is long = (rw has sign, rw (has, start, end) is, rw (has, start, end) long)
 
 -- the byte of a sign
-abbrev sign_byte : Bool → ℕ
+abbrev pub sign_byte : Bool → ℕ
 sign_byte true = 45
 sign_byte false = 43
 
@@ -91,11 +91,12 @@ scan_is bs whole fraction exponent point negative a b ea ep eb ew ef t =
     rw (ea, ep, eb) (λ i. record { whole = ew i; point = point; fraction = ef i; exponent_negative = t.0 i; exponent = t.1 i; len = t.2 i })
 
 -- the parts of a number with a power of ten, by its first digit and the others
-abbrev parts : ℕ → List ℕ → Bool → List ℕ → ℕ → Parts
+abbrev pub parts : ℕ → List ℕ → Bool → List ℕ → ℕ → Parts
 parts d [] negative exponent len = record { whole = d ∷ []; point = false; fraction = []; exponent_negative = negative; exponent = exponent; len = len }
 parts d (e ∷ ds) negative exponent len = record { whole = d ∷ []; point = true; fraction = e ∷ ds; exponent_negative = negative; exponent = exponent; len = len }
 
-scan_scientific : (d : ℕ) (ds exponent : List ℕ) (negative : Bool) → AllDigits 10 (d ∷ ds) → 0 < length exponent → AllDigits 10 exponent
+-- a number with a power of ten is scanned as its parts
+pub scan_scientific : (d : ℕ) (ds exponent : List ℕ) (negative : Bool) → AllDigits 10 (d ∷ ds) → 0 < length exponent → AllDigits 10 exponent
     → let bs = mantissa (d ∷ ds) ++ (69 ∷ sign_byte negative ∷ exponent) in scan_numeral bs ≡ parts d ds negative exponent (length bs)
 scan_scientific d [] exponent negative all some e =
     let back = 69 ∷ sign_byte negative ∷ exponent in
