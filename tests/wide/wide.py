@@ -276,7 +276,7 @@ def main() -> int:
         (["order", "-", "--", "-a"], 0, b"", b""), (["order", "-", "-a"], 2, b"", USAGE), (["--help"], 0, USAGE, b""), (["dump", "-h"], 0, USAGE, b""),
         (["check", "absent"], 1, b"", b"bsonwide: cannot open absent\n"), (["check", "--", "-x"], 1, b"", b"bsonwide: cannot open -x\n"),
         (["order", "/"], 1, b"", b"bsonwide: cannot read\n"), (["check", "/"], 1, b"", b"bsonwide: cannot read\n0 documents, 0 faulty\n"),
-        (["mask", "-"], 2, b"", USAGE), (["--version"], 0, VERSION, b""), (["--version", "-"], 2, b"", USAGE),
+        (["mask", "-"], 2, b"", USAGE), (["wrap", "-"], 2, b"", USAGE), (["--version"], 0, VERSION, b""), (["--version", "-"], 2, b"", USAGE),
     ):  # fmt: skip
         got = subprocess.run([PROGRAM, *words], input=b"", capture_output=True, check=False)
         tests.want(f"words {words}", (got.returncode, got.stdout, got.stderr) == (status, out, err), got)
