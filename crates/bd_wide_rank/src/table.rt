@@ -31,8 +31,8 @@ impl Table {
     ghost use Rattle.bd_wide_rank.specs.Table.{worths};
     ghost use Rattle.bd_wide_rank.specs.inside.Place.{IsPlace, place_worth};
 
-    /// The code of a number, of any type: 2n + 1 for the n-th number of the table from 0, the even number between for a number that is
-    /// not in the table, and -1 for NaN if it is not in the table.
+    /// The code of a number, of any type: 2n + 1 for the n-th number of the table from 0, the even number between for a number that
+    /// is not in the table, and -1 for NaN if it is not in the table.
     pub fn code(&self, number: Number) -> i32
         ensures { result ≡ code_of (worths self.now) (worth_of number) }
     {
