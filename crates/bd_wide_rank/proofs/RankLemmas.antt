@@ -93,13 +93,13 @@ module _ {E : Type 0} (f : E → ℤ) where
   all_above w (x ∷ xs) above = ap₂ ◌+◌ (ap weight (above 0 x (omega arith))) (all_above w xs (λ k d l. above (suc k) d (omega arith)))
 
   -- a worth that is between the i-th and the one before
-  pub place_rank : (w : ℤ) (xs : List E) (i : ℕ) → i ≤ length xs → ((k : ℕ) (d : E) → k < i → int_cmp (f (get_or xs k d)) w ≡ Less)
+  pub position_rank : (w : ℤ) (xs : List E) (i : ℕ) → i ≤ length xs → ((k : ℕ) (d : E) → k < i → int_cmp (f (get_or xs k d)) w ≡ Less)
       → ((k : ℕ) (d : E) → i ≤ k → k < length xs → int_cmp (f (get_or xs k d)) w ≡ Greater) → rank (map f xs) w ≡ 2 * i
-  place_rank w [] i l below above = let e : i ≡ 0 = omega arith in sym (ap (λ (z : ℕ). 2 * z) e)
-  place_rank w (x ∷ xs) zero l below above = all_above w (x ∷ xs) (λ k d h. above k d (omega arith) h)
-  place_rank w (x ∷ xs) (suc i) l below above =
+  position_rank w [] i l below above = let e : i ≡ 0 = omega arith in sym (ap (λ (z : ℕ). 2 * z) e)
+  position_rank w (x ∷ xs) zero l below above = all_above w (x ∷ xs) (λ k d h. above k d (omega arith) h)
+  position_rank w (x ∷ xs) (suc i) l below above =
       ap₂ ◌+◌ (ap weight (below 0 x (omega arith)))
-      (place_rank w xs i (omega arith) (λ k d a. below (suc k) d (omega arith)) (λ k d a b. above (suc k) d (omega arith) (omega arith)))
+      (position_rank w xs i (omega arith) (λ k d a. below (suc k) d (omega arith)) (λ k d a b. above (suc k) d (omega arith) (omega arith)))
       ∙ (let e : 2 + 2 * i ≡ 2 * suc i = omega arith in e)
 
   -- the worth of the i-th

@@ -11,7 +11,7 @@ use Rattle.bd_wide_rank.specs.declared.between.Between.{Between}
 use Rattle.bd_wide_rank.specs.inside.{Key.IsKey, Key.IsBetween, Key.key_worth, Rows.between_cmp, Rows.between_worth, Rows.between_worths, Rows.key_worths}
 use Rattle.bd_wide_rank.proofs.CompareLemmas.{less, greater}
 use Rattle.bd_wide_rank.proofs.KeyLemmas.{above_double, below_double, keys_rise}
-use Rattle.bd_wide_rank.proofs.RankLemmas.{Rises, distinct, distinct_with, found_rank, is_same, not_among, place_rank, rises, same_once}
+use Rattle.bd_wide_rank.proofs.RankLemmas.{Rises, distinct, distinct_with, found_rank, is_same, not_among, position_rank, rises, same_once}
 
 same_default : {E : Type 0} (xs : List E) (k : ℕ) (c d : E) → k < length xs → get_or xs k c ≡ get_or xs k d
 same_default [] k c d l = absurd (omega arith)
@@ -35,14 +35,14 @@ module _ (keys : List ℕ) (are : All IsKey keys) (up : IsStrictlyIncreasing key
 
   pub double_not_found : (key i : ℕ) → IsKey key → i ≤ length keys → ((k : ℕ) → k < i → get_or keys k 0 < key) → ((k : ℕ) → i ≤ k → k < length keys → key < get_or keys k 0)
       → rank (key_worths keys) (key_worth key) ≡ 2 * i
-  double_not_found key i good l below above = place_rank key_worth (key_worth key) keys i l
+  double_not_found key i good l below above = position_rank key_worth (key_worth key) keys i l
       (λ k d h. less _ _ (keys_rise _ _ (are k d (omega arith)) good (rw (same_default keys k d 0 (omega arith)) (below k h))))
       (λ k d h g. greater _ _ (keys_rise _ _ good (are k d g) (rw (same_default keys k d 0 g) (above k h g))))
 
   module _ (key : ℕ) (worth : ℤ) (is : IsBetween key (key + 1) worth) where
     up_to : (i : ℕ) → i ≤ length keys → ((k : ℕ) → k < i → get_or keys k 0 ≤ key) → ((k : ℕ) → i ≤ k → k < length keys → key < get_or keys k 0)
         → rank (key_worths keys) worth ≡ 2 * i
-    up_to i l below above = place_rank key_worth worth keys i l
+    up_to i l below above = position_rank key_worth worth keys i l
         (λ k d h. less _ _ (above_double key worth is _ (are k d (omega arith)) (rw (same_default keys k d 0 (omega arith)) (below k h))))
         (λ k d h g. greater _ _ (below_double key worth is _ (are k d g) (rw (same_default keys k d 0 g) (above k h g))))
 

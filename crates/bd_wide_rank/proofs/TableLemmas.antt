@@ -25,7 +25,7 @@ worths_length t =
 
 pub few_worths : (t : Table) → length (worths t) < 2 ^ 30
 unfolding worths
-few_worths t = rw (row_length t.doubles.keys.items t.others.numbers.items) t.few
+few_worths t = rw (row_length t.doubles.keys.items t.others.numbers.items) t.fits
 
 -- by its rank, and whether it is NaN
 abbrev by_rank : ℕ → Bool → ℤ
@@ -46,7 +46,7 @@ ranks_few t w a b e f =
     let others = t.others.numbers.items in
     let first : length (key_worths keys) ≡ length keys = length-map keys key_worth in
     let second : length (between_worths others) ≡ length others = length-map others between_worth in
-    omega (arith, rank_most (key_worths keys) w, rank_most (between_worths others) w, t.few)
+    omega (arith, rank_most (key_worths keys) w, rank_most (between_worths others) w, t.fits)
 
 pub code_fits : (ws : List ℤ) (w : ℤ) → length ws < 2 ^ 30 → FitsSigned w32 (code ws w)
 code_fits ws w few = by_rank_fits (rank ws w) (is_eq (int_cmp w (value_worth nan))) (omega (arith, rank_most ws w))

@@ -15,7 +15,7 @@ is_among worths w = list_any (λ v. is_eq (int_cmp v w)) worths
 abbrev pub HaveSame : List ℤ → List ℤ → Type 0
 HaveSame vs ws = (w : ℤ) → is_among vs w ≡ is_among ws w
 
--- Each worth stands once in the list.
+-- No worth is twice in the list.
 abbrev pub AreDistinct : List ℤ → Type 0
 AreDistinct [] = Unit {0}
 AreDistinct (w ∷ ws) = (is_among ws w ≡ false) × AreDistinct ws

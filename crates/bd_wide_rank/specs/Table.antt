@@ -9,5 +9,5 @@ unfoldable pub worths : Table → List ℤ
 worths table = key_worths table.doubles.keys.items ++ between_worths table.others.numbers.items
 
 -- the worths of the numbers that were added, perhaps not as often
-unfoldable pub gathered : Numbers → List ℤ
-gathered numbers = key_worths numbers.doubles.keys.items ++ between_worths numbers.others.numbers.items
+unfoldable pub collected : Numbers → List ℤ
+collected numbers = key_worths numbers.doubles.keys.items ++ between_worths numbers.others.numbers.items

@@ -7,7 +7,7 @@ ghost use Rattle.std.proofs.Props.{props};
 ghost use Rattle.bd_wide_rank.specs.Rank.{HaveSame, rank};
 ghost use Rattle.bd_wide_rank.specs.inside.Key.{IsKey, key_worth};
 
-use crate::place::Place;
+use crate::position::Position;
 use bd_value::NoMemory;
 use std::alloc::Global;
 
@@ -24,7 +24,7 @@ pub(crate) struct Doubles {
 const LEAST_LIMIT: usize = 1024;
 
 impl Doubles {
-    ghost use Rattle.bd_wide_rank.specs.inside.Place.{IsPlace, place_worth};
+    ghost use Rattle.bd_wide_rank.specs.inside.Position.{IsPosition, position_worth};
     ghost use Rattle.bd_wide_rank.specs.inside.Rows.{key_worths};
 
     /// No doubles.
@@ -63,17 +63,17 @@ impl Doubles {
     }
 
     /// The rank of a number among the doubles.
-    pub(crate) fn rank(&self, place: Place) -> u64
+    pub(crate) fn rank(&self, position: Position) -> u64
         requires rising { IsStrictlyIncreasing self.now.keys.items }
-        requires place { IsPlace place }
-        ensures { result ≡ rank (key_worths self.now.keys.items) (place_worth place) }
+        requires position { IsPosition position }
+        ensures { result ≡ rank (key_worths self.now.keys.items) (position_worth position) }
     {
-        match place {
-            Place::Double(key) => match self.keys.binary_search(&key) {
+        match position {
+            Position::Double(key) => match self.keys.binary_search(&key) {
                 Ok(i) => 2 * i as u64 + 1,
                 Err(i) => 2 * i as u64,
             },
-            Place::Between(number) => match self.keys.binary_search(&number.key) {
+            Position::Between(number) => match self.keys.binary_search(&number.key) {
                 Ok(i) => 2 * i as u64 + 2,
                 Err(i) => 2 * i as u64,
             },

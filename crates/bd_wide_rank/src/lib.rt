@@ -27,8 +27,8 @@
 //! - `table`: `Table`, the distinct numbers of a dump, and the code of any number among them.
 //! - `doubles`, `others`: the two rows of a table: doubles by their keys, and numbers that no double equals.
 //! - `key`: keys of doubles (`specs/inside/Key.antt`).
-//! - `place`, `between`: where numbers are beside the doubles.
-//! - `placed`, `guess`: the place of a number, from a guess.
+//! - `position`, `between`: where numbers are beside the doubles.
+//! - `positioned`, `guess`: the position of a number, from a guess.
 //! - `laws`: codes are in the order of the numbers.
 #![tactic(auto)]
 
@@ -41,8 +41,8 @@ mod laws;
 mod limbs;
 mod numbers;
 mod others;
-mod place;
-mod placed;
+mod position;
+mod positioned;
 mod size;
 mod table;
 

@@ -2,13 +2,13 @@
 
 ghost use Rattle.std.specs.Prelude.{◌∷◌, ◌≡◌, ◌≤◌, ◌^◌, [], IfErr, IfOk, List, OnErr, OnOk, length, ℤ};
 ghost use Rattle.bd_wide_rank.specs.Rank.{AreDistinct, HaveSame};
-ghost use Rattle.bd_wide_rank.specs.Table.{gathered, worths};
+ghost use Rattle.bd_wide_rank.specs.Table.{collected, worths};
 ghost use Rattle.bd_wide_rank.specs.Worth.{worth_of};
 
 use crate::doubles::Doubles;
 use crate::others::Others;
-use crate::place::Place;
-use crate::placed::placed;
+use crate::position::Position;
+use crate::positioned::positioned;
 use crate::table::Table;
 use bd_value::NoMemory;
 use bd_wide_number::Number;
@@ -32,7 +32,7 @@ const MOST: usize = 0x3FFF_FFFF;
 impl Numbers {
     /// No numbers.
     pub fn new(alloc: Global) -> Numbers
-        ensures { gathered result ≡ [] }
+        ensures { collected result ≡ [] }
     {
         Numbers {
             doubles: Doubles::new(alloc),
@@ -46,15 +46,15 @@ impl Numbers {
     /// If memory runs out (`NoMemory`), the numbers are the same as before.
     pub fn push(&mut self, number: Number) -> Result<(), NoMemory>
         ensures ok { OnOk result
-            (HaveSame (gathered self.new) (worth_of number ∷ gathered self.old)) }
-        ensures err { OnErr result (HaveSame (gathered self.new) (gathered self.old)) }
+            (HaveSame (collected self.new) (worth_of number ∷ collected self.old)) }
+        ensures err { OnErr result (HaveSame (collected self.new) (collected self.old)) }
     {
-        match placed(number) {
-            Place::Double(key) => {
+        match positioned(number) {
+            Position::Double(key) => {
                 self.doubles.push(key)?;
                 Ok(())
             }
-            Place::Between(number) => {
+            Position::Between(number) => {
                 self.others.push(number)?;
                 Ok(())
             }
@@ -66,9 +66,9 @@ impl Numbers {
     /// # Errors
     /// `TooMany` if there are 2 ^ 30 or more.
     pub fn into_table(self) -> Result<Table, TooMany>
-        ensures ok { IfOk result (λ table. HaveSame (worths table) (gathered self)) }
+        ensures ok { IfOk result (λ table. HaveSame (worths table) (collected self)) }
         ensures err { IfErr result (λ _. (all : List ℤ) × AreDistinct all
-            × HaveSame all (gathered self) × (2 ^ 30 ≤ length all)) }
+            × HaveSame all (collected self) × (2 ^ 30 ≤ length all)) }
     {
         let Numbers {
             mut doubles,

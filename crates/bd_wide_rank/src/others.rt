@@ -5,7 +5,7 @@ ghost use Rattle.std.specs.List.Sorted.{IsStrictlySortedBy};
 ghost use Rattle.bd_wide_rank.specs.Rank.{HaveSame, rank};
 
 use crate::between::Between;
-use crate::place::{Place, beside, compare_between};
+use crate::position::{Position, beside, compare_between};
 use bd_value::NoMemory;
 use std::alloc::Global;
 
@@ -21,7 +21,7 @@ pub(crate) struct Others {
 const LEAST_LIMIT: usize = 1024;
 
 impl Others {
-    ghost use Rattle.bd_wide_rank.specs.inside.Place.{IsPlace, place_worth};
+    ghost use Rattle.bd_wide_rank.specs.inside.Position.{IsPosition, position_worth};
     ghost use Rattle.bd_wide_rank.specs.inside.Rows.{between_cmp, between_worth, between_worths};
 
     /// No numbers.
@@ -62,12 +62,12 @@ impl Others {
     }
 
     /// The rank of a number among these.
-    pub(crate) fn rank(&self, place: Place) -> u64
+    pub(crate) fn rank(&self, position: Position) -> u64
         requires rising { IsStrictlySortedBy between_cmp self.now.numbers.items }
-        requires place { IsPlace place }
-        ensures { result ≡ rank (between_worths self.now.numbers.items) (place_worth place) }
+        requires position { IsPosition position }
+        ensures { result ≡ rank (between_worths self.now.numbers.items) (position_worth position) }
     {
-        match self.numbers.binary_search_by(|t| beside(*t, place)) {
+        match self.numbers.binary_search_by(|t| beside(*t, position)) {
             Ok(i) => 2 * i as u64 + 1,
             Err(i) => 2 * i as u64,
         }

@@ -11,8 +11,8 @@ ghost use Rattle.bd_wide_rank.specs.inside.Rows.{between_cmp};
 
 use crate::doubles::Doubles;
 use crate::others::Others;
-use crate::place::{Place, is_nan};
-use crate::placed::placed;
+use crate::position::{Position, is_nan};
+use crate::positioned::positioned;
 use bd_bson_view::ElementType;
 use bd_wide::number_in;
 use bd_wide_number::Number;
@@ -24,21 +24,21 @@ pub struct Table {
     pub(crate) others: Others,
     ghost rising: { IsStrictlyIncreasing doubles.keys.items } by { Prim.hlevel props },
     ghost others_rising: { IsStrictlySortedBy between_cmp others.numbers.items } by { Prim.hlevel props },
-    ghost few: { length doubles.keys.items + length others.numbers.items < 2 ^ 30 },
+    ghost fits: { length doubles.keys.items + length others.numbers.items < 2 ^ 30 },
 }
 
 impl Table {
     ghost use Rattle.bd_wide_rank.specs.Table.{worths};
-    ghost use Rattle.bd_wide_rank.specs.inside.Place.{IsPlace, place_worth};
+    ghost use Rattle.bd_wide_rank.specs.inside.Position.{IsPosition, position_worth};
 
     /// The code of a number, of any type: 2n + 1 for the n-th number of the table from 0, the even number between for a number that
     /// is not in the table, and -1 for NaN if it is not in the table.
     pub fn code(&self, number: Number) -> i32
         ensures { result ≡ code_of (worths self.now) (worth_of number) }
     {
-        let place = placed(number);
-        let rank = self.rank(place);
-        if rank == 0 && is_nan(place) {
+        let position = positioned(number);
+        let rank = self.rank(position);
+        if rank == 0 && is_nan(position) {
             -1
         } else {
             rank as i32
@@ -56,13 +56,13 @@ impl Table {
         }
     }
 
-    /// The rank of a number, by its place.
-    fn rank(&self, place: Place) -> u64
-        requires { IsPlace place }
-        ensures is { result ≡ rank (worths self.now) (place_worth place) }
-        ensures few { result < 2 ^ 31 }
+    /// The rank of a number, by its position.
+    fn rank(&self, position: Position) -> u64
+        requires { IsPosition position }
+        ensures is { result ≡ rank (worths self.now) (position_worth position) }
+        ensures fits_i32 { result < 2 ^ 31 }
     {
-        self.doubles.rank(place) + self.others.rank(place)
+        self.doubles.rank(position) + self.others.rank(position)
     }
 
     /// How many numbers are in the table.
@@ -75,7 +75,7 @@ impl Table {
     /// A law: the numbers of the table are distinct, and fewer than 2 ^ 30. The code of each number is an int32.
     pub fn codes_fit(&self)
         ensures distinct { AreDistinct (worths self.now) }
-        ensures few { length (worths self.now) < 2 ^ 30 }
+        ensures fits_i32 { length (worths self.now) < 2 ^ 30 }
         ensures fit { (w : ℤ) → FitsSigned w32 (code_of (worths self.now) w) }
     {}
 }

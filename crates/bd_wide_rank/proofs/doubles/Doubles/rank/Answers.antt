@@ -19,7 +19,7 @@ returns-in-Err c =
     let keys = row.keys.items in
     let i = c.in-Err.i in
     let found = searched keys c.in-Double.key (Err i) (rw c.deref.ensures.value at c.in-Err.ensures.position) (keys_up keys c.requires.rising) in
-    rw c.in-Double.is (sym (double_not_found keys row.are_keys c.requires.rising c.in-Double.key i (rw c.in-Double.is at c.requires.place) found.0 found.1 found.2))
+    rw c.in-Double.is (sym (double_not_found keys row.are_keys c.requires.rising c.in-Double.key i (rw c.in-Double.is at c.requires.position) found.0 found.1 found.2))
 
 pub returns-in-Ok-binary_search : goal.returns-in-Ok-binary_search
 returns-in-Ok-binary_search c =

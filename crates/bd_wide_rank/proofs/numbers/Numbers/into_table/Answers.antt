@@ -1,5 +1,5 @@
 use Rattle.std.proofs.Common.{◌≡◌, ◌+◌, ◌++◌, arith, length, vec_len}
-use Rattle.bd_wide_rank.specs.Table.{gathered, worths}
+use Rattle.bd_wide_rank.specs.Table.{collected, worths}
 use Rattle.bd_wide_rank.specs.inside.Rows.{between_worths, key_worths}
 use Rattle.bd_wide_rank.proofs.RankLemmas.{same_both}
 use Rattle.bd_wide_rank.proofs.RowLemmas.{rows_distinct}
@@ -7,7 +7,7 @@ use Rattle.bd_wide_rank.proofs.TableLemmas.{row_length}
 use Rattle.bd_wide_rank.proofs.numbers.Numbers.into_table.Goals as goal
 
 pub returns-then-len-gt-MOST-clause-err : goal.returns-then-len-gt-MOST-clause-err
-unfolding gathered
+unfolding collected
 returns-then-len-gt-MOST-clause-err c =
     let before = c.args.self in
     let doubles = c.sort.new.self in
@@ -23,7 +23,7 @@ returns-then-len-gt-MOST-clause-err c =
     )
 
 pub returns-clause-ok : goal.returns-clause-ok
-unfolding gathered worths
+unfolding collected worths
 returns-clause-ok c =
     let before = c.args.self in
     same_both (key_worths c.sort.new.self.keys.items) (key_worths before.doubles.keys.items)

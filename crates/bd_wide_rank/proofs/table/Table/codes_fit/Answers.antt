@@ -9,8 +9,8 @@ returns-clause-distinct c =
     let t = c.args.self.now in
     rows_distinct t.doubles.keys.items t.doubles.are_keys t.rising t.others.numbers.items t.others_rising
 
-pub returns-clause-few : goal.returns-clause-few
-returns-clause-few c = few_worths c.args.self.now
+pub returns-clause-fits_i32 : goal.returns-clause-fits_i32
+returns-clause-fits_i32 c = few_worths c.args.self.now
 
 pub returns-clause-fit : goal.returns-clause-fit
 returns-clause-fit c = λ w. code_fits (worths c.args.self.now) w (few_worths c.args.self.now)

@@ -5,7 +5,7 @@ ghost use Rattle.std.specs.Ordering.{int_cmp, is_eq};
 ghost use Rattle.bd_wide_number.specs.Value.{nan};
 ghost use Rattle.bd_wide_rank.specs.Worth.{value_worth, worth_of};
 ghost use Rattle.bd_wide_rank.specs.inside.Key.{IsKey, key_worth};
-ghost use Rattle.bd_wide_rank.specs.inside.Place.{IsPlace, place_worth};
+ghost use Rattle.bd_wide_rank.specs.inside.Position.{IsPosition, position_worth};
 
 use crate::between::Between;
 use crate::compare::compare_numbers;
@@ -13,7 +13,7 @@ use std::cmp::Ordering;
 
 /// Where a number is beside the doubles.
 #[derive(Clone, Copy, Drop)]
-pub(crate) enum Place {
+pub(crate) enum Position {
     /// It is the double with this key.
     Double(u64),
     /// No double equals it.
@@ -21,13 +21,13 @@ pub(crate) enum Place {
 }
 
 /// The order of a number that no double equals beside another number: their keys decide, unless they are equal.
-pub(crate) fn beside(a: Between, b: Place) -> Ordering
-    requires { IsPlace b }
-    ensures { result ≡ int_cmp (worth_of a.number) (place_worth b) }
+pub(crate) fn beside(a: Between, b: Position) -> Ordering
+    requires { IsPosition b }
+    ensures { result ≡ int_cmp (worth_of a.number) (position_worth b) }
 {
     match b {
-        Place::Double(key) => beside_double(a, key),
-        Place::Between(b) => compare_between(a, b),
+        Position::Double(key) => beside_double(a, key),
+        Position::Between(b) => compare_between(a, b),
     }
 }
 
@@ -56,13 +56,13 @@ pub(crate) fn compare_between(a: Between, b: Between) -> Ordering
     compare_numbers(a.number, b.number)
 }
 
-/// Whether a number is NaN, by its place.
-pub(crate) fn is_nan(place: Place) -> bool
-    requires { IsPlace place }
-    ensures { result ≡ is_eq (int_cmp (place_worth place) (value_worth nan)) }
+/// Whether a number is NaN, by its position.
+pub(crate) fn is_nan(position: Position) -> bool
+    requires { IsPosition position }
+    ensures { result ≡ is_eq (int_cmp (position_worth position) (value_worth nan)) }
 {
-    match place {
-        Place::Double(key) => key == 0,
-        Place::Between(_) => false,
+    match position {
+        Position::Double(key) => key == 0,
+        Position::Between(_) => false,
     }
 }

@@ -2,7 +2,7 @@ use Rattle.std.proofs.Common.{◌≡◌, ◌^◌, pos, ◌+ℤ◌, ℤ, ap, rule
 use Rattle.std.proofs.lemmas.Int.{to_z-of_z}
 use Rattle.bd_wide_number.specs.Value.{value_of}
 use Rattle.bd_wide_rank.proofs.KeyLemmas.{key_of_value}
-use Rattle.bd_wide_rank.proofs.placed.placed.Goals as goal
+use Rattle.bd_wide_rank.proofs.positioned.positioned.Goals as goal
 
 pub returns-in-Some-clause-is : goal.returns-in-Some-clause-is
 returns-in-Some-clause-is c =

@@ -1,7 +1,7 @@
 use Rattle.bd_wide_number.specs.Value.{value_of}
 use Rattle.bd_wide_rank.proofs.KeyLemmas.{between_all, no_double, no_shape}
 use Rattle.bd_wide_rank.proofs.WorthLemmas.{shape_near}
-use Rattle.bd_wide_rank.proofs.placed.between.Goals as goal
+use Rattle.bd_wide_rank.proofs.positioned.between.Goals as goal
 
 pub unreachable-requires : goal.unreachable-requires
 unreachable-requires c = no_shape (value_of c.args.number) c.parts.result c.parts.ensures.is c.requires c.in_default.not-Finite

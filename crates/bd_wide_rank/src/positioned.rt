@@ -1,28 +1,28 @@
-//! The place of a number beside the doubles.
+//! The position of a number beside the doubles.
 
 ghost use Rattle.std.specs.Prelude.{◌≡◌, ◌≤◌, ◌<◌, ◌⊎◌, ◌+◌, ◌-◌, ◌^◌, None};
 ghost use Rattle.bd_wide_number.specs.Code.{number_code};
 ghost use Rattle.bd_wide_number.specs.Value.{infinite_bits, value_of};
 ghost use Rattle.bd_wide_rank.specs.Worth.{worth_of};
 ghost use Rattle.bd_wide_rank.specs.inside.Key.{IsBetween, IsNoDouble};
-ghost use Rattle.bd_wide_rank.specs.inside.Place.{IsPlace, place_worth};
+ghost use Rattle.bd_wide_rank.specs.inside.Position.{IsPosition, position_worth};
 
 use crate::between::Between;
 use crate::compare::{Shape, compare_numbers, parts};
 use crate::guess::guess;
 use crate::key::{LEAST, MOST, bits_of, key_of};
-use crate::place::Place;
+use crate::position::Position;
 use bd_wide_number::{Number, code_of};
 use std::cmp::Ordering;
 
-/// The place of a number.
-pub(crate) fn placed(number: Number) -> Place
-    ensures is { IsPlace result }
-    ensures worth { place_worth result ≡ worth_of number }
+/// The position of a number.
+pub(crate) fn positioned(number: Number) -> Position
+    ensures is { IsPosition result }
+    ensures worth { position_worth result ≡ worth_of number }
 {
     match code_of(number, None) {
-        Some(code) => Place::Double(key_of(code)),
-        None => Place::Between(between(number)),
+        Some(code) => Position::Double(key_of(code)),
+        None => Position::Between(between(number)),
     }
 }
 

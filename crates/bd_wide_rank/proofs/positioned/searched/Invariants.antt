@@ -1,7 +1,7 @@
 use Rattle.std.proofs.Common.{◌-◌}
 use Rattle.bd_wide_rank.specs.Worth.{worth_of}
 use Rattle.bd_wide_rank.specs.inside.Key.{IsBetween}
-use Rattle.bd_wide_rank.proofs.placed.searched.Given as goal
+use Rattle.bd_wide_rank.proofs.positioned.searched.Given as goal
 
 abbrev pub invariant-loop-bounds : goal.invariant-loop-bounds
 invariant-loop-bounds l = IsBetween l.bounds.low l.bounds.high (worth_of l.number)

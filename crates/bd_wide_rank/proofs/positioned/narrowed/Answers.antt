@@ -4,7 +4,7 @@ use Rattle.bd_wide_rank.specs.Worth.{worth_of}
 use Rattle.bd_wide_rank.specs.inside.Key.{IsKey, key_worth}
 use Rattle.bd_wide_rank.proofs.KeyLemmas.{above_or, double_worth, inner_key}
 use Rattle.bd_wide_rank.proofs.RankLemmas.{is_less}
-use Rattle.bd_wide_rank.proofs.placed.narrowed.Goals as goal
+use Rattle.bd_wide_rank.proofs.positioned.narrowed.Goals as goal
 
 pub bits_of-requires : goal.bits_of-requires
 bits_of-requires c =
