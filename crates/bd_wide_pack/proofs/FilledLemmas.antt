@@ -122,9 +122,19 @@ fields_alike (field n x fs) (p ∷ ps) (q ∷ qs) before after h =
     let f : field q.0 q.1 (fields_of qs) ≡ field n h.1 h.3 = h.6 in
     let name : p.0 ≡ n = cc in
     let other : n ≡ q.0 = cc in
-    let pair : p ≡ (n, p.1) = ap (λ (m : List ℕ). (m, p.1)) name in
-    (p.1, q.1, q.0, ps, qs, h.4, ap (λ (a : List ℕ × Tree). a ∷ ps) pair, refl, λ _. other, filled_as x h.0 p.1 h.1 q.1 before h.4 (cc) (cc) h.7,
-        fields_alike fs ps qs h.4 after (fields_as fs h.2 (fields_of ps) h.3 (fields_of qs) h.4 h.4 after (cc) (cc) refl h.8))
+    let pair : p ≡ (n, p.1) = ap (λ (m : List ℕ). (m, p.1)) name in (
+      p.1,
+      q.1,
+      q.0,
+      ps,
+      qs,
+      h.4,
+      ap (λ (a : List ℕ × Tree). a ∷ ps) pair,
+      refl,
+      λ _. other,
+      filled_as x h.0 p.1 h.1 q.1 before h.4 (cc) (cc) h.7,
+      fields_alike fs ps qs h.4 after (fields_as fs h.2 (fields_of ps) h.3 (fields_of qs) h.4 h.4 after (cc) (cc) refl h.8),
+    )
 
 -- ---- elements as pairs
 

@@ -350,22 +350,28 @@ number_mixed name w t x n after old new value e f taken h is =
 
 pub whole_put : (z : ℤ) (name old mid new : List ℕ) → mid ≡ old ++ (18 ∷ (name ++ 0 ∷ [])) → new ≡ mid ++ scalar_bytes (trees.int64 z)
     → (value : List ℕ) × IsValueBy (valued raw) (leaf (numeric (numbers.Whole z))) value × (new ≡ old ++ written_typed (leaf (numeric (numbers.Whole z))) name value)
-whole_put z name old mid new put is =
-    (18 ∷ scalar_bytes (trees.int64 z), record { kind = as_int64; value = scalar_bytes (trees.int64 z); typed = refl; sized = long_length _; is_worth = refl },
-        is ∙ ap (λ (x : List ℕ). x ++ scalar_bytes (trees.int64 z)) put ∙ led old 18 name _)
+whole_put z name old mid new put is = (
+  18 ∷ scalar_bytes (trees.int64 z),
+  record { kind = as_int64; value = scalar_bytes (trees.int64 z); typed = refl; sized = long_length _; is_worth = refl },
+  is ∙ ap (λ (x : List ℕ). x ++ scalar_bytes (trees.int64 z)) put ∙ led old 18 name _,
+)
 
 pub double_put : (bits : ℕ) (name old mid new : List ℕ) → mid ≡ old ++ (1 ∷ (name ++ 0 ∷ [])) → new ≡ mid ++ long bits
     → (value : List ℕ) × IsValueBy (valued raw) (leaf (numeric (numbers.Double bits))) value × (new ≡ old ++ written_typed (leaf (numeric (numbers.Double bits))) name value)
-double_put bits name old mid new put is =
-    (1 ∷ long bits, record { kind = as_double; value = long bits; typed = refl; sized = long_length bits; is_worth = refl },
-        is ∙ ap (λ (x : List ℕ). x ++ long bits) put ∙ led old 1 name (long bits))
+double_put bits name old mid new put is = (
+  1 ∷ long bits,
+  record { kind = as_double; value = long bits; typed = refl; sized = long_length bits; is_worth = refl },
+  is ∙ ap (λ (x : List ℕ). x ++ long bits) put ∙ led old 1 name (long bits),
+)
 
 pub decimal_put : (low high : ℕ) (name old mid half new : List ℕ) → mid ≡ old ++ (19 ∷ (name ++ 0 ∷ [])) → half ≡ mid ++ long low → new ≡ half ++ long high
     → (value : List ℕ) × IsValueBy (valued raw) (leaf (numeric (numbers.Decimal128 low high))) value × (new ≡ old ++ written_typed (leaf (numeric (numbers.Decimal128 low high))) name value)
 decimal_put low high name old mid half new put first is =
-    let size : length (long low ++ long high) ≡ 16 = omega (arith, length-append (long low) (long high), long_length low, long_length high) in
-    (19 ∷ (long low ++ long high), record { kind = as_decimal128; value = long low ++ long high; typed = refl; sized = size; is_worth = refl },
-        is ∙ ap (λ (x : List ℕ). x ++ long high) first ∙ append_assoc mid (long low) (long high) ∙ ap (λ (x : List ℕ). x ++ (long low ++ long high)) put ∙ led old 19 name (long low ++ long high))
+    let size : length (long low ++ long high) ≡ 16 = omega (arith, length-append (long low) (long high), long_length low, long_length high) in (
+      19 ∷ (long low ++ long high),
+      record { kind = as_decimal128; value = long low ++ long high; typed = refl; sized = size; is_worth = refl },
+      is ∙ ap (λ (x : List ℕ). x ++ long high) first ∙ append_assoc mid (long low) (long high) ∙ ap (λ (x : List ℕ). x ++ (long low ++ long high)) put ∙ led old 19 name (long low ++ long high),
+    )
 
 -- ---- lengths
 

@@ -1,6 +1,9 @@
 //! Documents in step. The bytes are worked by hand, by BSON 1.1.
-use bd_wide_mix::mix;
+ghost use Rattle.std.specs.Prelude.{◌≤◌, length};
+
+use bd_bson_check::check_document;
 use bd_wide_number::Number;
+use bd_wide_pack::mix;
 use std::alloc::Global;
 use std::process::Abort;
 use std::test::Fail;
@@ -15,10 +18,15 @@ const DECIMAL: Number = Number::Decimal128(15, 0x303e_0000_0000_0000);
 fn is(
     rt: &impl Abort,
     alloc: Global,
-    (whole, text): (&[u8], &[u8]),
+    whole: &[u8],
+    text: &[u8],
     numbers: &[Number],
     wanted: Option<&[u8]>,
-) -> Result<(), Fail> {
+) -> Result<(), Fail>
+    requires { (length whole.now ≤ 1000) × (length text.now ≤ 1000) }
+{
+    check_document(alloc, whole, 0, 0)?;
+    check_document(alloc, text, 0, 0)?;
     let mut out = Vec::new(alloc);
     let mixed = mix(whole, text, numbers, &mut out)?;
     match wanted {
@@ -39,19 +47,21 @@ fn nested(rt: HostRuntime) -> Result<(), Fail> {
     is(
         &rt,
         rt.alloc(),
-        (whole, text),
+        whole,
+        text,
         &[DECIMAL, DOUBLE],
         Some(wanted),
     )?;
-    is(&rt, rt.alloc(), (whole, text), &[DECIMAL], None)?;
+    is(&rt, rt.alloc(), whole, text, &[DECIMAL], None)?;
     is(
         &rt,
         rt.alloc(),
-        (whole, text),
+        whole,
+        text,
         &[DECIMAL, DOUBLE, DOUBLE],
         None,
     )?;
-    is(&rt, rt.alloc(), (text, whole), &[DECIMAL, DOUBLE], None)
+    is(&rt, rt.alloc(), text, whole, &[DECIMAL, DOUBLE], None)
 }
 
 #[test]
@@ -61,21 +71,20 @@ fn scopes(rt: HostRuntime) -> Result<(), Fail> {
     let text = b"\x1f\0\0\0\x0fc\0\x17\0\0\0\x02\0\0\0x\0\x0d\0\0\0\x02d\0\x01\0\0\0\0\0\0";
     let wanted =
         b"\x22\0\0\0\x0fc\0\x1a\0\0\0\x02\0\0\0x\0\x10\0\0\0\x01d\0\0\0\0\0\0\0\xf8\x3f\0\0";
-    is(&rt, rt.alloc(), (whole, text), &[DOUBLE], Some(wanted))
+    is(&rt, rt.alloc(), whole, text, &[DOUBLE], Some(wanted))
 }
 
 #[test]
 fn others(rt: HostRuntime) -> Result<(), Fail> {
     let alloc = rt.alloc();
     let empty = b"\x05\0\0\0\0";
-    is(&rt, alloc, (empty, empty), &[], Some(empty))?;
-    is(&rt, alloc, (empty, empty), &[DOUBLE], None)?;
-    is(&rt, alloc, (b"", b""), &[], None)?;
+    is(&rt, alloc, empty, empty, &[], Some(empty))?;
+    is(&rt, alloc, empty, empty, &[DOUBLE], None)?;
     // 1 and the empty string
     let one = b"\x0c\0\0\0\x10d\0\x01\0\0\0\0";
     let text = b"\x0d\0\0\0\x02d\0\x01\0\0\0\0\0";
-    is(&rt, alloc, (one, text), &[DOUBLE], None)?;
+    is(&rt, alloc, one, text, &[DOUBLE], None)?;
     // other names
     let whole = b"\x0c\0\0\0\x10e\0\0\0\0\0\0";
-    is(&rt, alloc, (whole, text), &[DOUBLE], None)
+    is(&rt, alloc, whole, text, &[DOUBLE], None)
 }
