@@ -1,6 +1,4 @@
-//! The examples of use in the roots of `bd_wide_read`, `bd_wide_substitute` and `bd_wide_mix`.
-use bd_wide_mix::mix;
-use bd_wide_number::Number;
+//! The examples of use in the roots of `bd_wide_read` and `bd_wide_substitute`.
 use bd_wide_read::{TextFault, read_decimal128, read_double};
 use bd_wide_substitute::substitute;
 use std::test::Fail;
@@ -20,18 +18,5 @@ fn substituted(rt: HostRuntime) -> Result<(), Fail> {
     assert!(rt; made.wholes.as_slice() == b"[0  ,2]".as_slice());
     assert!(rt; made.texts.as_slice() == b"[\"\" ,2]".as_slice());
     assert!(rt; made.numbers.len() == 1);
-    Ok(())
-}
-
-#[test]
-fn mixed(rt: HostRuntime) -> Result<(), Fail> {
-    let alloc = rt.alloc();
-    let mut out = Vec::new(alloc);
-    let whole = b"\x0c\0\0\0\x10d\0\0\0\0\0\0";
-    let text = b"\x0d\0\0\0\x02d\0\x01\0\0\0\0\0";
-    let numbers = [Number::Double(0x3ff8_0000_0000_0000)];
-    assert!(rt; mix(whole, text, &numbers, &mut out)?);
-    let wanted = b"\x10\0\0\0\x01d\0\0\0\0\0\0\0\xf8\x3f\0";
-    assert!(rt; out.as_slice() == wanted.as_slice());
     Ok(())
 }

@@ -9,6 +9,4 @@ mod doubles;
 #[cfg(test)]
 mod examples;
 #[cfg(test)]
-mod mix;
-#[cfg(test)]
 mod substitute;
