@@ -65,9 +65,11 @@ fn body<'a>(
     requires { (elements_source wholes ≡ sources.wholes.now)
         × (elements_source texts ≡ sources.texts.now) }
     ensures { IfOk result (λ o. MatchOption o
-        (AreUnlike named (remaining_pairs wholes.entry) (remaining_pairs texts.entry) numbers.entry.now)
+        (AreUnlike named (remaining_pairs wholes.entry)
+        (remaining_pairs texts.entry) numbers.entry.now)
         (λ rest. (bytes : List ℕ)
-        × AreMixed named (remaining_pairs wholes.entry) (remaining_pairs texts.entry) numbers.entry.now rest.now bytes
+        × AreMixed named (remaining_pairs wholes.entry)
+        (remaining_pairs texts.entry) numbers.entry.now rest.now bytes
         × (out.new.items ≡ out.old.items ++ framed bytes))) }
 {
     let at = out.len();
@@ -93,9 +95,11 @@ fn elements<'a>(
     requires { (elements_source wholes ≡ sources.wholes.now)
         × (elements_source texts ≡ sources.texts.now) }
     ensures { IfOk result (λ o. MatchOption o
-        (AreUnlike named (remaining_pairs wholes.entry) (remaining_pairs texts.entry) numbers.entry.now)
+        (AreUnlike named (remaining_pairs wholes.entry)
+        (remaining_pairs texts.entry) numbers.entry.now)
         (λ rest. (bytes : List ℕ)
-        × AreMixed named (remaining_pairs wholes.entry) (remaining_pairs texts.entry) numbers.entry.now rest.now bytes
+        × AreMixed named (remaining_pairs wholes.entry)
+        (remaining_pairs texts.entry) numbers.entry.now rest.now bytes
         × (out.new.items ≡ out.old.items ++ bytes))) }
 {
     let mut whole_rest = wholes;
@@ -143,7 +147,8 @@ fn value<'a>(
     requires { (value_source whole ≡ sources.wholes.now) × (value_source text ≡ sources.texts.now) }
     ensures { IfOk result (λ o. MatchOption o
         (IsUnlike (value_tree whole.entry) (value_tree text.entry) numbers.entry.now)
-        (λ rest. IsMixed name.now (value_tree whole.entry) (value_tree text.entry) numbers.entry.now rest.now
+        (λ rest. IsMixed name.now (value_tree whole.entry) (value_tree text.entry)
+        numbers.entry.now rest.now
         out.old.items out.new.items)) }
 {
     match whole.kind() {

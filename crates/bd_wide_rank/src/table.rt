@@ -23,7 +23,7 @@ pub struct Table {
     pub(crate) doubles: Doubles,
     pub(crate) others: Others,
     ghost rising: { IsStrictlyIncreasing doubles.keys.items } by { Prim.hlevel props },
-    ghost others_rising: { IsStrictlySortedBy between_cmp others.numbers.items } by { Prim.hlevel props },
+    ghost sorted: { IsStrictlySortedBy between_cmp others.numbers.items } by { Prim.hlevel props },
     ghost fits: { length doubles.keys.items + length others.numbers.items < 2 ^ 30 },
 }
 

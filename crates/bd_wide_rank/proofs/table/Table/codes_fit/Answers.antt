@@ -7,7 +7,7 @@ pub returns-clause-distinct : goal.returns-clause-distinct
 unfolding worths
 returns-clause-distinct c =
     let t = c.args.self.now in
-    rows_distinct t.doubles.keys.items t.doubles.are_keys t.rising t.others.numbers.items t.others_rising
+    rows_distinct t.doubles.keys.items t.doubles.are_keys t.rising t.others.numbers.items t.sorted
 
 pub returns-clause-fits_i32 : goal.returns-clause-fits_i32
 returns-clause-fits_i32 c = few_worths c.args.self.now
