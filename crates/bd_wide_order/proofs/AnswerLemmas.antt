@@ -1,5 +1,5 @@
 -- What a renumbered request selects from renumbered documents.
-use Rattle.std.proofs.Common.{◌≡◌, ℕ, zero, suc, List, [], ◌∷◌, refl, ap, ap₂, ◌∙◌, Option, Some, None}
+use Rattle.std.proofs.Common.{ℤ, ◌≡◌, ℕ, zero, suc, List, [], ◌∷◌, refl, ap, ap₂, ◌∙◌, Option, Some, None}
 use Rattle.std.specs.Prelude.{option_map, slice_get, slice_index_or}
 use Rattle.std.specs.List.{AllByRecursion as Each, cons_option}
 use Rattle.std.proofs.lemmas.{List.length-map, List.Elements.recursion_from_All}
@@ -11,11 +11,13 @@ use Rattle.bd_bson_dump.specs.Collection.{document_at, documents_at}
 use Rattle.bd_cursor_request.specs.Request.{Request}
 use Rattle.bd_cursor_sort.specs.Selection.{matches_at_of, order_of_keys, query_to}
 use Rattle.bd_wide_order.specs.{Pages.HaveOneAnswer, Query.RequestNeeds, Query.renumber_request, Values.values_at}
-use Rattle.bd_wide_order.specs.Renumber.{Codes, under, AreIncreasing, DocumentsAreOf, IsOf, renumber, renumber_fields, renumber_document, renumber_documents, renumber_filter}
+use Rattle.bd_wide_order.specs.Renumber.{Codes, under, KeepOrder, DocumentsAreOf, IsOf, renumber, renumber_fields, renumber_document, renumber_documents, renumber_filter}
 use Rattle.bd_wide_order.proofs.ValueLemmas.{values_rise}
 use Rattle.bd_wide_order.proofs.MatchLemmas.{is_of_all, match_stays}
 use Rattle.bd_wide_order.proofs.PageLemmas.{one_answer}
 use Rattle.bd_wide_order.proofs.ReachLemmas.{sorts_stay}
+use Rattle.bd_wide_order.specs.Ranks.{TypesAlike, table_codes}
+use Rattle.bd_wide_order.proofs.RankLemmas.{all_read_alike, filter_needs, ranks_keep_order}
 
 module _ (c : Codes) where
   fields_stay : (d : Doc) → fields_of (renumber_document c d) ≡ renumber_fields c (fields_of d)
@@ -49,7 +51,7 @@ module _ (c : Codes) where
   is_of (d ∷ ds) zero are = are.0
   is_of (d ∷ ds) (suc p) are = is_of ds p are.1
 
-module _ (c : Codes) (up : AreIncreasing c) (r : Request) (needs : RequestNeeds c r) (ds : List Doc) (are : (p : ℕ) → IsOf c (document_at ds p)) where
+module _ (c : Codes) (up : KeepOrder c) (r : Request) (needs : RequestNeeds c r) (ds : List Doc) (are : (p : ℕ) → IsOf c (document_at ds p)) where
   matches_at_stay : (p : ℕ) → matches_at_of (renumber_documents c ds) (renumber_filter c r.filter) p ≡ matches_at_of ds r.filter p
   matches_at_stay p = ap (matches (renumber_filter c r.filter)) (document_stays c ds p) ∙ match_stays c up r.filter needs.0 (document_at ds p) (are p)
 
@@ -69,7 +71,7 @@ module _ (c : Codes) (up : AreIncreasing c) (r : Request) (needs : RequestNeeds 
         limit = r.limit;
       })
 
-pub answers_stay : (c : Codes) → AreIncreasing c → (r : Request) → RequestNeeds c r → (ds : List Doc) → DocumentsAreOf c ds → (bytes new text : List ℕ)
+pub answers_stay : (c : Codes) → KeepOrder c → (r : Request) → RequestNeeds c r → (ds : List Doc) → DocumentsAreOf c ds → (bytes new text : List ℕ)
     → HaveOneAnswer (query_to new (renumber_documents c ds) (renumber_request c text r)) (query_to bytes ds r)
 answers_stay c up r needs ds are bytes new text = requests_stay c up r needs ds (λ p. is_of c ds p (recursion_from_All (λ d. IsOf c (doc (fields_of d))) ds are)) bytes new text
 
@@ -78,3 +80,10 @@ pub values_stay : (powers : Names → Option ℕ) (r : Request) → RequestNeeds
     → HaveOneAnswer (query_to new (renumber_documents (values_at powers) ds) (renumber_request (values_at powers) text r)) (query_to bytes ds r)
 values_stay powers r needs ds bytes new text =
     requests_stay (values_at powers) (values_rise powers) r needs ds (λ p. is_of_all (values_at powers) (λ path n. refl) (document_at ds p)) bytes new text
+
+-- each path reads alike, so a request needs only types that are alike
+pub ranked_stay : (table : List ℤ) (r : Request) → TypesAlike r.filter → (ds : List Doc) → DocumentsAreOf (table_codes table) ds → (bytes new text : List ℕ)
+    → HaveOneAnswer (query_to new (renumber_documents (table_codes table) ds) (renumber_request (table_codes table) text r)) (query_to bytes ds r)
+ranked_stay table r alike ds are bytes new text =
+    answers_stay (table_codes table) (ranks_keep_order table) r
+    (filter_needs table r.filter alike, λ k d l. all_read_alike table (slice_index_or r.sorts k d).path) ds are bytes new text

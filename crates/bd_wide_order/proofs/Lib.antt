@@ -3,5 +3,6 @@ pub mod MatchLemmas
 pub mod OrderLemmas
 pub mod PageLemmas
 pub mod QueryLemmas
+pub mod RankLemmas
 pub mod ReachLemmas
 pub mod ValueLemmas

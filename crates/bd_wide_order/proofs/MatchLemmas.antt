@@ -1,7 +1,7 @@
 -- A renumbered filter matches a renumbered value if it matched the value.
 use Rattle.std.proofs.Common.{◌≡◌, ℕ, List, [], ◌∷◌, ◌++◌, map, length, refl, sym, ap, ap₂, ◌∙◌, Bool, cond, not, Some, None, ◌||◌, ◌&&◌}
 use Rattle.std.specs.Prelude.{ℤ, IsTrue, option_map, is_some, ◌==◌}
-use Rattle.std.proofs.lemmas.{List.length-map, List.Elements.recursion_from_All}
+use Rattle.std.proofs.lemmas.{List.length-map}
 use Rattle.std.specs.List.{AllByRecursion as Each, list_any, list_all}
 use Rattle.std.specs.Ordering.{is_eq}
 use Rattle.bd_value.specs.{Order.equal, Tree.elements_in}
@@ -14,7 +14,7 @@ use Rattle.bd_query_filter.specs.Filter.{has_document, Operators, no_operators, 
 use Rattle.bd_query_filter.specs.FilterMatch.{is_array, value_or_null, candidates, any_candidate, is_value, relates, is_related, is_of_type, is_of_size, is_nonempty, any_equal}
 use Rattle.bd_query_filter.specs.FilterMatch.{matches, all_match, some_match, holds, all_hold, accepts, all_accept}
 use Rattle.bd_query_filter.specs.declared.operand.Relation.{Relation}
-use Rattle.bd_wide_order.specs.Renumber.{Codes, under, scope_name, AreIncreasing, IsOf, ItemsAreOf, FieldsAreOf, renumber}
+use Rattle.bd_wide_order.specs.Renumber.{Codes, under, scope_name, KeepOrder, IsOf, ItemsAreOf, FieldsAreOf, renumber}
 use Rattle.bd_wide_order.specs.Renumber.{renumber_filter, renumber_filters, renumber_operator, renumber_operators}
 use Rattle.bd_wide_order.specs.Renumber.{TakeNumbersAlike, FilterNeeds, FiltersNeed, OperatorNeeds, OperatorsNeed}
 use Rattle.bd_wide_order.proofs.OrderLemmas.{order_stays, classes_stay, equals_stay}
@@ -24,6 +24,14 @@ all_map : {A B : Type 0} (f : B → Bool) (e : A → Bool) (h : A → B) (Q : A 
     → list_all f (map h xs) ≡ list_all e xs
 all_map f e h Q same [] p = refl
 all_map f e h Q same (x ∷ xs) p = ap₂ ◌&&◌ (same x p.0) (all_map f e h Q same xs p.1)
+
+-- a value of a query may have any numbers
+abbrev Anything : Tree → Type 0
+Anything t = Unit {0}
+
+each_anything : (vs : List Tree) → Each Anything vs
+each_anything [] = tt
+each_anything (v ∷ vs) = (tt, each_anything vs)
 
 type_stays : (c : Codes) (ks : List Kind) → TakeNumbersAlike ks → (t : Tree) → is_of_type ks (renumber c t) ≡ is_of_type ks t
 type_stays c ks both (doc fs) = refl
@@ -112,18 +120,18 @@ module _ (c : Codes) where
   any_element_stays : (f e : Tree → Bool) → ((t : Tree) → IsOf c t → f (r t) ≡ e t) → (t : Tree) → IsOf c t → list_any f (elements_in (r t)) ≡ list_any e (elements_in t)
   any_element_stays f e same t a = ap (list_any f) (elements_stay t) ∙ any_map f e r (IsOf c) same (elements_in t) (elements_are_of t a)
 
-  module _ (up : AreIncreasing c) where
-    related_stays : (o : Relation) (v t : Tree) → IsOf c v → IsOf c t → is_related o (r v) (r t) ≡ is_related o v t
-    related_stays o v t a b = ap₂ (λ x y. is_eq x && relates o y) (classes_stay c c t v) (order_stays c up t v b a)
+  module _ (up : KeepOrder c) where
+    related_stays : (o : Relation) (v t : Tree) → IsOf c t → is_related o (r v) (r t) ≡ is_related o v t
+    related_stays o v t b = ap₂ (λ x y. is_eq x && relates o y) (classes_stay c c t v) (order_stays c up t v b)
 
-    equal_stays : (es : List End) → Each (EndIsOf c) es → (v : Tree) → IsOf c v → any_equal (map re es) (r v) ≡ any_equal es v
-    equal_stays es b v a =
+    equal_stays : (es : List End) → Each (EndIsOf c) es → (v : Tree) → any_equal (map re es) (r v) ≡ any_equal es v
+    equal_stays es b v =
         any_candidate_stays (λ e. equal (value_or_null e) (r v)) (λ e. equal (value_or_null e) v)
-        (λ e d. ap (λ t. equal t (r v)) (null_stays e) ∙ equals_stay c up (value_or_null e) v (null_is_of e d) a) es b
+        (λ e d. ap (λ t. equal t (r v)) (null_stays e) ∙ equals_stay c up (value_or_null e) v (null_is_of e d)) es b
 
 mutual
   -- a renumbered document matches the renumbered filter exactly if the document matches the filter
-  pub match_stays : (c : Codes) → AreIncreasing c → (f : Filter) → FilterNeeds c f → (d : Tree) → IsOf c d → matches (renumber_filter c f) (renumber c d) ≡ matches f d
+  pub match_stays : (c : Codes) → KeepOrder c → (f : Filter) → FilterNeeds c f → (d : Tree) → IsOf c d → matches (renumber_filter c f) (renumber c d) ≡ matches f d
   match_stays c up (all_of fs) a d b = all_stay c up fs a d b
   match_stays c up (some_of fs) a d b = some_stay c up fs a d b
   match_stays c up (none_of fs) a d b = ap not (some_stay c up fs a d b)
@@ -131,23 +139,23 @@ mutual
       ap (all_hold (renumber_operators (λ names. c (path ++ names)) os)) (reach_stays c path a.0 d)
       ∙ hold_stay (λ names. c (path ++ names)) (λ names. up (path ++ names)) os a.1 (reach d path) (ends_are_of c d path a.0 b)
 
-  all_stay : (c : Codes) → AreIncreasing c → (fs : Filters) → FiltersNeed c fs → (d : Tree) → IsOf c d → all_match (renumber_filters c fs) (renumber c d) ≡ all_match fs d
+  all_stay : (c : Codes) → KeepOrder c → (fs : Filters) → FiltersNeed c fs → (d : Tree) → IsOf c d → all_match (renumber_filters c fs) (renumber c d) ≡ all_match fs d
   all_stay c up no_filters a d b = refl
   all_stay c up (filter f fs) a d b = ap₂ ◌&&◌ (match_stays c up f a.0 d b) (all_stay c up fs a.1 d b)
 
-  some_stay : (c : Codes) → AreIncreasing c → (fs : Filters) → FiltersNeed c fs → (d : Tree) → IsOf c d → some_match (renumber_filters c fs) (renumber c d) ≡ some_match fs d
+  some_stay : (c : Codes) → KeepOrder c → (fs : Filters) → FiltersNeed c fs → (d : Tree) → IsOf c d → some_match (renumber_filters c fs) (renumber c d) ≡ some_match fs d
   some_stay c up no_filters a d b = refl
   some_stay c up (filter f fs) a d b = ap₂ ◌||◌ (match_stays c up f a.0 d b) (some_stay c up fs a.1 d b)
 
-  holds_stays : (c : Codes) → AreIncreasing c → (o : Operator) → OperatorNeeds c o → (es : List End) → Each (EndIsOf c) es
+  holds_stays : (c : Codes) → KeepOrder c → (o : Operator) → OperatorNeeds c o → (es : List End) → Each (EndIsOf c) es
       → holds (renumber_operator c o) (map (option_map (renumber c)) es) ≡ holds o es
-  holds_stays c up (equals v) a es b = equal_stays c up es b v a
+  holds_stays c up (equals v) a es b = equal_stays c up es b v
   holds_stays c up (compares o v) a es b =
       any_candidate_stays c (λ e. is_related o (renumber c v) (value_or_null e)) (λ e. is_related o v (value_or_null e))
-      (λ e d. ap (is_related o (renumber c v)) (null_stays c e) ∙ related_stays c up o v (value_or_null e) a (null_is_of c e d)) es b
-  holds_stays c up (is_in vs) a es b = any_map (any_equal (map (re c) es)) (any_equal es) (renumber c) (IsOf c) (equal_stays c up es b) vs (recursion_from_All (IsOf c) vs a)
+      (λ e d. ap (is_related o (renumber c v)) (null_stays c e) ∙ related_stays c up o v (value_or_null e) (null_is_of c e d)) es b
+  holds_stays c up (is_in vs) a es b = any_map (any_equal (map (re c) es)) (any_equal es) (renumber c) Anything (λ v d. equal_stays c up es b v) vs (each_anything vs)
   holds_stays c up (has_all vs) a es b =
-      ap₂ ◌&&◌ (nonempty_stays c vs) (all_map (any_equal (map (re c) es)) (any_equal es) (renumber c) (IsOf c) (equal_stays c up es b) vs (recursion_from_All (IsOf c) vs a))
+      ap₂ ◌&&◌ (nonempty_stays c vs) (all_map (any_equal (map (re c) es)) (any_equal es) (renumber c) Anything (λ v d. equal_stays c up es b v) vs (each_anything vs))
   holds_stays c up (has_type ks) a es b =
       any_candidate_stays c (is_value (is_of_type ks)) (is_value (is_of_type ks)) (value_stays c (is_of_type ks) (is_of_type ks) (λ t d. type_stays c ks a t)) es b
   holds_stays c up (has_size n) a es b = any_value_stays c (is_of_size n) (is_of_size n) (λ t d. size_stays c n t) es b
@@ -160,17 +168,17 @@ mutual
       any_value_stays c (λ t. list_any (λ x. is_document x && all_match (renumber_filters c fs) x) (elements_in t)) (λ t. list_any (λ x. is_document x && all_match fs x) (elements_in t))
       (any_element_stays c (λ x. is_document x && all_match (renumber_filters c fs) x) (λ x. is_document x && all_match fs x) (λ x d. ap₂ ◌&&◌ (document_stays c x) (all_stay c up fs a x d))) es b
 
-  hold_stay : (c : Codes) → AreIncreasing c → (os : Operators) → OperatorsNeed c os → (es : List End) → Each (EndIsOf c) es
+  hold_stay : (c : Codes) → KeepOrder c → (os : Operators) → OperatorsNeed c os → (es : List End) → Each (EndIsOf c) es
       → all_hold (renumber_operators c os) (map (option_map (renumber c)) es) ≡ all_hold os es
   hold_stay c up no_operators a es b = refl
   hold_stay c up (operator o os) a es b = ap₂ ◌&&◌ (holds_stays c up o a.0 es b) (hold_stay c up os a.1 es b)
 
-  accepts_stays : (c : Codes) → AreIncreasing c → (o : Operator) → OperatorNeeds c o → (t : Tree) → IsOf c t → accepts (renumber_operator c o) (renumber c t) ≡ accepts o t
-  accepts_stays c up (equals v) a t b = equals_stay c up t v b a
-  accepts_stays c up (compares o v) a t b = related_stays c up o v t a b
-  accepts_stays c up (is_in vs) a t b = any_map (equal (renumber c t)) (equal t) (renumber c) (IsOf c) (λ v d. equals_stay c up t v b d) vs (recursion_from_All (IsOf c) vs a)
+  accepts_stays : (c : Codes) → KeepOrder c → (o : Operator) → OperatorNeeds c o → (t : Tree) → IsOf c t → accepts (renumber_operator c o) (renumber c t) ≡ accepts o t
+  accepts_stays c up (equals v) a t b = equals_stay c up t v b
+  accepts_stays c up (compares o v) a t b = related_stays c up o v t b
+  accepts_stays c up (is_in vs) a t b = any_map (equal (renumber c t)) (equal t) (renumber c) Anything (λ v d. equals_stay c up t v b) vs (each_anything vs)
   accepts_stays c up (has_all vs) a t b =
-      ap₂ ◌&&◌ (nonempty_stays c vs) (all_map (equal (renumber c t)) (equal t) (renumber c) (IsOf c) (λ v d. equals_stay c up t v b d) vs (recursion_from_All (IsOf c) vs a))
+      ap₂ ◌&&◌ (nonempty_stays c vs) (all_map (equal (renumber c t)) (equal t) (renumber c) Anything (λ v d. equals_stay c up t v b) vs (each_anything vs))
   accepts_stays c up (has_type ks) a t b = type_stays c ks a t
   accepts_stays c up (has_size n) a t b = size_stays c n t
   accepts_stays c up (exists y) a t b = refl
@@ -179,7 +187,7 @@ mutual
   accepts_stays c up (has_document fs) a t b =
       any_element_stays c (λ x. is_document x && all_match (renumber_filters c fs) x) (λ x. is_document x && all_match fs x) (λ x d. ap₂ ◌&&◌ (document_stays c x) (all_stay c up fs a x d)) t b
 
-  accept_stay : (c : Codes) → AreIncreasing c → (os : Operators) → OperatorsNeed c os → (t : Tree) → IsOf c t → all_accept (renumber_operators c os) (renumber c t) ≡ all_accept os t
+  accept_stay : (c : Codes) → KeepOrder c → (os : Operators) → OperatorsNeed c os → (t : Tree) → IsOf c t → all_accept (renumber_operators c os) (renumber c t) ≡ all_accept os t
   accept_stay c up no_operators a t b = refl
   accept_stay c up (operator o os) a t b = ap₂ ◌&&◌ (accepts_stays c up o a.0 t b) (accept_stay c up os a.1 t b)
 

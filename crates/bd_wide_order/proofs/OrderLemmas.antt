@@ -1,12 +1,12 @@
 -- The order of values depends on numbers only by their order at each path.
-use Rattle.std.proofs.Common.{◌≡◌, List, [], ◌∷◌, refl, sym, ap, ap₂, ◌∙◌, subst, arith, ℕ, Ordering, Less, Equal, Greater, nat_cmp}
+use Rattle.std.proofs.Common.{◌≡◌, List, [], ◌∷◌, refl, sym, ap, ap₂, ◌∙◌, arith, ℕ, Ordering, Less, Equal, Greater, nat_cmp}
 use Rattle.std.specs.Prelude.{IsTrue, ℤ, ◌<ℤ◌, ◌≤ℤ◌}
 use Rattle.std.specs.Ordering.{int_cmp, ordering_then, is_eq}
 use Rattle.std.proofs.lemmas.{Int.ints, Int.by_lt_z, Map.Lookups.exact_bytes}
 use Rattle.bd_value.specs.Tree as trees
 use Rattle.bd_value.specs.Tree.{Scalar, int32, int64, Tree, leaf, doc, array, code_scope, Items, no_items, item, Fields, no_fields, field}
 use Rattle.bd_value.specs.Order.{class_of, class_rank, bytes_cmp, class_cmp, cmp, equal, fields_cmp, items_cmp, pair_cmp, rank_cmp, same_class_cmp, by_bytes}
-use Rattle.bd_wide_order.specs.Renumber.{Code, Codes, under, scope_name, IsIncreasing, AreIncreasing, ScalarIsOf, IsOf, ItemsAreOf, FieldsAreOf}
+use Rattle.bd_wide_order.specs.Renumber.{Code, Codes, under, scope_name, KeepsOrder, KeepOrder, ScalarIsOf, IsOf, ItemsAreOf, FieldsAreOf}
 use Rattle.bd_wide_order.specs.Renumber.{renumber, renumber_scalar, renumber_items, renumber_fields}
 
 -- ---- numbers
@@ -31,28 +31,28 @@ within Equal Less r s h = refl
 within Equal Greater r s h = refl
 within Equal Equal r s h = h refl
 
-module _ (c : Code) (up : IsIncreasing c) where
-  numbers : (m n : ℤ) → IsTrue (c.occurs m) → IsTrue (c.occurs n) → int_cmp (c.becomes m) (c.becomes n) ≡ int_cmp m n
-  numbers m n p q = by_lt_z m n
-      (λ (l : m <ℤ n). less (c.becomes m) (c.becomes n) (up m n p q l) ∙ sym (less m n l))
+module _ (c : Code) (up : KeepsOrder c) where
+  numbers : (m n : ℤ) → IsTrue (c.occurs m) → int_cmp (c.becomes m) (c.becomes n) ≡ int_cmp m n
+  numbers m n p = by_lt_z m n
+      (λ (l : m <ℤ n). less (c.becomes m) (c.becomes n) ((up m n p).0 l) ∙ sym (less m n l))
       (λ (h : n ≤ℤ m). by_lt_z n m
-      (λ (l : n <ℤ m). greater (c.becomes m) (c.becomes n) (up n m q p l) ∙ sym (greater m n l))
+      (λ (l : n <ℤ m). greater (c.becomes m) (c.becomes n) ((up m n p).1 l) ∙ sym (greater m n l))
       (λ (i : m ≤ℤ n). ap (λ k. int_cmp (c.becomes m) (c.becomes k)) (sym (same m n h i)) ∙ alike (c.becomes m) ∙ sym (alike m) ∙ ap (int_cmp m) (same m n h i)))
 
   -- two numbers, of any integer types
-  two : (m n : ℤ) → IsTrue (c.occurs m) → IsTrue (c.occurs n) → cmp (leaf (int64 (c.becomes m))) (leaf (int64 (c.becomes n))) ≡ cmp (leaf (int64 m)) (leaf (int64 n))
-  two m n p q = ap (λ o. ordering_then o (ordering_then Equal (ordering_then Equal Equal))) (numbers m n p q)
+  two : (m n : ℤ) → IsTrue (c.occurs m) → cmp (leaf (int64 (c.becomes m))) (leaf (int64 (c.becomes n))) ≡ cmp (leaf (int64 m)) (leaf (int64 n))
+  two m n p = ap (λ o. ordering_then o (ordering_then Equal (ordering_then Equal Equal))) (numbers m n p)
 
-  leaves : (s t : Scalar) → ScalarIsOf c s → ScalarIsOf c t → cmp (leaf (renumber_scalar c s)) (leaf (renumber_scalar c t)) ≡ cmp (leaf s) (leaf t)
-  leaves (int32 m) (int32 n) p q = two m n p q
-  leaves (int32 m) (int64 n) p q = two m n p q
-  leaves (int64 m) (int32 n) p q = two m n p q
-  leaves (int64 m) (int64 n) p q = two m n p q
-  leaves (int32 m) _ p q = refl
-  leaves (int64 m) _ p q = refl
-  leaves _ (int32 n) p q = refl
-  leaves _ (int64 n) p q = refl
-  leaves _ _ p q = refl
+  leaves : (s t : Scalar) → ScalarIsOf c s → cmp (leaf (renumber_scalar c s)) (leaf (renumber_scalar c t)) ≡ cmp (leaf s) (leaf t)
+  leaves (int32 m) (int32 n) p = two m n p
+  leaves (int32 m) (int64 n) p = two m n p
+  leaves (int64 m) (int32 n) p = two m n p
+  leaves (int64 m) (int64 n) p = two m n p
+  leaves (int32 m) _ p = refl
+  leaves (int64 m) _ p = refl
+  leaves _ (int32 n) p = refl
+  leaves _ (int64 n) p = refl
+  leaves _ _ p = refl
 
 module _ (c : Code) where
   leaf_doc : (s : Scalar) (fs gs : Fields) → cmp (leaf (renumber_scalar c s)) (doc fs) ≡ cmp (leaf s) (doc gs)
@@ -101,41 +101,41 @@ pairs_stay c m n a b h =
 
 mutual
   -- two values compare the same after renumbering, if the codes keep the order at each path
-  pub order_stays : (c : Codes) → AreIncreasing c → (a b : Tree) → IsOf c a → IsOf c b → cmp (renumber c a) (renumber c b) ≡ cmp a b
-  order_stays c up (leaf s) (leaf t) p q = leaves (c []) (up []) s t p q
-  order_stays c up (leaf s) (doc gs) p q = leaf_doc (c []) s (renumber_fields c gs) gs
-  order_stays c up (leaf s) (array us) p q = leaf_array (c []) s (renumber_items c us) us
-  order_stays c up (leaf s) (code_scope d gs) p q = leaf_code (c []) s d (renumber_fields (under scope_name c) gs) gs
-  order_stays c up (doc fs) (leaf t) p q = doc_leaf (c []) t (renumber_fields c fs) fs
-  order_stays c up (doc fs) (doc gs) p q = fields_stay c up fs gs p q
-  order_stays c up (doc fs) (array us) p q = refl
-  order_stays c up (doc fs) (code_scope d gs) p q = refl
-  order_stays c up (array ts) (leaf t) p q = array_leaf (c []) t (renumber_items c ts) ts
-  order_stays c up (array ts) (doc gs) p q = refl
-  order_stays c up (array ts) (array us) p q = items_stay c up ts us p q
-  order_stays c up (array ts) (code_scope d gs) p q = refl
-  order_stays c up (code_scope b fs) (leaf t) p q = code_leaf (c []) t b (renumber_fields (under scope_name c) fs) fs
-  order_stays c up (code_scope b fs) (doc gs) p q = refl
-  order_stays c up (code_scope b fs) (array us) p q = refl
-  order_stays c up (code_scope b fs) (code_scope d gs) p q =
-      ap (ordering_then (rank_cmp (by_bytes b []) (by_bytes d []))) (fields_stay (under scope_name c) (λ path. up (scope_name ∷ path)) fs gs p q)
+  pub order_stays : (c : Codes) → KeepOrder c → (a b : Tree) → IsOf c a → cmp (renumber c a) (renumber c b) ≡ cmp a b
+  order_stays c up (leaf s) (leaf t) p = leaves (c []) (up []) s t p
+  order_stays c up (leaf s) (doc gs) p = leaf_doc (c []) s (renumber_fields c gs) gs
+  order_stays c up (leaf s) (array us) p = leaf_array (c []) s (renumber_items c us) us
+  order_stays c up (leaf s) (code_scope d gs) p = leaf_code (c []) s d (renumber_fields (under scope_name c) gs) gs
+  order_stays c up (doc fs) (leaf t) p = doc_leaf (c []) t (renumber_fields c fs) fs
+  order_stays c up (doc fs) (doc gs) p = fields_stay c up fs gs p
+  order_stays c up (doc fs) (array us) p = refl
+  order_stays c up (doc fs) (code_scope d gs) p = refl
+  order_stays c up (array ts) (leaf t) p = array_leaf (c []) t (renumber_items c ts) ts
+  order_stays c up (array ts) (doc gs) p = refl
+  order_stays c up (array ts) (array us) p = items_stay c up ts us p
+  order_stays c up (array ts) (code_scope d gs) p = refl
+  order_stays c up (code_scope b fs) (leaf t) p = code_leaf (c []) t b (renumber_fields (under scope_name c) fs) fs
+  order_stays c up (code_scope b fs) (doc gs) p = refl
+  order_stays c up (code_scope b fs) (array us) p = refl
+  order_stays c up (code_scope b fs) (code_scope d gs) p =
+      ap (ordering_then (rank_cmp (by_bytes b []) (by_bytes d []))) (fields_stay (under scope_name c) (λ path. up (scope_name ∷ path)) fs gs p)
 
-  items_stay : (c : Codes) → AreIncreasing c → (ts us : Items) → ItemsAreOf c ts → ItemsAreOf c us → items_cmp (renumber_items c ts) (renumber_items c us) ≡ items_cmp ts us
-  items_stay c up no_items no_items p q = refl
-  items_stay c up no_items (item u us) p q = refl
-  items_stay c up (item t ts) no_items p q = refl
-  items_stay c up (item t ts) (item u us) p q = ap₂ ordering_then (order_stays c up t u p.0 q.0) (items_stay c up ts us p.1 q.1)
+  items_stay : (c : Codes) → KeepOrder c → (ts us : Items) → ItemsAreOf c ts → items_cmp (renumber_items c ts) (renumber_items c us) ≡ items_cmp ts us
+  items_stay c up no_items no_items p = refl
+  items_stay c up no_items (item u us) p = refl
+  items_stay c up (item t ts) no_items p = refl
+  items_stay c up (item t ts) (item u us) p = ap₂ ordering_then (order_stays c up t u p.0) (items_stay c up ts us p.1)
 
-  fields_stay : (c : Codes) → AreIncreasing c → (fs gs : Fields) → FieldsAreOf c fs → FieldsAreOf c gs → fields_cmp (renumber_fields c fs) (renumber_fields c gs) ≡ fields_cmp fs gs
-  fields_stay c up no_fields no_fields p q = refl
-  fields_stay c up no_fields (field n b gs) p q = refl
-  fields_stay c up (field m a fs) no_fields p q = refl
-  fields_stay c up (field m a fs) (field n b gs) p q =
+  fields_stay : (c : Codes) → KeepOrder c → (fs gs : Fields) → FieldsAreOf c fs → fields_cmp (renumber_fields c fs) (renumber_fields c gs) ≡ fields_cmp fs gs
+  fields_stay c up no_fields no_fields p = refl
+  fields_stay c up no_fields (field n b gs) p = refl
+  fields_stay c up (field m a fs) no_fields p = refl
+  fields_stay c up (field m a fs) (field n b gs) p =
       ap₂ ordering_then
       (pairs_stay c m n a b (λ e. ap (λ x. cmp (renumber (under m c) a) (renumber (under x c) b)) (sym e)
-      ∙ order_stays (under m c) (λ path. up (m ∷ path)) a b p.0 (subst (λ x. IsOf (under x c) b) (sym e) q.0)))
-      (fields_stay c up fs gs p.1 q.1)
+      ∙ order_stays (under m c) (λ path. up (m ∷ path)) a b p.0))
+      (fields_stay c up fs gs p.1)
 
 -- two values are equal after renumbering exactly if they were, if the codes keep the order at each path
-pub equals_stay : (c : Codes) → AreIncreasing c → (a b : Tree) → IsOf c a → IsOf c b → equal (renumber c a) (renumber c b) ≡ equal a b
-equals_stay c up a b p q = ap is_eq (order_stays c up a b p q)
+pub equals_stay : (c : Codes) → KeepOrder c → (a b : Tree) → IsOf c a → equal (renumber c a) (renumber c b) ≡ equal a b
+equals_stay c up a b p = ap is_eq (order_stays c up a b p)

@@ -10,7 +10,7 @@ use Rattle.bd_path.specs.Reach.{Names, Collecting, collecting, first_collecting,
 use Rattle.bd_path.specs.Key.{missing_key, or_else, distinct, end_keys, key_collecting, all_keys, indexed_keys, keys}
 use Rattle.bd_path.specs.Sort.{dir_cmp, earlier, sort_key, SortPath, sort_cmp}
 use Rattle.bd_path.specs.{declared.sort.Dir.Dir, declared.sort.Dir.TheVariants.Up, declared.sort.Dir.TheVariants.Down}
-use Rattle.bd_wide_order.specs.Renumber.{Codes, under, below, AreIncreasing, LeadTo, PassOverIndexes, ReadsAlike, SortsReadAlike, IsOf, ItemsAreOf, FieldsAreOf}
+use Rattle.bd_wide_order.specs.Renumber.{Codes, under, below, KeepOrder, LeadTo, PassOverIndexes, ReadsAlike, SortsReadAlike, IsOf, ItemsAreOf, FieldsAreOf}
 use Rattle.bd_wide_order.specs.Renumber.{renumber, renumber_items, renumber_fields}
 use Rattle.bd_wide_order.proofs.OrderLemmas.{order_stays, equals_stay}
 
@@ -232,17 +232,17 @@ all_are_of c sparse t p lead a =
     collected (below p c) (IsOf (below p c)) (key_collecting (missing_key sparse))
     (record { at_end = end_is_of (below p c); missing = missing_is_of (below p c) sparse; of_array = λ xs b. or_is_of (below p c) xs (missing_key sparse) b (missing_is_of (below p c) sparse) }) c t p a lead
 
-module _ (c : Codes) (up : AreIncreasing c) where
+module _ (c : Codes) (up : KeepOrder c) where
   kept : (a b : Bool) (k : Tree) (xs ys : List Tree) → a ≡ b → xs ≡ map (renumber c) ys → cond a (renumber c k ∷ xs) xs ≡ map (renumber c) (cond b (k ∷ ys) ys)
   kept true true k xs ys e same = ap (λ l. renumber c k ∷ l) same
   kept false false k xs ys e same = same
   kept true false k xs ys e same = absurd cc
   kept false true k xs ys e same = absurd cc
 
-  others_stay : (k : Tree) (ks : List Tree) → IsOf c k → Each (IsOf c) ks
+  others_stay : (k : Tree) (ks : List Tree) → IsOf c k
       → filter (λ x. not (equal (renumber c k) x)) (map (renumber c) ks) ≡ map (renumber c) (filter (λ x. not (equal k x)) ks)
-  others_stay k [] a b = refl
-  others_stay k (x ∷ xs) a b = kept _ _ x _ _ (ap not (equals_stay c up k x a b.0)) (others_stay k xs a b.1)
+  others_stay k [] a = refl
+  others_stay k (x ∷ xs) a = kept _ _ x _ _ (ap not (equals_stay c up k x a)) (others_stay k xs a)
 
   others_are_of : (t : Tree → Bool) (ks : List Tree) → Each (IsOf c) ks → Each (IsOf c) (filter t ks)
   others_are_of t [] b = tt
@@ -256,13 +256,13 @@ module _ (c : Codes) (up : AreIncreasing c) where
   distinct_stay [] b = refl
   distinct_stay (k ∷ ks) b =
       ap (λ l. renumber c k ∷ filter (λ x. not (equal (renumber c k) x)) l) (distinct_stay ks b.1)
-      ∙ ap (λ l. renumber c k ∷ l) (others_stay k (distinct ks) b.0 (distinct_are_of ks b.1))
+      ∙ ap (λ l. renumber c k ∷ l) (others_stay k (distinct ks) b.0)
 
   -- ---- sort keys, of keys at one path
 
-  dir_stays : (dir : Dir) (a b : Tree) → IsOf c a → IsOf c b → dir_cmp dir (renumber c a) (renumber c b) ≡ dir_cmp dir a b
-  dir_stays Up a b p q = order_stays c up a b p q
-  dir_stays Down a b p q = ap ordering_reverse (order_stays c up a b p q)
+  dir_stays : (dir : Dir) (a b : Tree) → IsOf c a → dir_cmp dir (renumber c a) (renumber c b) ≡ dir_cmp dir a b
+  dir_stays Up a b p = order_stays c up a b p
+  dir_stays Down a b p = ap ordering_reverse (order_stays c up a b p)
 
   chosen_key : (m n : Bool) (a b : Tree) → m ≡ n → cond m (renumber c b) (renumber c a) ≡ renumber c (cond n b a)
   chosen_key true true a b e = refl
@@ -284,7 +284,7 @@ module _ (c : Codes) (up : AreIncreasing c) where
   least_stays : (dir : Dir) (a : Tree) (ks : List Tree) → IsOf c a → Each (IsOf c) ks → fold (earlier dir) (renumber c a) (map (renumber c) ks) ≡ renumber c (fold (earlier dir) a ks)
   least_stays dir a [] p q = refl
   least_stays dir a (k ∷ ks) p q =
-      ap (λ x. fold (earlier dir) x (map (renumber c) ks)) (chosen_key _ _ a k (ap is_lt (dir_stays dir k a q.0 p)))
+      ap (λ x. fold (earlier dir) x (map (renumber c) ks)) (chosen_key _ _ a k (ap is_lt (dir_stays dir k a q.0)))
       ∙ least_stays dir (earlier dir a k) ks (earlier_is_of dir a k p q.0) q.1
 
   earliest_is_of : (dir : Dir) (ks : List Tree) → Each (IsOf c) ks → EndIsOf c (reduce (earlier dir) ks)
@@ -303,8 +303,8 @@ null_is_of : (c : Codes) (k : Option Tree) → EndIsOf c k → IsOf c (unwrap_or
 null_is_of c None p = tt
 null_is_of c (Some k) p = p
 
-module _ (c : Codes) (up : AreIncreasing c) (p : Names) (lead : ReadsAlike c p) where
-  up_below : AreIncreasing (below p c)
+module _ (c : Codes) (up : KeepOrder c) (p : Names) (lead : ReadsAlike c p) where
+  up_below : KeepOrder (below p c)
   up_below = λ names. up (p ++ names)
 
   pub keys_stay : (sparse : Bool) (t : Tree) → IsOf c t → indexed_keys sparse (renumber c t) p ≡ map (renumber (below p c)) (indexed_keys sparse t p)
@@ -326,14 +326,14 @@ module _ (c : Codes) (up : AreIncreasing c) (p : Names) (lead : ReadsAlike c p) 
       → dir_cmp dir (sort_key dir (renumber c a) p) (sort_key dir (renumber c b) p) ≡ dir_cmp dir (sort_key dir a p) (sort_key dir b p)
   sort_stays dir a b q r =
       ap₂ (dir_cmp dir) (sort_key_stays dir a q) (sort_key_stays dir b r)
-      ∙ dir_stays (below p c) up_below dir (sort_key dir a p) (sort_key dir b p) (sort_key_is_of dir a q) (sort_key_is_of dir b r)
+      ∙ dir_stays (below p c) up_below dir (sort_key dir a p) (sort_key dir b p) (sort_key_is_of dir a q)
 
-all_sorts_stay : (c : Codes) → AreIncreasing c → (ss : List SortPath) → Each (λ s. ReadsAlike c s.path) ss → (a b : Tree) → IsOf c a → IsOf c b
+all_sorts_stay : (c : Codes) → KeepOrder c → (ss : List SortPath) → Each (λ s. ReadsAlike c s.path) ss → (a b : Tree) → IsOf c a → IsOf c b
     → sort_cmp ss (renumber c a) (renumber c b) ≡ sort_cmp ss a b
 all_sorts_stay c up [] leads a b p q = refl
 all_sorts_stay c up (s ∷ ss) leads a b p q = ap₂ ordering_then (sort_stays c up s.path leads.0 s.dir a b p q) (all_sorts_stay c up ss leads.1 a b p q)
 
 -- renumbered documents are in the order of a sort in which the documents are
-pub sorts_stay : (c : Codes) → AreIncreasing c → (ss : List SortPath) → SortsReadAlike c ss → (a b : Tree) → IsOf c a → IsOf c b
+pub sorts_stay : (c : Codes) → KeepOrder c → (ss : List SortPath) → SortsReadAlike c ss → (a b : Tree) → IsOf c a → IsOf c b
     → sort_cmp ss (renumber c a) (renumber c b) ≡ sort_cmp ss a b
 sorts_stay c up ss leads a b p q = all_sorts_stay c up ss (recursion_from_All (λ s. ReadsAlike c s.path) ss leads) a b p q

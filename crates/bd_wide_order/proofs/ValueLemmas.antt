@@ -13,7 +13,7 @@ use Rattle.bd_wide_number.specs.Value.{finite, has_sign, least_double, magnitude
 use Rattle.bd_wide_number.specs.Code.{number_code, scaled_code}
 use Rattle.bd_wide_number.proofs.CodeLemmas.{least_pos, whole_gives}
 use Rattle.bd_wide_number.proofs.LawLemmas.{code_means_number, code_values_rise}
-use Rattle.bd_wide_order.specs.Renumber.{AreIncreasing}
+use Rattle.bd_wide_order.specs.Renumber.{KeepOrder}
 use Rattle.bd_wide_order.specs.Values.{code_worth, values_at}
 
 -- ---- products
@@ -52,8 +52,8 @@ worth_rises : (power : Option ℕ) (c d : ℤ) → c <ℤ d → code_worth power
 worth_rises None c d l = times_rise least_double least_pos _ _ (code_values_rise c d l)
 worth_rises (Some power) c d l = times_rise (10 ^ (6176 - power)) (some_power power) c d l
 
-pub values_rise : (powers : Names → Option ℕ) → AreIncreasing (values_at powers)
-values_rise powers = λ path m n p q l. worth_rises (powers path) m n l
+pub values_rise : (powers : Names → Option ℕ) → KeepOrder (values_at powers)
+values_rise powers = λ path m n p. (λ l. worth_rises (powers path) m n l, λ l. worth_rises (powers path) n m l)
 
 -- ---- the value of a code with a power of ten
 

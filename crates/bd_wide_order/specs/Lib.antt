@@ -1,4 +1,5 @@
 pub mod Pages
 pub mod Query
+pub mod Ranks
 pub mod Renumber
 pub mod Values

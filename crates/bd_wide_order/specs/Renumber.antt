@@ -29,14 +29,15 @@ under name c = λ names. c (name ∷ names)
 abbrev pub below : Names → Codes → Codes
 below path c = λ names. c (path ++ names)
 
--- Of two numbers that may occur, the lesser number gets the lesser code.
-abbrev pub IsIncreasing : Code → Type 0
-IsIncreasing c = (m n : ℤ) → IsTrue (c.occurs m) → IsTrue (c.occurs n) → m <ℤ n →
-    c.becomes m <ℤ c.becomes n
+-- A number that occurs in documents compares with any number, also one that occurs in none, as their codes do.
+-- Two numbers that occur in no document may have one code.
+abbrev pub KeepsOrder : Code → Type 0
+KeepsOrder c = (m n : ℤ) → IsTrue (c.occurs m) →
+    (m <ℤ n → c.becomes m <ℤ c.becomes n) × (n <ℤ m → c.becomes n <ℤ c.becomes m)
 
--- At each path the code keeps the order of the numbers that occur there.
-abbrev pub AreIncreasing : Codes → Type 0
-AreIncreasing c = (path : Names) → IsIncreasing (c path)
+-- At each path the code keeps the order of the numbers that occur there, beside all numbers.
+abbrev pub KeepOrder : Codes → Type 0
+KeepOrder c = (path : Names) → KeepsOrder (c path)
 
 -- ---- paths of queries and sorts
 
@@ -186,10 +187,10 @@ abbrev mutual
 
   -- An operator depends only on what renumbering preserves.
   pub OperatorNeeds : Codes → Operator → Type 0
-  OperatorNeeds c (equals v) = IsOf c v
-  OperatorNeeds c (compares r v) = IsOf c v
-  OperatorNeeds c (is_in vs) = All (IsOf c) vs
-  OperatorNeeds c (has_all vs) = All (IsOf c) vs
+  OperatorNeeds c (equals v) = Unit {0}
+  OperatorNeeds c (compares r v) = Unit {0}
+  OperatorNeeds c (is_in vs) = Unit {0}
+  OperatorNeeds c (has_all vs) = Unit {0}
   OperatorNeeds c (has_type ks) = TakeNumbersAlike ks
   OperatorNeeds c (has_size n) = Unit {0}
   OperatorNeeds c (exists b) = Unit {0}

@@ -15,25 +15,27 @@ ghost use Rattle.bd_wide_number.specs.Code.{number_code};
 ghost use Rattle.bd_wide_number.specs.Value.{finite, has_sign, infinite_bits, magnitude, signed};
 ghost use Rattle.bd_wide_order.specs.Pages.{HaveOneAnswer};
 ghost use Rattle.bd_wide_order.specs.Query.{RequestNeeds, renumber_query, renumber_request};
-ghost use Rattle.bd_wide_order.specs.Renumber.{AreIncreasing, FilterNeeds, Codes, DocumentsAreOf, IsOf, PassOverIndexes};
+ghost use Rattle.bd_wide_order.specs.Ranks.{TypesAlike, table_codes};
+ghost use Rattle.bd_wide_order.specs.Renumber.{KeepOrder, FilterNeeds, Codes, DocumentsAreOf, IsOf, PassOverIndexes};
 ghost use Rattle.bd_wide_order.specs.Renumber.{ReadsAlike, SortsReadAlike, below, renumber, renumber_documents, renumber_filter};
 ghost use Rattle.bd_wide_order.specs.Values.{code_worth, values_at};
 
-/// If each number in values, and in a filter, is replaced by another, in the same order at each path: then the values have the same
-/// order, a path reaches the same in them, they have the same keys, sorts order them alike, and the filter matches the same.
+/// If each number in documents, and in a filter, is replaced by another, and at each path a number of documents has the same order
+/// beside any number: then a value of a document has the same order beside any value, a path reaches the same in documents, they
+/// have the same keys, sorts order them alike, and the filter matches the same. The numbers of the filter may be any numbers.
 #[tactic(auto, using(crate::proofs::OrderLemmas::order_stays, crate::proofs::ReachLemmas::reach_stays, crate::proofs::ReachLemmas::keys_stay, crate::proofs::ReachLemmas::sorts_stay, crate::proofs::MatchLemmas::match_stays))]
 pub fn numbers_matter_by_order()
-    ensures order { (c : Codes) → AreIncreasing c → (a b : Tree) → IsOf c a → IsOf c b →
+    ensures order { (c : Codes) → KeepOrder c → (a b : Tree) → IsOf c a →
         cmp (renumber c a) (renumber c b) ≡ cmp a b }
     ensures reach { (c : Codes) (path : Names) → ReadsAlike c path → (t : Tree) →
         reach (renumber c t) path ≡ map (option_map (renumber (below path c))) (reach t path) }
-    ensures keys { (c : Codes) → AreIncreasing c → (path : Names) → ReadsAlike c path →
+    ensures keys { (c : Codes) → KeepOrder c → (path : Names) → ReadsAlike c path →
         (sparse : Bool) (t : Tree) → IsOf c t → indexed_keys sparse (renumber c t) path
         ≡ map (renumber (below path c)) (indexed_keys sparse t path) }
-    ensures sorts { (c : Codes) → AreIncreasing c → (ss : List SortPath) → SortsReadAlike c ss →
+    ensures sorts { (c : Codes) → KeepOrder c → (ss : List SortPath) → SortsReadAlike c ss →
         (a b : Tree) → IsOf c a → IsOf c b →
         sort_cmp ss (renumber c a) (renumber c b) ≡ sort_cmp ss a b }
-    ensures matching { (c : Codes) → AreIncreasing c → (f : Filter) → FilterNeeds c f →
+    ensures matching { (c : Codes) → KeepOrder c → (f : Filter) → FilterNeeds c f →
         (t : Tree) → IsOf c t → matches (renumber_filter c f) (renumber c t) ≡ matches f t }
 {}
 
@@ -61,7 +63,7 @@ pub fn queries_are_renumbered()
 /// A renumbered request to renumbered documents has the answer of the request to the documents: the same places, and at each
 /// place the renumbered document. It does not matter which bytes spell the documents, nor which text the request has.
 pub fn answers_stay()
-    ensures answer { (c : Codes) → AreIncreasing c → (r : Request) → RequestNeeds c r →
+    ensures answer { (c : Codes) → KeepOrder c → (r : Request) → RequestNeeds c r →
         (ds : List Doc) → DocumentsAreOf c ds → (bytes new text : List ℕ) →
         HaveOneAnswer (query_to new (renumber_documents c ds) (renumber_request c text r))
         (query_to bytes ds r) }
@@ -86,6 +88,15 @@ pub fn codes_are_worth_their_numbers()
 pub fn ordered_dumps_answer_by_value()
     ensures { (powers : Names → Option ℕ) (r : Request) → let c = values_at powers in
         RequestNeeds c r → (ds : List Doc) (bytes new text : List ℕ) →
+        HaveOneAnswer (query_to new (renumber_documents c ds) (renumber_request c text r))
+        (query_to bytes ds r) }
+{}
+
+/// Over documents whose numbers are all in a table, with the rank in the table in place of each number, also in the request,
+/// a request has its answer by value. The numbers of the request may be any numbers, and every path may be asked for.
+pub fn ranked_dumps_answer_by_value()
+    ensures { (table : List ℤ) (r : Request) → TypesAlike r.filter → let c = table_codes table in
+        (ds : List Doc) → DocumentsAreOf c ds → (bytes new text : List ℕ) →
         HaveOneAnswer (query_to new (renumber_documents c ds) (renumber_request c text r))
         (query_to bytes ds r) }
 {}

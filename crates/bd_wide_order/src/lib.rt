@@ -5,6 +5,7 @@
 //! which reads no doubles, answers over documents with doubles once whole numbers in their order replace them.
 //!
 //! - `specs/Renumber.antt`: values, documents and filters with other numbers.
+//! - `specs/Ranks.antt`: the code of a number by its rank in a table.
 //! - `specs/Query.antt`: the documents of queries with other numbers, and requests.
 //! - `specs/Values.antt`: the values of the codes of `bd_wide_number`.
 //! - `specs/Pages.antt`: the answer to a request, page by page.
@@ -17,4 +18,5 @@ mod laws;
 pub use laws::{
     answers_stay, codes_are_worth_their_numbers, numbers_matter_by_order,
     ordered_dumps_answer_by_value, paths_read_alike, queries_are_renumbered,
+    ranked_dumps_answer_by_value,
 };

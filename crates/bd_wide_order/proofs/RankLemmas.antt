@@ -1,0 +1,55 @@
+-- Codes among the numbers of a table, in filters and at paths.
+use Rattle.std.proofs.Common.{◌≡◌, List, refl}
+use Rattle.std.specs.Prelude.{ℤ}
+use Rattle.bd_value.specs.Tree.{Tree}
+use Rattle.bd_path.specs.{Reach.Names}
+use Rattle.bd_query_filter.specs.FilterMatch.{matches}
+use Rattle.bd_query_filter.specs.Filter.{Filter, all_of, some_of, none_of, at_path, Filters, no_filters, filter, Operator}
+use Rattle.bd_query_filter.specs.Filter.{equals, compares, is_in, has_all, has_type, has_size, exists, negates, has_element}
+use Rattle.bd_query_filter.specs.Filter.{has_document, Operators, no_operators, operator}
+use Rattle.bd_wide_order.specs.Renumber.{KeepOrder, ReadsAlike, IsOf, FilterNeeds, FiltersNeed, OperatorNeeds, OperatorsNeed, renumber, renumber_filter}
+use Rattle.bd_wide_rank.proofs.OrderLemmas.{codes_rise}
+use Rattle.bd_wide_order.specs.Ranks.{table_codes, TypesAlike, EachTypesAlike, OperatorAlike, OperatorsAlike}
+use Rattle.bd_wide_order.proofs.ReachLemmas.{passing_over}
+use Rattle.bd_wide_order.proofs.MatchLemmas.{match_stays}
+
+-- ---- codes
+
+pub ranks_keep_order : (table : List ℤ) → KeepOrder (table_codes table)
+ranks_keep_order table = λ path m n found. codes_rise table m n found
+
+-- ---- filters
+
+pub all_read_alike : (table : List ℤ) (path : Names) → ReadsAlike (table_codes table) path
+all_read_alike table path = passing_over (table_codes table) (λ before name after e. refl) path
+
+mutual
+  pub filter_needs : (table : List ℤ) (f : Filter) → TypesAlike f → FilterNeeds (table_codes table) f
+  filter_needs table (all_of fs) a = filters_need table fs a
+  filter_needs table (some_of fs) a = filters_need table fs a
+  filter_needs table (none_of fs) a = filters_need table fs a
+  filter_needs table (at_path path os) a = (all_read_alike table path, operators_need table os a)
+
+  filters_need : (table : List ℤ) (fs : Filters) → EachTypesAlike fs → FiltersNeed (table_codes table) fs
+  filters_need table no_filters a = tt
+  filters_need table (filter f fs) a = (filter_needs table f a.0, filters_need table fs a.1)
+
+  operator_needs : (table : List ℤ) (o : Operator) → OperatorAlike o → OperatorNeeds (table_codes table) o
+  operator_needs table (equals v) a = tt
+  operator_needs table (compares r v) a = tt
+  operator_needs table (is_in vs) a = tt
+  operator_needs table (has_all vs) a = tt
+  operator_needs table (has_type ks) a = a
+  operator_needs table (has_size n) a = tt
+  operator_needs table (exists b) a = tt
+  operator_needs table (negates os) a = operators_need table os a
+  operator_needs table (has_element os) a = operators_need table os a
+  operator_needs table (has_document fs) a = filters_need table fs a
+
+  operators_need : (table : List ℤ) (os : Operators) → OperatorsAlike os → OperatorsNeed (table_codes table) os
+  operators_need table no_operators a = tt
+  operators_need table (operator o os) a = (operator_needs table o a.0, operators_need table os a.1)
+
+pub ranks_match : (table : List ℤ) (f : Filter) → TypesAlike f → (t : Tree) → IsOf (table_codes table) t
+    → matches (renumber_filter (table_codes table) f) (renumber (table_codes table) t) ≡ matches f t
+ranks_match table f alike t are = match_stays (table_codes table) (ranks_keep_order table) f (filter_needs table f alike) t are
