@@ -1,0 +1,4 @@
+pub mod Rank
+pub mod Table
+pub mod Worth
+pub mod inside

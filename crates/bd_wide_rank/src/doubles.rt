@@ -1,0 +1,82 @@
+//! Numbers that are doubles, by their keys.
+
+ghost use Rattle.std.specs.Prelude.{◌∷◌, ◌≡◌, [], OnErr, OnOk};
+ghost use Rattle.std.specs.List.{All};
+ghost use Rattle.std.specs.List.Sorted.{IsStrictlyIncreasing};
+ghost use Rattle.std.proofs.Props.{props};
+ghost use Rattle.bd_wide_rank.specs.Rank.{HaveSame, rank};
+ghost use Rattle.bd_wide_rank.specs.inside.Key.{IsKey, key_worth};
+
+use crate::place::Place;
+use bd_value::NoMemory;
+use std::alloc::Global;
+
+/// Doubles, some of them more than once.
+#[derive(Drop)]
+pub(crate) struct Doubles {
+    pub keys: Vec<u64>,
+    /// If there are this many, repeats are dropped before the next one.
+    limit: usize,
+    ghost are_keys: { All IsKey keys.items } by { Prim.hlevel props },
+}
+
+/// Fewer are not sorted.
+const LEAST_LIMIT: usize = 1024;
+
+impl Doubles {
+    ghost use Rattle.bd_wide_rank.specs.inside.Place.{IsPlace, place_worth};
+    ghost use Rattle.bd_wide_rank.specs.inside.Rows.{key_worths};
+
+    /// No doubles.
+    pub(crate) fn new(alloc: Global) -> Doubles
+        ensures { result.keys.items ≡ [] }
+    {
+        Doubles {
+            keys: Vec::new(alloc),
+            limit: LEAST_LIMIT,
+        }
+    }
+
+    /// Adds a double.
+    pub(crate) fn push(&mut self, key: u64) -> Result<(), NoMemory>
+        requires { IsKey key }
+        ensures ok { OnOk result (HaveSame (key_worths self.new.keys.items)
+            (key_worth key ∷ key_worths self.old.keys.items)) }
+        ensures err { OnErr result (HaveSame (key_worths self.new.keys.items)
+            (key_worths self.old.keys.items)) }
+    {
+        if self.keys.len() >= self.limit {
+            self.sort();
+        }
+        self.keys.push(key)?;
+        Ok(())
+    }
+
+    /// Sorts the doubles, and drops repeats.
+    pub(crate) fn sort(&mut self)
+        ensures same { HaveSame (key_worths self.new.keys.items) (key_worths self.old.keys.items) }
+        ensures rising { IsStrictlyIncreasing self.new.keys.items }
+    {
+        self.keys.sort_unstable();
+        self.keys.dedup();
+        self.limit = self.keys.len().saturating_mul(2).max(LEAST_LIMIT);
+    }
+
+    /// The rank of a number among the doubles.
+    pub(crate) fn rank(&self, place: Place) -> u64
+        requires rising { IsStrictlyIncreasing self.now.keys.items }
+        requires place { IsPlace place }
+        ensures { result ≡ rank (key_worths self.now.keys.items) (place_worth place) }
+    {
+        match place {
+            Place::Double(key) => match self.keys.binary_search(&key) {
+                Ok(i) => 2 * i as u64 + 1,
+                Err(i) => 2 * i as u64,
+            },
+            Place::Between(number) => match self.keys.binary_search(&number.key) {
+                Ok(i) => 2 * i as u64 + 2,
+                Err(i) => 2 * i as u64,
+            },
+        }
+    }
+}
