@@ -98,45 +98,6 @@ module _ (worth : ElementType → List ℕ → ℤ) (code : ℤ → ℤ) where
       let whole = comes (e.0 ++ more) (one_copied rest e.0 more n (sym is) one two) in
       (whole.0, whole.1, ap (λ (x : List ℕ). x ++ more) e.2 ∙ append_assoc out e.0 more ∙ whole.2)
 
--- ---- numbers
-
--- the numbers so far, with those of the rest, are those of all
-abbrev pub NumbersCome : List ℕ → List ℕ → List Number → List Number → Type 0
-NumbersCome bytes rest old now = (more : List Number) → AreNumbersOfAll rest more → AddsNumbers (AreNumbersOfAll bytes) old (now ++ more)
-
-pub numbers_begin : (bytes : List ℕ) (old : List Number) → NumbersCome bytes bytes old old
-numbers_begin bytes old = λ more h. (more, h, refl)
-
-no_numbers : (rest : List ℕ) → frame_size rest ≡ None → AreNumbersOfAll rest []
-no_numbers rest is = ((λ worth_of worth by ds j. ap document_numbers (sym (ended worth ds rest j is).0)), omega arith)
-
-pub all_collected : (bytes rest : List ℕ) (old now : List Number) → NumbersCome bytes rest old now → None ≡ frame_size rest → AddsNumbers (AreNumbersOfAll bytes) old now
-all_collected bytes rest old now comes is = subst (AddsNumbers (AreNumbersOfAll bytes) old) (append-nil now) (comes [] (no_numbers rest (sym is)))
-
-one_collected : (rest : List ℕ) (one more : List Number) (n : ℕ) → frame_size rest ≡ Some n → AreNumbersOf (take n rest) one → AreNumbersOfAll (drop n rest) more
-    → AreNumbersOfAll rest (one ++ more)
-one_collected rest one more n is first later = (
-  (λ worth_of worth by ds j.
-      let f = first_of worth ds rest n j is in
-      map-append worth_of one more ∙ ap₂ (λ (x y : List ℤ). x ++ y) (first.0 worth_of worth by f.0 f.3) (later.0 worth_of worth by f.1 f.4)
-      ∙ ap document_numbers (sym f.2)),
-  omega (
-    arith,
-    first.1,
-    later.1,
-    length-append one more,
-    ap (λ (x : List ℕ). length x) (sym (take-append-drop n rest)) ∙ length-append (take n rest) (drop n rest),
-  ),
-)
-
-pub collected_on : (bytes rest document after : List ℕ) (old out now : List Number) (n : ℕ) → NumbersCome bytes rest old out → Some n ≡ frame_size rest
-    → document ≡ take n rest → after ≡ drop n rest → AddsNumbers (AreNumbersOf document) out now → NumbersCome bytes after old now
-collected_on bytes rest document after old out now n comes is p q e = λ more h.
-    let one = subst (λ (x : List ℕ). AreNumbersOf x e.0) p e.1 in
-    let two = subst (λ (x : List ℕ). AreNumbersOfAll x more) q h in
-    let whole = comes (e.0 ++ more) (one_collected rest e.0 more n (sym is) one two) in
-    (whole.0, whole.1, ap (λ (x : List Number). x ++ more) e.2 ∙ append_assoc out e.0 more ∙ whole.2)
-
 -- the copies of a dump within the limit are a dump
 pub ok_dump : {E : Type 0} (r : Result (Unit {0}) E) (worth : ElementType → List ℕ → ℤ) (code : ℤ → ℤ) (bytes here old out : List ℕ) → here ≡ bytes
     → length bytes ≤ longest_input → OnOk r (Adds (AreCopies worth code here) old out) → OnOk r (Adds (IsCopyOfDump worth code bytes) old out)

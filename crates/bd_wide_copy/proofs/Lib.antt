@@ -7,3 +7,4 @@ pub mod CollectLemmas
 pub mod DumpLemmas
 pub mod StartsLemmas
 pub mod ReadingLemmas
+pub mod GatherLemmas

@@ -1,13 +1,13 @@
 -- Dumps of documents of all types, by value: what they are, their copies and their numbers.
-use Rattle.std.specs.Prelude.{◌≡◌, ◌≤◌, ◌<◌, ◌*◌, ◌⊎◌, ℕ, ℤ, List, [], ◌∷◌, ◌++◌, length, map, slice_get, Some}
+use Rattle.std.specs.Prelude.{◌≡◌, ◌≤◌, ◌<◌, ◌⊎◌, ℕ, ℤ, List, [], ◌∷◌, ◌++◌, length, map, slice_get, Some}
 use Rattle.bd_value.specs.{Limits.longest_input, Tree.Doc, Tree.Scalar}
 use Rattle.bd_bson_view.specs.Spelling.{Grammar, IsDocumentBy, valued}
 use Rattle.bd_bson_view.specs.declared.raw_parts.ElementType.{ElementType}
 use Rattle.bd_bson_check.specs.{Dump.AreJoined, Dump.IsDump, Dump.frame_fault_under, Fault.HasNoOffset, Fault.IsWantOfMemory, Fault.fault_view}
 use Rattle.bd_bson_check.specs.declared.fault.{Fault.Fault, FaultKind.FaultKind}
 use Rattle.bd_bson_check.specs.declared.profile.Profile.TheVariants.{All}
-use Rattle.bd_wide_number.specs.declared.number.Number.{Number}
-use Rattle.bd_wide_copy.specs.{Copy.coded_document, Copy.int32_of, Numbers.IsWorthOf, Numbers.document_numbers}
+use Rattle.bd_wide_copy.specs.{Copy.coded_document, Copy.int32_of, Numbers.document_numbers}
+use Rattle.bd_wide_rank.specs.{Rank.HaveSame, Worth.worth}
 use Rattle.bd_wide_copy.specs.declared.dump.WideDump.{WideDump}
 
 -- The bytes are these documents by the grammar, one after the other with nothing between.
@@ -44,12 +44,9 @@ abbrev pub IsCopyOfDump : (ElementType → List ℕ → ℤ) → (ℤ → ℤ) �
 IsCopyOfDump worth code bytes new = (ds : List Doc) → AreJoinedBy (valued worth) ds bytes
     → IsDump (coded_documents (int32_of code) ds) new × (length new ≤ length bytes)
 
--- Whatever a number is worth: of whatever documents the bytes are by value, these are the numbers, in order. Each takes six bytes
--- or more.
-abbrev pub AreNumbersOfAll : List ℕ → List Number → Type 0
-AreNumbersOfAll bytes numbers = ((worth_of : Number → ℤ) (worth : ElementType → List ℕ → ℤ) → IsWorthOf worth_of worth
-    → (ds : List Doc) → AreJoinedBy (valued worth) ds bytes → map worth_of numbers ≡ document_numbers ds)
-    × (6 * length numbers ≤ length bytes)
+-- Of whatever documents the bytes are by value: these are the numbers in them, perhaps not as often, and no others.
+abbrev pub AreNumbersOfAll : List ℕ → List ℤ → Type 0
+AreNumbersOfAll bytes numbers = (ds : List Doc) → AreJoinedBy (valued worth) ds bytes → HaveSame numbers (document_numbers ds)
 
 -- The fault in memory is that of the first document that has one under all types, with its number; before it are documents without.
 pub record IsFirstFault (bytes : List ℕ) (e : Fault) : Type 0 where

@@ -1,19 +1,22 @@
 //! The documents of a dump in turn: their copies, and their numbers.
 
-ghost use Rattle.std.specs.Prelude.{◌≡◌, ◌≤◌, ℤ, FitsSigned, IfSome, OnErr, OnOk, length};
+ghost use Rattle.std.specs.Prelude.{◌≡◌, ◌≤◌, ◌++◌, ℤ, FitsSigned, IfSome, List, OnErr, OnOk, length, map};
 ghost use Rattle.std.specs.Int.{w32};
 ghost use Rattle.std.specs.Io.{StartsWith};
 ghost use Rattle.bd_wide.specs.Rewritten.{Adds};
-ghost use Rattle.bd_wide_copy.specs.Dump.{AreCopies, AreNumbersOfAll};
-ghost use Rattle.bd_wide_copy.specs.Numbers.{AddsNumbers};
-ghost use Rattle.bd_wide_copy.specs.inside.Collected.{Extends};
+ghost use Rattle.bd_wide_copy.specs.Dump.{AreCopies};
+ghost use Rattle.bd_wide_copy.specs.Numbers.{AreNumbersOf};
+ghost use Rattle.bd_wide_copy.specs.inside.Gathered.{Gathers};
 ghost use Rattle.bd_wide_copy.specs.inside.Starts.{frame_size as frame_size_of};
+ghost use Rattle.bd_wide_number.specs.declared.number.Number as numbers_of;
+ghost use Rattle.bd_wide_rank.specs.{Rank.HaveSame, Table.gathered, Worth.worth_of};
 
 use crate::copy::{Codes, write_copy};
 use crate::numbers::collect_numbers;
 use bd_bson_view::raw_parts as raw;
 use bd_value::NoMemory;
 use bd_wide_number::Number;
+use bd_wide_rank::Numbers;
 use std::alloc::Global;
 
 /// The length that the document at the start states, if it is 5 or more and there are so many bytes.
@@ -54,16 +57,35 @@ pub(crate) fn write_copies<C: Codes>(
 }
 
 /// Adds the numbers of each document of a dump. After `NoMemory` there may be more numbers.
-pub(crate) fn collect_all(bytes: &[u8], numbers: &mut Vec<Number>) -> Result<(), NoMemory>
-    ensures ok { OnOk result (AddsNumbers
-        (AreNumbersOfAll bytes.now) numbers.old.items numbers.new.items) }
-    ensures prefix { OnErr result (Extends numbers.old.items numbers.new.items) }
+pub(crate) fn gather(alloc: Global, bytes: &[u8], numbers: &mut Numbers) -> Result<(), NoMemory>
+    ensures { OnOk result (Gathers bytes.now (gathered numbers.old) (gathered numbers.new)) }
 {
     let mut rest = bytes;
     while let Some(size) = frame_size(rest) {
         let (document, after) = rest.split_at(size);
-        collect_numbers(document, numbers)?;
+        gather_one(alloc, document, numbers)?;
         rest = after;
+    }
+    Ok(())
+}
+
+/// Adds the numbers of a document.
+fn gather_one(alloc: Global, document: &[u8], numbers: &mut Numbers) -> Result<(), NoMemory>
+    ensures { OnOk result ((all : List numbers_of.Number) × AreNumbersOf document.now all
+        × HaveSame (gathered numbers.new) (map worth_of all ++ gathered numbers.old)) }
+{
+    let mut all = Vec::new(alloc);
+    collect_numbers(document, &mut all)?;
+    push_all(&all, numbers)
+}
+
+/// Adds numbers.
+fn push_all(all: &[Number], numbers: &mut Numbers) -> Result<(), NoMemory>
+    ensures { OnOk result
+        (HaveSame (gathered numbers.new) (map worth_of all.now ++ gathered numbers.old)) }
+{
+    for number in all {
+        numbers.push(*number)?;
     }
     Ok(())
 }

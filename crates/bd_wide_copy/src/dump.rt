@@ -5,11 +5,11 @@ ghost use Rattle.bd_value.specs.Limits.{longest_input};
 ghost use Rattle.bd_bson_check.specs.declared.profile.Profile.TheVariants.{All, Named};
 ghost use Rattle.bd_wide_copy.specs.inside.Starts.{have_no_fault, starts_of};
 
-use crate::copies::{collect_all, write_copies};
+use crate::copies::{gather, write_copies};
 use crate::copy::Codes;
 use bd_bson_view::raw_parts as raw;
 use bd_value::NoMemory;
-use bd_wide_number::Number;
+use bd_wide_rank::Numbers;
 use std::alloc::Global;
 
 /// The documents of a dump of all types, in file order, in their bytes. A document has a number, from 0.
@@ -27,14 +27,14 @@ pub struct WideDump {
 }
 
 impl WideDump {
-    ghost use Rattle.std.specs.Prelude.{◌↔◌, ℤ, List, FitsSigned, IsTrue, None, OnErr, OnOk};
+    ghost use Rattle.std.specs.Prelude.{◌↔◌, ℤ, List, FitsSigned, IfOk, IsTrue, None, OnErr, OnOk};
     ghost use Rattle.std.specs.Int.{w32};
     ghost use Rattle.bd_value.specs.Tree.{Doc};
     ghost use Rattle.bd_bson_check.specs.Dump.{IsDump};
     ghost use Rattle.bd_bson_check.specs.FirstFault.{fault_under};
     ghost use Rattle.bd_wide.specs.Rewritten.{Adds};
     ghost use Rattle.bd_wide_copy.specs.Dump.{IsCopyOfDump, AreNumbersOfAll, IsCount, IsDocumentAt, bytes_of};
-    ghost use Rattle.bd_wide_copy.specs.Numbers.{AddsNumbers};
+    ghost use Rattle.bd_wide_rank.specs.Table.{gathered};
 
     /// The number of documents. It takes no memory.
     pub fn len(&self) -> u32
@@ -86,21 +86,17 @@ impl WideDump {
         written
     }
 
-    /// Adds the numbers of each document, in order: int32, int64, double and decimal128, at any level.
+    /// The numbers of the documents: int32, int64, double and decimal128, at any level.
     ///
     /// # Errors
-    /// On `NoMemory`, `numbers` is unchanged.
-    pub fn collect_numbers(&self, numbers: &mut Vec<Number>) -> Result<(), NoMemory>
-        ensures ok { OnOk result (AddsNumbers
-            (AreNumbersOfAll (bytes_of self.now)) numbers.old.items numbers.new.items) }
-        ensures err { OnErr result (numbers.new.items ≡ numbers.old.items) }
+    /// `NoMemory` if memory runs out.
+    pub fn numbers(&self, alloc: Global) -> Result<Numbers, NoMemory>
+        ensures { IfOk result (λ numbers.
+            AreNumbersOfAll (bytes_of self.now) (gathered numbers)) }
     {
-        let before = numbers.len();
-        let collected = collect_all(&self.bytes, numbers);
-        if collected.is_err() {
-            numbers.truncate(before);
-        }
-        collected
+        let mut numbers = Numbers::new(alloc);
+        gather(alloc, &self.bytes, &mut numbers)?;
+        Ok(numbers)
     }
 
     /// The bytes that it was read from.

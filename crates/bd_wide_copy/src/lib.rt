@@ -19,6 +19,7 @@
 //! - `copies`: the same for the documents of a dump in turn.
 //! - `dump`: `WideDump`, a dump in memory: its documents, their copies and numbers, and whether it has a double or a decimal128.
 //! - `reading`: `read_wide_dump`, which reads one.
+//! - `table`: the codes of a `Table` of `bd_wide_rank`: the ranks of numbers among those of a dump.
 //! - `laws`: what is written for a document by value is spelled by the document with codes.
 #![tactic(auto)]
 
@@ -28,6 +29,7 @@ mod dump;
 mod laws;
 mod numbers;
 mod reading;
+mod table;
 
 pub use copy::{Codes, write_copy};
 pub use dump::WideDump;

@@ -2,6 +2,7 @@
 
 ghost use Rattle.std.specs.Prelude.{pos};
 
+use bd_bson_view::ElementType;
 use bd_wide_copy::{Codes, collect_numbers, write_copy};
 use bd_wide_number::Number;
 use std::test::Fail;
@@ -18,11 +19,11 @@ pub(crate) const COPY: &[u8] =
 pub(crate) struct Seven;
 
 impl Codes for Seven {
-    ghost worth_of = { λ _ number. pos 0 };
+    ghost worth_of = { λ _ typed value. pos 0 };
 
     ghost code_of = { λ _ z. pos 7 };
 
-    fn code(&self, _number: Number) -> i32 {
+    fn code(&self, _typed: ElementType, _value: &[u8]) -> i32 {
         7
     }
 }

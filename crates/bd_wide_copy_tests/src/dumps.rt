@@ -1,7 +1,7 @@
 //! Dumps of several documents.
 
 use crate::copies::{COPY, DOCUMENT, Seven};
-use bd_wide_copy::read_wide_dump;
+use bd_wide_copy::{read_wide_dump, write_copy};
 use std::test::Fail;
 
 /// The document of all types, the empty document, and {"a":int32 1}.
@@ -29,9 +29,6 @@ fn three_documents(rt: HostRuntime) -> Result<(), Fail> {
     let mut out = Vec::new(alloc);
     dump.write_copy(alloc, &Seven, &mut out)?;
     assert!(rt; out.as_slice() == wanted.as_slice());
-    let mut numbers = Vec::new(alloc);
-    dump.collect_numbers(&mut numbers)?;
-    assert!(rt; numbers.len() == 4);
     Ok(())
 }
 
@@ -58,5 +55,36 @@ fn fault_in_the_second_document(rt: HostRuntime) -> Result<(), Fail> {
             assert!(rt; fault.offset == 9);
         }
     }
+    Ok(())
+}
+
+#[test]
+fn ranks(rt: HostRuntime) -> Result<(), Fail> {
+    let alloc = rt.alloc();
+    // {"d":1.5}, {"a":int32 2}, {"d":1.5}: the numbers 1.5 and 2 have the codes 1 and 3
+    let bytes =
+        b"\x10\0\0\0\x01d\0\0\0\0\0\0\0\xf8\x3f\0\x0c\0\0\0\x10a\0\x02\0\0\0\0\x10\0\0\0\x01d\0\0\0\0\0\0\0\xf8\x3f\0";
+    let dump = read_wide_dump(alloc, Vec::from_slice(alloc, bytes)?)?;
+    let Ok(table) = dump.numbers(alloc)?.into_table() else {
+        assert!(rt; false);
+        return Ok(());
+    };
+    let count = table.len();
+    assert!(rt; count == 2);
+    table.codes_fit();
+    let mut copy = Vec::new(alloc);
+    dump.write_copy(alloc, &table, &mut copy)?;
+    let wanted =
+        b"\x0c\0\0\0\x10d\0\x01\0\0\0\0\x0c\0\0\0\x10a\0\x03\0\0\0\0\x0c\0\0\0\x10d\0\x01\0\0\0\0";
+    assert!(rt; copy.as_slice() == wanted.as_slice());
+    // a query with a number between them: the code is even
+    let mut query = Vec::new(alloc);
+    write_copy(
+        alloc,
+        &table,
+        b"\x10\0\0\0\x01d\0\0\0\0\0\0\0\xfc\x3f\0",
+        &mut query,
+    )?;
+    assert!(rt; query.as_slice() == b"\x0c\0\0\0\x10d\0\x02\0\0\0\0".as_slice());
     Ok(())
 }
