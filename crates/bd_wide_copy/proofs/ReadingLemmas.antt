@@ -122,8 +122,8 @@ module _ (bytes : List ℕ) where
           ∙ starts_count worth ds (take at bytes) (length (take at bytes)) 0 j (omega arith)
 
       fails_as : (o : Option Fault) → frame_fault_under All at (drop at bytes) ≡ o → ReportsFault number o e → IsUnread bytes e
-      fails_as None is reported = inr (short, inl reported)
-      fails_as (Some f) is (inl want) = inr (short, inl want)
+      fails_as None is reported = absurd reported
+      fails_as (Some f) is (inl want) = inr (short, inl want.1)
       fails_as (Some f) is (inr h) = inr (
         short,
         inr (record {

@@ -36,16 +36,6 @@ impl<'a, C: Codes> NumberWriter for Copier<'a, C> {
     ghost is_written = { λ copier. IsCodeOf (C.worth_of copier.codes.now)
         (int32_of (C.code_of copier.codes.now)) };
 
-    ghost others_of = { λ _ bytes. bytes };
-
-    fn ignores_paths(&self) -> bool {
-        true
-    }
-
-    fn leaves(&self, _typed: ElementType) -> bool {
-        false
-    }
-
     #[tactic(auto, using(bd_value::proofs::PrefixLemmas::prefixes))]
     fn element(
         &self,
@@ -56,11 +46,6 @@ impl<'a, C: Codes> NumberWriter for Copier<'a, C> {
         out: &mut Vec<u8>,
     ) -> Result<(), NoMemory> {
         put_int32(head, self.codes.code(typed, value), out)
-    }
-
-    fn others(&self, bytes: &[u8], out: &mut Vec<u8>) -> Result<(), NoMemory> {
-        out.extend_from_slice(bytes)?;
-        Ok(())
     }
 }
 

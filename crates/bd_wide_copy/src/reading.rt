@@ -103,7 +103,6 @@ fn check(alloc: Global, plain: bool, document: &[u8], base: u64, number: u32) ->
     if plain {
         match check_bytes(alloc, Profile::Named, document, base, number) {
             Ok(()) => return Ok(true),
-            Err(fault) if fault.kind == FaultKind::NoMemory => return Err(want_of_memory(alloc)),
             Err(_) => {}
         }
     }

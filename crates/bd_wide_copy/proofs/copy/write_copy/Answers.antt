@@ -7,5 +7,5 @@ pub returns-clause-ok : goal.returns-clause-ok
 returns-clause-ok g c =
     let worth = g.C.Codes.worth_of c.args.codes.now in
     let code = g.C.Codes.code_of c.args.codes.now in
-    ok_copied c.write_rewritten.result (IsRewritten (IsCodeOf worth (int32_of code)) (λ b. b) c.args.document.now) (IsCopy worth code c.args.document.now)
-    c.args.out.now.items c.write_rewritten.new.out.items (λ new h. copied worth code (λ b. b) c.requires c.args.document.now new h) c.write_rewritten.ensures.ok
+    ok_copied c.write_rewritten.result (IsRewritten (IsCodeOf worth (int32_of code)) c.args.document.now) (IsCopy worth code c.args.document.now)
+    c.args.out.now.items c.write_rewritten.new.out.items (λ new h. copied worth code c.requires c.args.document.now new h) c.write_rewritten.ensures.ok
