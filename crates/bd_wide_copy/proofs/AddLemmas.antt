@@ -10,7 +10,7 @@ use Rattle.bd_wide_rank.specs.{Rank.HaveSame, Rank.is_among, Worth.worth, Worth.
 use Rattle.bd_wide_rank.proofs.RankLemmas.{same_both, same_second, same_sym, same_trans}
 use Rattle.bd_wide_copy.specs.Dump.{AreJoinedBy, AreNumbersOfAll}
 use Rattle.bd_wide_copy.specs.Numbers.{AddsNumbers, AreNumbersOf, IsWorthOf, field_numbers, document_numbers}
-use Rattle.bd_wide_copy.specs.inside.Added.{AddsNumbers}
+use Rattle.bd_wide_copy.specs.inside.Added.{AddsWorths}
 use Rattle.bd_wide_copy.specs.inside.Starts.{frame_size}
 use Rattle.bd_wide_copy.proofs.DumpLemmas.{ended, first_of}
 
@@ -45,7 +45,7 @@ worth_is type value number is = ap worth_if is
 
 -- what is collected from the rest on is collected from all
 abbrev pub Comes : List ℕ → List ℕ → List ℤ → List ℤ → Type 0
-Comes bytes rest old now = (last : List ℤ) → AddsNumbers rest now last → AddsNumbers bytes old last
+Comes bytes rest old now = (last : List ℤ) → AddsWorths rest now last → AddsWorths bytes old last
 
 pub begins : (bytes : List ℕ) (old : List ℤ) → Comes bytes bytes old old
 begins bytes old = λ last h. h
@@ -62,7 +62,7 @@ collected_on bytes rest document after old now next all n comes is p q numbers h
     let ys : List ℤ = document_numbers f.1 in
     let first : map worth_of all ≡ xs = (subst (λ (x : List ℕ). AreNumbersOf x all) p numbers).0 worth_of worth worth_is f.0 f.3 in
     let now_is : HaveSame next (xs ++ now) = subst (λ (x : List ℤ). HaveSame next (x ++ now)) first have in
-    let later : HaveSame last (ys ++ next) = subst (λ (x : List ℕ). AddsNumbers x next last) q h f.1 f.4 in
+    let later : HaveSame last (ys ++ next) = subst (λ (x : List ℕ). AddsWorths x next last) q h f.1 f.4 in
     let both : HaveSame last (xs ++ (ys ++ now)) =
     same_trans last (ys ++ next) (xs ++ (ys ++ now)) later
     (same_trans (ys ++ next) (ys ++ (xs ++ now)) (xs ++ (ys ++ now)) (same_both ys ys next (xs ++ now) (itself ys) now_is) (swapped ys xs now)) in
@@ -71,4 +71,4 @@ collected_on bytes rest document after old now next all n comes is p q numbers h
 pub collected_from_none : (bytes here : List ℕ) (none all : List ℤ) → here ≡ bytes → none ≡ [] → AddsNumbers here none all → AreNumbersOfAll bytes all
 collected_from_none bytes here none all same empty h ds j =
     subst (HaveSame all) (ap (λ (x : List ℤ). document_numbers ds ++ x) empty ∙ append-nil (document_numbers ds))
-    (subst (λ (x : List ℕ). AddsNumbers x none all) same h ds j)
+    (subst (λ (x : List ℕ). AddsWorths x none all) same h ds j)

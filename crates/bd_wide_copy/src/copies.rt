@@ -6,7 +6,7 @@ ghost use Rattle.std.specs.Io.{StartsWith};
 ghost use Rattle.bd_wide.specs.Rewritten.{Adds};
 ghost use Rattle.bd_wide_copy.specs.Dump.{AreCopies};
 ghost use Rattle.bd_wide_copy.specs.Numbers.{AreNumbersOf};
-ghost use Rattle.bd_wide_copy.specs.inside.Added.{AddsNumbers};
+ghost use Rattle.bd_wide_copy.specs.inside.Added.{AddsWorths};
 ghost use Rattle.bd_wide_copy.specs.inside.Starts.{frame_size as frame_size_of};
 ghost use Rattle.bd_wide_number.specs.declared.number.Number as numbers_of;
 ghost use Rattle.bd_wide_rank.specs.{Rank.HaveSame, Table.collected, Worth.worth_of};
@@ -58,7 +58,7 @@ pub(crate) fn write_copies<C: Codes>(
 
 /// Adds the numbers of each document of a dump. After `NoMemory` there may be more numbers.
 pub(crate) fn add_all(alloc: Global, bytes: &[u8], numbers: &mut Numbers) -> Result<(), NoMemory>
-    ensures { OnOk result (AddsNumbers bytes.now (collected numbers.old) (collected numbers.new)) }
+    ensures { OnOk result (AddsWorths bytes.now (collected numbers.old) (collected numbers.new)) }
 {
     let mut rest = bytes;
     while let Some(size) = frame_size(rest) {
