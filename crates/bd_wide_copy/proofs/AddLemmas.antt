@@ -68,7 +68,7 @@ collected_on bytes rest document after old now next all n comes is p q numbers h
     (same_trans (ys ++ next) (ys ++ (xs ++ now)) (xs ++ (ys ++ now)) (same_both ys ys next (xs ++ now) (itself ys) now_is) (swapped ys xs now)) in
     subst (λ (es : List Doc). HaveSame last (document_numbers es ++ now)) (sym f.2) (subst (HaveSame last) (sym (append_assoc xs ys now)) both))
 
-pub collected_from_none : (bytes here : List ℕ) (none all : List ℤ) → here ≡ bytes → none ≡ [] → AddsNumbers here none all → AreNumbersOfAll bytes all
+pub collected_from_none : (bytes here : List ℕ) (none all : List ℤ) → here ≡ bytes → none ≡ [] → AddsWorths here none all → AreNumbersOfAll bytes all
 collected_from_none bytes here none all same empty h ds j =
     subst (HaveSame all) (ap (λ (x : List ℤ). document_numbers ds ++ x) empty ∙ append-nil (document_numbers ds))
     (subst (λ (x : List ℕ). AddsWorths x none all) same h ds j)
