@@ -50,7 +50,7 @@ Comes bytes rest old now = (last : List ℤ) → AddsWorths rest now last → Ad
 pub begins : (bytes : List ℕ) (old : List ℤ) → Comes bytes bytes old old
 begins bytes old = λ last h. h
 
-pub all_collected : (bytes rest : List ℕ) (old now : List ℤ) → Comes bytes rest old now → None ≡ frame_size rest → AddsNumbers bytes old now
+pub all_collected : (bytes rest : List ℕ) (old now : List ℤ) → Comes bytes rest old now → None ≡ frame_size rest → AddsWorths bytes old now
 all_collected bytes rest old now comes is =
     comes now (λ ds j. subst (λ (xs : List Doc). HaveSame now (document_numbers xs ++ now)) (sym (ended worth ds rest j (sym is)).0) (itself now))
 
