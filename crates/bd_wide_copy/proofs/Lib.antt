@@ -1,0 +1,10 @@
+pub mod PlaceLemmas
+pub mod CopyLemmas
+pub mod SizeLemmas
+pub mod PlainLemmas
+pub mod NumbersLemmas
+pub mod CollectLemmas
+pub mod DumpLemmas
+pub mod StartsLemmas
+pub mod ReadingLemmas
+pub mod AddLemmas

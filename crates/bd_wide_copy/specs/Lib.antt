@@ -1,0 +1,4 @@
+pub mod Copy
+pub mod Numbers
+pub mod Dump
+pub mod inside

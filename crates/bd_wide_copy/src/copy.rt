@@ -1,0 +1,93 @@
+//! A copy of a document, with an int32 in place of each number.
+
+ghost use Rattle.std.specs.Prelude.{◌≡◌, ◌≤◌, ◌++◌, ◌∷◌, ℕ, ℤ, FitsSigned, List, length, drop, OnErr, OnOk};
+ghost use Rattle.std.specs.Int.{w32, cast_unsigned};
+ghost use Rattle.std.specs.Io.{StartsWith};
+ghost use Rattle.bd_bson_view.specs.Spelling.{number as number_bytes};
+ghost use Rattle.bd_bson_view.specs.declared.raw_parts.ElementType as element_type;
+ghost use Rattle.bd_wide.specs.Rewritten.{Adds, least};
+ghost use Rattle.bd_wide_copy.specs.Copy.{IsCodeOf, IsCopy, int32_of};
+
+use bd_bson_view::ElementType;
+use bd_value::NoMemory;
+use bd_wide::{NumberWriter, write_rewritten};
+use std::alloc::Global;
+
+/// Codes of numbers: each is that of what the number is worth.
+pub trait Codes {
+    /// What a number is worth, by its type and the bytes of its value.
+    ghost worth_of: { Self → element_type.ElementType → List ℕ → ℤ };
+    /// The code of a number that is worth this.
+    ghost code_of: { Self → ℤ → ℤ };
+
+    /// The code of a number, by its type and the bytes of its value.
+    fn code(&self, typed: ElementType, value: &[u8]) -> i32
+        requires { least typed ≤ length value.now }
+        ensures { result ≡ code_of self.now (worth_of self.now typed value.now) };
+}
+
+/// Writes the code of each number.
+#[derive(Drop)]
+struct Copier<'a, C> {
+    codes: &'a C,
+}
+
+impl<'a, C: Codes> NumberWriter for Copier<'a, C> {
+    ghost is_written = { λ copier. IsCodeOf (C.worth_of copier.codes.now)
+        (int32_of (C.code_of copier.codes.now)) };
+
+    #[tactic(auto, using(bd_value::proofs::PrefixLemmas::prefixes))]
+    fn element(
+        &self,
+        _path: &[u8],
+        typed: ElementType,
+        head: &[u8],
+        value: &[u8],
+        out: &mut Vec<u8>,
+    ) -> Result<(), NoMemory> {
+        put_int32(head, self.codes.code(typed, value), out)
+    }
+}
+
+/// Appends an element with an int32, under the name of an element: BSON 1.1, element 0x10.
+#[tactic(auto, using(bd_value::proofs::PrefixLemmas::prefixes))]
+fn put_int32(head: &[u8], z: i32, out: &mut Vec<u8>) -> Result<(), NoMemory>
+    requires { 2 ≤ length head.now }
+    ensures ok { OnOk result (out.new.items ≡ out.old.items
+        ++ 16 ∷ (drop 1 head.now ++ number_bytes (cast_unsigned w32 z))) }
+    ensures prefix { OnErr result (StartsWith out.new.items out.old.items) }
+{
+    let (_, name) = head.split_at(1);
+    out.extend_from_slice(&[0x10])?;
+    out.extend_from_slice(name)?;
+    write_number(z.cast_unsigned(), out)
+}
+
+/// Appends a number as four bytes.
+#[tactic(auto, unfolding(bd_bson_view::specs::Spelling::number))]
+fn write_number(n: u32, out: &mut Vec<u8>) -> Result<(), NoMemory>
+    ensures ok { OnOk result (out.new.items ≡ out.old.items ++ number_bytes n) }
+    ensures err { OnErr result (out.new.items ≡ out.old.items) }
+{
+    out.extend_from_slice(&n.to_le_bytes())
+}
+
+/// Appends a copy of a document of all types, with the code of each number, as an int32, in its place.
+///
+/// # Errors
+/// On `NoMemory`, `out` is unchanged.
+pub fn write_copy<C: Codes>(
+    alloc: Global,
+    codes: &C,
+    document: &[u8],
+    out: &mut Vec<u8>,
+) -> Result<(), NoMemory>
+    requires { (z : ℤ) → FitsSigned w32 (C.code_of codes.now z) }
+    ensures ok { OnOk result (Adds (IsCopy (C.worth_of codes.now)
+        (C.code_of codes.now) document.now) out.old.items out.new.items) }
+    ensures err { OnErr result (out.new.items ≡ out.old.items) }
+{
+    let copier = Copier { codes };
+    let mut path = Vec::new(alloc);
+    write_rewritten(&copier, document, &mut path, out)
+}
