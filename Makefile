@@ -29,7 +29,8 @@ ZSH = $(SHARE)/zsh/site-functions
 FISH = $(SHARE)/fish/vendor_completions.d
 # Where the Python at hand looks for packages below PREFIX.
 PACKAGE = $(DESTDIR)$(shell $(PYTHON) tools/packages.py "$(PREFIX)")/bsonfind
-MODULES = python/bsonfind/*.py python/bsonfind/py.typed python/bsonfind/VERSION
+FOLDERS = $(shell cd python/bsonfind && find . -type d ! -name __pycache__)
+MODULES = $(shell cd python/bsonfind && find . -name '*.py' -o -name py.typed -o -name VERSION)
 
 .PHONY: all build look test quick lint edits reference bench install uninstall deb dist clean
 
@@ -81,7 +82,8 @@ install: bsonfind bsonwide
 	install -m 644 completions/bsonwide.bash "$(BASH)/bsonwide"
 	install -m 644 completions/_bsonfind completions/_bsonwide "$(ZSH)"
 	install -m 644 completions/bsonfind.fish completions/bsonwide.fish "$(FISH)"
-	if command -v $(PYTHON) >/dev/null; then install -d "$(PACKAGE)" && install -m 644 $(MODULES) "$(PACKAGE)" && \
+	if command -v $(PYTHON) >/dev/null; then for it in $(FOLDERS); do install -d "$(PACKAGE)/$$it" || exit; done && \
+	  for it in $(MODULES); do install -m 644 "python/bsonfind/$$it" "$(PACKAGE)/$$it" || exit; done && \
 	  $(PYTHON) python/backend.py "$(PACKAGE)/.."; fi
 
 uninstall:

@@ -16,9 +16,17 @@ commands.
 import pkgutil
 import typing
 
-from ._answers import Answer, count_documents, find, find_one
-from ._audit import Audit, Report, audit
-from ._dumps import FileState
+from ._ask.answers import Answer, count_documents, find, find_one
+from ._ask.copies import prepare
+from ._ask.merge import Check, check_parts, count_parts, find_parts
+from ._ask.sessions import Cursor, Session
+from ._ask.values import ObjectId
+from ._backup.audit import Audit, Report, audit
+from ._backup.salvage import LeftOut, Salvaged, salvage
+from ._backup.unpack import Collection, Unpacked, unpack
+from ._dumps.files import FileState
+from ._dumps.gzip import UnpackError
+from ._dumps.parts import Part, PartError, plan
 from ._errors import (
     ArgumentError,
     BsonfindError,
@@ -28,23 +36,14 @@ from ._errors import (
     DumpError,
     FileError,
     OtherProcessError,
-    PartError,
     ProgramError,
     SessionEndedError,
     TimedOutError,
 )
 from ._faults import Fault
-from ._merge import Check, check_parts, count_parts, find_parts
-from ._ordered import prepare
-from ._parts import Part, plan
-from ._salvage import LeftOut, Salvaged, salvage
-from ._sessions import Cursor, Session
-from ._unpack import Collection, Unpacked, unpack
-from ._unpacking import UnpackError
-from ._values import ObjectId
 
 if typing.TYPE_CHECKING:
-    from ._asyncio_sessions import AsyncCursor, AsyncSession
+    from ._ask.aio import AsyncCursor, AsyncSession
 
 
 def _version() -> str:
@@ -56,7 +55,7 @@ def __getattr__(name: str) -> object:
     """Return `AsyncCursor` or `AsyncSession`: `asyncio`, which takes long to import, is imported for them alone."""
     if name not in ("AsyncCursor", "AsyncSession"):
         raise AttributeError(f"module {__name__!r} has no attribute {name!r}")
-    from . import _asyncio_sessions
+    from ._ask import aio
 
     return getattr(_asyncio_sessions, name)
 

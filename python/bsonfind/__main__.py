@@ -11,22 +11,22 @@ import threading
 from contextlib import ExitStack
 from typing import Callable, NoReturn, Sequence
 
-from ._audit import MOST_FAULTS, Audit, audit_dumps
-from ._backups import Dump, dumps_of, text_lines
-from ._commands import check_file, dump_file
-from ._compare import NOTHING, CompareError, compare, pairs_of, rows
-from ._console import CannotWrite, Console, Progress, print_text
+from ._ask.copies import prepare
+from ._ask.requests import Request
+from ._backup.audit import Audit, MOST_FAULTS, audit_dumps
+from ._backup.backups import Dump, dumps_of, text_lines
+from ._backup.compare import CompareError, NOTHING, compare, pairs_of, rows
+from ._backup.ids import Ids, find_ids
+from ._backup.query import query_dumps
+from ._backup.salvage import salvage
+from ._backup.unpack import unpack
+from ._command.checks import check_file, dump_file
+from ._command.console import CannotWrite, Console, Progress, print_text
+from ._command.finding import Finding
+from ._dumps.checking import try_program
+from ._dumps.outputs import Output, refuse_names
 from ._errors import BsonfindError, DumpError
-from ._finding import Finding
-from ._ids import Ids, find_ids
-from ._ordered import prepare
-from ._outputs import Output, refuse_names
-from ._processes import processors
-from ._query import query_dumps
-from ._requests import Request
-from ._salvage import salvage
-from ._unpack import unpack
-from ._wide import try_program
+from ._run.processes import processors
 
 GOOD, FAULTY, FAILED, INTERRUPTED = 0, 1, 2, 130
 _EPILOG = "COMMAND --help explains a command and its status. ARCHIVE::db.collection names a collection of an archive as a FILE."

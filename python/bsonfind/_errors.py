@@ -2,11 +2,7 @@
 
 from __future__ import annotations
 
-from typing import TYPE_CHECKING
-
-if TYPE_CHECKING:
-    from ._faults import Fault
-    from ._parts import Part
+from ._faults import Fault
 
 
 class BsonfindError(Exception):
@@ -60,18 +56,6 @@ class DumpError(BsonfindError):
 
     def __str__(self) -> str:
         return self.text
-
-
-class PartError(DumpError):
-    """A part that could not be asked, and why; the fault counts in the whole file."""
-
-    def __init__(self, part: Part, text: str, fault: Fault | None = None) -> None:
-        super().__init__(text, fault)
-        self.args = part, text, fault
-        self.part = part
-
-    def __str__(self) -> str:
-        return f"{self.part}: {self.text}"
 
 
 class TimedOutError(BsonfindError, TimeoutError):

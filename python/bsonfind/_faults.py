@@ -1,19 +1,13 @@
-"""Faults of documents, and the lines and counts of `check`."""
+"""Faults of documents, as the lines of `check` have them."""
 
 from __future__ import annotations
 
 import json
 import re
-from typing import TYPE_CHECKING, Iterator, NamedTuple
-
-from ._errors import ProgramError
-
-if TYPE_CHECKING:
-    from ._processes import Run
+from typing import NamedTuple
 
 # The kinds of faults that are no damage: another program can read such a document.
 NO_DAMAGE = ("too deep",)
-_COUNTED = re.compile(r"(\d+) documents, (\d+) faulty\n")
 _LINE = re.compile(r'document (\d+), byte (\d+), path (".*"): (.+)')
 
 
@@ -41,25 +35,3 @@ def read_fault(line: str) -> Fault | None:
         return None
     document, offset, path, kind = found.groups()
     return Fault(int(document), int(offset), json.loads(path), kind)
-
-
-def faults_of(run: Run) -> Iterator[Fault]:
-    """The faults of a dump, in the order of its documents, as a run of `check` finds them."""
-    for line in run.stdout:
-        fault = read_fault(line.decode().rstrip("\n"))
-        if fault:
-            yield fault
-
-
-def finish_check(run: Run, wanted: int | None = None) -> int:
-    """Waits for the end of a run of `check`, and gives the number of documents; raises the error of a run that did not end well.
-
-    Where the number is known, another one is an error.
-    """
-    status, counted = run.wait(), _COUNTED.fullmatch(run.messages())
-    if not counted or status not in (0, min(1, int(counted.group(2)))):
-        raise run.error()
-    documents = int(counted.group(1))
-    if wanted not in (None, documents):
-        raise ProgramError(f"check found {documents} documents in place of {wanted}")
-    return documents

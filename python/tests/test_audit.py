@@ -13,8 +13,8 @@ import threading
 from unittest import mock
 
 from bsonfind import BsonfindError
-from bsonfind._audit import audit
-from bsonfind._console import progress_of
+from bsonfind._backup.audit import audit
+from bsonfind._command.console import progress_of
 
 from .archives import archive
 from .support import DAMAGED, DOUBLE, PATIENCE, PEOPLE, PROGRAM, ROOT, SHOP, Room, environment, run_package

@@ -9,9 +9,9 @@ import tracemalloc
 from typing import List, Tuple
 from unittest import mock
 
-from bsonfind._compare import Pair, compare
-from bsonfind._fields import field_of, id_of
-from bsonfind._sorting import Sorter
+from bsonfind._backup.compare import Pair, compare
+from bsonfind._backup.fields import field_of, id_of
+from bsonfind._backup.sorting import Sorter
 
 from .archives import archive
 from .bson import document, field, int32, text

@@ -27,8 +27,8 @@ class Exports(Room):
         self.assertEqual(told, "AsyncSession\n")
         for name in bsonfind.__all__:
             self.assertTrue(inspect.getdoc(getattr(bsonfind, name)), name)
-        for file in (PACKAGE / "bsonfind").glob("*.py"):
-            self.assertTrue(file.name.startswith("_"), file)
+        for file in (PACKAGE / "bsonfind").iterdir():
+            self.assertTrue(file.name.startswith("_") or file.suffix != ".py" and file.is_file(), file)
 
     def test_functions_for_the_commands(self) -> None:
         good, bad = self.room / "good.bson", self.room / "bad.bson"

@@ -31,7 +31,7 @@ from bsonfind import (
     prepare,
 )
 
-from bsonfind._hiding import hide
+from bsonfind._ask.hiding import hide
 
 from .archives import archive
 from .support import DAMAGED, PATIENCE, PEOPLE, PROGRAM, Room, environment, run_package
@@ -742,9 +742,9 @@ class Commands(Goods):
         self.assertEqual((run.returncode, run.stdout.splitlines()), (0, lines))
 
     def test_query_in_parts(self) -> None:
-        from bsonfind._backups import Dump
-        from bsonfind._query import query_dumps
-        from bsonfind._requests import Request
+        from bsonfind._ask.requests import Request
+        from bsonfind._backup.backups import Dump
+        from bsonfind._backup.query import query_dumps
 
         paths = [str(self.path), str(self.file(gzip.compress(b"".join(GOODS)), "goods.bson.gz"))]
         with mock.patch("bsonfind._query.MOST_HELD", 100):

@@ -6,7 +6,7 @@ from typing import List, Optional, Tuple
 from unittest import mock
 
 from bsonfind import Part, PartError, find, find_parts, plan
-from bsonfind._plain import plain_pieces
+from bsonfind._dumps.plain import plain_pieces
 
 from .bson import document, field, int32, text
 from .support import PROGRAM, Room

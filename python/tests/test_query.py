@@ -8,10 +8,10 @@ import threading
 from typing import List, Tuple
 from unittest import mock
 
-from bsonfind._backups import Dump
-from bsonfind._ids import Ids, find_ids
-from bsonfind._query import query_dumps
-from bsonfind._requests import Request
+from bsonfind._ask.requests import Request
+from bsonfind._backup.backups import Dump
+from bsonfind._backup.ids import Ids, find_ids
+from bsonfind._backup.query import query_dumps
 
 from .support import DAMAGED, PEOPLE, PEOPLE_LINES, PROGRAM, SHOP, SHOP_LINES, Room, packed, run_package
 

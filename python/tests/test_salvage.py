@@ -9,7 +9,7 @@ import threading
 from typing import List, Tuple
 from unittest import mock
 
-from bsonfind._salvage import LeftOut, Salvaged, salvage
+from bsonfind._backup.salvage import LeftOut, Salvaged, salvage
 
 from .support import DAMAGED, DOUBLE, PEOPLE, PROGRAM, SHOP, Room, environment, run_package, wait_for
 

@@ -11,7 +11,7 @@ from typing import Dict, List
 from unittest import mock
 
 from bsonfind import audit
-from bsonfind.__main__ import main
+from .__main__ import main
 
 from .archives import archive
 from .support import DAMAGED, DOUBLE, PEOPLE, PEOPLE_LINES, PROGRAM, SHOP, SHOP_LINES, Room, environment, packed, run_package, wait_for

@@ -7,8 +7,8 @@ import sys
 from typing import List, Tuple, Union
 from unittest import mock
 
-from bsonfind._commands import check_file, dump_file
-from bsonfind._console import Console
+from bsonfind._command.checks import check_file, dump_file
+from bsonfind._command.console import Console
 
 from .bson import document, field, text
 from .support import DAMAGED, DOUBLE, PATIENCE, PEOPLE, PEOPLE_LINES, PROGRAM, Room, environment, packed

@@ -266,8 +266,9 @@ class Archives(unittest.TestCase):
         ran = self.dpkg(top, "-i", str(deb))
         self.assertEqual(ran.returncode, 0, ran.stdout + ran.stderr)
         self.want_working(top / "usr")
-        Path(top, "usr", MODULES, "bsonfind/__pycache__").mkdir(exist_ok=True)
-        Path(top, "usr", MODULES, "bsonfind/__pycache__/told.cpython-311.pyc").touch()
+        for folder in ("bsonfind", "bsonfind/_run"):
+            Path(top, "usr", MODULES, folder, "__pycache__").mkdir(exist_ok=True)
+            Path(top, "usr", MODULES, folder, "__pycache__/told.cpython-311.pyc").touch()
         told = self.dpkg(top, "--verify", "bsonfind")
         self.assertEqual((told.returncode, told.stdout), (0, ""), told.stderr)
         ran = self.dpkg(top, "-r", "bsonfind")

@@ -488,7 +488,7 @@ installed() {
 # The files of the package of Python, where this one looks for them.
 packages=$("$root/tools/packages.py" /usr)
 info=bsonfind-$(cat "$root/VERSION").dist-info
-package=$(cd "$root/python" && printf ".$packages/%s\n" "$info/INSTALLER" "$info/METADATA" bsonfind/*.py bsonfind/py.typed bsonfind/VERSION | sort)
+package=$(cd "$root/python" && printf ".$packages/%s\n" "$info/INSTALLER" "$info/METADATA" bsonfind/*.py bsonfind/*/*.py bsonfind/py.typed bsonfind/VERSION | sort)
 documents=$(cd "$root" && printf './usr/share/doc/bsonfind/%s\n' CHANGELOG.md CONTRIBUTING.md LICENSE README.md SECURITY.md docs/*.md docs/*.svg examples/* python/README.md | sort)
 
 installed install

@@ -1,0 +1,211 @@
+"""Compares two dumps, or the dumps of two directories, in memory that does not grow with them."""
+
+from __future__ import annotations
+
+import os
+from collections import Counter, deque
+from hashlib import blake2b
+from typing import Callable, Iterable, Iterator, NamedTuple, Sequence
+
+from .._dumps.files import is_whole_archive
+from .._dumps.framing import LONGEST, is_length
+from .._dumps.printing import Printing
+from .._dumps.sources import Source
+from .._errors import BsonfindError
+from .backups import dumps_below
+from .fields import field_of, id_of
+from .sorting import Sorter
+
+# How documents differ, in the order in which they are counted.
+KINDS = ("same", "changed", "removed", "added")
+
+
+class CompareError(BsonfindError):
+    """Dumps that cannot be compared."""
+
+
+class Pair(NamedTuple):
+    """The names of two dumps of one collection, None where there is none, and the name that both have in their directories."""
+
+    name: str
+    first: str | None
+    second: str | None
+
+
+class Comparison(NamedTuple):
+    """How many documents two dumps have, and how many of them are of each kind, have the key of another one, or none.
+
+    `alone` counts the dumps that only one of two directories has.
+    """
+
+    documents: tuple[int, int]
+    kinds: Counter[str]
+    repeated: int = 0
+    without: int = 0
+    alone: int = 0
+
+    @property
+    def is_same(self) -> bool:
+        """Whether both have the same documents, in whatever order."""
+        return not (self.alone or any(self.kinds[kind] for kind in KINDS[1:]))
+
+    def __add__(self, other: Comparison) -> Comparison:  # type: ignore[override]
+        """The counts of both together."""
+        first, second = (a + b for a, b in zip(self.documents, other.documents))
+        counts = (a + b for a, b in zip(self[2:], other[2:]))
+        return Comparison((first, second), self.kinds + other.kinds, *counts)
+
+
+NOTHING = Comparison((0, 0), Counter())
+
+
+def pairs_of(first: str, second: str) -> tuple[list[Pair], list[CompareError]]:
+    """The pairs of two dumps, or of the dumps below two directories, and what cannot be seen there."""
+    if not os.path.isdir(first) and not os.path.isdir(second):
+        return [Pair(second, first, second)], []
+    for name, other in ((first, second), (second, first)):
+        if is_whole_archive(name):
+            raise CompareError(f"{name} is an archive, and {other} is a directory: unpack the archive, and compare two directories")
+        if not os.path.isdir(name):
+            raise CompareError(f"{name} is no directory, and {other} is one")
+    found: list[dict[str, str]] = []
+    problems: list[CompareError] = []
+    for directory in (first, second):
+        names: dict[str, str] = {}
+        for dump in dumps_below(directory):
+            name = os.path.relpath(dump.name, directory)
+            name = name[:-3] if name.endswith(".gz") else name
+            if dump.error:
+                problems.append(CompareError(f"{dump.name}: {dump.error}"))
+            elif name in names:
+                problems.append(CompareError(f"{dump.name}: {names[name]} is there too"))
+            else:
+                names[name] = dump.name
+        found.append(names)
+    a, b = found
+    return [Pair(name, a.get(name), b.get(name)) for name in sorted({*a, *b})], problems
+
+
+def compare(pair: Pair, path: str, program: str, say: Callable[[str], None]) -> Comparison:
+    """Compares the documents of two dumps, which belong together by the value at a path; `say` gets what differs.
+
+    Documents are the same where their bytes are. The order of documents does not count, that of fields does.
+    """
+    if pair.first is None or pair.second is None:
+        return _one_alone(pair, program, say)
+    names = path.split(".")
+    documents = [0, 0]
+    with Sorter() as sorter:
+        for side, name in enumerate((pair.first, pair.second)):
+            mark = b"\t%d\n" % side
+            for batch in _documents(name, program):
+                documents[side] += len(batch)
+                for line, digest in batch:
+                    key = id_of(line) if path == "_id" else field_of(line, names)
+                    # Texts of JSON have no tab. Documents without a key come first.
+                    sorter.add(b"%s\t%s%s" % (key or b"", digest, mark))
+        return _compare_sorted(sorter.all(), (documents[0], documents[1]), path, say)
+
+
+def _compare_sorted(lines: Iterator[bytes], documents: tuple[int, int], path: str, say: Callable[[str], None]) -> Comparison:
+    """Compares the sorted lines of two dumps."""
+    kinds: Counter[str] = Counter()
+    repeated = without = 0
+    for key, first, second, same in _by_key(lines):
+        if key and same == first == second == 1:
+            kinds["same"] += 1
+            continue
+        removed, added = first - same, second - same
+        if key:
+            changed = min(removed, added)
+            counts = {"changed": changed, "removed": removed - changed, "added": added - changed}
+            if max(first, second) > 1:
+                repeated += sum(count for count in (first, second) if count > 1)
+                say(f"repeated {key.decode()}: {first} and {second} documents")
+            for kind, count in counts.items():
+                for _ in range(count):
+                    say(f"{kind} {key.decode()}")
+        else:
+            counts, without = {"removed": removed, "added": added}, first + second
+            say(f"without {path}: {first} and {second} documents, {removed} removed, {added} added")
+        kinds.update(counts, same=same)
+    return Comparison(documents, kinds, repeated, without)
+
+
+def _by_key(lines: Iterator[bytes]) -> Iterator[tuple[bytes, int, int, int]]:
+    """Each key of sorted lines, how many documents of it each dump has, and how many of these are the same in both.
+
+    A line has the key, a digest of the document, and which dump it is of.
+    """
+    key, document = b"", b""
+    first = second = same = one = other = 0
+    for line in lines:
+        found = line[:-2]
+        if found != document:
+            first, second, same = first + one, second + other, same + min(one, other)
+            one = other = 0
+            document, found = found, found[: found.index(b"\t")]
+            if found != key:
+                if first or second:
+                    yield key, first, second, same
+                key = found
+                first = second = same = 0
+        if line.endswith(b"0\n"):
+            one += 1
+        else:
+            other += 1
+    first, second, same = first + one, second + other, same + min(one, other)
+    if first or second:
+        yield key, first, second, same
+
+
+def _one_alone(pair: Pair, program: str, say: Callable[[str], None]) -> Comparison:
+    """The counts of a dump that only one of two directories has."""
+    name, kind = (pair.first, "removed") if pair.second is None else (pair.second, "added")
+    assert name is not None
+    count = sum(map(len, _documents(name, program)))
+    say(f"{kind} with all of its {count} documents")
+    return Comparison((count, 0) if kind == "removed" else (0, count), Counter({kind: count}), alone=1)
+
+
+def _documents(name: str, program: str) -> Iterator[list[tuple[bytes, bytes]]]:
+    """The lines of the documents of a dump, each with a digest of its bytes. What is wrong with it is raised with its name.
+
+    A line alone does not do: it may be that of two documents, as the double 1.5 and {"$numberDouble":"1.5"} have one text.
+    """
+    digests: deque[bytes] = deque()
+    try:
+        with Source(name) as source:
+            for lines in Printing(program).of_pieces(_digested(source.pieces(), digests)):
+                yield [(line, digests.popleft()) for line in lines]
+    except (BsonfindError, OSError) as error:
+        raise CompareError(f"{name}: {getattr(error, 'strerror', None) or error}") from None
+
+
+def _digested(pieces: Iterable[bytes], digests: deque[bytes]) -> Iterator[bytes]:
+    """The pieces as they pass, with the digests of their documents. After a wrong length, which is refused, there is none."""
+    held, is_wrong = bytearray(), False
+    for piece in pieces:
+        held += piece
+        at = 0
+        with memoryview(held) as view:
+            while not is_wrong and at + 4 <= len(view):
+                length = int.from_bytes(view[at : at + 4], "little")
+                is_wrong = not is_length(length, LONGEST)
+                if is_wrong or at + length > len(view):
+                    break
+                digests.append(blake2b(view[at : at + length], digest_size=16).hexdigest().encode())
+                at += length
+        del held[: len(held) if is_wrong else at]
+        yield piece
+
+
+def rows(done: Comparison, names: Sequence[str], path: str) -> list[tuple[str, int]]:
+    """The table of counts."""
+    named = f"with the {path} of another", f"without {path}", "dumps of one alone"
+    more = zip(named, (done.repeated, done.without, done.alone))
+    return [
+        *((f"documents in {name}", count) for name, count in zip(names, done.documents)),
+        *((kind, done.kinds[kind]) for kind in KINDS),
+        *((name, count) for name, count in more if count),
+    ]
