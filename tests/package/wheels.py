@@ -100,7 +100,7 @@ class Wheels(unittest.TestCase):
         place = self.room / "there"
         self.pip("install", "--no-deps", "--target", place, self.wheel())
         self.want_working(place, str(place))
-        tools = place / "bin/bsonfind-tools"
+        tools = place / "bin/bsonkit"
         self.assertIn(VERSION, self.done(tools, "--version", PYTHONPATH=str(place)))
         told = self.done(tools, "audit", "--program", PROGRAM_HERE, ROOT / "examples/people.bson", PYTHONPATH=str(place))
         self.assertIn("500 documents, 0 faulty", told)
