@@ -2,7 +2,10 @@
 
 from __future__ import annotations
 
-from ._faults import Fault
+# As `typing.TYPE_CHECKING`, without `typing`, which takes long to import.
+TYPE_CHECKING = False
+if TYPE_CHECKING:
+    from ._faults import Fault
 
 
 class BsonfindError(Exception):

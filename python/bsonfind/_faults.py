@@ -12,7 +12,7 @@ _LINE = re.compile(r'document (\d+), byte (\d+), path (".*"): (.+)')
 
 
 class Fault(NamedTuple):
-    """The first fault of a document: its number, the byte, the names to it joined by dots, and its kind in words."""
+    """The first fault of a document: its number, the byte, the names to it joined by dots, and its kind as a text."""
 
     document: int
     offset: int
@@ -20,7 +20,7 @@ class Fault(NamedTuple):
     kind: str
 
     def moved(self, documents: int, offset: int) -> Fault:
-        """The same fault where so many documents and bytes stand before."""
+        """The same fault where this many documents and bytes are before."""
         return self._replace(document=self.document + documents, offset=self.offset + offset)
 
     def __str__(self) -> str:
@@ -29,7 +29,7 @@ class Fault(NamedTuple):
 
 
 def read_fault(line: str) -> Fault | None:
-    """The fault of a line of `check`, None where it is another line."""
+    """The fault of a line of `check`, None if it is another line."""
     found = _LINE.fullmatch(line)
     if not found:
         return None

@@ -80,7 +80,7 @@ class Plain(Room):
         for number in range(1500):
             data, wanted = random_dump(chosen)
             path = self.file(data)
-            with mock.patch("bsonfind._parts._PIECE", chosen.choice((3, 16, 40, 100, 1 << 20))):
+            with mock.patch("bsonfind._dumps.parts._PIECE", chosen.choice((3, 16, 40, 100, 1 << 20))):
                 try:
                     found = b"".join(plain_pieces(Part(str(path), 0, len(data), 0)))
                     self.assertEqual((found, None), (data, wanted), number)

@@ -3,16 +3,17 @@
 from __future__ import annotations
 
 import os
-from typing import Any, Callable, Iterator, Literal, TypeVar, overload
+from typing import Any, Callable, Iterator, TypeVar, overload
 
 from .._errors import CancelledError, CursorStateError
 from .._names import File, name_of
+from .._numbers import seconds, whole
 from .._run.processes import Group, check_owner
 from . import steps
 from .copies import AnyLines, Questions
-from .decoding import Decode, Dicts, Texts, decoder, with_uuids
+from .decoding import Decode, Dicts, Raw, Texts, decoder, with_uuids
 from .lines import Lines
-from .requests import Filter, Request, Sort, seconds, whole
+from .requests import Filter, Request, Sort
 from .values import Uuids
 
 T = TypeVar("T")
@@ -21,7 +22,7 @@ T = TypeVar("T")
 class Answer(Iterator[T]):
     """Documents, as the program prints them.
 
-    Once all are read, `token` leads on to what follows them, None where no document was given yet; and `end` is whether nothing
+    Once all are read, `token` leads on to what follows them, None if no document was given yet; and `end` is whether nothing
     does. Leaving or closing the answer ends the program. Where a document cannot be decoded, or the caller is interrupted, the
     next call gives the documents after it; an answer that was interrupted while it read says so by a `CursorStateError`.
     """
@@ -34,7 +35,7 @@ class Answer(Iterator[T]):
         self._document_of = decoder(decode)
         self._owner = os.getpid()
         self._texts = Texts([], self._document_of)
-        # False from the moment on when the program is asked for lines until they are held.
+        # False from the moment on when the program is asked for lines until they are kept.
         self._is_known = True
 
     def __next__(self) -> T:
@@ -42,10 +43,11 @@ class Answer(Iterator[T]):
             check_owner(self._owner)
         while not self._texts.left:
             self._read_on()
-        return self._texts.give()
+        document: T = self._texts.give()
+        return document
 
     def _read_on(self) -> None:
-        """Reads the next lines; ends the iteration where there are none."""
+        """Reads the next lines; ends the iteration if there are none."""
         if not self._is_known:
             raise CursorStateError("interrupted while documents were read: ask again")
         if self._timeout is not None:
@@ -91,13 +93,13 @@ class Answer(Iterator[T]):
 @overload
 def find(
     path: File, filter: Filter | None = None, *, sort: Sort | None = None, skip: int = 0, limit: int = 0,
-    page: int | None = None, batch_size: int = 0, index: str | None = None, after: str | None = None, decode: Dicts = "dict",
+    page: int | None = None, batch_size: int = 0, index: str | None = None, after: str | None = None, decode: Dicts = "plain",
     uuid_representation: Uuids = "standard", program: str = "bsonfind", timeout: float | None = None,
 ) -> Answer[dict[str, Any]]: ...
 @overload
 def find(
     path: File, filter: Filter | None = None, *, sort: Sort | None = None, skip: int = 0, limit: int = 0,
-    page: int | None = None, batch_size: int = 0, index: str | None = None, after: str | None = None, decode: Literal["bytes"],
+    page: int | None = None, batch_size: int = 0, index: str | None = None, after: str | None = None, decode: Raw,
     uuid_representation: Uuids = "standard", program: str = "bsonfind", timeout: float | None = None,
 ) -> Answer[bytes]: ...
 @overload
@@ -118,14 +120,14 @@ def find(
     batch_size: int = 0,
     index: str | None = None,
     after: str | None = None,
-    decode: Decode[Any] = "dict",
+    decode: Decode[Any] = "plain",
     uuid_representation: Uuids = "standard",
     program: str = "bsonfind",
     timeout: float | None = None,
 ) -> Answer[Any]:
     """Finds documents of a dump by one run of the program, which begins with the first document that is asked for.
 
-    `page` gives the next so many documents of the answer in place of all, and `after` resumes after the documents that were given
+    `page` gives one page of this many documents in place of all, and `after` resumes after the documents that were given
     with this token. `batch_size`, which pymongo takes, changes nothing: documents come as they are found. `index` makes an index
     on a path, and changes no answer. `uuid_representation` says, by pymongo's names, how a `UUID` is asked for, and which values
     are one for `decode="plain"`. Where the whole answer is not there within `timeout` seconds, that is a `TimedOutError`.
@@ -140,12 +142,12 @@ def find(
 # fmt: off
 @overload
 def find_one(
-    path: File, filter: Filter | None = None, *, sort: Sort | None = None, skip: int = 0, decode: Dicts = "dict",
+    path: File, filter: Filter | None = None, *, sort: Sort | None = None, skip: int = 0, decode: Dicts = "plain",
     uuid_representation: Uuids = "standard", program: str = "bsonfind", timeout: float | None = None,
 ) -> dict[str, Any] | None: ...
 @overload
 def find_one(
-    path: File, filter: Filter | None = None, *, sort: Sort | None = None, skip: int = 0, decode: Literal["bytes"],
+    path: File, filter: Filter | None = None, *, sort: Sort | None = None, skip: int = 0, decode: Raw,
     uuid_representation: Uuids = "standard", program: str = "bsonfind", timeout: float | None = None,
 ) -> bytes | None: ...
 @overload
@@ -160,12 +162,12 @@ def find_one(
     *,
     sort: Sort | None = None,
     skip: int = 0,
-    decode: Decode[Any] = "dict",
+    decode: Decode[Any] = "plain",
     uuid_representation: Uuids = "standard",
     program: str = "bsonfind",
     timeout: float | None = None,
 ) -> Any:
-    """The first document of an answer, None where it has none."""
+    """The first document of an answer, None if it has none."""
     how: dict[str, Any] = {"decode": decode, "uuid_representation": uuid_representation, "program": program, "timeout": timeout}
     with find(path, filter, sort=sort, skip=skip, limit=1, **how) as answer:
         return next(answer, None)

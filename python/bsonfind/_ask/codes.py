@@ -13,9 +13,9 @@ import struct
 from dataclasses import dataclass, field
 from decimal import Decimal, InvalidOperation
 from fractions import Fraction
-from functools import lru_cache
+from functools import lru_cache, partial
 from itertools import takewhile
-from json.decoder import scanstring
+from json.decoder import scanstring  # type: ignore[attr-defined]
 from math import isfinite
 from typing import Callable, Iterable, NamedTuple, Sequence, Union
 
@@ -219,7 +219,7 @@ def code(value: Value) -> int | None:
         return None
     if isinstance(value, Fraction) and Fraction(double) != value:
         return None
-    (size,) = struct.unpack("<q", struct.pack("<d", abs(double)))
+    size: int = struct.unpack("<q", struct.pack("<d", abs(double)))[0]
     return -size if double < 0 else size
 
 
@@ -251,9 +251,9 @@ def word_of(path: str, level: int) -> str:
 
 def readings(names: Sequence[str]) -> tuple[str, ...]:
     """The paths, without positions in arrays, that a path of a query may lead along: a number is a name or a position."""
-    found = [(names[0],)]
+    found: list[tuple[str, ...]] = [(names[0],)]
     for name in names[1:]:
-        longer = [(*it, name) for it in found]
+        longer: list[tuple[str, ...]] = [(*it, name) for it in found]
         found = [*longer, *found] if _is_number(name) else longer
         if len(found) > _MOST_READINGS:
             raise refused("a path with so many numbers as names cannot be asked for", [".".join(names)])
@@ -449,6 +449,11 @@ def read_query(text: str, paths: Iterable[str] = (), always: bool = False) -> Qu
 Around = Callable[[str], str]
 
 
+def _within(around: Around, name: str, inner: str) -> str:
+    """The text of a query in which a field of this name has the inner text."""
+    return around(f"{{{json.dumps(name)}:{inner}}}")
+
+
 class _Reader:
     """Goes over the filter of a query. Names lead to a value in the dump, `place` in the query, `around` makes a filter of a value."""
 
@@ -475,7 +480,7 @@ class _Reader:
             elif not name.startswith("$"):
                 inside = (*names, *name.split("."))
                 self.path(inside, at)
-                self._value(value, inside, lambda inner, name=name: around(f"{{{json.dumps(name)}:{inner}}}"), at)
+                self._value(value, inside, partial(_within, around, name), at)
 
     def _value(self, value: Node, names: tuple[str, ...], around: Around, place: tuple[str, ...]) -> None:
         if _has_operators(value):

@@ -8,8 +8,8 @@ from collections import deque
 from typing import Callable, TypeVar
 
 from .._errors import CancelledError, SessionEndedError, TimedOutError
+from .._numbers import seconds
 from .._run.processes import Dump, Group, Run
-from .requests import seconds
 from .steps import Command, Steps, kill
 
 T = TypeVar("T")
@@ -55,7 +55,8 @@ class Connection:
                 command = steps.send(self._ask(command))
         except StopIteration as end:
             self._check()
-            return end.value
+            result: T = end.value
+            return result
 
     def check(self) -> None:
         """Refuses a call in another process than the one that opened the connection, such as after a fork."""
@@ -82,14 +83,14 @@ class Connection:
             self._end("the session was closed")
 
     def _ask(self, command: Command) -> bytes | None:
-        """The reply to a command, None where it is longer than the command says."""
+        """The reply to a command, None if it is longer than the command says."""
         with self._lock:
             while self._left:
                 self._reply(kill(self._left.popleft()))
             return self._reply(command)
 
     def _reply(self, command: Command) -> bytes | None:
-        """The reply. Where there is none the run is ended, so that no later command takes the reply to this one."""
+        """The reply. If there is none the run is ended, so that no later command takes the reply to this one."""
         self.check_open()
         try:
             reply = self._exchange(command)
@@ -116,7 +117,7 @@ class Connection:
                 self._group.rest()
 
     def _send(self, data: bytes) -> None:
-        """Writes all of it, past the buffer of the pipe, of which a fork would make a copy."""
+        """Writes all of it, around the buffer of the pipe, of which a fork would make a copy."""
         pipe, rest = self._run.stdin.fileno(), memoryview(data)
         while rest:
             rest = rest[os.write(pipe, rest) :]

@@ -28,9 +28,9 @@ from typing import Any, BinaryIO, Callable, ContextManager, Iterable, Iterator, 
 
 from .._dumps import framing
 from .._dumps.checking import NOT_READ, begins_wide, checking, faults_of, finish_check, is_wide
-from .._dumps.files import FileState, refuse_archive
+from .._dumps.files import FileState
 from .._dumps.outputs import Output, refuse_names
-from .._dumps.printing import Batches, finish_dump, lines_of, refuse_other
+from .._dumps.printing import Batches, finish_dump, lines_of, refuse_other_count
 from .._dumps.sources import Input, Source, up_to_error
 from .._errors import ArgumentError, CancelledError, CommandError, DumpError, ProgramError
 from .._names import File, name_of, name_of_file
@@ -113,7 +113,7 @@ class Original:
         with Run([wide_beside(program), "dump", "-"], documents, group=group) as run:
             lines = [line for batch in lines_of(run.stdout) for line in batch]
             try:
-                refuse_other(finish_dump(run), len(documents))
+                refuse_other_count(finish_dump(run), len(documents))
             except DumpError as error:
                 if error.fault:
                     at = error.fault.document
@@ -493,11 +493,11 @@ class Questions:
         spool = Spool(source.pieces()) if source.size is None else None
         try:
             self.own = self._connect(Dump(spool.pieces) if spool else source.dump())
-            self._original = spool and spool.original()
+            self._original = spool.original() if spool else None
         except DumpError as error:
             if not is_wide(error):
                 raise
-            self._original = spool and spool.original()
+            self._original = spool.original() if spool else None
             self._connection_by(Query("{}"), self._codes)
 
     @property
@@ -744,9 +744,15 @@ def prepare(path: File, copy: File, *, program: str = "bsonfind") -> list[str]:
     names = [name_of(copy), f"{name_of(copy)}{_ABOUT}"]
     refuse_names(name_of(path), *names)
     _refuse_other(names[1])
-    refuse_archive(name_of(path))
     codes = Codes()
-    with Source(name_of_file(path), is_named=True) as source, closing(Original.of(source)) as original:
+    with Source(name_of_file(path), is_named=True) as source:
+        if source.is_archive:
+            source.dump()  # which refuses it
+        return _prepare(source, names, copy, codes, program)
+
+
+def _prepare(source: Source, names: list[str], copy: File, codes: Codes, program: str) -> list[str]:
+    with closing(Original.of(source)) as original:
         damage = original.fault(program, None)
         if damage:
             raise damage

@@ -70,7 +70,7 @@ class Lines:
         if self._index is not None:
             connection.do(steps.create_index(self._index, False))
         left = self._size
-        reading = Reading(self._request, "auto", left or steps.FIRST_BATCH, self._after, "bytes")
+        reading: Reading[bytes] = Reading(self._request, "auto", left or steps.FIRST_BATCH, self._after, "bytes")
         connection.do(reading.start())
         while not reading.is_at_end and left != 0:
             connection.do(reading.read_on(left))

@@ -2,9 +2,9 @@
 
     newest = find_parts(plan("orders.bson", 2_500_000_000), {"status": "open"}, sort=[("created", -1)], limit=10, workers=4)
 
-`workers` asks so many parts side by side. In place of that an engine runs the parts by its `map`: a function that applies
+`workers` asks this many parts side by side. In place of that an engine runs the parts by its `map`: a function that applies
 another one to each part, and gives the results in the order of the parts. That of an executor does so in threads or processes,
-and that of an engine over many machines wherever the files, this package and the program are:
+and that of an engine over many machines where the files, this package and the program are:
 `lambda ask, parts: client.gather(client.map(ask, parts))` for Dask.
 
 What is found goes from the parts to the whole as lines. So no document of a part may begin with a name such as "$oid", alone or
@@ -25,13 +25,14 @@ from .._dumps.plain import plain_pieces
 from .._dumps.sources import Input
 from .._errors import ArgumentError, BsonfindError, DumpError, ProgramError
 from .._faults import Fault
+from .._numbers import seconds, whole
 from .._run.processes import Dump, Group, Run
 from . import steps
 from .connections import Connection
 from .copies import AnyLines, Original, Questions, compares_wide, try_request
 from .decoding import Decode, Dicts, Texts, decoder, refuse_bson, with_uuids
 from .lines import Lines, counted
-from .requests import Filter, Request, Sort, seconds, whole
+from .requests import Filter, Request, Sort
 from .values import Uuids
 
 T = TypeVar("T")
@@ -50,7 +51,7 @@ class Check(NamedTuple):
 @overload
 def find_parts(
     parts: Sequence[Part], filter: Filter | None = None, *, sort: Sort | None = None, skip: int = 0, limit: int = 0,
-    workers: int = 1, map: Map | None = None, decode: Dicts = "dict", uuid_representation: Uuids = "standard",
+    workers: int = 1, map: Map | None = None, decode: Dicts = "plain", uuid_representation: Uuids = "standard",
     program: str = "bsonfind", timeout: float | None = None,
 ) -> list[dict[str, Any]]: ...
 @overload
@@ -75,7 +76,7 @@ def find_parts(
     limit: int = 0,
     workers: int = 1,
     map: Map | None = None,
-    decode: Decode[Any] = "dict",
+    decode: Decode[Any] = "plain",
     uuid_representation: Uuids = "standard",
     program: str = "bsonfind",
     timeout: float | None = None,
@@ -138,8 +139,9 @@ class _Asking:
         if map and workers != 1:
             raise ArgumentError("workers and map both say how the parts are run: give one of them")
         self.group = Group()
-        if seconds(timeout) is not None:
-            self.group.end_after(timeout)
+        limit = seconds(timeout)
+        if limit is not None:
+            self.group.end_after(limit)
 
     def try_request(self, request: Request) -> None:
         """Asks no documents, so that a refused request or a missing program is reported before any part is asked."""
@@ -147,17 +149,17 @@ class _Asking:
 
     def each(self, parts: Sequence[Part], ask: Callable[[Group, Part], T]) -> list[T]:
         """What each part gives, in their order. Where one fails, or the caller is interrupted, all runs of this process end."""
-        parts = list(parts) if isinstance(parts, Iterable) else [None]
-        if not all(isinstance(it, Part) for it in parts):
+        all_parts: list[Any] = list(parts) if isinstance(parts, Iterable) else [None]
+        if not all(isinstance(it, Part) for it in all_parts):
             raise ArgumentError("parts is a list of parts, as plan makes it")
         try:
-            given = list(self._run(partial(_asked, ask, self.group), parts))
+            given = list(self._run(partial(_asked, ask, self.group), all_parts))
         except BaseException as error:
             self.group.end()
             if self.group.error and isinstance(error, Exception):
                 raise self.group.error from None  # The first part that failed, which ended the others.
             raise
-        if [it[0] for it in given if isinstance(it, tuple)] != parts:
+        if [it[0] for it in given if isinstance(it, tuple)] != all_parts:
             raise ProgramError("map did not give a result for each part, in the order of the parts")
         return [result for _, result in given]
 
@@ -188,7 +190,8 @@ def _asked(ask: Callable[[Group, Part], T], group: Group, part: Part) -> tuple[P
     try:
         return part, ask(group, part)
     except (BsonfindError, OSError) as error:
-        failed = _part_error(part, error) if error is not group.error else error
+        ended = group.error
+        failed = ended if ended is error and ended else _part_error(part, error)
         group.end(failed)
         raise failed from None
 
@@ -220,7 +223,16 @@ def _packed_answer(request: Request, program: str, group: Group, part: Part) -> 
 
 
 def _joined_answer(packed: list[bytes], request: Request, program: str, group: Group) -> list[bytes]:
-    """The lines of the answer over what the parts gave."""
+    """The lines of the answer over what the parts gave. A fault of that has no place in the dump."""
+    try:
+        return _lines_over(packed, request, program, group)
+    except DumpError as error:
+        if not error.fault:
+            raise
+        raise DumpError(f"what the parts gave, joined, cannot be asked: {error.fault.kind}") from None
+
+
+def _lines_over(packed: list[bytes], request: Request, program: str, group: Group) -> list[bytes]:
     if not compares_wide(request):
         try:
             return [line for batch in Lines(Dump(pieces=packed), request, program, group=group).batches() for line in batch]

@@ -68,10 +68,10 @@ def documents_in(text: bytes, size: int = 0) -> list[bytes]:
 
 
 def _cut_by_name(text: bytes, size: int) -> list[bytes]:
-    """So many documents, where all of them begin with the same name; else nothing.
+    """This many documents, where all of them begin with the same name; else nothing.
 
     Where a quotation mark follows a brace, and no comma, colon or bracket follows it, a text begins, and the brace is none of a
-    text. So `},{"NAME":` stands between two documents of the whole or of an array, and of the whole where braces are in
+    text. So `},{"NAME":` is between two documents of the whole or of an array, and of the whole where braces are in
     balance.
     """
     head = text[: text.find(b'":') + 2]
@@ -87,7 +87,7 @@ def _cut_by_name(text: bytes, size: int) -> list[bytes]:
 
 
 def _cut_by_braces(text: bytes) -> list[bytes]:
-    """All documents. The text is cut at `},{` where as many braces are closed as were opened."""
+    """All documents. The text is split at `},{` where as many braces are closed as were opened."""
     if not text:
         return []
     documents, start, end, is_open = [], 0, 0, 0
@@ -107,12 +107,12 @@ def _without_escapes(text: bytes) -> bytes:
 
 
 def _has_braces_in_texts(text: bytes) -> bool:
-    """Whether a brace stands within quotation marks. If none does, these stand in pairs once all but braces is taken out."""
+    """Whether a brace is within quotation marks. If none is, these are in pairs once all but braces is taken out."""
     return b'"' in _without_escapes(text).translate(None, _REST).replace(b'""', b"")
 
 
 def _without_braces_in_texts(text: bytes) -> bytes:
-    """As many bytes, with spaces within quotation marks where a brace stands there."""
+    """As many bytes, with spaces within quotation marks where a brace is there."""
     if not _has_braces_in_texts(text):
         return text
     parts = _without_escapes(text).split(b'"')

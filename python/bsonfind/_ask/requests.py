@@ -4,57 +4,48 @@ from __future__ import annotations
 
 import json
 import math
-import operator
-import threading
 from dataclasses import dataclass, replace
 from functools import partial
 from typing import Any, Iterable, Mapping, Sequence, Union
 
 from .._errors import ArgumentError
+from .._numbers import MOST, whole
 from .values import Uuids, extended, uuids_of
 
 Filter = Mapping[str, Any]
 Sort = Union[Mapping[str, int], Sequence["tuple[str, int]"]]
 
-# The greatest skip, limit and size of a batch.
-MOST = 2_147_483_647
 # Linux takes arguments below 131,072 bytes.
 LONGEST_ARGUMENT = 131_000
-
-
-def whole(name: str, number: int, least: int = 0, most: int = MOST) -> int:
-    """A whole number in a range; others are an `ArgumentError`."""
-    try:
-        number = operator.index(number)
-    except TypeError:
-        raise ArgumentError(f"{name} is a whole number, not {number!r}") from None
-    if not least <= number <= most:
-        raise ArgumentError(f"{name} is {least} to {most}, not {number}")
-    return number
-
-
-def seconds(timeout: float | None) -> float | None:
-    """A number of seconds that a thread can wait, or None; others are an `ArgumentError`."""
-    try:
-        is_time = timeout is None or 0 <= timeout <= threading.TIMEOUT_MAX
-    except TypeError:
-        is_time = False
-    if not is_time:
-        raise ArgumentError(f"timeout is a number of seconds, 0 to {threading.TIMEOUT_MAX:.0f}, or None, not {timeout!r}")
-    return timeout
 
 
 def _named(value: Any) -> Any:
     """A value in which each float that JSON has not, such as infinity, is the double of that name."""
     if isinstance(value, float) and not math.isfinite(value):
         return {"$numberDouble": "NaN" if math.isnan(value) else "Infinity" if value > 0 else "-Infinity"}
-    if isinstance(value, dict):
+    if isinstance(value, Mapping):
         return {name: _named(it) for name, it in value.items()}
     return [_named(it) for it in value] if isinstance(value, (list, tuple)) else value
 
 
+def _refuse_other_names(value: Any) -> None:
+    """Refuses a name of a filter that is no text: JSON would make a text of it, such as "null", which is another field."""
+    waiting = [value]
+    while waiting:
+        it = waiting.pop()
+        if isinstance(it, Mapping):
+            for name in it:
+                if not isinstance(name, str):
+                    raise TypeError(f"the name of a field is a text, not {name!r}")
+            waiting.extend(it.values())
+        elif isinstance(it, (list, tuple)):
+            waiting.extend(it)
+
+
 def _json(value: Any, uuids: Uuids) -> str:
-    return json.dumps(value, separators=(",", ":"), default=partial(extended, uuids=uuids), allow_nan=False)
+    text = json.dumps(value, separators=(",", ":"), default=partial(extended, uuids=uuids), allow_nan=False)
+    _refuse_other_names(value)
+    return text
 
 
 def text_of(value: Any, uuids: Uuids = "standard") -> str:
@@ -72,7 +63,7 @@ def text_of(value: Any, uuids: Uuids = "standard") -> str:
 
 
 def text_of_pairs(pairs: Iterable[tuple[str, str]]) -> str:
-    """The JSON of an object of names and the texts of their values; a name may stand twice."""
+    """The JSON of an object of names and the texts of their values; a name may be there twice."""
     return "{" + ",".join(f"{text_of(name)}:{text}" for name, text in pairs) + "}"
 
 
@@ -88,7 +79,7 @@ def _pairs_of(sort: Sort | None) -> list[tuple[str, int]]:
 
 @dataclass(frozen=True)
 class Request:
-    """The texts of a filter and a sort, how many documents are passed over, and how many are given at most (0 is no limit)."""
+    """The texts of a filter and a sort, how many documents are skipped, and how many are given at most (0 is no limit)."""
 
     filter: str = "{}"
     sort: str = "{}"

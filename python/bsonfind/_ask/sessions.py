@@ -3,22 +3,22 @@
 from __future__ import annotations
 
 from os import getpid
-from typing import Any, Callable, Iterator, Literal, TypeVar, overload
+from typing import Any, Callable, Iterator, TypeVar, overload
 
 from .._names import File
 from . import steps
 from .connections import Connection
 from .copies import Questions
-from .decoding import Decode, Dicts, with_uuids
+from .decoding import Decode, Dicts, Raw, with_uuids
 from .requests import Filter, Request, Sort
-from .steps import Hint, Reading, Use, use_of
+from .steps import Hint, Reading, use_of
 from .values import Uuids, uuids_of
 
 T = TypeVar("T")
 
 
 class Session:
-    """A dump with its indexes and cursors, held by a run of the program to the end of the session.
+    """A dump with its indexes and cursors, kept by a run of the program to the end of the session.
 
     Threads may share a session, and a cursor belongs to one thread at a time. Another process, such as one by a fork, opens its
     own session: there each call of this one is an `OtherProcessError`. A dump that is refused is a `DumpError` at once, and a
@@ -44,17 +44,17 @@ class Session:
     @overload
     def find(
         self, filter: Filter | None = None, *, sort: Sort | None = None, skip: int = 0, limit: int = 0, batch_size: int = 100,
-        use: Use = "auto", hint: Hint | None = None, after: str | None = None, decode: Dicts = "dict",
+        hint: Hint | None = None, after: str | None = None, decode: Dicts = "plain",
     ) -> Cursor[dict[str, Any]]: ...
     @overload
     def find(
         self, filter: Filter | None = None, *, sort: Sort | None = None, skip: int = 0, limit: int = 0, batch_size: int = 100,
-        use: Use = "auto", hint: Hint | None = None, after: str | None = None, decode: Literal["bytes"],
+        hint: Hint | None = None, after: str | None = None, decode: Raw,
     ) -> Cursor[bytes]: ...
     @overload
     def find(
         self, filter: Filter | None = None, *, sort: Sort | None = None, skip: int = 0, limit: int = 0, batch_size: int = 100,
-        use: Use = "auto", hint: Hint | None = None, after: str | None = None, decode: Callable[[bytes], T],
+        hint: Hint | None = None, after: str | None = None, decode: Callable[[bytes], T],
     ) -> Cursor[T]: ...
     # fmt: on
     def find(
@@ -65,38 +65,49 @@ class Session:
         skip: int = 0,
         limit: int = 0,
         batch_size: int = 100,
-        use: Use = "auto",
         hint: Hint | None = None,
         after: str | None = None,
-        decode: Decode[Any] = "dict",
+        decode: Decode[Any] = "plain",
     ) -> Cursor[Any]:
         """Opens a cursor over an answer, or over what follows a token of the same request.
 
-        Documents are read `batch_size` at a time, or fewer where they are long. `use` says how they are found: "auto", "scan"
-        or {"index": PATH}. `hint` says the same as pymongo does: the path of an index, [(PATH, 1)], or {"$natural": 1} for a
-        scan.
+        Documents are read `batch_size` at a time, or fewer if they are long. `hint` says how they are found, as in pymongo: the path
+        of an index, [(PATH, 1)], or {"$natural": 1} for a scan. Without it the program chooses.
         """
+        return self._cursor(filter, sort, skip, limit, batch_size, hint, after, decode)
+
+    def _cursor(
+        self,
+        filter: Filter | None,
+        sort: Sort | None,
+        skip: int,
+        limit: int,
+        batch_size: int,
+        hint: Hint | None,
+        after: str | None,
+        decode: Decode[Any],
+    ) -> Cursor[Any]:
         decode = with_uuids(decode, self._uuids)
         asked = self._questions.asked(Request.of(filter, sort, skip, limit, self._uuids), is_bson=decode == "bson")
-        reading = Reading(asked.request, use_of(use, hint), batch_size, after, decode, asked.documents_of(decode))
+        reading = Reading(asked.request, use_of(hint), batch_size, after, decode, asked.documents_of(decode))
         with asked.places():
             return Cursor(asked.connection, reading)
 
     # fmt: off
     @overload
     def find_one(
-        self, filter: Filter | None = None, *, sort: Sort | None = None, skip: int = 0, use: Use = "auto",
-        hint: Hint | None = None, decode: Dicts = "dict",
+        self, filter: Filter | None = None, *, sort: Sort | None = None, skip: int = 0, hint: Hint | None = None,
+        decode: Dicts = "plain",
     ) -> dict[str, Any] | None: ...
     @overload
     def find_one(
-        self, filter: Filter | None = None, *, sort: Sort | None = None, skip: int = 0, use: Use = "auto",
-        hint: Hint | None = None, decode: Literal["bytes"],
+        self, filter: Filter | None = None, *, sort: Sort | None = None, skip: int = 0, hint: Hint | None = None,
+        decode: Raw,
     ) -> bytes | None: ...
     @overload
     def find_one(
-        self, filter: Filter | None = None, *, sort: Sort | None = None, skip: int = 0, use: Use = "auto",
-        hint: Hint | None = None, decode: Callable[[bytes], T],
+        self, filter: Filter | None = None, *, sort: Sort | None = None, skip: int = 0, hint: Hint | None = None,
+        decode: Callable[[bytes], T],
     ) -> T | None: ...
     # fmt: on
     def find_one(
@@ -105,12 +116,11 @@ class Session:
         *,
         sort: Sort | None = None,
         skip: int = 0,
-        use: Use = "auto",
         hint: Hint | None = None,
-        decode: Decode[Any] = "dict",
+        decode: Decode[Any] = "plain",
     ) -> Any:
-        """The first document of an answer, None where it has none."""
-        with self.find(filter, sort=sort, skip=skip, limit=1, use=use, hint=hint, decode=decode) as cursor:
+        """The first document of an answer, None if it has none."""
+        with self._cursor(filter, sort, skip, 1, 100, hint, None, decode) as cursor:
             return next(cursor, None)
 
     def count_documents(self, filter: Filter | None = None) -> int:
@@ -132,12 +142,11 @@ class Session:
         sort: Sort | None = None,
         skip: int = 0,
         limit: int = 0,
-        use: Use = "auto",
         hint: Hint | None = None,
     ) -> dict[str, Any]:
         """How an answer is found: the `plan`, the path of the `index`, and how many `entries`, `documents` and `matches`."""
         request = Request.of(filter, sort, skip, limit, self._uuids)
-        return self._questions.do(steps.explain, request, use_of(use, hint))
+        return self._questions.do(steps.explain, request, use_of(hint))
 
     def cancel(self) -> None:
         """Ends the session at once, from any thread: a call that waits for a reply gets a `CancelledError`."""
@@ -177,14 +186,20 @@ class Cursor(Iterator[T]):
             documents = self._reading.held.documents
         if self._is_closed or not documents.left:
             raise StopIteration
-        return documents.give()
+        document: T = documents.give()
+        return document
 
+    @property
     def token(self) -> str | None:
-        """The token that leads on to what follows the documents that were given; None where none was.
+        """The token that leads on to what follows the documents that were given; None if none was.
 
         Within a batch the program is asked for it, by a cursor that gives the same documents again.
         """
         return self._connection.do(self._reading.token())
+
+    def explain(self) -> dict[str, Any]:
+        """How the answer is found, as `Session.explain` says it."""
+        return self._connection.do(self._reading.explain())
 
     def close(self) -> None:
         """Closes the cursor: no document follows. Its token stays."""

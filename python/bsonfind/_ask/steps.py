@@ -8,14 +8,15 @@ from __future__ import annotations
 from typing import Any, Callable, Generator, Generic, Mapping, NamedTuple, Sequence, TypeVar, Union
 
 from .._errors import ArgumentError, CommandError, CursorStateError
+from .._numbers import whole
 from .decoding import Decode, Parsed, Texts, batches_by
 from .replies import Batch, read_batch, read_reply
-from .requests import Request, text_of, text_of_pairs, whole
+from .requests import Request, text_of, text_of_pairs
 
 T = TypeVar("T")
 # How documents are to be found: by what the program chooses, by each document, or by the index on a path.
 Use = Union[str, Mapping[str, str]]
-# The same as pymongo writes it: the path of an index, by itself or with a direction; or {"$natural": 1} to read each document.
+# The same as pymongo has it: the path of an index, by itself or with a direction; or {"$natural": 1} to read each document.
 Hint = Union[str, Mapping[str, Any], Sequence["tuple[str, Any]"]]
 
 LONGEST_COMMAND = 16_777_216
@@ -23,10 +24,12 @@ LONGEST_COMMAND = 16_777_216
 MOST_BYTES = 1 << 24
 # How many documents are asked for at most while their lengths are not known.
 FIRST_BATCH = 1000
+# What the program says if no more cursors can be open.
+_TOO_MANY = "too many cursors"
 
 
 class Command(NamedTuple):
-    """A line for the program, and how many bytes of the reply are taken at most; a longer one is passed over as None."""
+    """A line for the program, and how many bytes of the reply are taken at most; a longer one is skipped as None."""
 
     line: bytes
     most: int | None = None
@@ -46,7 +49,7 @@ class Command(NamedTuple):
         return cls(line, most, tuple(starts))
 
 
-# The reply is None where it has more bytes than the command says.
+# The reply is None if it has more bytes than the command says.
 Steps = Generator[Command, Any, T]
 
 
@@ -61,12 +64,10 @@ def ask(command: Command, *names: str) -> Steps[dict[str, Any]]:
         raise
 
 
-def use_of(use: Use, hint: Hint | None) -> Use:
-    """What `use` or `hint` says."""
+def use_of(hint: Hint | None) -> Use:
+    """What `hint` says, as the program takes it."""
     if hint is None:
-        return use
-    if use != "auto":
-        raise ArgumentError("use and hint say the same: give one of them")
+        return "auto"
     if isinstance(hint, str):
         return {"index": hint}
     try:
@@ -97,7 +98,8 @@ def explain(request: Request, use: Use) -> Steps[dict[str, Any]]:
 
 def count(request: Request) -> Steps[int]:
     """How many documents match."""
-    return (yield from explain(request, "auto"))["matches"]
+    matches: int = (yield from explain(request, "auto"))["matches"]
+    return matches
 
 
 class Held(NamedTuple):
@@ -128,7 +130,7 @@ class Reading(Generic[T]):
         # The number of the cursor, where it is open.
         self.number: int | None = None
         self._is_opened = self.is_at_end = False
-        # False from the moment on when the program is asked for a batch until that is held.
+        # False from the moment on when the program is asked for a batch until that is kept.
         self._is_known = True
         self.held = Held(self._documents_of(b"", 0), after, after)
 
@@ -138,7 +140,7 @@ class Reading(Generic[T]):
         self._is_opened = True
 
     def read_on(self, most: int | None = None) -> Steps[None]:
-        """Reads the next batch, of so many documents at most."""
+        """Reads the next batch, of this many documents at most."""
         if not self._is_known:
             raise CursorStateError("interrupted while a batch was read: open another cursor by the token of this one")
         self._is_known = False
@@ -160,14 +162,14 @@ class Reading(Generic[T]):
         self._is_known = True
 
     def _read(self, most: int) -> Steps[tuple[Batch, int]]:
-        """The next batch and how many documents were asked for: fewer where so many are too long to be held."""
+        """The next batch and how many documents were asked for: fewer where this many are too long to be kept."""
         while True:
             assert self.number is not None
             size = min(self._size, most)
             reply = yield more(self.number, size, MOST_BYTES if size > 1 else None)
             if reply is not None:
                 return read_batch(reply), size
-            # The reply was passed over, so another cursor reads the batch in parts. This one may be closed, if it was the last.
+            # The reply was skipped, so another cursor reads the batch in parts. This one may be closed, if it was the last.
             self._size = max(1, size // 8)
             yield kill(self.number)
             yield from self.start()
@@ -178,10 +180,16 @@ class Reading(Generic[T]):
             first = [("find", self._request.filter)]
         else:
             first = [("resume", text_of(after)), ("filter", self._request.filter)]
-        return (yield from ask(Command.of(*first, *self._request.fields(), ("use", self._use)), "cursor"))["cursor"]
+        number: int = (yield from ask(Command.of(*first, *self._request.fields(), ("use", self._use)), "cursor"))["cursor"]
+        return number
+
+    def explain(self) -> Steps[dict[str, Any]]:
+        """How the answer is found."""
+        request = self._request
+        return (yield from ask(Command.of(("explain", request.filter), *request.fields(), ("use", self._use)), "matches"))
 
     def token(self) -> Steps[str | None]:
-        """The token that leads on to what follows the documents that were given; None where none was.
+        """The token that leads on to what follows the documents that were given; None if none was.
 
         Within a batch the program is asked for it, by a cursor that gives the same documents again.
         """
@@ -190,7 +198,15 @@ class Reading(Generic[T]):
             return after
         if not documents.given:
             return before
-        number = yield from self._open(before)
+        try:
+            number = yield from self._open(before)
+        except CommandError as error:
+            if error.text != _TOO_MANY or self.number is None:
+                raise
+            # Its own cursor makes space, and is opened again after the documents that are kept.
+            yield from ask(kill(self.number))
+            self.number, self._is_opened = None, False
+            number = yield from self._open(before)
         batch = read_batch((yield more(number, documents.given)))
         if not batch.end:
             yield from ask(kill(number))

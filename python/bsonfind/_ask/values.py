@@ -13,6 +13,9 @@ from .._errors import ArgumentError
 
 _EPOCH = datetime(1970, 1, 1, tzinfo=timezone.utc)
 _HEX = re.compile("[0-9a-f]{24}")
+# The texts of numbers as the program prints them. Python reads others too, such as "1_000", which a document of a dump may have.
+_WHOLE = re.compile("-?(?:0|[1-9][0-9]*)")
+_DOUBLE = re.compile(r"-?[0-9]+(?:\.[0-9]+)?(?:E[+-]?[0-9]+)?|NaN|-?Infinity")
 # How UUIDs are written, by the names of pymongo: as subtype 04, or by old drivers as subtype 03 with their bytes in some order.
 Uuids = Literal["standard", "pythonLegacy", "javaLegacy", "csharpLegacy"]
 # What puts the bytes of a UUID in this order, and back.
@@ -25,7 +28,7 @@ _ORDERS: dict[str, Callable[[bytes], bytes]] = {
 
 
 class ObjectId:
-    """An id of MongoDB, by the 24 digits of its text. It may stand in a filter."""
+    """An id of MongoDB, by the 24 digits of its text. It may be in a filter."""
 
     __slots__ = ("_digits",)
 
@@ -41,7 +44,9 @@ class ObjectId:
         return f"ObjectId({self._digits!r})"
 
     def __eq__(self, other: object) -> bool:
-        return self._digits == other._digits if isinstance(other, ObjectId) else NotImplemented
+        if not isinstance(other, ObjectId):
+            return NotImplemented
+        return self._digits == other._digits
 
     def __lt__(self, other: ObjectId) -> bool:
         return self._digits < other._digits if isinstance(other, ObjectId) else NotImplemented
@@ -76,7 +81,7 @@ def _plain(value: Any, uuids: Uuids) -> Any:
                 try:
                     return read(inner, uuids)
                 except (AttributeError, TypeError, ValueError, ArithmeticError):
-                    return value  # Another document than the value that the name stands for, or one without a plain value.
+                    return value  # Another document than the value that the name represents, or one without a plain value.
         return plain_document(value, uuids)
     if isinstance(value, list):
         return [_plain(it, uuids) for it in value]
@@ -84,9 +89,7 @@ def _plain(value: Any, uuids: Uuids) -> Any:
 
 
 def _whole(text: Any) -> int:
-    if not isinstance(text, str):
-        raise TypeError
-    return int(text)
+    return int(_text(text, _WHOLE))
 
 
 def _date(inner: Any) -> datetime:
@@ -111,17 +114,18 @@ def _subtype_of(uuids: Uuids) -> str:
     return "04" if uuids == "standard" else "03"
 
 
-def _text(text: Any) -> str:
-    if not isinstance(text, str):
-        raise TypeError
+def _text(text: Any, form: re.Pattern[str]) -> str:
+    """A text of this form; another one is an error."""
+    if not isinstance(text, str) or not form.fullmatch(text):
+        raise ValueError
     return text
 
 
 _READERS: dict[str, Callable[[Any, Uuids], Any]] = {
     "$numberInt": lambda text, _: _whole(text),
     "$numberLong": lambda text, _: _whole(text),
-    "$numberDouble": lambda text, _: float(_text(text)),
-    "$numberDecimal": lambda text, _: Decimal(_text(text)),
+    "$numberDouble": lambda text, _: float(_text(text, _DOUBLE)),
+    "$numberDecimal": lambda text, _: Decimal(_text(text, _DOUBLE)),
     "$oid": lambda text, _: ObjectId(text),
     "$date": lambda inner, _: _date(inner),
     "$binary": _binary,
@@ -146,7 +150,7 @@ def extended(value: Any, uuids: Uuids = "standard") -> Any:
     if isinstance(value, Mapping):
         return dict(value)
     try:
-        from bson import json_util
+        from bson import json_util  # type: ignore[import]
     except ImportError:
         kind = type(value).__name__
         raise TypeError(f"{kind} is none of JSON's types; write it as Extended JSON, or install pymongo") from None

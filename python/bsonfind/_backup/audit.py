@@ -2,169 +2,30 @@
 
 from __future__ import annotations
 
-import json
 import os
-from collections import Counter
 from concurrent.futures import ThreadPoolExecutor, as_completed
-from dataclasses import dataclass, field, replace
-from typing import Any, Callable, Iterable, NamedTuple
+from dataclasses import replace
+from typing import Callable, Iterable
 
-from .._ask.requests import whole
-from .._command.console import Console, Progress
-from .._dumps.archive import Archive, Namespace
+from .._dumps.archive import Archive
+from .._dumps.archive_frames import Namespace
 from .._dumps.checking import Checking, try_program
-from .._dumps.files import is_whole_archive, name_in
+from .._dumps.files import name_in
 from .._dumps.sources import Source
 from .._errors import ArgumentError, BsonfindError, DumpError
 from .._faults import Fault, NO_DAMAGE
 from .._names import File, name_of
+from .._numbers import whole
 from .._run.processes import Group, processors
-from .backups import Dump, dumps_of, fault_of_listed, fault_of_metadata, is_inside, namespace_of, place_of, read_log, text_lines
+from .backups import Dump, dumps_of, is_inside, namespace_of, place_of, read_log, text_lines
+from .damage import details_of, rest_after
+from .metadata import fault_of_listed, fault_of_metadata
+from .reports import Audit, Report
 from .split import split
+from .watching import Unwatched, Watch
 
 # How many faults of a file are reported one by one.
 MOST_FAULTS = 10
-
-
-@dataclass
-class Report:
-    """What the check of a file came to.
-
-    `kinds` says how many documents have each kind of first fault, and `faults` has the first of those that are damage, and then
-    the first of each other kind. `error` says why the file was not read to its end, `metadata` what is wrong with its metadata.
-    """
-
-    name: str
-    documents: int = 0
-    kinds: Counter[str] = field(default_factory=Counter)
-    faults: list[Fault] = field(default_factory=list)
-    error: str | None = None
-    metadata: str | None = None
-    # Whether the error is a fault of the backup: a file of gzip that is cut or damaged, or metadata without its dump.
-    is_fault: bool = False
-    # The collection that it is of, where that is known, and below a directory the place that has those of the databases.
-    namespace: str | None = None
-    place: str | None = None
-    # What the log says of the collection, and why the file does not stand for it.
-    expected: int | None = None
-    is_miscounted: bool = False
-    is_untold: bool = False
-    copy: str | None = None
-
-    @property
-    def faulty(self) -> int:
-        """How many documents have a fault."""
-        return sum(self.kinds.values())
-
-    @property
-    def harmless(self) -> int:
-        """How many documents have a fault that is no damage."""
-        return sum(self.kinds[kind] for kind in NO_DAMAGE)
-
-    def compare(self, counts: dict[str, int]) -> None:
-        """Compares the count with that in the log, which may say nothing of the oplog."""
-        self.expected = counts.get(self.namespace or "")
-        self.is_miscounted = self.expected not in (None, self.documents)
-        self.is_untold = self.expected is None and self.namespace != "oplog"
-
-    def as_json(self) -> dict[str, Any]:
-        """The report as an object of JSON."""
-        return {
-            "name": self.name,
-            "documents": self.documents,
-            "faulty": self.faulty,
-            "kinds": self.kinds,
-            "faults": [{"document": it.document, "byte": it.offset, "path": it.path, "kind": it.kind} for it in self.faults],
-            "error": self.error,
-            "metadata": self.metadata,
-            "expected": self.expected,
-        }
-
-
-class Audit(NamedTuple):
-    """The reports of all files, and what the log of mongodump says that has no file, with how many documents."""
-
-    reports: list[Report]
-    missing: dict[str, int]
-
-    @property
-    def kinds(self) -> Counter[str]:
-        """How many documents have each kind of first fault."""
-        return sum((it.kinds for it in self.reports), Counter())
-
-    @property
-    def unread(self) -> list[Report]:
-        """The files and directories that could not be read to their ends."""
-        return [it for it in self.reports if it.error]
-
-    @property
-    def unseen(self) -> list[Report]:
-        """Those of them that may be good: they are not there, or could not be read."""
-        return [it for it in self.unread if not it.is_fault]
-
-    @property
-    def miscounted(self) -> list[Report]:
-        """The files that have another number of documents than mongodump reports."""
-        return [it for it in self.reports if it.is_miscounted]
-
-    @property
-    def untold(self) -> list[Report]:
-        """The files of which the log says nothing, as one that was cut off leaves them."""
-        return [it for it in self.reports if it.is_untold]
-
-    @property
-    def copies(self) -> list[Report]:
-        """The files that stand for no collection of the log, since another one does, or they are in another backup inside of this."""
-        return [it for it in self.reports if it.copy]
-
-    @property
-    def without_metadata(self) -> list[Report]:
-        """The files whose metadata is missing or cannot be read."""
-        return [it for it in self.reports if it.metadata]
-
-    @property
-    def is_good(self) -> bool:
-        """Whether all files are there, whole and without faults."""
-        findings = self.kinds, self.unread, self.miscounted, self.untold, self.copies, self.without_metadata, self.missing
-        return not any(findings)
-
-    def rows(self) -> list[tuple[str, int]]:
-        """The table; the kinds of faults that are no damage come last."""
-        kinds = self.kinds.most_common()
-        damage = [(f"  {kind}", count) for kind, count in kinds if kind not in NO_DAMAGE]
-        harmless = [(f"  {kind} (no damage)", count) for kind, count in kinds if kind in NO_DAMAGE]
-        others = (
-            ("not read", self.unread),
-            ("other counts than expected", self.miscounted),
-            ("not in the log", self.untold),
-            ("other copies", self.copies),
-            ("without metadata", self.without_metadata),
-            ("missing", self.missing),
-        )
-        return [
-            ("files", len(self.reports)),
-            ("documents", sum(it.documents for it in self.reports)),
-            ("faulty", sum(self.kinds.values())),
-            *damage,
-            *harmless,
-            *((name, len(those)) for name, those in others if those),
-        ]
-
-    def as_json(self) -> str:
-        """All of it, as one line of JSON."""
-        return json.dumps(
-            {
-                "good": self.is_good,
-                "files": [it.as_json() for it in self.reports],
-                "documents": sum(it.documents for it in self.reports),
-                "faulty": sum(self.kinds.values()),
-                "kinds": self.kinds,
-                "miscounted": [it.name for it in self.miscounted],
-                "untold": [it.name for it in self.untold],
-                "copies": [it.name for it in self.copies],
-                "missing": self.missing,
-            }
-        )
 
 
 def audit(
@@ -177,7 +38,7 @@ def audit(
 ) -> Audit:
     """Checks the dumps of one or more names, and those below directories, several at once; `expect` is a log of mongodump.
 
-    Nothing is passed over in silence: what cannot be read has a report with its error.
+    Nothing is skipped in silence: what cannot be read has a report with its error.
     """
     jobs, most = None if jobs is None else whole("jobs", jobs, 1), whole("max_faults", max_faults)
     names = [paths] if isinstance(paths, (str, bytes, os.PathLike)) else paths
@@ -192,28 +53,30 @@ def audit_dumps(
     jobs: int | None = None,
     max_faults: int = MOST_FAULTS,
     program: str = "bsonfind",
-    console: Console | None = None,
+    take: Callable[[Report], None] = lambda _: None,
+    watch: Callable[[int, int], Watch] = lambda files, size: Unwatched(),
 ) -> Audit:
-    """Checks dumps; the console gets the lines of faults as they come, and those of each file as it ends."""
+    """Checks dumps, and passes on the report of each as soon as it is there. What prints how far it is gets how many files and bytes."""
     log = read_log(text_lines(expect)) if expect is not None else None
     try_program(program)
     sizes = {it.file: it.size or 0 for it in dumps}
-    with Progress(console, len(dumps), sum(sizes.values())) as progress:
-        reports = _check_all(dumps, _Checker(max_faults, program, console, progress), jobs or processors())
+    with watch(len(dumps), sum(sizes.values())) as progress:
+        reports = _check_all(dumps, _Checker(max_faults, program, take, progress), jobs or processors())
     missing: dict[str, int] = {}
     if log:
         counts = {**log.documents, **({} if log.oplog is None else {"oplog": log.oplog})}
         there = _collections(reports, counts)
         for report in there.values():
             report.compare(counts)
-        missing = {namespace: count for namespace, count in counts.items() if namespace not in there}
+        named = {name for report in there.values() for name in report.names_in_log()}
+        missing = {namespace: count for namespace, count in counts.items() if namespace not in named}
     return Audit(reports, missing)
 
 
 def _collections(reports: list[Report], counts: dict[str, int]) -> dict[str, Report]:
-    """The file that stands for each collection; others of it are noted, and those of a backup inside of this one."""
+    """The file that represents each collection; others of it are noted, and those of a backup inside of this one."""
     there: dict[str, Report] = {}
-    places = {it.place for it in reports if it.place and it.namespace in counts}
+    places = {it.place for it in reports if it.place and not counts.keys().isdisjoint(it.names_in_log())}
     for report in reports:
         if report.place and is_inside(report.place, places):
             report.copy = "in a directory below that of the other dumps, so it stands for none of them"
@@ -243,16 +106,15 @@ def _check_all(dumps: list[Dump], checker: _Checker, jobs: int) -> list[Report]:
 class _Checker:
     """The check of one file after the other; threads share it."""
 
-    def __init__(self, max_faults: int, program: str, console: Console | None, progress: Progress) -> None:
+    def __init__(self, max_faults: int, program: str, take: Callable[[Report], None], progress: Watch) -> None:
         self.group = Group()
         self._max_faults, self._program = max_faults, program
-        self._console, self._progress = console, progress
+        self._take, self._progress = take, progress
 
     def check(self, names: list[Dump]) -> dict[int, list[Report]]:
         """Checks a file, or each collection of an archive; the reports are those of each of its names."""
         first = names[0]
-        is_archive = not first.error and is_whole_archive(first.name)
-        found = self._check_file(first, is_archive)
+        found, is_archive = self._check_file(first)
         reports: dict[int, list[Report]] = {}
         for dump in names:
             these = [replace(it, name=dump.name + it.name[len(first.name) :]) for it in found]
@@ -262,28 +124,27 @@ class _Checker:
             self._progress.add_file()
         return reports
 
-    def _check_file(self, dump: Dump, is_archive: bool) -> list[Report]:
-        report = Report(dump.name, error=dump.error, is_fault=dump.is_fault)
+    def _check_file(self, dump: Dump) -> tuple[list[Report], bool]:
+        """The reports of a file, or of each collection of an archive, and whether it is one."""
+        report, is_archive = Report(dump.name, error=dump.error, is_fault=dump.is_fault), False
         if not dump.error:
             try:
                 with Source(dump.name) as source, self._progress.over(source):
+                    is_archive = source.is_archive
                     if is_archive:
-                        return self._check_archive(source)
+                        return self._check_archive(source), True
                     self._check_documents(report, source)
             except (BsonfindError, OSError) as error:
                 self._note(report, error)
-        return [report]
+        return [report], is_archive
 
     def _name(self, report: Report, dump: Dump, is_archive: bool) -> None:
-        """Notes what a report has by the name of its file, and prints it."""
+        """Notes what a report has by the name of its file, and passes it on."""
         if dump.is_below and not dump.error:
             report.place = os.path.abspath(dump.name) if is_archive else place_of(dump.name)
         if not (dump.error or is_archive):
             report.namespace, report.metadata = namespace_of(dump.name), fault_of_metadata(dump.name, dump.is_below)
-        say = self._saying(report)
-        say(report.error or f"{report.documents} documents, {report.faulty} faulty")
-        if report.metadata:
-            say(f"metadata: {report.metadata}")
+        self._take(report)
 
     def _note(self, report: Report, error: BsonfindError | OSError) -> None:
         """Notes why a file was not read to its end; where all was ended, that is raised."""
@@ -291,9 +152,6 @@ class _Checker:
             raise error
         report.error = (error.strerror if isinstance(error, OSError) else None) or str(error)
         report.is_fault = isinstance(error, DumpError) and error.is_finding
-
-    def _saying(self, report: Report) -> Callable[[str], None]:
-        return _Saying(report.name, self._console).line
 
     def _check_archive(self, source: Source) -> list[Report]:
         """The reports of the collections of an archive, which are checked side by side as their documents come."""
@@ -325,7 +183,8 @@ class _Checker:
         except (BsonfindError, OSError) as error:
             others = [Report(source.name)]
             self._note(others[0], error)
-        for namespace in archive.unended():
+        # After a refusal that is no fault of the archive, ends were not looked for.
+        for namespace in archive.unended() if not others or others[0].is_fault else ():
             note_damage(namespace, "no end")
         for listed in archive.listed:
             if fault := fault_of_listed(listed):
@@ -333,33 +192,21 @@ class _Checker:
         return [*(reports[namespace] for namespace in sorted(reports)), *others]
 
     def _check_documents(self, report: Report, source: Source) -> None:
-        damage, harmless, say = 0, {}, self._saying(report)
-        checking = Checking(self._program, self.group)
+        harmless: dict[str, Fault] = {}
+        checking, last = Checking(self._program, self.group), None
         try:
             for fault in checking.faults(source):
                 report.kinds[fault.kind] += 1
                 if fault.kind in NO_DAMAGE:
                     harmless.setdefault(fault.kind, fault)
-                elif (damage := damage + 1) <= self._max_faults:
-                    report.faults.append(fault)
-                    say(str(fault))
+                else:
+                    last = fault
+                    if len(report.faults) < self._max_faults:
+                        report.faults.append(fault)
         finally:
             report.documents = checking.documents
-            if damage > self._max_faults:
-                say(f"and {damage - self._max_faults} more")
-            if harmless:
-                counts = ", ".join(f"{report.kinds[kind]} {kind}" for kind in harmless)
-                say(f"no damage, but not readable: {counts}; the first at {next(iter(harmless.values()))}")
             report.faults.extend(harmless.values())
-
-
-class _Saying(NamedTuple):
-    """Lines of the console about a file, where there is a console."""
-
-    name: str
-    console: Console | None
-
-    def line(self, text: str) -> None:
-        """Prints a line, with the name of the file before it."""
-        if self.console:
-            self.console.line(f"{self.name}: {text}")
+        if last and source.size is not None and not source.is_packed:
+            report.rest = rest_after(last, source.size)
+        damage = [it for it in report.faults if it.kind not in NO_DAMAGE]
+        report.details = details_of(source, damage, self._program, self.group)

@@ -2,7 +2,6 @@
 
 from __future__ import annotations
 
-import json
 import os
 import re
 import stat
@@ -10,14 +9,14 @@ from base64 import urlsafe_b64encode
 from dataclasses import dataclass
 from hashlib import sha1
 from pathlib import PurePath
-from typing import Any, Iterable, Iterator, NamedTuple
+from typing import Iterable, Iterator, NamedTuple
 from urllib.parse import quote, unquote
 
-from .._dumps.archive import Listed, Namespace
+from .._dumps.archive_frames import Namespace
 from .._dumps.files import file_of, is_whole_archive, member_of
-from .._dumps.gzip import unpacked
 from .._errors import DumpError, FileError
 from .._names import File, name_of
+from .metadata import OPLOG, is_at_top, is_oplog, metadata_beside, read_metadata, read_metadata_file
 
 _ENDING = re.compile(r"\.bson(\.gz)?$")
 _METADATA = re.compile(r"\.metadata\.json(\.gz)?$")
@@ -25,8 +24,6 @@ _DUMPED = re.compile(r"done dumping (\S.*) \((\d+) documents?\)")
 _OPLOG_DUMPED = re.compile(r"dumped (\d+) oplog entr(?:y|ies)")
 # The names of files that mongodump writes beside dumps.
 _BESIDE = re.compile(r"(\.metadata|^prelude)\.json(\.gz)?$")
-# The names of dumps that mongodump writes without a file of metadata beside them.
-_BARE = re.compile(r"^(\$admin\..*|system\.(indexes|buckets\..*))\.bson")
 # The names that archives have by custom; below a directory each is known by its first bytes.
 _ARCHIVE = re.compile(r"\.archive(\.gz)?$")
 # A file that is not whole, as `unpack` leaves it.
@@ -34,12 +31,11 @@ _HALF = re.compile(r"\.bson\.part$")
 # What mongodump does not escape in the name of a collection beside letters, digits and "_.-~"; its longest name of a file without
 # an ending, and how much of a longer one stays before "%24" and a hash.
 _UNESCAPED, _LONGEST_STEM, _KEPT = "$&+:=@", 238, 208
-_OPLOG = Namespace("", "oplog")
 
 
 @dataclass
 class Dump:
-    """A dump by its name, with its size; or what could not be seen, and why."""
+    """A dump by its name, with its size; or what could not be found, and why."""
 
     name: str
     is_below: bool = False
@@ -47,7 +43,7 @@ class Dump:
     error: str | None = None
     # Whether that is damage of the backup, as where only the metadata is there.
     is_fault: bool = False
-    # What it has in common with other names of the same bytes, None where it was not seen.
+    # What it has in common with other names of the same bytes, None if it was not found.
     file: tuple[object, ...] | None = None
 
 
@@ -59,10 +55,10 @@ class Log(NamedTuple):
 
 
 def dumps_of(names: Iterable[str]) -> list[Dump]:
-    """The files of these names, and in place of a directory the dumps below it. A name that is met twice stands there once.
+    """The files of these names, and in place of a directory the dumps below it. A name that is met twice is there once.
 
-    Each name of a file with several ones, such as a link, is that of a dump. What cannot be seen below a directory stands there with
-    its error, so that nothing is passed over in silence.
+    Each name of a file with several ones, such as a link, is that of a dump. What cannot be found below a directory is there with
+    its error, so that nothing is skipped in silence.
     """
     dumps: dict[tuple[str, str | None], Dump] = {}
     for name in names:
@@ -93,51 +89,78 @@ def _look_at(dump: Dump) -> None:
 
 
 def dumps_below(directory: str) -> Iterator[Dump]:
-    """The dumps and archives below a directory, in the order of their names, and what cannot be seen there or is missing.
+    """The dumps and archives below a directory, in the order of their names, and what cannot be found there or is missing.
 
     A directory without any is an error, such as where a disk is missing; that of a database may have views alone.
     """
-    try:
-        with os.scandir(directory) as listed:
-            entries = sorted(listed, key=lambda entry: entry.name)
-    except OSError as error:
-        yield Dump(directory, error=f"cannot read the directory: {error.strerror}")
-        return
-    is_empty = not any(_METADATA.search(entry.name) for entry in entries)
-    for dump in _dumps_among(entries, directory):
-        is_empty = False
-        yield dump
-    if is_empty:
-        yield Dump(directory, error="no dump is below this directory")
+    # The directories that are open, from the first to the innermost: their names, what was not looked at yet, and what was found.
+    open_ones = [_Directory(directory)]
+    while open_ones:
+        inner = open_ones[-1]
+        for found in inner.rest:
+            if isinstance(found, str):
+                open_ones.append(_Directory(found))
+                break
+            inner.is_empty = False
+            yield found
+        else:
+            open_ones.pop()
+            if inner.is_empty:
+                yield Dump(inner.name, error="no dump is below this directory")
+            if open_ones:
+                open_ones[-1].is_empty = False
 
 
-def _dumps_among(entries: list[os.DirEntry[str]], directory: str) -> Iterator[Dump]:
-    """The dumps and archives among the entries of a directory, and below them."""
+class _Directory:
+    """A directory that is looked at: the names of directories in it, and the dumps in it or what is wrong."""
+
+    def __init__(self, name: str) -> None:
+        self.name, self.is_empty = name, False
+        self.rest: Iterator[str | Dump]
+        try:
+            with os.scandir(name) as listed:
+                entries = sorted(listed, key=lambda entry: entry.name)
+        except OSError as error:
+            self.rest = iter([Dump(name, error=f"cannot read the directory: {error.strerror}")])
+            return
+        self.is_empty = not any(_METADATA.search(entry.name) for entry in entries)
+        self.rest = _found_among(entries, name)
+
+
+def _found_among(entries: list[os.DirEntry[str]], directory: str) -> Iterator[str | Dump]:
+    """The dumps and archives among the entries of a directory, and the names of directories in it."""
     stems = {it.sub("", entry.name) for entry in entries for it in (_ENDING, _HALF) if it.search(entry.name)}
     for entry in entries:
         try:
             if entry.is_dir(follow_symlinks=False):
-                yield from dumps_below(entry.path)
-            elif entry.is_dir():
-                yield Dump(entry.path, error="a link to a directory, which is not followed: name it too")
-            elif entry.is_symlink() and not os.path.exists(entry.path):
-                yield Dump(entry.path, error="a link to nothing that can be seen")
-            elif _ENDING.search(entry.name):
-                is_file = entry.is_file()
-                yield Dump(entry.path, is_below=True, error=None if is_file else "not a regular file")
-            elif _HALF.search(entry.name):
-                yield Dump(entry.path, error="not whole: unpack left it so", is_fault=True)
-            elif _METADATA.search(entry.name) and _METADATA.sub("", entry.name) not in stems:
-                stem = _stem_wanted(entry.path)
-                if stem is not None and stem not in stems:
-                    name = os.path.join(directory, f"{stem}.bson")
-                    yield Dump(name, error=f"missing: only {entry.name} is there", is_fault=True)
-            elif is_whole_archive(entry.path):
-                yield Dump(entry.path, is_below=True)
-            elif _ARCHIVE.search(entry.name):
-                yield Dump(entry.path, error="no archive, by its first bytes", is_fault=True)
+                yield entry.path
+            else:
+                found = _file_among(entry, directory, stems)
+                if found:
+                    yield found
         except OSError as error:
             yield Dump(entry.path, error=error.strerror)
+
+
+def _file_among(entry: os.DirEntry[str], directory: str, stems: set[str]) -> Dump | None:
+    """The dump of an entry that is no directory, or what is wrong with it; None of a file that is no dump."""
+    if entry.is_dir():
+        return Dump(entry.path, error="a link to a directory, which is not followed: name it too")
+    if entry.is_symlink() and not os.path.exists(entry.path):
+        return Dump(entry.path, error="a link to nothing that can be seen")
+    if _ENDING.search(entry.name):
+        return Dump(entry.path, is_below=True, error=None if entry.is_file() else "not a regular file")
+    if _HALF.search(entry.name):
+        return Dump(entry.path, error="not whole: unpack left it so", is_fault=True)
+    if _METADATA.search(entry.name) and _METADATA.sub("", entry.name) not in stems:
+        stem = _stem_wanted(entry.path)
+        if stem is not None and stem not in stems:
+            return Dump(os.path.join(directory, f"{stem}.bson"), error=f"missing: only {entry.name} is there", is_fault=True)
+    elif is_whole_archive(entry.path):
+        return Dump(entry.path, is_below=True)
+    elif _ARCHIVE.search(entry.name):
+        return Dump(entry.path, error="no archive, by its first bytes", is_fault=True)
+    return None
 
 
 def text_lines(path: File) -> list[str]:
@@ -162,27 +185,13 @@ def read_log(lines: Iterable[str]) -> Log:
     return Log(documents, oplog)
 
 
-def is_oplog(name: str) -> bool:
-    """Whether a file is the oplog of mongodump --oplog: it stands beside the directories of databases, without metadata."""
-    if member := member_of(name):
-        return member.namespace == _OPLOG
-    directory, base = os.path.split(os.path.abspath(name))
-    if base not in ("oplog.bson", "oplog.bson.gz") or _metadata_beside(name):
-        return False
-    try:
-        with os.scandir(directory) as entries:
-            return any(entry.is_dir() for entry in entries)
-    except OSError:
-        return False  # Then it is a collection, of which the log must speak.
-
-
 def namespace_of(name: str) -> str:
     """The database and the collection whose dump a file is: by its directory, and by its name or the metadata beside it.
 
     mongodump shortens the name of a file whose collection has a long name, so the name in the metadata decides.
     """
     if is_oplog(name):
-        return str(_OPLOG)
+        return str(OPLOG)
     member = member_of(name)
     directory, base = os.path.split(os.path.abspath(name))
     stem = member.namespace.collection if member else _ENDING.sub("", base)
@@ -190,13 +199,13 @@ def namespace_of(name: str) -> str:
         return unquote(stem[1:])  # The users and roles of one database are dumped beside it.
     if member:
         return str(member.namespace)
-    metadata, _ = _read_metadata(name)
+    metadata, _ = read_metadata(name)
     collection = (metadata or {}).get("collectionName")
     return f"{os.path.basename(directory)}.{collection if isinstance(collection, str) else unquote(stem)}"
 
 
 def place_of(name: str) -> str | None:
-    """The directory that has those of the databases, one of which has a dump, or the oplog; None where that is not known."""
+    """The directory that has those of the databases, one of which has a dump, or the oplog; None if that is not known."""
     directory, base = os.path.split(name)
     directory = os.path.realpath(directory)
     if is_oplog(name):
@@ -212,41 +221,13 @@ def is_inside(place: str, places: set[str]) -> bool:
 def stem_of(namespace: Namespace) -> str:
     """The name of a file by mongodump for a collection, below its directory and without an ending.
 
-    A collection without a database, and one of a database that begins with "$", stands at the top.
+    A collection without a database, and one of a database that begins with "$", is at the top.
     """
     escaped = quote(namespace.collection, _UNESCAPED)
     if len(escaped) > _LONGEST_STEM:
         digest = urlsafe_b64encode(sha1(namespace.collection.encode()).digest()).decode().rstrip("=")
         escaped = f"{escaped[:_KEPT]}%24{digest}"
-    return escaped if _is_at_top(namespace) else os.path.join(os.fsdecode(namespace.database.encode()), escaped)
-
-
-def _is_at_top(namespace: Namespace) -> bool:
-    return not namespace.database or namespace.database.startswith("$")
-
-
-def fault_of_metadata(name: str, is_below: bool) -> str | None:
-    """What is wrong with the metadata beside a dump, from which mongorestore takes indexes and options.
-
-    Below a directory there must be some, but for the oplog and the like. A file that is named by itself may have none.
-    """
-    metadata, error = _read_metadata(name)
-    if error:
-        return error
-    is_bare = not is_below or _BARE.match(os.path.basename(name)) or is_oplog(name)
-    return None if metadata is not None or is_bare else f"no {os.path.basename(_metadata_names(name)[0])} beside it"
-
-
-def fault_of_listed(listed: Listed) -> str | None:
-    """What is wrong with the metadata that an archive has of a collection. That of the oplog and the like is empty."""
-    if not listed.metadata:
-        is_bare = _is_at_top(listed.namespace) or _BARE.match(f"{listed.namespace.collection}.bson")
-        return None if is_bare else "none in the archive"
-    try:
-        metadata = json.loads(listed.metadata)
-    except (ValueError, RecursionError) as error:
-        return str(error)
-    return None if isinstance(metadata, dict) else "not a document"
+    return escaped if is_at_top(namespace) else os.path.join(os.fsdecode(namespace.database.encode()), escaped)
 
 
 def _stem_wanted(path: str) -> str | None:
@@ -254,7 +235,7 @@ def _stem_wanted(path: str) -> str | None:
 
     That of a time series is the dump of its buckets.
     """
-    found, _ = _read(path)
+    found, _ = read_metadata_file(path)
     stem, metadata = _METADATA.sub("", os.path.basename(path)), found or {}
     kind, options = metadata.get("type"), metadata.get("options")
     keys = {*options} if isinstance(options, dict) else set()
@@ -266,31 +247,6 @@ def _stem_wanted(path: str) -> str | None:
     return stem_of(Namespace("", f"system.buckets.{collection if isinstance(collection, str) else unquote(stem)}"))
 
 
-def _metadata_names(name: str) -> list[str]:
-    stem = _ENDING.sub("", name)
-    return [f"{stem}.metadata.json", f"{stem}.metadata.json.gz"]
-
-
-def _metadata_beside(name: str) -> str | None:
-    """The file of metadata of a dump, where there is one."""
-    return next((it for it in _metadata_names(name) if os.path.lexists(it)), None)
-
-
-def _read_metadata(name: str) -> tuple[dict[str, Any] | None, str | None]:
-    """The metadata of a dump, or what is wrong with it; nothing where there is none."""
-    path = _metadata_beside(name)
-    return (None, None) if path is None else _read(path)
-
-
-def _read(path: str) -> tuple[dict[str, Any] | None, str | None]:
-    """The metadata of a file, or what is wrong with it."""
-    base = os.path.basename(path)
-    try:
-        with open(path, "rb") as file:
-            data = file.read()
-        metadata = json.loads(b"".join(unpacked([data])) if path.endswith(".gz") else data)
-    except OSError as error:
-        return None, f"{base}: {error.strerror}"
-    except (DumpError, ValueError, RecursionError) as error:
-        return None, f"{base}: {error}"
-    return (metadata, None) if isinstance(metadata, dict) else (None, f"{base}: not a document")
+def stem_of_file(name: str) -> str:
+    """The name of the file of a dump, without an ending."""
+    return _ENDING.sub("", name)

@@ -3,19 +3,22 @@
 from __future__ import annotations
 
 import os
-from collections import Counter, deque
+from collections import Counter
 from hashlib import blake2b
 from typing import Callable, Iterable, Iterator, NamedTuple, Sequence
 
+from .._dumps.checking import checking, faults_of, finish_check
+from .._dumps.elements import value_at
 from .._dumps.files import is_whole_archive
-from .._dumps.framing import LONGEST, is_length
-from .._dumps.printing import Printing
-from .._dumps.sources import Source
-from .._errors import BsonfindError
+from .._dumps.framing import LONGEST, inputs, is_length
+from .._dumps.printing import texts_of_values
+from .._dumps.sources import Input, Source
+from .._errors import BsonfindError, DumpError
 from .backups import dumps_below
-from .fields import field_of, id_of
 from .sorting import Sorter
 
+# How many keys, or bytes of keys, are printed at once.
+_MOST_KEYS, _MOST_BYTES = 1000, 1 << 22
 # How documents differ, in the order in which they are counted.
 KINDS = ("same", "changed", "removed", "added")
 
@@ -25,7 +28,7 @@ class CompareError(BsonfindError):
 
 
 class Pair(NamedTuple):
-    """The names of two dumps of one collection, None where there is none, and the name that both have in their directories."""
+    """The names of two dumps of one collection, None if there is none, and the name that both have in their directories."""
 
     name: str
     first: str | None
@@ -60,7 +63,7 @@ NOTHING = Comparison((0, 0), Counter())
 
 
 def pairs_of(first: str, second: str) -> tuple[list[Pair], list[CompareError]]:
-    """The pairs of two dumps, or of the dumps below two directories, and what cannot be seen there."""
+    """The pairs of two dumps, or of the dumps below two directories, and what cannot be found there."""
     if not os.path.isdir(first) and not os.path.isdir(second):
         return [Pair(second, first, second)], []
     for name, other in ((first, second), (second, first)):
@@ -89,25 +92,57 @@ def pairs_of(first: str, second: str) -> tuple[list[Pair], list[CompareError]]:
 def compare(pair: Pair, path: str, program: str, say: Callable[[str], None]) -> Comparison:
     """Compares the documents of two dumps, which belong together by the value at a path; `say` gets what differs.
 
-    Documents are the same where their bytes are. The order of documents does not count, that of fields does.
+    Documents are the same if their bytes are, and so are values. The order of documents does not count, that of fields does.
     """
     if pair.first is None or pair.second is None:
         return _one_alone(pair, program, say)
-    names = path.split(".")
+    names = [name.encode() for name in path.split(".")]
     documents = [0, 0]
     with Sorter() as sorter:
         for side, name in enumerate((pair.first, pair.second)):
             mark = b"\t%d\n" % side
-            for batch in _documents(name, program):
-                documents[side] += len(batch)
-                for line, digest in batch:
-                    key = id_of(line) if path == "_id" else field_of(line, names)
-                    # Texts of JSON have no tab. Documents without a key come first.
-                    sorter.add(b"%s\t%s%s" % (key or b"", digest, mark))
-        return _compare_sorted(sorter.all(), (documents[0], documents[1]), path, say)
+
+            def take(document: bytes, mark: bytes = mark) -> None:
+                # The key comes first, in digits, so that lines are sorted by it. Documents without a key come before all others.
+                key = (value_at(document, names) or b"").hex().encode()
+                sorter.add(b"%s\t%s%s" % (key, blake2b(document, digest_size=16).hexdigest().encode(), mark))
+
+            documents[side] = _each_document(name, program, take)
+        with _Keys(program, say) as keys:
+            return _compare_sorted(sorter.all(), (documents[0], documents[1]), path, keys)
 
 
-def _compare_sorted(lines: Iterator[bytes], documents: tuple[int, int], path: str, say: Callable[[str], None]) -> Comparison:
+class _Keys:
+    """Lines that name keys, whose texts some at once are made by one run."""
+
+    def __init__(self, program: str, say: Callable[[str], None]) -> None:
+        self._program, self._say = program, say
+        self._waiting: list[tuple[str, bytes, str]] = []
+        self._size = 0
+
+    def say(self, before: str, key: bytes = b"", after: str = "") -> None:
+        """Prints a line of a text, a key and another text."""
+        self._waiting.append((before, key, after))
+        self._size += len(key)
+        if len(self._waiting) >= _MOST_KEYS or self._size >= _MOST_BYTES:
+            self._print()
+
+    def _print(self) -> None:
+        lines, self._waiting, self._size = self._waiting, [], 0
+        values = [bytes.fromhex(key.decode()) for _, key, _ in lines if key]
+        texts = iter(texts_of_values(values, self._program) if values else ())
+        for before, key, after in lines:
+            self._say(f"{before}{next(texts) if key else ''}{after}")
+
+    def __enter__(self) -> _Keys:
+        return self
+
+    def __exit__(self, kind: object, *_: object) -> None:
+        if kind is None:
+            self._print()
+
+
+def _compare_sorted(lines: Iterator[bytes], documents: tuple[int, int], path: str, keys: _Keys) -> Comparison:
     """Compares the sorted lines of two dumps."""
     kinds: Counter[str] = Counter()
     repeated = without = 0
@@ -121,13 +156,13 @@ def _compare_sorted(lines: Iterator[bytes], documents: tuple[int, int], path: st
             counts = {"changed": changed, "removed": removed - changed, "added": added - changed}
             if max(first, second) > 1:
                 repeated += sum(count for count in (first, second) if count > 1)
-                say(f"repeated {key.decode()}: {first} and {second} documents")
+                keys.say("repeated ", key, f": {first} and {second} documents")
             for kind, count in counts.items():
                 for _ in range(count):
-                    say(f"{kind} {key.decode()}")
+                    keys.say(f"{kind} ", key)
         else:
             counts, without = {"removed": removed, "added": added}, first + second
-            say(f"without {path}: {first} and {second} documents, {removed} removed, {added} added")
+            keys.say(f"without {path}: {first} and {second} documents, {removed} removed, {added} added")
         kinds.update(counts, same=same)
     return Comparison(documents, kinds, repeated, without)
 
@@ -163,40 +198,41 @@ def _one_alone(pair: Pair, program: str, say: Callable[[str], None]) -> Comparis
     """The counts of a dump that only one of two directories has."""
     name, kind = (pair.first, "removed") if pair.second is None else (pair.second, "added")
     assert name is not None
-    count = sum(map(len, _documents(name, program)))
+    count = _each_document(name, program, lambda _: None)
     say(f"{kind} with all of its {count} documents")
     return Comparison((count, 0) if kind == "removed" else (0, count), Counter({kind: count}), alone=1)
 
 
-def _documents(name: str, program: str) -> Iterator[list[tuple[bytes, bytes]]]:
-    """The lines of the documents of a dump, each with a digest of its bytes. What is wrong with it is raised with its name.
-
-    A line alone does not do: it may be that of two documents, as the double 1.5 and {"$numberDouble":"1.5"} have one text.
-    """
-    digests: deque[bytes] = deque()
+def _each_document(name: str, program: str, take: Callable[[bytes], None]) -> int:
+    """Has the documents of a dump checked as they pass on, and gives their number. What is wrong is raised with its name."""
+    documents = 0
     try:
         with Source(name) as source:
-            for lines in Printing(program).of_pieces(_digested(source.pieces(), digests)):
-                yield [(line, digests.popleft()) for line in lines]
+            for offset, first, pieces in inputs(source.pieces()):
+                with checking(Input(offset, first, None, _taken(pieces, take)), program) as run:
+                    for fault in faults_of(run):
+                        moved = fault.moved(first, offset)
+                        raise DumpError(str(moved), moved)
+                    documents = first + finish_check(run)
     except (BsonfindError, OSError) as error:
         raise CompareError(f"{name}: {getattr(error, 'strerror', None) or error}") from None
+    return documents
 
 
-def _digested(pieces: Iterable[bytes], digests: deque[bytes]) -> Iterator[bytes]:
-    """The pieces as they pass, with the digests of their documents. After a wrong length, which is refused, there is none."""
-    held, is_wrong = bytearray(), False
+def _taken(pieces: Iterable[bytes], take: Callable[[bytes], None]) -> Iterator[bytes]:
+    """The pieces as they pass, whose documents are taken. After a wrong length, which is a fault, none is."""
+    rest, is_wrong = b"", False
     for piece in pieces:
-        held += piece
-        at = 0
-        with memoryview(held) as view:
-            while not is_wrong and at + 4 <= len(view):
-                length = int.from_bytes(view[at : at + 4], "little")
-                is_wrong = not is_length(length, LONGEST)
-                if is_wrong or at + length > len(view):
-                    break
-                digests.append(blake2b(view[at : at + length], digest_size=16).hexdigest().encode())
-                at += length
-        del held[: len(held) if is_wrong else at]
+        data = rest + piece if rest else piece
+        at, size = 0, len(data)
+        while not is_wrong and at + 4 <= size:
+            length = int.from_bytes(data[at : at + 4], "little")
+            is_wrong = not is_length(length, LONGEST)
+            if is_wrong or at + length > size:
+                break
+            take(data[at : at + length])
+            at += length
+        rest = b"" if is_wrong else data[at:]
         yield piece
 
 

@@ -3,7 +3,7 @@
 from __future__ import annotations
 
 import re
-from json.decoder import JSONDecoder, scanstring
+from json.decoder import JSONDecoder, scanstring  # type: ignore[attr-defined]
 from typing import Sequence
 
 _value_at = JSONDecoder().raw_decode
@@ -12,13 +12,13 @@ _ID = re.compile(rb'\{"_id":(\{"\$(?:oid":"[0-9a-f]{24}|number(?:Int|Long)":"-?[
 
 
 def id_of(line: bytes) -> bytes | None:
-    """The text of the id, None where a document has none."""
+    """The text of the id, None if a document has none."""
     found = _ID.match(line)
     return found.group(1) if found else field_of(line, ["_id"])
 
 
 def field_of(line: bytes, names: Sequence[str]) -> bytes | None:
-    """The text of the value to which the names of fields lead, from document to document; None where they lead to none.
+    """The text of the value to which the names of fields lead, from document to document; None if they lead to none.
 
     Of two fields of one name it is the first.
     """
@@ -32,7 +32,7 @@ def field_of(line: bytes, names: Sequence[str]) -> bytes | None:
 
 
 def _value_of(text: str, at: int, name: str) -> int | None:
-    """Where the value of a field of the document there begins. No white space stands between its fields."""
+    """Where the value of a field of the document there begins. No white space is between its fields."""
     if not text.startswith('{"', at):
         return None
     while text[at] != "}":

@@ -15,18 +15,19 @@ from .._ask.copies import Asked, Questions, compares_wide, originals, try_reques
 from .._ask.requests import Request
 from .._ask.steps import Reading
 from .._dumps.checking import is_wide
-from .._dumps.printing import Batches
+from .._dumps.printing import Batches, lines_of_documents
 from .._dumps.sources import Source
 from .._errors import BsonfindError, CommandError, DumpError
 from .._run.processes import Dump
 from .fields import id_of
 from .query import MOST_HELD, moved
 
-# So many ids are asked for at once: each document that is found is compared with half of them.
+# This many ids are asked for at once: each document that is found is compared with half of them.
 _AT_ONCE = 1000
 _OID = re.compile(r"[0-9a-fA-F]{24}")
 _WHOLE = re.compile(r"-?[0-9]+")
-# Names of values whose parts may stand in any order: in an object of their own, or beside one another.
+_LONGEST_NUMBER = 4000
+# Names of values whose parts may be in any order: in an object of their own, or beside one another.
 _PARTS, _CODE = ("$binary", "$timestamp", "$regularExpression", "$dbPointer"), ("$code", "$scope")
 
 
@@ -115,7 +116,9 @@ def _value_of(pairs: list[tuple[str, Any]]) -> Any:
 
 
 def _number(text: str) -> Any:
-    """A whole number or a double, by its value."""
+    """A whole number or a double, by its value. What is longer than any number that is read is refused by the program."""
+    if len(text) > _LONGEST_NUMBER:
+        return {"number": text}
     return _exact(Decimal(int(text) if _WHOLE.fullmatch(text) else float(text)))
 
 
@@ -123,20 +126,24 @@ def _exact(value: Decimal) -> Any:
     return {"number": "%x/%x" % Fraction(value).as_integer_ratio() if value.is_finite() else str(value)}
 
 
-def find_ids(path: str, ids: Ids, program: str, take: Callable[[list[bytes]], None]) -> list[str]:
-    """Passes the documents on that have one of the ids, and gives the lines of which there is none."""
+def find_ids(path: str, ids: Ids, program: str, take: Callable[[list[bytes]], None], is_bson: bool = False) -> list[str]:
+    """Passes the documents on that have one of the ids, and gives the lines of which there is none.
+
+    Documents are passed on as lines, or with `is_bson` as they are in the dump.
+    """
     found: set[str] = set()
     try:
-        for lines in _lines(path, ids, program, ids.refuse_bad(program)):
+        for documents in _documents(path, ids, program, ids.refuse_bad(program) or is_bson, is_bson):
+            lines = lines_of_documents(documents, program) if is_bson else documents
             found.update(_key((id_of(line) or b"null").decode()) for line in lines)
-            take([line + b"\n" for line in lines])
+            take(documents if is_bson else [line + b"\n" for line in lines])
     except DumpError as error:
         raise DumpError(f"{path}: {error}", error.fault) from None
     return ids.missing(found)
 
 
-def _lines(path: str, ids: Ids, program: str, is_copied: bool) -> Batches:
-    """The lines of all documents, of one input after the other; from the first on that needs a copy, by copies."""
+def _documents(path: str, ids: Ids, program: str, is_copied: bool, is_bson: bool) -> Batches:
+    """All documents, or their lines, of one input after the other; from the first on that needs a copy, by copies."""
     copied_from = 0 if is_copied else None
     with Source(path) as source:
         for part in source.inputs(MOST_HELD) if copied_from is None else ():
@@ -155,7 +162,7 @@ def _lines(path: str, ids: Ids, program: str, is_copied: bool) -> Batches:
                 with Questions(original, program) as questions:
                     questions.create_index("_id", False)
                     for texts in ids.chunks():
-                        for lines in _answer(questions.asked(_request(texts))):
+                        for lines in _answer(questions.asked(_request(texts), is_bson)):
                             source.check()
                             yield lines
             except DumpError as error:
@@ -163,8 +170,8 @@ def _lines(path: str, ids: Ids, program: str, is_copied: bool) -> Batches:
 
 
 def _answer(asked: Asked) -> Batches:
-    """The lines that answer a request."""
-    reading = Reading(asked.request, "auto", steps.FIRST_BATCH, None, "bytes", asked.documents_of("bytes"))
+    """The lines that answer a request, or the documents as they are."""
+    reading: Reading[bytes] = Reading(asked.request, "auto", steps.FIRST_BATCH, None, "bytes", asked.documents_of("bytes"))
     asked.connection.do(reading.start())
     while not reading.is_at_end:
         asked.connection.do(reading.read_on())

@@ -29,7 +29,7 @@ class Found(NamedTuple):
 
 
 def query_dumps(dumps: Sequence[Dump], request: Request, jobs: int, program: str) -> Iterator[Found]:
-    """The documents of dumps that match, in the order of the dumps; so many are asked at once. A refused request is raised."""
+    """The documents of dumps that match, in the order of the dumps; this many are asked at once. A refused request is raised."""
     try_request(request, program)
     is_copied = compares_wide(request)
     group = Group()

@@ -6,8 +6,10 @@ import heapq
 import tempfile
 from typing import IO, Iterable, Iterator
 
-# So many lines are sorted in memory, and so many files of sorted lines are merged at once.
-_MOST_LINES, _MOST_RUNS = 1 << 18, 64
+from .._errors import ProgramError
+
+# This many lines, or bytes of lines, are sorted in memory, and this many files of sorted lines are merged at once.
+_MOST_LINES, _MOST_BYTES, _MOST_RUNS = 1 << 18, 1 << 25, 64
 
 
 class Sorter:
@@ -15,14 +17,17 @@ class Sorter:
 
     def __init__(self) -> None:
         self._lines: list[bytes] = []
+        self._size = 0
         self._runs: list[IO[bytes]] = []
 
     def add(self, line: bytes) -> None:
         """Takes a line, with its newline."""
         self._lines.append(line)
-        if len(self._lines) >= _MOST_LINES:
-            self._write(sorted(self._lines))
-            self._lines = []
+        self._size += len(line)
+        if len(self._lines) >= _MOST_LINES or self._size >= _MOST_BYTES:
+            self._lines.sort()
+            self._write(self._lines)
+            self._lines, self._size = [], 0
             if len(self._runs) == _MOST_RUNS:
                 runs, self._runs = self._runs, []
                 self._write(heapq.merge(*runs))
@@ -30,13 +35,17 @@ class Sorter:
 
     def all(self) -> Iterator[bytes]:
         """All lines, in the order of their bytes."""
-        return heapq.merge(*self._runs, sorted(self._lines))
+        self._lines.sort()
+        return iter(heapq.merge(*self._runs, self._lines))
 
     def _write(self, lines: Iterable[bytes]) -> None:
-        run = tempfile.TemporaryFile()
-        self._runs.append(run)
-        run.writelines(lines)
-        run.seek(0)
+        try:
+            run = tempfile.TemporaryFile()
+            self._runs.append(run)
+            run.writelines(lines)
+            run.seek(0)
+        except OSError as error:
+            raise ProgramError(f"cannot sort in {tempfile.gettempdir()}: {error.strerror}: TMPDIR names another directory") from error
 
     def __enter__(self) -> Sorter:
         return self
@@ -47,4 +56,7 @@ class Sorter:
 
 def _close(runs: Iterable[IO[bytes]]) -> None:
     for run in runs:
-        run.close()
+        try:
+            run.close()
+        except OSError:
+            pass  # What was not written is not read.

@@ -6,12 +6,13 @@ import os
 from concurrent.futures import Future, ThreadPoolExecutor
 from typing import Callable, Iterator
 
-from .._dumps.archive import Archive, Documents, End, Namespace
+from .._dumps.archive import Archive, Documents, End
+from .._dumps.archive_frames import Namespace
 from .._dumps.sources import Source
 from .._errors import DumpError
 from .._run.processes import close
 
-# So many collections may have begun and not ended. mongodump writes four at once, or as many as its option says.
+# This many collections may have begun and not ended. mongodump writes four at once, or as many as its option says.
 MOST_AT_ONCE = 64
 Read = Callable[[Namespace, Source], None]
 

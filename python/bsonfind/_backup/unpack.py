@@ -5,9 +5,11 @@ from __future__ import annotations
 import os
 from contextlib import ExitStack, nullcontext, suppress
 from dataclasses import dataclass
-from typing import Callable, ContextManager, Iterator, NamedTuple
+from typing import Callable, ContextManager, Iterator, NamedTuple, Sequence
 
-from .._dumps.archive import Archive, Documents, End, Listed, Namespace
+from .._dumps.archive import Archive, Documents, End, Listed, why_none
+from .._dumps.archive_frames import Namespace
+from .._dumps.files import member_of
 from .._dumps.gzip import UnpackError
 from .._dumps.outputs import NewOutput, refuse_there
 from .._dumps.sources import Source
@@ -15,7 +17,7 @@ from .._errors import ArgumentError, DumpError, FileError
 from .._names import File, name_of
 from .backups import stem_of
 
-# The endings of a file, and those that it has while it is not whole. The longest name by mongodump has room for them.
+# The endings of a file, and those that it has while it is not whole. The longest name by mongodump has space for them.
 _DOCUMENTS = ".bson", ".bson.part"
 _METADATA = ".metadata.json", ".metadata.part"
 
@@ -52,42 +54,64 @@ def unpack(
     archive: File,
     directory: File = "dump",
     *,
+    only: Sequence[str] | None = None,
     with_crc: bool = True,
     say: Callable[[str], None] | None = None,
     progress: Callable[[Source], ContextManager[object]] = nullcontext,
 ) -> Unpacked:
     """Writes the collections of an archive to DIRECTORY/db/collection.bson, each with its `.metadata.json` beside it.
 
+    With `only`, such as `["db.collection"]`, or of the name "ARCHIVE::db.collection", these are written and no others.
+
     The archive is read once; `-` is standard input. It may be one by `--gzip`. The end of each collection is checked, and its
     CRC-64 unless `with_crc` is false. Files get their names at the end, when all was read. One of a collection that is not whole
     keeps the ending `.part`. Nothing that is there is replaced. `say` gets what the command prints of each collection, at the end.
 
     What is no archive is a `DumpError`, and so is one whose list of collections is damaged. A file that is there, or that cannot be
-    written, is a `FileError`. Then nothing is left behind.
+    written, is a `FileError`. Then no file is left.
     """
     name, place = name_of(archive), name_of(directory)
+    if not place:
+        raise ArgumentError("the name of the directory is empty")
+    if not (only is None or isinstance(only, (list, tuple)) and only and all(isinstance(it, str) for it in only)):
+        raise ArgumentError(f'only has names such as ["db.collection"], not {only!r}')
     if not (isinstance(with_crc, bool) and callable(progress) and (say is None or callable(say))):
         raise ArgumentError("with_crc is True or False, say and progress are functions")
     with ExitStack() as files:
         try:
             source = files.enter_context(Source(name))
             files.enter_context(progress(source))
-            work = _Unpacking(Archive(source.raw(), with_crc), place, files)
+            member = member_of(name)
+            wanted = None if only is None else [Namespace.of(it) for it in only]
+            if member:
+                wanted = [member.namespace, *(wanted or [])]
+            work = _Unpacking(Archive(source.raw(), with_crc), place, wanted, source.mode, files)
             work.write_all()
         except DumpError as error:
             raise DumpError(f"{name}: {error}", error.fault) from error
-        done = work.finish()
+        done = work.name_all()
         if say:
             for line in work.lines():
                 say(line)
-        return done
+    return done
 
 
 class _Unpacking:
     """An archive on its way to files."""
 
-    def __init__(self, archive: Archive, directory: str, stack: ExitStack) -> None:
-        self._archive, self._directory, self._stack = archive, directory, stack
+    def __init__(
+        self, archive: Archive, directory: str, only: list[Namespace] | None, mode: int | None, stack: ExitStack
+    ) -> None:
+        self._archive, self._directory, self._mode, self._stack = archive, directory, mode, stack
+        # The collections that are written, None if all are; the documents of a time series are in another one.
+        self._only: set[Namespace] | None = None
+        if only is not None:
+            listed = {it.namespace: it for it in archive.listed}
+            for namespace in only:
+                if namespace not in listed and not any(namespace == it.buckets for it in archive.listed):
+                    raise DumpError(why_none(archive.listed, namespace))
+            series = [it.buckets for it in archive.listed if it.namespace in only and it.kind == "timeseries"]
+            self._only = {*only, *series}
         self._collections: dict[Namespace, Collection] = {}
         # The files of documents and of metadata, and those of them that are whole.
         self._files: dict[Namespace, NewOutput] = {}
@@ -96,10 +120,11 @@ class _Unpacking:
         self._error: str | None = None
 
     def write_all(self) -> None:
-        """Writes all files. What is there is refused before anything is written, as far as the list tells."""
-        for listed in self._archive.listed:
+        """Writes all files. What is there is refused before anything is written, as far as the list says."""
+        wanted = [it for it in self._archive.listed if self._is_wanted(it.namespace)]
+        for listed in wanted:
             refuse_there(*(self._name(listed.namespace) + ending for ending in (*_DOCUMENTS, *_METADATA)))
-        for listed in self._archive.listed:
+        for listed in wanted:
             self._write_metadata(listed)
         for block in self._blocks():
             if isinstance(block, Documents):
@@ -107,17 +132,20 @@ class _Unpacking:
                 collection = self._collections[block.namespace]
                 collection.documents += block.ended
                 collection.size += len(block.data)
-            else:
+            elif self._is_wanted(block.namespace):
                 self._end(block)
-        for namespace in self._archive.unended():
+        for namespace in filter(self._is_wanted, self._archive.unended()):
             self._collection(namespace).error = "no end"
             if namespace in self._files:
                 self._files[namespace].complete()
 
+    def _is_wanted(self, namespace: Namespace) -> bool:
+        return self._only is None or namespace in self._only
+
     def _blocks(self) -> Iterator[Documents | End]:
         """The blocks of the archive up to what cannot be read, which is noted."""
         try:
-            yield from self._archive.blocks()
+            yield from self._archive.blocks(self._only)
         except (UnpackError, OSError) as error:
             self._error = (error.strerror if isinstance(error, OSError) else None) or str(error)
 
@@ -164,7 +192,10 @@ class _Unpacking:
             except OSError as error:
                 raise FileError(error.errno, error.strerror, directory) from None
             self._stack.callback(_remove_empty, directory)
-        return self._stack.enter_context(NewOutput(*(name + ending for ending in endings)))
+        whole, part = (name + ending for ending in endings)
+        file = NewOutput(whole, part, self._mode)
+        self._stack.enter_context(file)
+        return file
 
     def lines(self) -> Iterator[str]:
         """What is printed of the collections."""
@@ -175,7 +206,7 @@ class _Unpacking:
             elif it.error:
                 yield f"{it.name}: {error}no documents"
 
-    def finish(self) -> Unpacked:
+    def name_all(self) -> Unpacked:
         """Gives all files that are whole their names, and leaves the others: from here on none is deleted.
 
         A name that something else has by now is noted, and the file keeps the one that it has.

@@ -6,17 +6,30 @@ import sys
 import threading
 import time
 from contextlib import contextmanager
-from typing import Iterator
 
-from .._dumps.sources import Source
+# As `typing.TYPE_CHECKING`, without `typing`, which takes long to import.
+TYPE_CHECKING = False
+if TYPE_CHECKING:
+    from typing import Iterator
 
+    from .._dumps.sources import Source
+
+# What is before a message.
+NAME = "bsonkit"
 _UNITS = ((10**12, "TB"), (10**9, "GB"), (10**6, "MB"), (10**3, "kB"))
+# Characters that a terminal obeys, or that end a line, as they are printed.
+_CONTROL = {it: f"\\x{it:02x}" for it in (*range(0x20), 0x7F)}
 # The seconds between two lines of progress.
 _TICK = 0.5
 
 
 class CannotWrite(Exception):
     """Standard output takes no more."""
+
+
+def visible(text: str) -> str:
+    """A line in which no character of the name of a file is a command for the terminal, or the beginning of another line."""
+    return text.translate(_CONTROL)
 
 
 def print_text(text: str, end: str = "\n") -> None:
@@ -38,7 +51,7 @@ class Console:
         """Prints a line."""
         with self._lock:
             self._clear()
-            print_text(text)
+            print_text(visible(text))
 
     def documents(self, lines: list[bytes]) -> None:
         """Prints lines as they are."""
@@ -51,17 +64,17 @@ class Console:
 
     def problem(self, text: str) -> None:
         """Prints what is wrong on standard error."""
-        self.note(f"bsonfind: {text}")
+        self.note(f"{NAME}: {text}")
 
     def note(self, text: str) -> None:
         """Prints a line on standard error."""
         with self._lock:
             self._clear()
             if sys.stderr is not None:
-                print(text, file=sys.stderr, flush=True)
+                print(visible(text), file=sys.stderr, flush=True)
 
     def progress(self, text: str) -> None:
-        """Shows how far it is, in place of what was shown before; nothing where standard error is no terminal."""
+        """Prints how far it is, in place of what was printed before; nothing where standard error is no terminal."""
         with self._lock:
             self._clear()
             if self.on_terminal:

@@ -2,6 +2,7 @@
 
 from __future__ import annotations
 
+import os
 import sys
 from dataclasses import dataclass, replace
 from typing import Any, Sequence
@@ -41,10 +42,12 @@ class Finding:
 
     def print(self, program: str, console: Console) -> bool:
         """Prints the documents as lines of JSON, or as they are; gives whether the dump has no fault."""
+        if os.path.isdir(self.name):
+            raise DumpError(f"cannot read {self.name}: it is a directory: query asks all dumps below one")
         query = read_query(self.request.filter, paths_of(self.request))
         try:
             with Source(self.name, is_named=True) as source:
-                is_own = not (self.is_bson or self.copy) and not (query and query.is_wide) and source.size is not None
+                is_own = not (self.is_bson or self.copy or self.request.is_long) and not (query and query.is_wide) and source.size is not None
                 if is_own and not begins_wide(source, program) and self._print_own(source, program):
                     return True
                 self._print_by_copy(source, program, console, is_own)

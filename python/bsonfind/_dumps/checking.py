@@ -13,6 +13,8 @@ from .._run.program import wide_beside
 from .sources import Input, Source
 
 _COUNTED = re.compile(r"(\d+) documents, (\d+) faulty\n")
+_VERSION = re.compile(r"bsonwide (\S+)\n")
+_PIECE = 1 << 10
 # What `order` says that is read no more.
 NOT_READ = "bsonwide: cannot write"
 # The faults that `bsonfind` alone reports.
@@ -80,6 +82,17 @@ def checking(given: Input, program: str, group: Group | None = None) -> Run:
 
 
 def try_program(program: str) -> None:
-    """Has the program check nothing, so that one that cannot be started is reported before anything else is done."""
-    with checking(Input(0, 0, None, None), program) as run:
-        finish_check(run)
+    """Refuses a program that cannot be started or that is of another version than the package, before anything else is done."""
+    from .. import __version__
+
+    wide = wide_beside(program)
+    with Run([wide, "--version"]) as run:
+        told = run.stdout.read(_PIECE).decode(errors="replace")
+        status, said = run.wait(), run.messages()
+        if status or said:
+            raise run.error()
+    found = _VERSION.fullmatch(told)
+    if not found:
+        raise ProgramError(f"{wide} is not bsonwide: it printed {told[:60]!r}")
+    if found[1] != __version__:
+        raise ProgramError(f"{wide} is of version {found[1]}, and the package of Python of version {__version__}: install one version of both")

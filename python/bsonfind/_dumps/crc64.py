@@ -12,7 +12,7 @@ import zlib
 
 from .._errors import BsonfindError
 
-# The most bytes of a chunk, and what stands before one: of the first, and of those after it.
+# The most bytes of a chunk, and what is before one: of the first, and of those after it.
 _CHUNK = 1 << 16
 _FIRST, _NEXT = 1, 2
 _chunk_header = struct.Struct(">BH").pack

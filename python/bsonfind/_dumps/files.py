@@ -12,17 +12,18 @@ from typing import BinaryIO, Iterator, NamedTuple
 from .._errors import DumpError
 from .._names import File, name_of
 from . import gzip
-from .archive import Namespace, documents_of, is_archive
+from .archive import documents_of, is_archive
+from .archive_frames import Namespace
 
 _PIECE = 1 << 20
-# As many bytes as tell what a file is.
+# As many bytes as say what a file is.
 _HEAD = 1 << 12
-# What stands between the name of an archive and that of a collection in it.
+# What is between the name of an archive and that of a collection in it.
 INSIDE = "::"
 
 
 class FileState(NamedTuple):
-    """What tells whether a file is still the same: its size, the time of its last change, its inode and device, and the time of the
+    """What says whether a file is still the same: its size, the time of its last change, its inode and device, and the time of the
     last change of these or of its names or rights.
     """
 
@@ -55,16 +56,16 @@ class Member(NamedTuple):
 
 
 def member_of(path: File) -> Member | None:
-    """The collection of an archive that a name is of, None where it is the name of a file or of nothing that is there."""
+    """The collection of an archive that a name is of, None if it is the name of a file or of nothing that is there."""
     name = name_of(path)
     if INSIDE in name and not os.path.lexists(name):
-        at = name.find(INSIDE)
+        # The longest name that an archive has.
+        at = name.rfind(INSIDE)
         while at >= 0:
             archive, inside = name[:at], name[at + len(INSIDE) :]
             if inside and os.path.exists(archive) and not os.path.isdir(archive):
-                database, dot, collection = inside.partition(".")
-                return Member(archive, Namespace(database, collection) if dot else Namespace("", inside))
-            at = name.find(INSIDE, at + 1)
+                return Member(archive, Namespace.of(inside))
+            at = name.rfind(INSIDE, 0, at)
     return None
 
 
@@ -79,9 +80,14 @@ def is_whole_archive(path: File) -> bool:
     return False
 
 
-def refuse_archive(name: str) -> None:
-    """Refuses an archive where a dump is read."""
-    if is_whole_archive(name):
+def begins_as_archive(file: BinaryIO, start: int = 0) -> bool:
+    """Whether an open regular file is an archive, by its first bytes."""
+    return is_archive(os.pread(file.fileno(), _HEAD, start))
+
+
+def refuse_archive(name: str, file: BinaryIO, start: int = 0) -> None:
+    """Refuses an open regular file that is an archive, if a dump is read."""
+    if begins_as_archive(file, start):
         raise DumpError(f"an archive: name one of its collections, {name}{INSIDE}db.collection, or unpack it")
 
 
@@ -116,7 +122,7 @@ def not_opened(path: File, error: OSError) -> DumpError:
 
 
 def unpacked(path: File) -> Iterator[bytes]:
-    """The bytes of a dump that is packed, in pieces. One that is cut, damaged or empty is a `DumpError`."""
+    """The bytes of a dump that is packed, in pieces. One that is truncated, damaged or empty is a `DumpError`."""
     with opened(path) as file:
         yield from unpacked_of(path, pieces_of(file, path))
 
@@ -128,7 +134,7 @@ def unpacked_of(path: File, pieces: Iterator[bytes]) -> Iterator[bytes]:
 
 
 def pieces_of(file: BinaryIO, path: File) -> Iterator[bytes]:
-    """The bytes of an open file from where it stands; a read that fails is a `DumpError`."""
+    """The bytes of an open file from where it is; a read that fails is a `DumpError`."""
     try:
         while piece := read_some(file, _PIECE):
             yield piece

@@ -17,12 +17,12 @@ _length_at = struct.Struct("<i").unpack_from
 
 
 def is_length(length: int, left: int) -> bool:
-    """Whether a document of that length may begin where so many bytes are left."""
+    """Whether a document of that length may begin where this many bytes are left."""
     return SHORTEST <= length <= min(LONGEST, left)
 
 
 def read_at(file: BinaryIO, at: int, most: int, least: int = 1) -> bytes:
-    """Some bytes of a file at a place; an error where the file no longer has so many."""
+    """Some bytes of a file at a place; an error where the file no longer has this many."""
     piece = os.pread(file.fileno(), most, at)
     if len(piece) < least:
         raise DumpError(f"no bytes at byte {at}: the file became shorter")
@@ -30,15 +30,15 @@ def read_at(file: BinaryIO, at: int, most: int, least: int = 1) -> bytes:
 
 
 def walk(file: BinaryIO, start: int = 0, end: int | None = None) -> Iterator[int]:
-    """The place after each document that stands from a place on, by its length alone.
+    """The place after each document from a place on, by its length alone.
 
     A length that is wrong is a `DumpError`; its fault counts documents from the first that was passed. The file is read a piece
-    at a time, and long documents are passed over. No map of the file is made, since the system ends a program that looks at a map
+    at a time, and long documents are skipped. No map of the file is made, since the system ends a program that looks at a map
     of a file that shrinks.
     """
     end = os.fstat(file.fileno()).st_size if end is None else end
     at, number = start, 0
-    # The piece that is held, where it begins, and the last place in it of a whole length.
+    # The piece that is kept, where it begins, and the last place in it of a whole length.
     piece, base, last = b"", start, start - 1
     while at < end:
         if at > last:
@@ -55,7 +55,7 @@ def walk(file: BinaryIO, start: int = 0, end: int | None = None) -> Iterator[int
 
 
 def inputs(pieces: Iterable[bytes], most: int | None = None) -> Iterator[tuple[int, int, Iterator[bytes]]]:
-    """Cuts bytes between documents, as they pass, into inputs of at most so many bytes, or of as many as a run can read.
+    """Splits bytes between documents, as they pass, into inputs of at most this many bytes, or of as many as a run can read.
 
     Each input comes with the offset and the number of its first document, and is read to its end before the next one begins. A
     longer document is an input by itself. Only the lengths are looked at: with a wrong one the last input begins.
@@ -64,7 +64,7 @@ def inputs(pieces: Iterable[bytes], most: int | None = None) -> Iterator[tuple[i
 
 
 class _Inputs:
-    """A stream of bytes that is cut between documents."""
+    """A stream of bytes that is split between documents."""
 
     def __init__(self, pieces: Iterable[bytes], most: int) -> None:
         self._pieces, self._most = iter(pieces), most
@@ -97,7 +97,7 @@ class _Inputs:
         self._is_passed_on = True
 
     def _read(self) -> bool:
-        """Reads the next piece; False where there is none."""
+        """Reads the next piece; False if there is none."""
         for piece in self._pieces:
             if piece:
                 self._held += piece
@@ -105,7 +105,7 @@ class _Inputs:
         return False
 
     def _size(self, start: int) -> tuple[int, bool]:
-        """How many of the bytes that are held belong to the input that began there, and whether it ends with them."""
+        """How many of the bytes that are kept belong to the input that began there, and whether it ends with them."""
         held, most = self._held, start + self._most - self._offset
         if self._is_wrong:
             return len(held), False

@@ -26,7 +26,7 @@ def unpacked(pieces: Iterable[bytes]) -> Iterator[bytes]:
         is_empty, data = False, b""
         while piece or len(data) == _UNPACKED:
             if unpack.eof:
-                # Zeros may stand between two parts of the file, and after the last one.
+                # Zeros may be between two parts of the file, and after the last one.
                 piece = piece.lstrip(b"\0")
                 if not piece:
                     break

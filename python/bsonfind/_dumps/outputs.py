@@ -1,4 +1,4 @@
-"""Files that a command writes, which get their names at the end."""
+"""Files that a command writes: they are opened first, written beside their names, and get these at the end."""
 
 from __future__ import annotations
 
@@ -37,19 +37,24 @@ def is_same(one: str, other: str) -> bool:
 class Output:
     """A file that is written under another name beside it, and gets its name at the end. A device or pipe is written as it is."""
 
-    def __init__(self, name: str) -> None:
+    def __init__(self, name: str, mode: int | None = None) -> None:
+        """A file that is there keeps its rights; a new one may be given those of what it is a copy of."""
         self.name = name
         self._path = self._beside = os.path.realpath(name)
-        there = os.stat(name) if os.path.exists(name) else None
         try:
+            refuse_no_file(name)
+            there = os.stat(name) if os.path.exists(name) else None
             if there and not stat.S_ISREG(there.st_mode):
                 self._path = self._beside = name
                 self._file = open(name, "wb")
                 return
-            self._beside = f"{self._path}.{os.urandom(4).hex()}.new"
+            if there and _is_standard_output(there):
+                raise OSError(errno.EBUSY, "it is standard output", name)
+            self._beside = os.path.join(os.path.dirname(self._path), f".{os.urandom(8).hex()}.new")
             self._file = open(self._beside, "xb")
-            if there:
-                os.chmod(self._beside, stat.S_IMODE(there.st_mode))
+            mode = stat.S_IMODE(there.st_mode) if there else mode
+            if mode is not None:
+                os.chmod(self._beside, mode)
         except OSError as error:
             raise self._named(error) from None
 
@@ -98,12 +103,14 @@ class Output:
 class NewOutput(Output):
     """A file that is written under the name of a part, and gets its own at the end. Nothing may be there of either name."""
 
-    def __init__(self, name: str, part: str) -> None:
+    def __init__(self, name: str, part: str, mode: int | None = None) -> None:
         self.name = self._path = name
         self._beside = part
         refuse_there(name, part)
         try:
             self._file = open(self._beside, "xb")
+            if mode is not None:
+                os.chmod(self._beside, mode)
         except OSError as error:
             raise self._named(error) from None
 
@@ -139,6 +146,25 @@ class NewOutput(Output):
     def keep(self) -> None:
         """Leaves the file the name that it has, unless it gets its own."""
         self._path = self._beside
+
+
+def refuse_no_file(name: str) -> None:
+    """Refuses what is no name of a file that can be written: an empty one, as of a variable that is not set, and a directory."""
+    if not name:
+        raise FileError(errno.ENOENT, "an empty name", "''")
+    if os.path.isdir(name) or name.endswith(os.sep):
+        raise FileError(errno.EISDIR, os.strerror(errno.EISDIR), name)
+
+
+def _is_standard_output(there: os.stat_result) -> bool:
+    """Whether a file is what standard output or standard error is written to: it would be replaced, and what is printed lost."""
+    for number in (1, 2):
+        try:
+            if os.path.samestat(os.fstat(number), there):
+                return True
+        except OSError:
+            continue  # It is closed.
+    return False
 
 
 def refuse_there(*names: str) -> None:

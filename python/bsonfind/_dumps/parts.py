@@ -1,4 +1,4 @@
-"""Parts of a dump, which are cut between documents."""
+"""Parts of a dump, which are split between documents."""
 
 from __future__ import annotations
 
@@ -8,11 +8,11 @@ import struct
 from dataclasses import dataclass, field
 from typing import BinaryIO, Iterable, Iterator
 
-from .._ask.requests import whole
 from .._errors import DumpError
 from .._faults import Fault
 from .._names import File, name_of
-from .files import FileState, is_packed, opened, refuse_archive, unpacked
+from .._numbers import whole
+from .files import FileState, is_packed, member_of, opened, refuse_archive, unpacked
 from .framing import LONGEST, SHORTEST, walk
 
 # What a part has at most where nothing else is asked for; a run of `find` holds its part in memory.
@@ -69,7 +69,7 @@ class Part:
             yield piece
 
     def _check_state(self, file: BinaryIO) -> None:
-        """Refuses a file that is no longer the one that was cut."""
+        """Refuses a file that is no longer the one that was split."""
         if not self.state:
             return
         now = FileState.of(file)
@@ -105,16 +105,18 @@ def _between(pieces: Iterator[bytes], start: int, end: int) -> Iterator[bytes]:
 
 
 def plan(path: File, most: int = MOST) -> list[Part]:
-    """Cuts a file of any size between documents into parts of at most so many bytes; a longer document is a part by itself.
+    """Splits a file of any size between documents into parts of at most this many bytes; a longer document is a part by itself.
 
     Nothing but the lengths is looked at. Where one is wrong there is no plan, but a `DumpError` that gives the byte. A file by
     `mongodump --gzip` is unpacked for the plan, and again from its beginning for each part.
     """
     whole("most", most, 1, LARGEST)
     name = name_of(path)
-    refuse_archive(name)
-    parts, start, first, at, number = [], 0, 0, 0, 0
+    parts: list[Part] = []
+    start = first = at = number = 0
     with opened(name) as file:
+        if member_of(name) is None and stat.S_ISREG(os.fstat(file.fileno()).st_mode):
+            refuse_archive(name, file)
         state = FileState.of(file)
         for number, after in enumerate(_ends(name, file)):
             if after - start > most and at > start:
@@ -127,7 +129,7 @@ def plan(path: File, most: int = MOST) -> list[Part]:
 
 
 def _ends(name: str, file: BinaryIO) -> Iterator[int]:
-    """The place after each document of a file. What has no size, such as a pipe, cannot be cut: each part opens it again."""
+    """The place after each document of a file. What has no size, such as a pipe, cannot be split: each part opens it again."""
     if not stat.S_ISREG(os.fstat(file.fileno()).st_mode):
         raise DumpError(f"{name} is no regular file")
     try:
@@ -138,7 +140,7 @@ def _ends(name: str, file: BinaryIO) -> Iterator[int]:
 
 def ends_in(pieces: Iterable[bytes]) -> Iterator[int]:
     """The place after each document of bytes that pass, by its length alone; a length that is wrong is a `DumpError`."""
-    # The bytes from the next length on, how many passed, where the next length stands, and where the last document begins.
+    # The bytes from the next length on, how many passed, where the next length is, and where the last document begins.
     held, seen, at, start, number = b"", 0, 0, 0, 0
     for piece in pieces:
         held, seen = held + piece, seen + len(piece)

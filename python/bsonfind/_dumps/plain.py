@@ -9,7 +9,7 @@ from typing import Iterator
 from .framing import LONGEST, SHORTEST
 from .parts import Part, PartError
 
-# The names that begin an object of Extended JSON which stands for another value.
+# The names that begin an object of Extended JSON which represents another value.
 _WRAPPERS = re.compile(
     rb"\$(?:binary|code|date|dbPointer|maxKey|minKey|numberDecimal|numberDouble|numberInt|numberLong|oid|regularExpression"
     rb"|scope|symbol|timestamp|undefined|uuid)\0"
@@ -67,7 +67,7 @@ def _refuse_wrappers(part: Part, at: int, documents: bytes) -> None:
 
 
 def _first_names(document: bytes) -> Iterator[int]:
-    """Where the first name of each document stands: of this one, and of those in it. After a fault, there is none."""
+    """Where the first name of each document is: of this one, and of those in it. After a fault, there is none."""
     at = 4
     yield at + 1
     while at < len(document):

@@ -5,11 +5,12 @@ from __future__ import annotations
 import re
 import subprocess
 from io import BufferedReader
-from typing import Generator, Iterable
+from typing import Generator, Iterable, Sequence
 
 from .._errors import DumpError, ProgramError
-from .._run.processes import Run
+from .._run.processes import Group, Run
 from .._run.program import wide_beside
+from .elements import document_with
 from .sources import Input, Source
 
 Batches = Generator["list[bytes]", None, None]
@@ -31,10 +32,6 @@ class Printing:
             yield from self._of(source.inputs())
             source.check()
 
-    def of_pieces(self, pieces: Iterable[bytes]) -> Batches:
-        """The lines of some bytes, as they come."""
-        return self._of([Input(0, 0, None, iter(pieces))])
-
     def _of(self, parts: Iterable[Input]) -> Batches:
         for part in parts:
             with part.run(self._words, stdout=self._stdout) as run:
@@ -50,12 +47,26 @@ class Printing:
                     raise DumpError(str(fault), fault) from None
 
 
+def lines_of_documents(documents: Sequence[bytes], program: str, group: Group | None = None) -> list[bytes]:
+    """The lines of some documents, by one run. A fault is a `DumpError` that counts in these documents."""
+    with Run([wide_beside(program), "dump", "-"], documents, group=group) as run:
+        lines = [line for batch in lines_of(run.stdout) for line in batch]
+        refuse_other_count(finish_dump(run), len(documents))
+    return lines
+
+
+def texts_of_values(values: Sequence[bytes], program: str, group: Group | None = None) -> list[str]:
+    """The texts of values as `dump` prints them, each by a document that has it alone."""
+    lines = lines_of_documents([document_with(b"", it) for it in values], program, group)
+    return [line[len('{"":') : -1].decode() for line in lines]
+
+
 def finish_dump(run: Run) -> int:
     """Waits for the end of a run of `dump`, and gives the number of documents; raises the error of a run that did not end well."""
     return int(run.finish(_FOUND).group(1))
 
 
-def refuse_other(documents: int, wanted: int) -> None:
+def refuse_other_count(documents: int, wanted: int) -> None:
     """Refuses another number of documents than was given to a run, as after one that was killed."""
     if documents != wanted:
         raise ProgramError(f"dump printed {documents} documents in place of {wanted}")

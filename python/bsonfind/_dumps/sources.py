@@ -10,7 +10,7 @@ from .._errors import DumpError
 from .._names import File, name_of
 from .._run.processes import Dump, Run
 from . import framing
-from .files import FileState, file_of, is_packed, not_opened, read_some, refuse_archive, unpacked_of
+from .files import FileState, begins_as_archive, file_of, is_packed, member_of, not_opened, read_some, refuse_archive, unpacked_of
 
 _PIECE = 1 << 18
 
@@ -31,7 +31,7 @@ class Input(NamedTuple):
 class Source:
     """A dump that is open by one descriptor. Its size is that of the file as it is on the disk, None for a pipe or a device.
 
-    The name `-` is that of standard input, which is read from where it stands. A file can be read as often as is needed, and is
+    The name `-` is that of standard input, which is read from where it is. A file can be read as often as is needed, and is
     refused once it is no longer as it was when it was opened. A pipe with a name is opened once it is read, since that waits.
 
     The errors do not name it, unless that is asked for: whoever reads many adds the name.
@@ -42,15 +42,17 @@ class Source:
         self._is_named = is_named
         self._file: BinaryIO | None = None
         self.size: int | None = None
-        # What tells whether a file is still the same.
+        # What says whether a file is still the same.
         self.state: FileState | None = None
+        # The rights of the file, None for a pipe or a device.
+        self.mode: int | None = None
         self._start = self._read = 0
         if self.name == "-" or not _is_pipe(self.name):
             status = os.fstat(self.file.fileno())
             if stat.S_ISREG(status.st_mode):
                 self._start = os.lseek(self.file.fileno(), 0, os.SEEK_CUR)
                 self.size = max(0, status.st_size - self._start)
-                self.state = FileState.of(self.file)
+                self.state, self.mode = FileState.of(self.file), stat.S_IMODE(status.st_mode)
 
     @property
     def file(self) -> BinaryIO:
@@ -71,21 +73,31 @@ class Source:
         """Whether it is a file that is read as it is, from its beginning."""
         return self.size is not None and not self.is_packed and not self._start
 
+    @property
+    def is_archive(self) -> bool:
+        """Whether it is an archive, and not one of its collections, by its first bytes. Those of a pipe would be lost."""
+        return self.size is not None and member_of(self.name) is None and begins_as_archive(self.file, self._start)
+
+    def refuse_archive(self) -> None:
+        """Refuses an archive."""
+        if self.is_archive:
+            refuse_archive(self.name, self.file, self._start)
+
     def dump(self) -> Dump:
         """What a run reads."""
         if not self.is_plain:
             return Dump(self.pieces())
-        refuse_archive(self.name)
+        self.refuse_archive()
         self.file.seek(0)
         return Dump(file=self.file)
 
     def pieces(self) -> Iterator[bytes]:
         """All bytes of the dump, unpacked where it is packed. One that is damaged is an `UnpackError` after what comes before."""
-        refuse_archive(self.name)
+        self.refuse_archive()
         return unpacked_of(self.name, self.raw()) if self.is_packed else self.raw()
 
     def inputs(self, most: int | None = None) -> Iterator[Input]:
-        """What runs read one after the other, at most so many bytes each; without a number as many as a run can read.
+        """What runs read one after the other, at most this many bytes each; without a number as many as a run can read.
 
         What goes wrong with the file is raised after the run over the bytes before it.
         """
@@ -97,7 +109,7 @@ class Source:
             if errors:
                 raise errors[0]
         else:
-            refuse_archive(self.name)
+            self.refuse_archive()
             self.file.seek(self._start)
             yield Input(0, 0, self.file, None)
             self.check()

@@ -9,9 +9,9 @@ from .._errors import BsonfindError, CommandError, DumpError, ProgramError
 from .._faults import read_fault
 
 _PREFIX = re.compile("bsonfind: |bsonwide: ")
-# A line of the loader, such as for LD_PRELOAD, which stands before the program's own.
+# A line of the loader, such as for LD_PRELOAD, which is before the program's own.
 _LOADER = re.compile("^ERROR: ld\\.so: .*\n", re.MULTILINE)
-# The words of each layer of refusals, from number 1 on; words that only a session prints are left out.
+# The texts of each layer of refusals, from number 1 on; words that only a session prints are left out.
 _WORDS = {
     "json": (
         "not JSON", "not a document", "too deep", "bad wrapper", "not in the profile", "number out of range", "zero in a name",
@@ -31,7 +31,7 @@ def own_text(told: str) -> str:
 
 
 def error_line(told: str) -> str | None:
-    """What the last line says by which the program reports an error; None where there is none."""
+    """What the last line says by which the program reports an error; None if there is none."""
     return next((line[found.end() :] for line in reversed(told.split("\n")) if (found := _PREFIX.match(line))), None)
 
 
@@ -49,7 +49,7 @@ def error_of(status: int, told: str) -> BsonfindError:
 
 
 def _refusal(line: str) -> CommandError | None:
-    """What a run of `find` refuses, with the layer and the number that a session tells."""
+    """What a run of `find` refuses, with the layer and the number that a session says."""
     found = _REFUSAL.fullmatch(line)
     if not found:
         return None

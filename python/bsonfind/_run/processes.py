@@ -7,12 +7,12 @@ import io
 import os
 import re
 import subprocess
-import tempfile
 import threading
 from typing import IO, Any, BinaryIO, Callable, Iterable, NamedTuple, Sequence
 
 from .._errors import ArgumentError, BsonfindError, OtherProcessError, ProgramError, TimedOutError
 from .messages import error_of, own_text
+from .program import located
 
 # As many bytes as a pipe of Linux holds.
 _BUFFER = 1 << 16
@@ -44,7 +44,7 @@ class Group:
             if self.is_ended:
                 raise self.error or ProgramError("not started: what it is for was ended")
             try:
-                process = subprocess.Popen([words[0], *(it.encode() for it in words[1:])], **streams)
+                process = subprocess.Popen([located(words[0]), *(it.encode() for it in words[1:])], **streams)
             except (OSError, TypeError, ValueError) as error:
                 raise start_error(words[0], error) from error
             self._processes.add(process)
@@ -64,7 +64,7 @@ class Group:
                 process.kill()
 
     def end_after(self, timeout: float) -> None:
-        """Ends the group once so many seconds have passed, unless `rest` comes first."""
+        """Ends the group once this many seconds have passed, unless `rest` comes first."""
         self._timer = threading.Timer(timeout, self.end, [TimedOutError(f"no answer within {timeout:g} seconds")])
         self._timer.daemon = True
         self._timer.start()
@@ -86,9 +86,9 @@ def start_error(program: object, error: OSError | TypeError | ValueError) -> Bso
 
 
 def file_for_messages(program: object) -> IO[bytes]:
-    """A file without a name for standard error, so that no message is too long for a pipe."""
+    """A file in memory for standard error, so that no message is too long for a pipe, and no disk is too full for it."""
     try:
-        return tempfile.TemporaryFile()
+        return open(os.memfd_create("messages"), "w+b")
     except OSError as error:
         raise start_error(program, error) from error
 
@@ -140,7 +140,7 @@ class Run:
     def serving(cls, dump: Dump, program: str, group: Group | None = None) -> Run:
         """A run of `serve`, which reads commands from its standard input, and the dump from another descriptor.
 
-        Ctrl-C at the terminal reaches the caller alone, so that the session can go on after it.
+        Ctrl-C at the terminal reaches the caller alone, so that the session can continue after it.
         """
         run = cls.__new__(cls)
         streams = {"stdin": subprocess.PIPE, "stdout": subprocess.PIPE, "bufsize": _BUFFER, "start_new_session": True}
@@ -256,7 +256,8 @@ class Descriptor:
     def __init__(self, dump: Dump) -> None:
         self._dump = dump
         self._pipe: IO[bytes] | None = None
-        self.word, self.passed = os.devnull, ()
+        self.word = os.devnull
+        self.passed: tuple[int, ...] = ()
 
     def __enter__(self) -> Descriptor:
         if self._dump.file is not None:
