@@ -164,7 +164,7 @@ class AsyncSessions(Room, unittest.IsolatedAsyncioTestCase):
         async with AsyncSession(PEOPLE, PROGRAM) as session:
             cursor = session.find()
             with mock.patch("os.getpid", return_value=1):
-                for ask in (session.count_documents, session.close, cursor.__anext__, cursor.token, cursor.close):
+                for ask in (session.count_documents, session.close, cursor.__anext__, lambda: cursor.token, cursor.close):
                     with self.assertRaises(OtherProcessError):
                         await ask()
             self.assertEqual(await session.count_documents(), 500)

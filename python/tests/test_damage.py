@@ -1,7 +1,6 @@
 """Tests of questions over damaged dumps with doubles, which are asked by a copy: each is refused, also where the damage is elsewhere."""
 
 import random
-import struct
 from concurrent.futures import ThreadPoolExecutor
 from typing import Iterator
 

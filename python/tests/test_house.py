@@ -5,7 +5,6 @@ import shutil
 import subprocess
 import sys
 import unittest
-from pathlib import Path
 from typing import Dict, Iterator, Set, Tuple
 
 from .support import PACKAGE, PEOPLE, environment

@@ -6,10 +6,9 @@ import os
 import subprocess
 import sys
 import tempfile
-import threading
 from decimal import Decimal
 from types import MappingProxyType
-from typing import Dict, List
+from typing import Dict
 from unittest import mock
 
 from bsonfind import (
@@ -30,12 +29,11 @@ from bsonfind._ask.requests import text_of
 from bsonfind._ask.values import plain_document
 from bsonfind._backup.sorting import Sorter
 from bsonfind._dumps.files import member_of
-from bsonfind._dumps.outputs import Output
 from bsonfind._errors import ProgramError
 
 from .archives import archive
 from .bson import document, field, text
-from .support import DAMAGED, DOUBLE, PATIENCE, PEOPLE, PEOPLE_LINES, PROGRAM, ROOT, SHOP, SHOP_LINES, Room, environment, packed, run_package, wait_for
+from .support import DAMAGED, PEOPLE, PEOPLE_LINES, PROGRAM, ROOT, SHOP, SHOP_LINES, Room, environment, packed, run_package
 
 ARCHIVE = ROOT / "examples/backup.archive"
 

@@ -5,7 +5,7 @@ import json
 import os
 import struct
 import threading
-from typing import List, Tuple
+from typing import List
 from unittest import mock
 
 from bsonfind._ask.requests import Request

@@ -5,7 +5,7 @@ from __future__ import annotations
 import asyncio
 from typing import Any, AsyncIterator, Awaitable, Callable, TypeVar, overload
 
-from .._errors import BsonfindError, CancelledError
+from .._errors import CancelledError
 from .._names import File
 from . import steps
 from .aio_connection import AsyncConnection

@@ -14,9 +14,9 @@ from urllib.parse import quote, unquote
 
 from .._dumps.archive_frames import Namespace
 from .._dumps.files import file_of, is_whole_archive, member_of
-from .._errors import DumpError, FileError
+from .._errors import FileError
 from .._names import File, name_of
-from .metadata import OPLOG, is_at_top, is_oplog, metadata_beside, read_metadata, read_metadata_file
+from .metadata import OPLOG, is_at_top, is_oplog, read_metadata, read_metadata_file
 
 _ENDING = re.compile(r"\.bson(\.gz)?$")
 _METADATA = re.compile(r"\.metadata\.json(\.gz)?$")

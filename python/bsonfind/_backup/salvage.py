@@ -5,14 +5,12 @@ from __future__ import annotations
 import os
 from collections import deque
 from contextlib import ExitStack, nullcontext
-from typing import Callable, ContextManager, Iterable, Iterator, NamedTuple
+from typing import Callable, ContextManager, NamedTuple
 
-from .._dumps.checking import checking, faults_of, finish_check, try_program
-from .._dumps.framing import LONGEST, SHORTEST
+from .._dumps.checking import try_program
 from .._dumps.outputs import Output, refuse_names
-from .._dumps.sources import Input, Source
+from .._dumps.sources import Source
 from .._errors import ArgumentError, DumpError
-from .._faults import Fault, NO_DAMAGE
 from .._names import File, name_of
 from .._run.processes import Run, processors
 from .beginnings import Beginnings, Check
