@@ -29,7 +29,7 @@ sys.path.insert(0, str(Path(__file__).resolve().parents[1]))
 from support import PROGRAM, ROOT
 
 # What a command writes, and a word of it that may name a file.
-WRITTEN = re.compile(r"\d?>>?\s*\S+|\bmv \S+ \S+|\btee \S+|\bof=\S+|--(?:good|bad|missing) \S+")
+WRITTEN = re.compile(r"\d?>>?\s*\S+|\bmv \S+ \S+|\btee \S+|\bof=\S+|--(?:good|bad|missing|out) \S+")
 WORD = re.compile(r"(?<![\w./$*-])(?<!bsonfind )(?<!bsonwide )(?<!bsonkit )\w[\w./*-]*")
 FUNCTION = re.compile(r"(\w+)\(\) \{")
 # Programs that see a damaged file; cp, head and others take it as it is.
@@ -58,8 +58,10 @@ class Shell:
     LOOP = 'while IFS= read -rd "" command; do eval "$command" </dev/null >"$0" 2>&1; echo $?; done'
 
     def __init__(self, room: Path, printed: Path) -> None:
-        kit = printed.with_name("bsonkit")
-        kit.write_text('#!/bin/sh\nexec python3 -m bsonfind "$@"\n', encoding="utf-8")
+        # As `make install` puts it, with the way to the package here.
+        kit = printed.parent / "bin/bsonkit"
+        kit.parent.mkdir(exist_ok=True)
+        kit.write_text((ROOT / "packaging/bsonkit").read_text(encoding="ascii").replace("@PACKAGES@", f"{ROOT}/python"), encoding="utf-8")
         kit.chmod(0o755)
         env = {**os.environ, "PATH": f"{kit.parent}:{PROGRAM.parent}:{os.environ['PATH']}", "PYTHONPATH": f"{ROOT}/python", "LC_ALL": "C"}
         env["PYTHONDONTWRITEBYTECODE"] = "1"
