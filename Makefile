@@ -1,4 +1,4 @@
-# make            builds the programs, ./bsonfind and ./bsonwide; with ANEW=1 from nothing, whatever was proved before
+# make            builds the programs, ./bsonfind and ./bsonwide, and leaves ./bsonkit; with ANEW=1 from nothing, whatever was proved before
 # make look       prints the documents of FILE, examples/shop.bson without it, by the program as it stands, with no proof
 # make test       passes all tests
 # make quick      passes what needs no proof, over the programs that are built or installed, in a few minutes
@@ -6,7 +6,7 @@
 # make edits      tries wrong bodies, of CRATE alone where it is given, on all processors but one: the proofs must refuse each
 # make reference  writes docs/REFERENCE.md from the sources
 # make bench      times the commands over a dump of MB megabytes, 20 without it, of documents of a KIND, mixed without it, and draws docs/performance.svg; of several MB how cost grows
-# make install    puts the programs, their man pages, completions, licence, documents and package of Python below PREFIX
+# make install    puts the programs, bsonkit, their man pages, completions, licence, documents and package of Python below PREFIX
 # make uninstall  takes them away
 # make deb        builds the programs, and puts the same files in a package of Debian, below dist
 # make dist       builds the programs, and puts the same files in a tar.gz, below dist
@@ -29,11 +29,14 @@ ZSH = $(SHARE)/zsh/site-functions
 FISH = $(SHARE)/fish/vendor_completions.d
 # Where the Python at hand looks for packages below PREFIX.
 PACKAGE = $(DESTDIR)$(shell $(PYTHON) tools/packages.py "$(PREFIX)")/bsonfind
-MODULES = python/bsonfind/*.py python/bsonfind/py.typed python/bsonfind/VERSION
+# The way from the commands to that place, which bsonkit goes.
+WAY = $(shell $(PYTHON) -c 'import os, sys; print(os.path.relpath(os.path.dirname(sys.argv[1]), sys.argv[2]))' "$(PACKAGE)" "$(BIN)")
+FOLDERS = $(shell cd python/bsonfind && find . -type d ! -name __pycache__)
+MODULES = $(shell cd python/bsonfind && find . -name '*.py' -o -name py.typed -o -name VERSION)
 
 .PHONY: all build look test quick lint edits reference bench install uninstall deb dist clean
 
-all: build
+all: build bsonkit
 
 # Proves what has changed, as many crates side by side as there are processors and memory, and leaves ./bsonfind and ./bsonwide.
 build:
@@ -49,6 +52,10 @@ bsonfind:
 
 bsonwide: | bsonfind
 	$(MAKE) build
+
+# The command of the package, as it stands here.
+bsonkit: packaging/bsonkit
+	@sed 's|@PACKAGES@|python|' packaging/bsonkit >bsonkit.new && chmod 755 bsonkit.new && mv bsonkit.new bsonkit
 
 test:
 	@tests/all.sh
@@ -75,18 +82,22 @@ install: bsonfind bsonwide
 	install -m 644 docs/*.md docs/*.svg "$(DOC)/docs"
 	install -m 644 examples/* "$(DOC)/examples"
 	install -m 644 python/README.md "$(DOC)/python"
-	install -m 644 man/bsonfind.1 man/bsonwide.1 "$(MAN)"
-	sed -i 's/^\.Os$$/.Os bsonfind $(VERSION)/' "$(MAN)/bsonfind.1" "$(MAN)/bsonwide.1"
+	install -m 644 man/bsonfind.1 man/bsonwide.1 man/bsonkit.1 "$(MAN)"
+	sed -i 's/^\.Os$$/.Os bsonfind $(VERSION)/' "$(MAN)/bsonfind.1" "$(MAN)/bsonwide.1" "$(MAN)/bsonkit.1"
 	install -m 644 completions/bsonfind.bash "$(BASH)/bsonfind"
 	install -m 644 completions/bsonwide.bash "$(BASH)/bsonwide"
-	install -m 644 completions/_bsonfind completions/_bsonwide "$(ZSH)"
-	install -m 644 completions/bsonfind.fish completions/bsonwide.fish "$(FISH)"
-	if command -v $(PYTHON) >/dev/null; then install -d "$(PACKAGE)" && install -m 644 $(MODULES) "$(PACKAGE)" && \
-	  $(PYTHON) python/backend.py "$(PACKAGE)/.."; fi
+	install -m 644 completions/bsonkit.bash "$(BASH)/bsonkit"
+	install -m 644 completions/_bsonfind completions/_bsonwide completions/_bsonkit "$(ZSH)"
+	install -m 644 completions/bsonfind.fish completions/bsonwide.fish completions/bsonkit.fish "$(FISH)"
+	if command -v $(PYTHON) >/dev/null; then for it in $(FOLDERS); do install -d "$(PACKAGE)/$$it" || exit; done && \
+	  for it in $(MODULES); do install -m 644 "python/bsonfind/$$it" "$(PACKAGE)/$$it" || exit; done && \
+	  $(PYTHON) python/backend.py "$(PACKAGE)/.." && install -m 755 packaging/bsonkit "$(BIN)" && \
+	  sed -i 's|@PACKAGES@|$(WAY)|' "$(BIN)/bsonkit"; fi
 
 uninstall:
 	rm -f "$(BIN)/bsonfind" "$(MAN)/bsonfind.1" "$(BASH)/bsonfind" "$(ZSH)/_bsonfind" "$(FISH)/bsonfind.fish"
 	rm -f "$(BIN)/bsonwide" "$(MAN)/bsonwide.1" "$(BASH)/bsonwide" "$(ZSH)/_bsonwide" "$(FISH)/bsonwide.fish"
+	rm -f "$(BIN)/bsonkit" "$(MAN)/bsonkit.1" "$(BASH)/bsonkit" "$(ZSH)/_bsonkit" "$(FISH)/bsonkit.fish"
 	rm -f "$(DOC)/LICENSE" "$(DOC)/CHANGELOG.md" "$(DOC)/CONTRIBUTING.md" "$(DOC)/README.md" "$(DOC)/SECURITY.md" "$(DOC)/GUIDE.md"
 	rm -rf "$(DOC)/docs" "$(DOC)/examples" "$(DOC)/python"
 	rmdir "$(DOC)" 2>/dev/null || true
@@ -97,5 +108,5 @@ deb dist: build
 	@$(PYTHON) tools/dist.py $@
 
 clean:
-	rm -f bsonfind bsonwide
+	rm -f bsonfind bsonwide bsonkit
 	rm -rf crates/*/out dist

@@ -85,7 +85,7 @@ def information() -> dict[str, bytes]:
 
 def modules() -> dict[str, bytes]:
     """Return the files of the package itself."""
-    files = [*HERE.glob("bsonfind/*.py"), HERE / "bsonfind/py.typed", HERE / "bsonfind/VERSION"]
+    files = [*HERE.glob("bsonfind/**/*.py"), HERE / "bsonfind/py.typed", HERE / "bsonfind/VERSION"]
     return {str(it.relative_to(HERE)): it.read_bytes() for it in sorted(files)}
 
 

@@ -34,7 +34,11 @@ DEBIAN_NAMES = {
     "usr/share/doc/bsonfind/LICENSE": "usr/share/doc/bsonfind/copyright",
     "usr/share/zsh/site-functions/_bsonfind": "usr/share/zsh/vendor-completions/_bsonfind",
     "usr/share/zsh/site-functions/_bsonwide": "usr/share/zsh/vendor-completions/_bsonwide",
+    "usr/share/zsh/site-functions/_bsonkit": "usr/share/zsh/vendor-completions/_bsonkit",
 }
+PROGRAMS = ("bsonfind", "bsonwide")
+# The command that is a script, and its first line in a package of Debian, which names the system's Python.
+SCRIPT, FIRST_LINE = "usr/bin/bsonkit", "#!/usr/bin/python3"
 
 
 class Refused(Exception):
@@ -110,6 +114,8 @@ def make_deb(number: str, time: int, stage: Path) -> Path:
         (stage / debian).parent.mkdir(exist_ok=True)
         (stage / name).rename(stage / debian)
     (stage / "usr/share/zsh/site-functions").rmdir()
+    lines = (stage / SCRIPT).read_text(encoding="ascii").split("\n")
+    (stage / SCRIPT).write_text("\n".join([FIRST_LINE, *lines[1:]]), encoding="ascii")
     documents = stage / "usr/share/doc/bsonfind"
     (documents / "CHANGELOG.md").unlink()
     packed = {documents / "changelog": debian_changelog(maintainer).encode()}
@@ -128,7 +134,7 @@ def make_deb(number: str, time: int, stage: Path) -> Path:
     architecture = ask.stdout.strip()
     # As dpkg-gencontrol counts: whole KiB of each file, and one for each folder.
     size = sum((it.stat().st_size + 1023) // 1024 for it in files) + folders
-    depends = needed(sorted((stage / "usr/bin").iterdir()))
+    depends = needed([stage / "usr/bin" / it for it in PROGRAMS])
     told = {"VERSION": number, "ARCHITECTURE": architecture, "SIZE": size, "DEPENDS": depends}
     sums = "".join(f"{hashlib.md5(it.read_bytes()).hexdigest()}  {it.relative_to(stage)}\n" for it in files)
     control = stage / "DEBIAN"

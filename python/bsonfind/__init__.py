@@ -7,61 +7,101 @@
             print(person["name"])
 
 `find`, `find_one` and `count_documents` answer one request by one run, a `Session` many of one dump, and an `AsyncSession` does
-for asyncio. `plan` cuts a dump of any size into parts, of which `find_parts`, `count_parts` and `check_parts` make one answer.
+for asyncio. `plan` splits a dump of any size into parts, of which `find_parts`, `count_parts` and `check_parts` make one answer.
 `audit` checks the dumps of a backup, and `salvage` copies what is good of a damaged one. `unpack` writes the collections of an
 archive to files; where a file is named, "ARCHIVE::db.collection" names one of them. `python3 -m bsonfind` has these and other
 commands.
 """
 
-import pkgutil
-import typing
+from __future__ import annotations
 
-from ._answers import Answer, count_documents, find, find_one
-from ._audit import Audit, Report, audit
-from ._dumps import FileState
-from ._errors import (
-    ArgumentError,
-    BsonfindError,
-    CancelledError,
-    CommandError,
-    CursorStateError,
-    DumpError,
-    FileError,
-    OtherProcessError,
-    PartError,
-    ProgramError,
-    SessionEndedError,
-    TimedOutError,
-)
-from ._faults import Fault
-from ._merge import Check, check_parts, count_parts, find_parts
-from ._ordered import prepare
-from ._parts import Part, plan
-from ._salvage import LeftOut, Salvaged, salvage
-from ._sessions import Cursor, Session
-from ._unpack import Collection, Unpacked, unpack
-from ._unpacking import UnpackError
-from ._values import ObjectId
+# What a checker of types reads in place of `typing.TYPE_CHECKING`: `typing` takes longer to import than all that is here.
+TYPE_CHECKING = False
+if TYPE_CHECKING:
+    from ._ask.aio import AsyncCursor as AsyncCursor, AsyncSession as AsyncSession
+    from ._ask.answers import Answer as Answer, count_documents as count_documents, find as find, find_one as find_one
+    from ._ask.copies import prepare as prepare
+    from ._ask.merge import Check as Check, check_parts as check_parts, count_parts as count_parts, find_parts as find_parts
+    from ._ask.sessions import Cursor as Cursor, Session as Session
+    from ._ask.values import ObjectId as ObjectId
+    from ._backup.audit import audit as audit
+    from ._backup.reports import Audit as Audit, Report as Report
+    from ._backup.salvage import LeftOut as LeftOut, Salvaged as Salvaged, salvage as salvage
+    from ._backup.unpack import Collection as Collection, Unpacked as Unpacked, unpack as unpack
+    from ._dumps.files import FileState as FileState
+    from ._dumps.gzip import UnpackError as UnpackError
+    from ._dumps.parts import Part as Part, PartError as PartError, plan as plan
+    from ._errors import (
+        ArgumentError as ArgumentError,
+        BsonfindError as BsonfindError,
+        CancelledError as CancelledError,
+        CommandError as CommandError,
+        CursorStateError as CursorStateError,
+        DumpError as DumpError,
+        FileError as FileError,
+        OtherProcessError as OtherProcessError,
+        ProgramError as ProgramError,
+        SessionEndedError as SessionEndedError,
+        TimedOutError as TimedOutError,
+    )
+    from ._faults import Fault as Fault
 
-if typing.TYPE_CHECKING:
-    from ._asyncio_sessions import AsyncCursor, AsyncSession
+    __version__: str
 
-
-def _version() -> str:
-    """Return the version, which a file beside the modules has, also in a zip."""
-    return (pkgutil.get_data(__name__, "VERSION") or b"").decode("ascii").strip()
+# Each name that is exported, by the module that has it. A module is imported once a name of it is used, so that a command imports no
+# more than it needs.
+_MODULES = {
+    "_ask.aio": ["AsyncCursor", "AsyncSession"],
+    "_ask.answers": ["Answer", "count_documents", "find", "find_one"],
+    "_ask.copies": ["prepare"],
+    "_ask.merge": ["Check", "check_parts", "count_parts", "find_parts"],
+    "_ask.sessions": ["Cursor", "Session"],
+    "_ask.values": ["ObjectId"],
+    "_backup.audit": ["audit"],
+    "_backup.reports": ["Audit", "Report"],
+    "_backup.salvage": ["LeftOut", "Salvaged", "salvage"],
+    "_backup.unpack": ["Collection", "Unpacked", "unpack"],
+    "_dumps.files": ["FileState"],
+    "_dumps.gzip": ["UnpackError"],
+    "_dumps.parts": ["Part", "PartError", "plan"],
+    "_errors": [
+        "ArgumentError",
+        "BsonfindError",
+        "CancelledError",
+        "CommandError",
+        "CursorStateError",
+        "DumpError",
+        "FileError",
+        "OtherProcessError",
+        "ProgramError",
+        "SessionEndedError",
+        "TimedOutError",
+    ],
+    "_faults": ["Fault"],
+}
+_WHERE = {name: module for module, names in _MODULES.items() for name in names}
 
 
 def __getattr__(name: str) -> object:
-    """Return `AsyncCursor` or `AsyncSession`: `asyncio`, which takes long to import, is imported for them alone."""
-    if name not in ("AsyncCursor", "AsyncSession"):
+    """Return what is exported by a name, or the version, which a file beside the modules has, also in a zip."""
+    if name == "__version__":
+        import pkgutil
+
+        value: object = (pkgutil.get_data(__name__, "VERSION") or b"").decode("ascii").strip()
+    elif name in _WHERE:
+        from importlib import import_module
+
+        value = getattr(import_module(f".{_WHERE[name]}", __name__), name)
+    else:
         raise AttributeError(f"module {__name__!r} has no attribute {name!r}")
-    from . import _asyncio_sessions
+    globals()[name] = value
+    return value
 
-    return getattr(_asyncio_sessions, name)
 
+def __dir__() -> list[str]:
+    """Return all names that are exported, those too whose modules were not imported yet."""
+    return sorted([*__all__, "__version__", *(name for name in globals() if name.startswith("__") and name != "__version__")])
 
-__version__ = _version()
 
 __all__ = [
     "Answer",

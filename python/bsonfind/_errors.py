@@ -2,11 +2,10 @@
 
 from __future__ import annotations
 
-from typing import TYPE_CHECKING
-
+# As `typing.TYPE_CHECKING`, without `typing`, which takes long to import.
+TYPE_CHECKING = False
 if TYPE_CHECKING:
     from ._faults import Fault
-    from ._parts import Part
 
 
 class BsonfindError(Exception):
@@ -60,18 +59,6 @@ class DumpError(BsonfindError):
 
     def __str__(self) -> str:
         return self.text
-
-
-class PartError(DumpError):
-    """A part that could not be asked, and why; the fault counts in the whole file."""
-
-    def __init__(self, part: Part, text: str, fault: Fault | None = None) -> None:
-        super().__init__(text, fault)
-        self.args = part, text, fault
-        self.part = part
-
-    def __str__(self) -> str:
-        return f"{self.part}: {self.text}"
 
 
 class TimedOutError(BsonfindError, TimeoutError):

@@ -13,7 +13,7 @@ OLD = {"age": {"$gte": 90}}
 class Answers(Room):
     def test_lines_and_documents(self) -> None:
         self.assertEqual(list(find(PEOPLE, decode="bytes", program=PROGRAM)), PEOPLE_LINES)
-        self.assertEqual(list(find(str(PEOPLE), limit=3, program=PROGRAM)), list(map(json.loads, PEOPLE_LINES[:3])))
+        self.assertEqual(list(find(str(PEOPLE), limit=3, decode="canonical", program=PROGRAM)), list(map(json.loads, PEOPLE_LINES[:3])))
 
     def test_pages_and_tokens(self) -> None:
         first = find(PEOPLE, OLD, sort={"name": 1}, page=5, index="age", decode="bytes", program=PROGRAM)

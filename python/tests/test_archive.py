@@ -9,9 +9,10 @@ from typing import Dict, Iterator, List, Tuple
 from unittest import mock
 
 from bsonfind import BsonfindError, DumpError, UnpackError
-from bsonfind._archive import Archive, Documents, Namespace, documents_of, is_archive
-from bsonfind._backups import stem_of
-from bsonfind._crc64 import Crc64
+from bsonfind._backup.backups import stem_of
+from bsonfind._dumps.archive import Archive, Documents, documents_of, is_archive
+from bsonfind._dumps.archive_frames import Namespace
+from bsonfind._dumps.crc64 import Crc64
 
 from .archives import END, MAGIC, archive, block, block_header, crc64, end, header, listed, prelude, string
 from .archives import documents_of as dump_documents

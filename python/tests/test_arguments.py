@@ -37,10 +37,11 @@ from .support import PEOPLE, PROGRAM, ROOT, Room
 CIRCULAR: Dict[str, Any] = {}
 CIRCULAR["again"] = CIRCULAR
 NAMES = [5, None, "a\0b", "\ud800"]
-NUMBERS = [-1, "1", 1.5, None, 1 << 63]
+NUMBERS = [-1, "1", 1.5, True, None, 1 << 63]
 # Values that no call takes, by the name of the parameter.
 BAD: Dict[str, List[Any]] = {
-    **dict.fromkeys(("path", "good", "bad", "archive", "directory"), NAMES),
+    **dict.fromkeys(("path", "good", "bad", "archive"), NAMES),
+    "directory": [*NAMES, ""],
     **dict.fromkeys(("skip", "limit", "offset", "length", "first"), NUMBERS),
     **dict.fromkeys(("page", "batch_size", "jobs"), [-1, "1", 1.5, 1 << 63]),
     **dict.fromkeys(("workers", "most"), [0, *NUMBERS]),
@@ -49,18 +50,18 @@ BAD: Dict[str, List[Any]] = {
     "max_faults": NUMBERS,
     "paths": [5, None, [], [5], "a\0b"],
     "expect": [5, "a\0b"],
-    "filter": ["name", 5, [("age", 1)], {"age": object()}, {"age": {1}}, {("age",): 1}, CIRCULAR, {"age": "x" * (1 << 24)}],
+    "filter": ["name", 5, [("age", 1)], {"age": object()}, {"age": {1}}, {("age",): 1}, {None: 1}, {"age": {7: 1}}, CIRCULAR, {"age": "x" * (1 << 24)}],
     "sort": ["name", b"name", 5, [5], [("age",)], ["name"], {"age": object()}],
     "index": ["a\0b", "\ud800", ""],
     "after": [5, "a\0b", "token"],
     "decode": ["json", None, 5],
     "program": [5, None, "a\0b"],
     "timeout": [-1, "1", float("nan"), float("inf")],
-    "use": [object(), "name", {"age": 1}],
     "uuid_representation": [5, None, [], "unspecified", "STANDARD"],
     "hint": [5, {}, [("age",)], ["age", "name"], {"age": 1, "name": 1}, {"$natural": -1}],
     "parts": [5, None, [5], "ab", Part(str(PEOPLE), 0, 5, 0)],
     **dict.fromkeys(("sparse", "with_crc"), [object(), "yes"]),
+    "only": [5, "shop.orders", [], [5]],
     "digits": [5, "5", "g" * 24],
 }
 # Parameters of which one value is as good as another: the part keeps what plan noted of its file.
@@ -140,8 +141,6 @@ class Refusals(Room):
         for results in ([], [5], None, iter([("other", 5)])):
             with self.assertRaises(BsonfindError):
                 find_parts(parts, map=lambda ask, these, results=results: results, program=PROGRAM)
-        with Session(PEOPLE, PROGRAM) as session, self.assertRaises(ArgumentError):
-            session.find(use="scan", hint="age")
         for good, bad in itertools.permutations((self.room / "new", PEOPLE), 2):
             with self.assertRaises(ArgumentError):
                 salvage(PEOPLE, good, bad, program=PROGRAM)

@@ -21,7 +21,7 @@ from bsonfind import (
     TimedOutError,
     find,
 )
-from bsonfind import _steps
+from bsonfind._ask import steps as _steps
 
 from .support import DAMAGED, PEOPLE, PEOPLE_LINES, PROGRAM, SHOP, SHOP_LINES, Room, packed
 
@@ -33,7 +33,7 @@ class AsyncSessions(Room, unittest.IsolatedAsyncioTestCase):
     async def test_answers(self) -> None:
         async with AsyncSession(PEOPLE, PROGRAM) as session:
             self.assertEqual([it async for it in session.find(decode="bytes", batch_size=7)], PEOPLE_LINES)
-            self.assertEqual([it async for it in session.find(limit=3)], list(map(json.loads, PEOPLE_LINES[:3])))
+            self.assertEqual([it async for it in session.find(limit=3, decode="canonical")], list(map(json.loads, PEOPLE_LINES[:3])))
             self.assertEqual(await session.create_index("age"), {"entries": 500, "multikey": False})
             wanted = list(find(PEOPLE, OLD, sort={"name": 1}, skip=3, limit=20, decode="bytes", program=PROGRAM))
             for hint in (None, "age", {"$natural": 1}):
@@ -54,9 +54,9 @@ class AsyncSessions(Room, unittest.IsolatedAsyncioTestCase):
     async def test_tokens(self) -> None:
         async with AsyncSession(PEOPLE, PROGRAM) as session:
             cursor = session.find(decode="bytes", batch_size=4)
-            self.assertIsNone(await cursor.token())
+            self.assertIsNone(await cursor.token)
             found = [await cursor.__anext__() for _ in range(6)]
-            found += [it async for it in session.find(decode="bytes", after=await cursor.token())]
+            found += [it async for it in session.find(decode="bytes", after=await cursor.token)]
             self.assertEqual(found, PEOPLE_LINES)
             await cursor.close()
             self.assertEqual([it async for it in cursor], [])
@@ -146,11 +146,11 @@ class AsyncSessions(Room, unittest.IsolatedAsyncioTestCase):
         async with AsyncSession(PEOPLE, PROGRAM) as session:
             cursor = session.find(batch_size=40, decode="bytes")
             found = [await cursor.__anext__() for _ in range(40)]
-            with mock.patch("bsonfind._steps.read_batch", side_effect=RuntimeError), self.assertRaises(RuntimeError):
+            with mock.patch("bsonfind._ask.steps.read_batch", side_effect=RuntimeError), self.assertRaises(RuntimeError):
                 await cursor.__anext__()
             with self.assertRaises(CursorStateError):
                 await cursor.__anext__()
-            found += [it async for it in session.find(decode="bytes", after=await cursor.token())]
+            found += [it async for it in session.find(decode="bytes", after=await cursor.token)]
             self.assertEqual(found, PEOPLE_LINES)
 
     async def test_bytes_of_a_batch(self) -> None:
@@ -164,7 +164,7 @@ class AsyncSessions(Room, unittest.IsolatedAsyncioTestCase):
         async with AsyncSession(PEOPLE, PROGRAM) as session:
             cursor = session.find()
             with mock.patch("os.getpid", return_value=1):
-                for ask in (session.count_documents, session.close, cursor.__anext__, cursor.token, cursor.close):
+                for ask in (session.count_documents, session.close, cursor.__anext__, lambda: cursor.token, cursor.close):
                     with self.assertRaises(OtherProcessError):
                         await ask()
             self.assertEqual(await session.count_documents(), 500)

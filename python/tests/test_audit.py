@@ -13,8 +13,8 @@ import threading
 from unittest import mock
 
 from bsonfind import BsonfindError
-from bsonfind._audit import audit
-from bsonfind._console import progress_of
+from bsonfind._backup.audit import audit
+from bsonfind._command.console import progress_of
 
 from .archives import archive
 from .support import DAMAGED, DOUBLE, PATIENCE, PEOPLE, PROGRAM, ROOT, SHOP, Room, environment, run_package
@@ -72,9 +72,9 @@ class Audits(Room):
         self.assertEqual(
             [line for line in lines if line.startswith(cut)],
             [
-                f'{cut}: document 275, byte {2 * len(DEEP) + 49744}, path "": bad length',
+                f'{cut}: document 275, byte {2 * len(DEEP) + 49744}, path "": bad length; _id {{"$numberInt":"273"}}',
                 f"{cut}: no damage, but not readable: 2 too deep; the first at {place}",
-                f"{cut}: 276 documents, 3 faulty",
+                f"{cut}: 275 documents and a rest of 256 bytes, 3 faulty",
             ],
         )
         rows = ("files", 3), ("documents", 1176), ("faulty", 3), ("  bad length", 1), ("  too deep (no damage)", 2)
@@ -91,9 +91,11 @@ class Audits(Room):
             if path is pipe:
                 threading.Thread(target=pipe.write_bytes, args=[data], daemon=True).start()
             lines = self.audit(str(path), status=1)
+            # What can be read of the document again is that of a file.
+            value = " 02" if path.name == "a.bson" else ""
             found = [
-                f'document 502, byte {start + 7}, path "d": bad boolean',
-                f'document 504, byte {start + len(DAMAGED + DECIMAL) + 18}, path "b": bad boolean',
+                f'document 502, byte {start + 7}, path "d": bad boolean{value}',
+                f'document 504, byte {start + len(DAMAGED + DECIMAL) + 18}, path "b": bad boolean{value}',
                 "906 documents, 2 faulty",
             ]
             self.assertEqual(lines[:3], [f"{path}: {it}" for it in found])
@@ -112,23 +114,20 @@ class Audits(Room):
         self.collection(DOUBLE * 12, "prices")
         log = self.file(f"{LOG}done dumping club.prices (12 documents)\n".encode(), "log")
         command = ["bash", str(path), str(log), self.backup]
-        run = subprocess.run(command, env=environment(), capture_output=True, text=True, timeout=PATIENCE)
+        self.script(f'exec "{sys.executable}" -m bsonfind --program "$PROGRAM" "$@"', "bin/bsonkit")
+        env = {**environment(), "PATH": f"{self.room}/bin:{os.environ['PATH']}"}
+        run = subprocess.run(command, env=env, capture_output=True, text=True, timeout=PATIENCE)
         self.assertEqual((run.returncode, run.stdout, run.stderr), (0, "", ""))
         bad = self.collection(DOUBLE * 2 + DAMAGED, "bad")
-        run = subprocess.run(command, env=environment(), capture_output=True, text=True, timeout=PATIENCE)
-        lines = [
-            f"ALARM: status 1 for {self.backup}",
-            f'{bad}: document 2, byte 39, path "d": bad boolean',
-            f"{bad}: 3 documents, 1 faulty",
-            f"{bad}: not in the log",
-        ]
-        self.assertEqual((run.returncode, run.stderr, run.stdout.splitlines()[:4]), (1, "", lines))
+        run = subprocess.run(command, env=env, capture_output=True, text=True, timeout=PATIENCE)
+        lines = [f'{bad}: document 2, byte 39, path "d": bad boolean 02', f"{bad}: 3 documents, 1 faulty", f"{bad}: not in the log"]
+        self.assertEqual((run.returncode, run.stderr, run.stdout.splitlines()[:3]), (1, "", lines))
 
     def test_most_faults_of_a_file(self) -> None:
         data = bytearray(SHOP.read_bytes())
         at, bad = 0, []
         for number in range(13):
-            bad.append(f'document {number}, byte {at + 4}, path "": unknown type')
+            bad.append(f'document {number}, byte {at + 4}, path "": unknown type 14')
             data[at + 4] = 0x14
             at += int.from_bytes(data[at : at + 4], "little")
         self.orders.write_bytes(data)
@@ -137,7 +136,7 @@ class Audits(Room):
             more = [f"and {13 - shown} more"] if shown < 13 else []
             wanted = [*bad[:shown], *more, "400 documents, 13 faulty"]
             self.assertEqual(lines[:-4], [f"{self.orders}: {it}" for it in wanted])
-        self.audit(self.backup, "--max-faults", "-1", status=2, told="bsonfind: --max-faults is 0 or more\n")
+        self.assertIn("argument --max-faults: a number from 0", run_package("audit", self.backup, "--max-faults", "-1").stderr)
 
     def test_the_largest_first(self) -> None:
         self.collection(SHOP.read_bytes() * 3, "large")
@@ -150,7 +149,7 @@ class Audits(Room):
         lines = self.audit("--list", str(names), status=0)
         self.assertEqual(lines[2:], self.table(("files", 2), ("documents", 900), ("faulty", 0)))
         names.write_bytes(b"a\0b\n")
-        told = f"bsonfind: {names}: line 1 has a zero byte; each line is a name\n"
+        told = f"bsonkit: {names}: line 1 has a zero byte; each line is a name\n"
         self.audit("--list", str(names), status=2, told=told)
 
     def test_files_that_are_named_twice(self) -> None:
@@ -223,7 +222,7 @@ class Audits(Room):
             self.assertIn(f"{path}: no archive, by its first bytes", lines)
         run = run_package("query", str(self.room / "all"))
         self.assertEqual((run.returncode, run.stdout), (2, ""))
-        self.assertIn(f"bsonfind: {whole}: an archive: name one of its collections", run.stderr)
+        self.assertIn(f"bsonkit: {whole}: an archive: name one of its collections", run.stderr)
 
     def test_copies_in_place_of_dumps(self) -> None:
         """With the log, a dump of another backup inside of this one stands for none, nor does a second one of a collection."""
@@ -395,10 +394,11 @@ class Audits(Room):
             writer = threading.Thread(target=pipe.write_bytes, args=[data], daemon=True)
             writer.start()
             files = [self.file(data, "large.bson"), self.file(gzip.compress(data), "large.bson.gz"), pipe]
-            with mock.patch("bsonfind._framing.LARGEST_INPUT", 30_000):
+            with mock.patch("bsonfind._dumps.framing.LARGEST_INPUT", 30_000):
                 done = audit(files, program=self.counting())
             for report in done.reports:
-                self.assertEqual((report.documents, report.error, report.as_json()["faults"]), (documents, None, [fault]))
+                faults = [{name: it[name] for name in fault} for it in report.as_json()["faults"]]
+                self.assertEqual((report.documents, report.error, faults), (documents, None, [fault]))
             # One run says whether the program is there; each file has one for each 30,000 bytes, and that with the wrong length.
             self.assertEqual(len(self.starts()), 1 + 3 * (4 if data is whole else 3))
             (self.room / "starts").unlink()
@@ -521,9 +521,10 @@ class Audits(Room):
         log = self.file(LOG.replace("500", "501").encode(), "log")
         none = str(self.room / "none.bson")
         (line,) = self.audit(self.backup, none, "--json", "--expect", str(log), status=2)
-        good = {"faulty": 0, "kinds": {}, "faults": [], "error": None, "metadata": None}
-        faults = [{"document": 273, "byte": 49744, "path": "", "kind": "bad length"}]
-        bad = {**good, "faulty": 1, "kinds": {"bad length": 1}, "faults": faults}
+        good = {"faulty": 0, "kinds": {}, "faults": [], "rest": 0, "error": None, "metadata": None}
+        fault = {"document": 273, "byte": 49744, "path": "", "kind": "bad length"}
+        faults = [{**fault, "value": None, "id": {"$numberInt": "273"}, "goes_on": None}]
+        bad = {**good, "faulty": 1, "kinds": {"bad length": 1}, "faults": faults, "rest": 256}
         files = [
             {**bad, "name": cut, "documents": 274, "expected": None},
             {**good, "name": str(self.people), "documents": 500, "expected": 501},
@@ -576,16 +577,16 @@ class Audits(Room):
         for words in ([str(empty)], [str(empty), self.backup]):
             lines = self.audit(*words, status=2)
             self.assertIn(f"{empty}: no dump is below this directory", lines)
-        self.audit(status=2, told="bsonfind: no dump is named\n")
-        self.audit(self.backup, "--jobs", "0", status=2, told="bsonfind: --jobs is 1 or more\n")
-        self.audit("--list", "/missing", status=2, told="bsonfind: /missing: No such file or directory\n")
+        self.audit(status=2, told="bsonkit: no dump is named\n")
+        self.assertIn("argument --jobs: a number from 1", run_package("audit", self.backup, "--jobs", "0").stderr)
+        self.audit("--list", "/missing", status=2, told="bsonkit: /missing: No such file or directory\n")
         self.assertEqual(run_package("audit", "--unknown").returncode, 2)
         self.assertEqual(run_package().returncode, 2)
 
     def test_program_that_is_not_there(self) -> None:
         run = run_package("--program", "no-such-program", "audit", self.backup)
         self.assertEqual((run.returncode, run.stdout), (2, ""))
-        self.assertEqual(run.stderr, "bsonfind: cannot start no-such-program: No such file or directory\n")
+        self.assertEqual(run.stderr, "bsonkit: cannot start no-such-program: No such file or directory\n")
 
     def test_progress_on_a_terminal(self) -> None:
         ours, theirs = os.openpty()
@@ -611,7 +612,7 @@ class Audits(Room):
             line = f'exec "$0" -m bsonfind --program "$1" {words} "$2" >&-'
             command = ["sh", "-c", line, sys.executable, PROGRAM, self.backup]
             run = subprocess.run(command, env=environment(), stderr=subprocess.PIPE, text=True)
-            self.assertEqual((run.returncode, run.stderr), (2, "bsonfind: cannot write: standard output is closed\n"))
+            self.assertEqual((run.returncode, run.stderr), (2, "bsonkit: cannot write: standard output is closed\n"))
 
     def test_closed_streams(self) -> None:
         line = 'exec "$0" -m bsonfind --program "$1" audit "$2" <&- 2>&-'
@@ -626,30 +627,30 @@ class Audits(Room):
 import sys
 from unittest import mock
 from bsonfind import __main__
-with mock.patch("bsonfind.__main__.audit_dumps", side_effect=ZeroDivisionError("by chance")):
+with mock.patch("bsonfind._backup.audit.audit_dumps", side_effect=ZeroDivisionError("by chance")):
     sys.exit(__main__.main(["audit", {self.backup!r}]))
 """
         run = subprocess.run([sys.executable, "-c", code], env=environment(), capture_output=True, text=True)
-        self.assertEqual((run.returncode, run.stdout, run.stderr), (2, "", "bsonfind: ZeroDivisionError: by chance\n"))
+        self.assertEqual((run.returncode, run.stdout, run.stderr), (2, "", "bsonkit: ZeroDivisionError: by chance\n"))
 
     def test_version_and_program_after_the_command(self) -> None:
         for words in (("--version",), ("audit", "--version"), ("salvage", "--version")):
             run = run_package(*words)
-            self.assertEqual((run.returncode, run.stdout), (0, f"bsonfind {(PEOPLE.parents[1] / 'VERSION').read_text()}"))
+            self.assertEqual((run.returncode, run.stdout), (0, f"bsonkit {(PEOPLE.parents[1] / 'VERSION').read_text()}"))
         run = run_package("audit", self.backup, "--program", "no-such-program")
-        self.assertEqual(run.stderr, "bsonfind: cannot start no-such-program: No such file or directory\n")
+        self.assertEqual(run.stderr, "bsonkit: cannot start no-such-program: No such file or directory\n")
 
     def test_full_disk(self) -> None:
         with open("/dev/full", "wb") as full:
             for words in ((), ("--json",), ("--help",), ("--version",)):
                 run = run_package("audit", self.backup, *words, stdout=full)
-                self.assertEqual((run.returncode, run.stderr), (2, "bsonfind: cannot write: No space left on device\n"))
+                self.assertEqual((run.returncode, run.stderr), (2, "bsonkit: cannot write: No space left on device\n"))
 
     def test_output_that_no_one_reads(self) -> None:
         command = [sys.executable, "-m", "bsonfind", "--program", PROGRAM, "audit", self.backup]
         with subprocess.Popen(command, env=environment(), stdout=subprocess.PIPE, stderr=subprocess.PIPE, text=True) as run:
             run.stdout.close()
-            self.assertEqual(run.stderr.read(), "bsonfind: cannot write: Broken pipe\n")
+            self.assertEqual(run.stderr.read(), "bsonkit: cannot write: Broken pipe\n")
             self.assertEqual(run.wait(), 2)
 
     def test_interrupt(self) -> None:

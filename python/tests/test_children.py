@@ -79,8 +79,8 @@ class Children(Room):
         status, lines, told = self.run_command("find", path, "--query", '{"price":9.5}')
         self.assertEqual((status, lines, told[:17]), (0, [FIRST], "1 documents, end,"))
         self.assertEqual(self.run_command("check", bad), (1, [fault], "7 documents, 1 faulty\n"))
-        self.assertEqual(self.run_command("find", bad), (1, [], f"bsonfind: {fault}\n"))
-        self.assertEqual(self.run_command("dump", bad)[::2], (1, f"bsonfind: {fault}\n6 objects found\n"))
+        self.assertEqual(self.run_command("find", bad), (1, [], f"bsonkit: {fault}\n"))
+        self.assertEqual(self.run_command("dump", bad)[::2], (1, f"bsonkit: {fault}\n6 objects found\n"))
 
     def test_process_that_is_killed(self) -> None:
         """Nothing is answered of what it wrote before: of `order`, which says nothing at its end, two documents of the six."""

@@ -8,7 +8,7 @@ from fractions import Fraction
 from typing import List, Optional, Tuple
 
 from bsonfind import CommandError
-from bsonfind._codes import Query, code, level_after, number_in, number_of, read_json, read_query, readings, whole
+from bsonfind._ask.codes import Query, code, level_after, number_in, number_of, read_json, read_query, readings, whole
 
 NAN = '{"$numberDouble":"NaN"}'
 

@@ -9,9 +9,9 @@ import tracemalloc
 from typing import List, Tuple
 from unittest import mock
 
-from bsonfind._compare import Pair, compare
-from bsonfind._fields import field_of, id_of
-from bsonfind._sorting import Sorter
+from bsonfind._backup.compare import Pair, compare
+from bsonfind._backup.fields import field_of, id_of
+from bsonfind._backup.sorting import Sorter
 
 from .archives import archive
 from .bson import document, field, int32, text
@@ -32,10 +32,11 @@ class Compares(Room):
         return str(self.file(packed(lines), name))
 
     def compared(self, *words: str, status: int, told: str = "") -> List[str]:
-        """The lines that a comparison prints."""
+        """The lines of what differs, and those of the counts, which are on standard error before what is wrong."""
         run = run_package("compare", *words)
-        self.assertEqual((run.returncode, run.stderr), (status, told))
-        return run.stdout.splitlines()
+        counts, _, problems = run.stderr.partition("bsonkit: ")
+        self.assertEqual((run.returncode, f"bsonkit: {problems}" if problems else ""), (status, told))
+        return [*run.stdout.splitlines(), *counts.splitlines()]
 
     def rows(self, one: str, other: str, documents: Tuple[int, int], *counts: int, more: Rows = ()) -> List[str]:
         """The table of counts: the same, changed, removed and added, and others."""
@@ -145,7 +146,7 @@ class Compares(Room):
         data = SHOP.read_bytes() + packed(['{"_id":1,"text":"%s"}' % ("x" * 3000)])
         one, two = str(self.file(data, "one.bson")), str(self.file(data, "two.bson"))
         for size in (7, 1000):
-            with mock.patch("bsonfind._sources._PIECE", size):
+            with mock.patch("bsonfind._dumps.sources._PIECE", size):
                 done = compare(Pair("", one, two), "_id", PROGRAM, self.fail)
             self.assertEqual((done.documents, done.kinds["same"]), ((401, 401), 401))
 
@@ -156,36 +157,36 @@ class Compares(Room):
         orders = self.file(SHOP.read_bytes()[:99809], "b/orders.bson")
         (self.room / "b/lost").symlink_to("nothing")
         missing, one, two = str(self.room / "missing.bson"), str(self.room / "a"), str(self.room / "b")
-        damage = f'bsonfind: {bad}: document 500, byte 92733, path "d": bad boolean\n'
+        damage = f'bsonkit: {bad}: document 500, byte 92733, path "d": bad boolean\n'
         self.assertEqual(self.compared(bad, str(PEOPLE), status=2, told=damage), [])  # No zeros: nothing was compared.
-        self.compared(missing, bad, status=2, told=f"bsonfind: {missing}: No such file or directory\n")
-        self.compared(one, bad, status=2, told=f"bsonfind: {bad} is no directory, and {one} is one\n")
+        self.compared(missing, bad, status=2, told=f"bsonkit: {missing}: No such file or directory\n")
+        self.compared(one, bad, status=2, told=f"bsonkit: {bad} is no directory, and {one} is one\n")
         whole = str(self.file(archive([("club", "people", PEOPLE.read_bytes())]), "all.archive"))
-        told = f"bsonfind: {whole} is an archive, and {one} is a directory: unpack the archive, and compare two directories\n"
+        told = f"bsonkit: {whole} is an archive, and {one} is a directory: unpack the archive, and compare two directories\n"
         for words in ((one, whole), (whole, one)):
             self.compared(*words, status=2, told=told)
-        told = f"bsonfind: {whole}: an archive: name one of its collections, {whole}::db.collection, or unpack it\n"
+        told = f"bsonkit: {whole}: an archive: name one of its collections, {whole}::db.collection, or unpack it\n"
         self.compared(whole, whole, status=2, told=told)
-        told = f"bsonfind: {two}/lost: a link to nothing that can be seen\n{damage}"
+        told = f"bsonkit: {two}/lost: a link to nothing that can be seen\n{damage}"
         found = self.compared(one, two, status=2, told=told)
         self.assertEqual(len(found), 91 + 6)  # The others are compared nevertheless.
         for name in ("empty", "other"):
             (self.room / name).mkdir()
         empty, other = str(self.room / "empty"), str(self.room / "other")
-        told = "".join(f"bsonfind: {name}: no dump is below this directory\n" for name in (empty, other))
+        told = "".join(f"bsonkit: {name}: no dump is below this directory\n" for name in (empty, other))
         self.compared(empty, other, status=2, told=told)
         run = run_package("--program", "no-such-program", "compare", one, two)
-        self.assertEqual((run.returncode, run.stderr), (2, "bsonfind: cannot start no-such-program: No such file or directory\n"))
+        self.assertEqual((run.returncode, run.stderr), (2, "bsonkit: cannot start no-such-program: No such file or directory\n"))
         half = self.file(gzip.compress(SHOP.read_bytes(), 0)[:50_000], "half.bson.gz")
         run = run_package("compare", str(half), str(orders))
         self.assertEqual(run.returncode, 2)
-        self.assertIn(f"bsonfind: {half}: ", run.stderr)
+        self.assertIn(f"bsonkit: {half}: ", run.stderr)
 
     def test_files_larger_than_what_a_run_reads(self) -> None:
         """With a largest input of 10,000 bytes, and runs of 7 lines."""
         other = self.file(PEOPLE.read_bytes()[39978:] + PEOPLE.read_bytes()[:39978])
-        with mock.patch("bsonfind._framing.LARGEST_INPUT", 10_000), mock.patch("bsonfind._sorting._MOST_LINES", 7):
-            with mock.patch("bsonfind._sorting._MOST_RUNS", 5):
+        with mock.patch("bsonfind._dumps.framing.LARGEST_INPUT", 10_000), mock.patch("bsonfind._backup.sorting._MOST_LINES", 7):
+            with mock.patch("bsonfind._backup.sorting._MOST_RUNS", 5):
                 done = compare(Pair("", str(PEOPLE), str(other)), "_id", PROGRAM, self.fail)
         self.assertTrue(done.is_same)
         self.assertEqual((done.documents, done.kinds["same"]), ((500, 500), 500))
@@ -195,8 +196,8 @@ class Compares(Room):
         peaks = []
         for count in (3000, 12_000):
             path = self.dump(*(f'{{"_id":{number},"text":"{"x" * 500}"}}' for number in range(count)), name=f"{count}.bson")
-            small = mock.patch.multiple("bsonfind._sorting", _MOST_LINES=500, _MOST_RUNS=8)
-            with small, mock.patch("bsonfind._sources._PIECE", 10_000):
+            small = mock.patch.multiple("bsonfind._backup.sorting", _MOST_LINES=500, _MOST_RUNS=8)
+            with small, mock.patch("bsonfind._dumps.sources._PIECE", 10_000):
                 tracemalloc.start()
                 compare(Pair("", path, path), "_id", PROGRAM, self.fail)
                 peaks.append(tracemalloc.get_traced_memory()[1])
@@ -235,7 +236,7 @@ class Fields(Room):
         chance = random.Random(4)
         lines = [os.urandom(chance.randrange(9)).replace(b"\n", b"") + b"\n" for _ in range(2000)]
         for most, runs in ((1, 2), (7, 3), (100, 64), (5000, 64)):
-            with mock.patch.multiple("bsonfind._sorting", _MOST_LINES=most, _MOST_RUNS=runs), Sorter() as sorter:
+            with mock.patch.multiple("bsonfind._backup.sorting", _MOST_LINES=most, _MOST_RUNS=runs), Sorter() as sorter:
                 for line in lines:
                     sorter.add(line)
                 self.assertEqual(list(sorter.all()), sorted(lines))

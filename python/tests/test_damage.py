@@ -1,14 +1,13 @@
 """Tests of questions over damaged dumps with doubles, which are asked by a copy: each is refused, also where the damage is elsewhere."""
 
 import random
-import struct
 from concurrent.futures import ThreadPoolExecutor
 from typing import Iterator
 
 from bsonfind import DumpError, Session, check_parts, find, plan, prepare
-from bsonfind._backups import Dump
-from bsonfind._query import query_dumps
-from bsonfind._requests import Request
+from bsonfind._ask.requests import Request
+from bsonfind._backup.backups import Dump
+from bsonfind._backup.query import query_dumps
 
 from .support import PROGRAM, Room
 from .test_ordered import array, document, double, embedded, whole

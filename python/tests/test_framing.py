@@ -5,8 +5,8 @@ import random
 import unittest
 from typing import Iterator, List, Tuple
 
-from bsonfind._framing import inputs
-from bsonfind._unpacking import UnpackError, unpacked
+from bsonfind._dumps.framing import inputs
+from bsonfind._dumps.gzip import UnpackError, unpacked
 
 from .support import PEOPLE
 

@@ -101,7 +101,7 @@ class Engines(Room):
 
 class Parts(Room):
     def test_documents(self) -> None:
-        found = find_parts(plan(PEOPLE, 40_000), limit=2, program=PROGRAM)
+        found = find_parts(plan(PEOPLE, 40_000), limit=2, decode="canonical", program=PROGRAM)
         self.assertEqual(found, list(map(json.loads, PEOPLE_LINES[:2])))
 
     def test_several_files(self) -> None:
@@ -109,7 +109,7 @@ class Parts(Room):
         second = self.file(packed(['{"a":2}']), "second.bson")
         parts = plan(first, 1) + plan(second, 1)
         found = find_parts(parts, sort={"a": 1}, program=PROGRAM)
-        self.assertEqual(found, [{"a": {"$numberInt": str(number)}} for number in (1, 2, 3)])
+        self.assertEqual(found, [{"a": number} for number in (1, 2, 3)])
         self.assertEqual(count_parts(parts, {"a": {"$gt": 1}}, program=PROGRAM), 2)
 
     def test_no_parts(self) -> None:

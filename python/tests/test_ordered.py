@@ -31,7 +31,7 @@ from bsonfind import (
     prepare,
 )
 
-from bsonfind._hiding import hide
+from bsonfind._ask.hiding import hide
 
 from .archives import archive
 from .support import DAMAGED, PATIENCE, PEOPLE, PROGRAM, Room, environment, run_package
@@ -115,9 +115,9 @@ class Finds(Goods):
             for filter, sort, wanted in cases:
                 self.assertEqual(self.ids(filter, sort=sort), wanted, filter)
                 self.assertEqual(self.ids(filter, sort=sort, index="price"), wanted, filter)
-                for use in ("auto", "scan", {"index": "price"}):
-                    found = session.find(filter, sort=sort, use=use, decode="bson", batch_size=2)
-                    self.assertEqual([GOODS.index(it) for it in found], wanted, (filter, use))
+                for hint in (None, {"$natural": 1}, "price"):
+                    found = session.find(filter, sort=sort, hint=hint, decode="bson", batch_size=2)
+                    self.assertEqual([GOODS.index(it) for it in found], wanted, (filter, hint))
                 self.assertEqual(session.count_documents(filter), len(wanted))
                 self.assertEqual(count_documents(self.path, filter, program=PROGRAM), len(wanted))
             self.assertEqual(session.explain({"price": {"$gt": 9.25}})["plan"], "index")
@@ -144,7 +144,7 @@ class Finds(Goods):
                 token = answer.token
                 rest = session.find(filter, sort=sort, after=token, decode="bson")
                 self.assertEqual(found + [GOODS.index(it) for it in rest], [3, 2, 0, 1])
-                self.assertEqual(rest.token(), find_last(self.path, filter, sort))
+                self.assertEqual(rest.token, find_last(self.path, filter, sort))
                 if answer.end:
                     break
         with self.assertRaises(CommandError) as raised:
@@ -350,8 +350,8 @@ class Hidden(Room):
                 for asked in (session, kept):
                     read = asked.find(filter, sort=sort, decode="bson", batch_size=2)
                     self.assertEqual([MIXED.index(it) for it in read], wanted, filter)
-                    self.assertEqual(read.token(), found.token)
-                self.assertEqual(session.find_one(filter, sort=sort, use={"index": "weight"}, decode="bson"), MIXED[wanted[0]] if wanted else None)
+                    self.assertEqual(read.token, found.token)
+                self.assertEqual(session.find_one(filter, sort=sort, hint="weight", decode="bson"), MIXED[wanted[0]] if wanted else None)
             line = session.find_one({"_id": 3}, decode="bytes").decode()
             self.assertIn('"price":{"$numberDouble":"0.3"}', line)
         parts = plan(self.path, 400)
@@ -472,8 +472,8 @@ class Hidden(Room):
     def test_commands(self) -> None:
         """`find --bson`, `query` and `ids`."""
         run = run_package("find", str(self.path), "--query", '{"price":{"$lt":20}}')
-        self.assertEqual((run.returncode, run.stdout), (2, ""))
-        self.assertRegex(run.stderr, f'^bsonfind: document 1, byte \\d+, path "price": {_NO_CODES}')
+        self.assertEqual((run.returncode, run.stdout), (1, ""))
+        self.assertRegex(run.stderr, f'^bsonkit: document 1, byte \\d+, path "price": {_NO_CODES}')
         lines = run_package("dump", str(self.path)).stdout.splitlines()
         run = run_package("query", str(self.path), "--query", '{"_id":{"$gt":3.5}}')
         self.assertEqual((run.returncode, run.stdout.splitlines()), (0, [f"{self.path}\t{line}" for line in lines[4:]]))
@@ -514,7 +514,7 @@ class AsyncFinds(Goods, unittest.IsolatedAsyncioTestCase):
                 for filter, sort, wanted in cases:
                     cursor = session.find(filter, sort=sort, batch_size=2, decode="bson")
                     self.assertEqual([GOODS.index(it) async for it in cursor], wanted)
-                    self.assertEqual(await cursor.token(), find_last(self.path, filter, sort))
+                    self.assertEqual(await cursor.token, find_last(self.path, filter, sort))
                     self.assertEqual(await session.count_documents(filter), len(wanted))
                 await session.create_index("price")
                 self.assertEqual((await session.explain({"price": {"$gt": 9.25}}))["plan"], "index")
@@ -530,7 +530,7 @@ class AsyncFinds(Goods, unittest.IsolatedAsyncioTestCase):
             filter, sort = {"price": {"$gt": 9.25}}, [("price", -1)]
             cursor = session.find(filter, sort=sort, decode="bson")
             self.assertEqual(GOODS.index(await cursor.__anext__()), 3)
-            rest = session.find(filter, sort=sort, after=await cursor.token(), decode="bson")
+            rest = session.find(filter, sort=sort, after=await cursor.token, decode="bson")
             self.assertEqual([GOODS.index(it) async for it in rest], [2, 0])
             self.assertEqual([GOODS.index(it) async for it in cursor], [2, 0])
 
@@ -557,7 +557,7 @@ class AsyncFinds(Goods, unittest.IsolatedAsyncioTestCase):
         """While documents of the dump are read in place of those of the copy: the next call gives them."""
         async with AsyncSession(self.path, PROGRAM) as session:
             cursor = session.find({"price": {"$gt": 9.25}}, decode="bson")
-            with mock.patch("bsonfind._ordered.Original.given", side_effect=asyncio.CancelledError):
+            with mock.patch("bsonfind._ask.copies.Original.given", side_effect=asyncio.CancelledError):
                 with self.assertRaises(asyncio.CancelledError):
                     await cursor.__anext__()
             self.assertEqual([GOODS.index(it) async for it in cursor], [0, 2, 3])
@@ -599,7 +599,7 @@ class Copies(Goods):
         with Session(self.path, program, copy=copy) as session:
             found = session.find({"price": {"$gt": 9.25}}, sort=[("price", 1)], decode="bson")
             self.assertEqual([GOODS.index(it) for it in found], [3, 0, 2])
-            self.assertEqual(found.token(), fresh)
+            self.assertEqual(found.token, fresh)
             self.assertEqual(session.count_documents({"cost": Decimal("19.99")}), 1)
             self.assertEqual([it for it in self.starts() if it.startswith("bsonwide")], [])
             self.assertEqual(session.count_documents({"_id": {"$lt": 1.5}}), 2)
@@ -629,7 +629,7 @@ class Copies(Goods):
             with self.assertRaisesRegex(DumpError, "is no copy of this version of bsonfind: make it again"):
                 Session(self.path, PROGRAM, copy=copy)
             run = run_package("find", str(self.path), "--copy", str(copy))
-            self.assertEqual((run.returncode, run.stdout), (2, ""))
+            self.assertEqual((run.returncode, run.stdout), (1, ""))
             self.assertIn("make it again", run.stderr)
 
     def test_what_is_not_prepared(self) -> None:
@@ -696,11 +696,11 @@ class Commands(Goods):
         run = run_package("prepare", str(self.path), copy)
         self.assertEqual((run.returncode, run.stdout, run.stderr), (0, "", f"{copy}: codes at cost*100, price\n"))
         self.assertEqual(self.run_find(self.path, "--query", query, "--copy", copy), self.run_find(self.path, "--query", query))
-        self.assertEqual(self.run_find(PEOPLE, "--copy", copy), (2, b"", f"bsonfind: {copy} is no copy of {PEOPLE} as it is now: prepare it again\n"))
+        self.assertEqual(self.run_find(PEOPLE, "--copy", copy), (1, b"", f"bsonkit: {copy} is no copy of {PEOPLE} as it is now: prepare it again\n"))
         bad = str(self.file(b"".join(GOODS) + DAMAGED, "bad.bson"))
         run = run_package("prepare", bad, copy)
         place = f'document 6, byte {len(b"".join(GOODS)) + 7}, path "d": bad boolean'
-        self.assertEqual((run.returncode, run.stderr), (1, f"bsonfind: {bad}: {place}\n"))
+        self.assertEqual((run.returncode, run.stderr), (1, f"bsonkit: {bad}: {place}\n"))
 
     def test_refusals(self) -> None:
         for words, told in (
@@ -710,9 +710,9 @@ class Commands(Goods):
             (("--sort", '{"price":2}'), "sort: not a sort"),
             (("--after", "x", "--query", '{"price":1.5}'), "token: not a token"),
         ):
-            self.assertEqual(self.run_find(self.path, *words), (2, b"", f"bsonfind: {told}\n"))
+            self.assertEqual(self.run_find(self.path, *words), (1, b"", f"bsonkit: {told}\n"))
         bad = self.file(b"".join(GOODS) + DAMAGED, "bad.bson")
-        told = f'bsonfind: document 6, byte {len(b"".join(GOODS)) + 7}, path "d": bad boolean\n'
+        told = f'bsonkit: document 6, byte {len(b"".join(GOODS)) + 7}, path "d": bad boolean\n'
         self.assertEqual(self.run_find(bad), (1, b"", told))
 
     def test_collection_of_an_archive(self) -> None:
@@ -727,7 +727,7 @@ class Commands(Goods):
         with Session(name, PROGRAM) as session:
             self.assertEqual(session.count_documents({"price": {"$gt": 9.25}}), 3)
         run = run_package("dump", str(path))
-        self.assertEqual((run.returncode, run.stdout), (2, ""))
+        self.assertEqual((run.returncode, run.stdout), (1, ""))
         self.assertIn("an archive: name one of its collections", run.stderr)
 
     def test_query_of_many_files(self) -> None:
@@ -742,12 +742,12 @@ class Commands(Goods):
         self.assertEqual((run.returncode, run.stdout.splitlines()), (0, lines))
 
     def test_query_in_parts(self) -> None:
-        from bsonfind._backups import Dump
-        from bsonfind._query import query_dumps
-        from bsonfind._requests import Request
+        from bsonfind._ask.requests import Request
+        from bsonfind._backup.backups import Dump
+        from bsonfind._backup.query import query_dumps
 
         paths = [str(self.path), str(self.file(gzip.compress(b"".join(GOODS)), "goods.bson.gz"))]
-        with mock.patch("bsonfind._query.MOST_HELD", 100):
+        with mock.patch("bsonfind._backup.query.MOST_HELD", 100):
             found = list(query_dumps([Dump(path) for path in paths], Request('{"_id":{"$in":[0,5]}}'), 2, PROGRAM))
         self.assertEqual([it.error for it in found], [None] * len(found))
         for path in paths:

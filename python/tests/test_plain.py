@@ -6,7 +6,7 @@ from typing import List, Optional, Tuple
 from unittest import mock
 
 from bsonfind import Part, PartError, find, find_parts, plan
-from bsonfind._plain import plain_pieces
+from bsonfind._dumps.plain import plain_pieces
 
 from .bson import document, field, int32, text
 from .support import PROGRAM, Room
@@ -80,7 +80,7 @@ class Plain(Room):
         for number in range(1500):
             data, wanted = random_dump(chosen)
             path = self.file(data)
-            with mock.patch("bsonfind._parts._PIECE", chosen.choice((3, 16, 40, 100, 1 << 20))):
+            with mock.patch("bsonfind._dumps.parts._PIECE", chosen.choice((3, 16, 40, 100, 1 << 20))):
                 try:
                     found = b"".join(plain_pieces(Part(str(path), 0, len(data), 0)))
                     self.assertEqual((found, None), (data, wanted), number)

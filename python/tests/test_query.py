@@ -5,13 +5,13 @@ import json
 import os
 import struct
 import threading
-from typing import List, Tuple
+from typing import List
 from unittest import mock
 
-from bsonfind._backups import Dump
-from bsonfind._ids import Ids, find_ids
-from bsonfind._query import query_dumps
-from bsonfind._requests import Request
+from bsonfind._ask.requests import Request
+from bsonfind._backup.backups import Dump
+from bsonfind._backup.ids import Ids, find_ids
+from bsonfind._backup.query import query_dumps
 
 from .support import DAMAGED, PEOPLE, PEOPLE_LINES, PROGRAM, SHOP, SHOP_LINES, Room, packed, run_package
 
@@ -54,16 +54,16 @@ class Queries(Room):
         """The others are asked nevertheless."""
         bad, missing = self.file(PEOPLE.read_bytes() + DAMAGED, "bad.bson"), self.room / "missing.bson"
         wanted = [f"{PEOPLE}\t{line}" for line in OLD_LINES]
-        fault = f'bsonfind: {bad}: document 500, byte 92733, path "d": bad boolean\n'
+        fault = f'bsonkit: {bad}: document 500, byte 92733, path "d": bad boolean\n'
         for words, status, told in (
             ([bad, PEOPLE], 1, f"{fault}49 documents in 1 of 2 files, 1 not asked in full\n"),
-            ([missing, PEOPLE, bad], 2, f"bsonfind: {missing}: No such file or directory\n{fault}49 documents in 1 of 3 files, 2 not asked in full\n"),
+            ([missing, PEOPLE, bad], 2, f"bsonkit: {missing}: No such file or directory\n{fault}49 documents in 1 of 3 files, 2 not asked in full\n"),
         ):
             self.assertEqual(self.query(*map(str, words), "--query", OLD, status=status, told=told), wanted)
-        self.query(str(PEOPLE), "--query", '{"$a":1}', status=2, told='bsonfind: filter: place "$a": unknown operator\n')
-        self.query(str(PEOPLE), "--query", "{", status=2, told="bsonfind: json: byte 1: not JSON\n")
-        self.query(status=2, told="bsonfind: no dump is named\n")
-        self.query(str(PEOPLE), "--jobs", "0", status=2, told="bsonfind: --jobs is 1 or more\n")
+        self.query(str(PEOPLE), "--query", '{"$a":1}', status=2, told='bsonkit: filter: place "$a": unknown operator\n')
+        self.query(str(PEOPLE), "--query", "{", status=2, told="bsonkit: json: byte 1: not JSON\n")
+        self.query(status=2, told="bsonkit: no dump is named\n")
+        self.assertIn("argument --jobs: a number from 1", run_package("query", str(PEOPLE), "--jobs", "0").stderr)
 
     def test_files_larger_than_a_run_holds(self) -> None:
         """With at most 20,000 bytes in place of megabytes: a file, a compressed one and a pipe, one with a fault."""
@@ -73,7 +73,7 @@ class Queries(Room):
         writer = threading.Thread(target=pipe.write_bytes, args=[data])
         writer.start()
         paths = [str(PEOPLE), str(self.file(gzip.compress(data), "a.bson.gz")), str(pipe), str(self.file(bad, "bad.bson"))]
-        with mock.patch("bsonfind._query.MOST_HELD", 20_000):
+        with mock.patch("bsonfind._backup.query.MOST_HELD", 20_000):
             found = list(query_dumps([Dump(path) for path in paths], Request(OLD), 2, PROGRAM))
         writer.join()
         for path in paths[:3]:
@@ -84,7 +84,7 @@ class Queries(Room):
     def test_full_disk(self) -> None:
         with open("/dev/full", "wb") as full:
             run = run_package("query", str(PEOPLE), stdout=full)
-        self.assertEqual((run.returncode, run.stderr), (2, "bsonfind: cannot write: No space left on device\n"))
+        self.assertEqual((run.returncode, run.stderr), (2, "bsonkit: cannot write: No space left on device\n"))
 
 
 class Interrupts(Room):
@@ -164,7 +164,7 @@ class AsksForIds(Room):
         os.mkfifo(pipe)
         writer = threading.Thread(target=pipe.write_bytes, args=[data])
         writer.start()
-        with mock.patch("bsonfind._query.MOST_HELD", 20_000), mock.patch("bsonfind._ids.MOST_HELD", 20_000):
+        with mock.patch("bsonfind._backup.query.MOST_HELD", 20_000), mock.patch("bsonfind._backup.ids.MOST_HELD", 20_000):
             for path in (PEOPLE, self.file(gzip.compress(data), "a.bson.gz"), pipe):
                 found: List[bytes] = []
                 missing = find_ids(str(path), Ids(["7", "600", "480", "241"], "ids"), PROGRAM, found.extend)
@@ -183,7 +183,7 @@ class AsksForIds(Room):
         for path in (self.file(data), self.file(gzip.compress(data), "dump.bson.gz")):
             found = self.ids(ids, status=1, told="missing: 7.5\n6 of 7 ids found\n", path=path)
             self.assertEqual(sorted(found), sorted(lines))
-            with mock.patch("bsonfind._ids.MOST_HELD", 20):
+            with mock.patch("bsonfind._backup.ids.MOST_HELD", 20):
                 found = []
                 self.assertEqual(find_ids(str(path), Ids(ids, "ids"), PROGRAM, found.extend), ["7.5"])
             self.assertEqual([it.decode().strip() for it in found], lines)
@@ -191,25 +191,25 @@ class AsksForIds(Room):
     def test_bad_input(self) -> None:
         neither = "neither JSON nor 24 hexadecimal digits"
         for line, problem in (("abc", neither), ('{"$regularExpression":{"pattern":"a","options":""}}', "not in the profile"), ("00", neither)):
-            self.ids(["1", "", line], status=2, told=f"bsonfind: {self.room}/ids: line 3: {problem}\n")
+            self.ids(["1", "", line], status=2, told=f"bsonkit: {self.room}/ids: line 3: {problem}\n")
         bad = self.file(PEOPLE.read_bytes() + DAMAGED, "bad.bson")
         half = self.file(gzip.compress(PEOPLE.read_bytes())[:-9], "half.bson.gz")
-        self.ids(["1"], status=2, told=f'bsonfind: {bad}: document 500, byte 92733, path "d": bad boolean\n', path=bad)
-        self.ids(["1"], status=2, told="bsonfind: /missing: No such file or directory\n", path="/missing")
+        self.ids(["1"], status=2, told=f'bsonkit: {bad}: document 500, byte 92733, path "d": bad boolean\n', path=bad)
+        self.ids(["1"], status=2, told="bsonkit: /missing: No such file or directory\n", path="/missing")
         run = run_package("ids", str(half), "--ids", str(self.list))
         self.assertEqual((run.returncode, "not a sound file of gzip: it ends too soon" in run.stderr), (2, True))
         run = run_package("ids", str(SHOP), "--ids", "/missing")
-        self.assertEqual((run.returncode, run.stderr), (2, "bsonfind: /missing: No such file or directory\n"))
+        self.assertEqual((run.returncode, run.stderr), (2, "bsonkit: /missing: No such file or directory\n"))
 
     def test_file_of_missing_ids(self) -> None:
         """It is no other file of the command, and is written at the end; before that no document is printed if it cannot be."""
         data = packed(['{"_id":1}'])
         dump = self.file(data)
         for name, problem in ((str(dump), f"{dump} is the dump"), (str(self.room / "ids"), f"{self.room}/ids is named twice")):
-            self.ids(["1"], "--missing", name, status=2, told=f"bsonfind: {problem}\n", path=dump)
+            self.ids(["1"], "--missing", name, status=2, told=f"bsonkit: {problem}\n", path=dump)
         self.assertEqual((dump.read_bytes(), self.list.read_text()), (data, "1\n"))
-        told = "bsonfind: /none/m: No such file or directory\n"
+        told = "bsonkit: /none/m: No such file or directory\n"
         self.assertEqual(self.ids(["1"], "--missing", "/none/m", status=2, told=told, path=dump), [])
         kept = self.file(b"kept", "kept")
-        self.ids(["1"], "--missing", str(kept), status=2, told="bsonfind: /missing: No such file or directory\n", path="/missing")
+        self.ids(["1"], "--missing", str(kept), status=2, told="bsonkit: /missing: No such file or directory\n", path="/missing")
         self.assertEqual(kept.read_bytes(), b"kept")

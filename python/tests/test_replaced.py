@@ -10,7 +10,7 @@ from unittest import mock
 
 from bsonfind import AsyncSession, DumpError, Session, find, plan, prepare
 
-from .support import PROGRAM, Room, run_package
+from .support import PEOPLE, PROGRAM, Room, run_package
 from .test_ordered import document, double, whole
 
 # Two versions of a dump with as many bytes; the last document has a double, which has the program refuse it at first.
@@ -113,14 +113,15 @@ class Replaced(Room):
         for name, real in (("bsonwide", "WIDE"), ("program", "PROGRAM")):
             program = self.script(f'"${real}" "$@"\nstatus=$?\n{after}\nexit $status', name)
         ids = self.file(b"0\n1\n", "ids")
-        for words in (["check"], ["dump"], ["find"], ["query"], ["ids", "--ids", str(ids)]):
+        # A second file makes of these two commands more than one run of the program.
+        for words in (["check", str(PEOPLE)], ["dump", str(PEOPLE)], ["find"], ["query"], ["ids", "--ids", str(ids)]):
             self.path.unlink()
             self.file(b"".join(OLD))
             # The first run of these asks no documents.
             self.file(b"".join(NEW), "later" if words[0] in ("query", "ids") else "next")
             run = run_package("--program", program, *words, str(self.path))
             with self.subTest(words):
-                self.assertEqual(run.returncode, 2)
+                self.assertEqual(run.returncode, 2 if words[0] in ("query", "ids") else 1)
                 self.assertRegex(run.stderr, CHANGED)
                 self.assertNotIn("new", run.stdout)
 

@@ -9,7 +9,7 @@ import threading
 from typing import List, Tuple
 from unittest import mock
 
-from bsonfind._salvage import LeftOut, Salvaged, salvage
+from bsonfind._backup.salvage import LeftOut, Salvaged, salvage
 
 from .support import DAMAGED, DOUBLE, PEOPLE, PROGRAM, SHOP, Room, environment, run_package, wait_for
 
@@ -88,8 +88,8 @@ class Salvages(Room):
             (people[:39978] + junk + people[39978:], people, 1),
             (junk + people + DAMAGED + junk * 1000, people, 2),
         ):
-            for patched in ({"_MOST": 300, "_FIRST": 300}, {"_MOST_DOCUMENTS": 7}, {"_PIECE": 64}):
-                with mock.patch.multiple("bsonfind._salvage", **patched):
+            for module, patched in (("salvage", {"_MOST": 300, "_FIRST": 300}), ("salvage", {"_MOST_DOCUMENTS": 7}), ("beginnings", {"_PIECE": 64})):
+                with mock.patch.multiple(f"bsonfind._backup.{module}", **patched):
                     done = self.salvaged(data)
                 self.assertEqual((len(done.left_out), self.good.read_bytes()), (left_out, kept))
                 self.assertEqual((done.good, done.bad), (500, self.bad.stat().st_size // len(DAMAGED)))
@@ -277,7 +277,7 @@ class Salvages(Room):
 class BadInput(Room):
     def refused(self, *words: str, told: str) -> None:
         run = run_package(*words)
-        self.assertEqual((run.returncode, run.stdout, run.stderr), (2, "", f"bsonfind: {told}\n"))
+        self.assertEqual((run.returncode, run.stdout, run.stderr), (2, "", f"bsonkit: {told}\n"))
 
     def test_names_that_are_refused(self) -> None:
         """Nothing that is there is touched."""
@@ -318,7 +318,7 @@ class BadInput(Room):
                     command = [sys.executable, "-m", "bsonfind", "--program", PROGRAM, "salvage", dump, *words]
                     with open(path, "rb") as file:
                         ran = subprocess.run(command, env=environment(), stdin=file, capture_output=True, text=True)
-                    self.assertEqual((ran.returncode, ran.stdout, ran.stderr), (2, "", f"bsonfind: {name} is the dump\n"))
+                    self.assertEqual((ran.returncode, ran.stdout, ran.stderr), (2, "", f"bsonkit: {name} is the dump\n"))
         self.assertEqual((path.read_bytes(), sorted(os.listdir(self.room))), (data, ["dump.bson", "link"]))
 
     def kept(self, path: str, data: bytes, good: str, bad: str) -> None:
@@ -335,9 +335,6 @@ class BadInput(Room):
         there = sorted(os.listdir(self.room))
         self.refused("--program", "no-such-program", *words, bad, told="cannot start no-such-program: No such file or directory")
         self.refused("--program", killed, *words, bad, told="ended by signal 9")
-        with self.subTest("a full disk"), open("/dev/full", "wb") as full:
-            run = run_package(*words, bad, stdout=full)
-            self.assertEqual((run.returncode, run.stderr), (2, "bsonfind: cannot write: No space left on device\n"))
         self.file(people + DAMAGED)
         self.refused(*words, "/dev/full", told="/dev/full: No space left on device")
         self.file(people)
@@ -362,7 +359,7 @@ class BadInput(Room):
             self.refused("salvage", path, "--good", good, "--bad", bad, told="/dev/full: No space left on device")
         with open("/dev/full", "wb") as full:
             run = run_package("salvage", path, "--good", "/dev/null", "--bad", "/dev/null", stdout=full)
-        self.assertEqual((run.returncode, run.stderr), (2, "bsonfind: cannot write: No space left on device\n"))
+        self.assertEqual((run.returncode, run.stderr), (2, "bsonkit: cannot write: No space left on device\n"))
 
     def test_file_that_shrinks(self) -> None:
         """It does so when the program is tried, after its size was read."""
@@ -388,7 +385,7 @@ class BadInput(Room):
     def test_termination(self) -> None:
         """The signal of kill ends the program too, and leaves the files as they were."""
         path, good = self.file(PEOPLE.read_bytes()), self.file(b"good", "good.bson")
-        empty = '[ "$(head -c 4 | wc -c)" = 4 ] || exec "$WIDE" check /dev/null'
+        empty = '[ "$(head -c 4 | wc -c)" = 4 ] || exec "$WIDE" "$@" </dev/null'
         stuck = self.wide(f'{empty}\necho $$ >>"$ROOM/pids"\nexec sleep 600')
         words = ["--program", stuck, "salvage", str(path), "--good", str(good), "--bad", str(self.room / "bad.bson")]
         python = subprocess.Popen([sys.executable, "-m", "bsonfind", *words], env=environment(), stderr=subprocess.PIPE, text=True)

@@ -9,7 +9,7 @@ from concurrent.futures import ThreadPoolExecutor
 from unittest import mock
 
 from bsonfind import CommandError, DumpError, ProgramError, Session, SessionEndedError, find
-from bsonfind._steps import LONGEST_COMMAND
+from bsonfind._ask.steps import LONGEST_COMMAND
 
 from .support import DAMAGED, PEOPLE, PEOPLE_LINES, PROGRAM, SHOP, SHOP_LINES, Room, packed
 
@@ -29,7 +29,7 @@ class Sessions(Room):
             self.assertEqual(list(session.find(decode="bytes", batch_size=7)), SHOP_LINES)
 
     def test_dicts_keep_the_order_of_fields(self) -> None:
-        found = list(self.session.find(batch_size=33))
+        found = list(self.session.find(batch_size=33, decode="canonical"))
         self.assertEqual([list(document) for document in found], [list(json.loads(line)) for line in PEOPLE_LINES])
         self.assertEqual(found, list(map(json.loads, PEOPLE_LINES)))
 
@@ -54,10 +54,10 @@ class Sessions(Room):
             self.assertEqual(list(found), [PEOPLE_LINES[number] for number in wanted])
 
     def test_indexes(self) -> None:
-        by_scan = list(self.session.find(OLD, sort=BY_NAME, use="scan"))
+        by_scan = list(self.session.find(OLD, sort=BY_NAME, hint={"$natural": 1}))
         self.assertEqual(self.session.create_index("age"), {"entries": 500, "multikey": False})
         self.assertEqual(self.session.create_index("note", sparse=True), {"entries": 39, "multikey": False})
-        self.assertEqual(list(self.session.find(OLD, sort=BY_NAME, use={"index": "age"})), by_scan)
+        self.assertEqual(list(self.session.find(OLD, sort=BY_NAME, hint="age")), by_scan)
         plan = self.session.explain(OLD, sort=BY_NAME)
         self.assertEqual((plan["plan"], plan["index"], plan["matches"]), ("index", "age", len(by_scan)))
         self.session.drop_index("age")
@@ -71,8 +71,7 @@ class Sessions(Room):
             (lambda: self.session.find({"a": {"$size": 1.5}}), ("json", 5, "not in the profile", 14)),
             (lambda: self.session.find(sort=[("a", 1), ("a", -1)]), ("session", 1, "not a sort", None)),
             (lambda: self.session.find(sort={"a": 2}), ("session", 1, "not a sort", None)),
-            (lambda: self.session.find(use={"index": "b"}), ("session", 2, "no such index", None)),
-            (lambda: self.session.find(use="fast"), ("command", 5, "bad field", None)),
+            (lambda: self.session.find(hint="b"), ("session", 2, "no such index", None)),
             (lambda: self.session.find(after="AQIA"), ("session", 7, "not a token", None)),
             (lambda: self.session.create_index("age"), ("session", 3, "index is there", None)),
             (lambda: self.session.create_index("a..b"), ("path", 1, "empty component", None)),
@@ -96,36 +95,36 @@ class Sessions(Room):
         wanted = list(find(PEOPLE, OLD, sort=BY_NAME, decode="bytes", program=PROGRAM))
         for size in (1, 3, 4):
             cursor = self.session.find(OLD, sort=BY_NAME, batch_size=size, decode="bytes")
-            self.assertIsNone(cursor.token())
+            self.assertIsNone(cursor.token)
             for given in range(1, 9):
                 next(cursor)
                 with find(PEOPLE, OLD, sort=BY_NAME, page=given, program=PROGRAM) as page:
                     self.assertEqual(len(list(page)), given)
-                self.assertEqual(cursor.token(), page.token)
-                self.assertEqual(list(self.session.find(OLD, sort=BY_NAME, after=cursor.token(), decode="bytes")), wanted[given:])
+                self.assertEqual(cursor.token, page.token)
+                self.assertEqual(list(self.session.find(OLD, sort=BY_NAME, after=cursor.token, decode="bytes")), wanted[given:])
             self.assertEqual(list(cursor), wanted[8:])
 
     def test_token_after_a_token(self) -> None:
         first = self.session.find(OLD, limit=10, batch_size=4)
         next(first)
-        second = self.session.find(OLD, limit=10, batch_size=4, after=first.token())
-        self.assertEqual(second.token(), first.token())
+        second = self.session.find(OLD, limit=10, batch_size=4, after=first.token)
+        self.assertEqual(second.token, first.token)
         self.assertEqual([next(second) for _ in range(3)], [next(first) for _ in range(3)])
-        self.assertEqual(second.token(), first.token())
+        self.assertEqual(second.token, first.token)
         self.assertEqual(list(second), list(first))
-        self.assertEqual(second.token(), first.token())
+        self.assertEqual(second.token, first.token)
 
     def test_closed_cursor(self) -> None:
         with self.session.find(OLD, batch_size=4) as cursor:
             next(cursor)
         self.assertEqual(list(cursor), [])
-        rest = list(self.session.find(OLD, after=cursor.token()))
+        rest = list(self.session.find(OLD, after=cursor.token))
         self.assertEqual(rest, list(self.session.find(OLD))[1:])
 
     def test_cursors_that_are_left(self) -> None:
         first = json.loads(PEOPLE_LINES[0])
         for _ in range(150):
-            self.assertEqual(next(self.session.find(batch_size=1)), first)
+            self.assertEqual(next(self.session.find(batch_size=1, decode="dict")), first)
 
     def test_too_many_cursors(self) -> None:
         cursors = [self.session.find() for _ in range(64)]
@@ -154,7 +153,7 @@ class Sessions(Room):
         line = '{"a":' * 199 + "{}" + "}" * 199
         with Session(self.file(packed([line])), PROGRAM) as session:
             self.assertEqual(list(session.find(decode="bytes")), [line.encode()])
-            self.assertEqual(list(session.find()), [json.loads(line)])
+            self.assertEqual(list(session.find(decode="canonical")), [json.loads(line)])
 
     def test_command_that_is_too_long(self) -> None:
         with self.assertRaises(ValueError):
@@ -212,7 +211,7 @@ class Endings(Room):
 
     def test_closed_session(self) -> None:
         with Session(PEOPLE, PROGRAM) as session:
-            cursor = session.find(batch_size=2)
+            cursor = session.find(batch_size=2, decode="canonical")
             next(cursor)
         self.assertEqual(next(cursor), json.loads(PEOPLE_LINES[1]))
         with self.assertRaises(SessionEndedError):

@@ -27,7 +27,7 @@ from bsonfind import (
     find_parts,
     plan,
 )
-from bsonfind import _connections, _steps
+from bsonfind._ask import connections as _connections, steps as _steps
 
 from .support import DOUBLE, PATIENCE, PEOPLE, PEOPLE_LINES, PROGRAM, Room, environment, packed, wait_for
 
@@ -60,7 +60,7 @@ class Forks(Room):
             given = [next(cursor)]
             for ask in (
                 lambda: next(cursor),
-                lambda: cursor.token(),
+                lambda: cursor.token,
                 lambda: cursor.close(),
                 lambda: session.find({"age": 99}),
                 lambda: session.find_one(),
@@ -138,7 +138,7 @@ class Decoding(Room):
             self.assertEqual([next(cursor) for _ in range(3)], [0, 1, 2])
             with self.assertRaises(OverflowError):
                 next(cursor)
-            self.assertEqual(list(session.find(after=cursor.token(), decode="bytes")), PEOPLE_LINES[4:])
+            self.assertEqual(list(session.find(after=cursor.token, decode="bytes")), PEOPLE_LINES[4:])
 
     def test_interrupt_of_the_decoding(self) -> None:
         """The document that was being decoded comes again."""
@@ -170,12 +170,12 @@ class Interrupts(Room):
         with Session(PEOPLE, PROGRAM) as session:
             cursor = session.find(batch_size=40, decode="bytes")
             found = [next(cursor) for _ in range(40)]
-            with mock.patch("bsonfind._steps.read_batch", side_effect=KeyboardInterrupt), self.assertRaises(KeyboardInterrupt):
+            with mock.patch("bsonfind._ask.steps.read_batch", side_effect=KeyboardInterrupt), self.assertRaises(KeyboardInterrupt):
                 next(cursor)
             for _ in range(2):
                 with self.assertRaises(CursorStateError):
                     next(cursor)
-            found += session.find(after=cursor.token(), decode="bytes")
+            found += session.find(after=cursor.token, decode="bytes")
             self.assertEqual(found, PEOPLE_LINES)
 
     def test_in_the_middle_of_a_reply(self) -> None:
@@ -190,11 +190,11 @@ class Interrupts(Room):
             with self.assertRaisesRegex(SessionEndedError, "a reply was interrupted"):
                 next(cursor)
         with Session(PEOPLE, PROGRAM) as again:
-            self.assertEqual(found + list(again.find(after=cursor.token(), decode="bytes")), PEOPLE_LINES)
+            self.assertEqual(found + list(again.find(after=cursor.token, decode="bytes")), PEOPLE_LINES)
 
     def test_in_the_middle_of_an_answer(self) -> None:
         answer = find(PEOPLE, decode="bytes", program=PROGRAM)
-        with mock.patch("bsonfind._lines.counted", side_effect=KeyboardInterrupt), self.assertRaises(KeyboardInterrupt):
+        with mock.patch("bsonfind._ask.lines.counted", side_effect=KeyboardInterrupt), self.assertRaises(KeyboardInterrupt):
             list(answer)
         with self.assertRaises(CursorStateError):
             next(answer)
@@ -240,7 +240,7 @@ class Interrupts(Room):
                     session.close()
                     session = Session(PEOPLE, PROGRAM)
                 size, failed = chosen.choice((1, 40, 500)), None
-                cursor = session.find(after=cursor.token(), batch_size=size, decode=lambda line: self.seen.append(line))
+                cursor = session.find(after=cursor.token, batch_size=size, decode=lambda line: self.seen.append(line))
         session.close()
 
     def test_control_c_of_a_terminal(self) -> None:
@@ -259,7 +259,7 @@ try:
 except KeyboardInterrupt:
     pass
 found += [it["_id"] for it in cursor]
-print(found == [{{"$numberInt": str(number)}} for number in range(500)])
+print(found == [*range(500)])
 """
         ran = subprocess.run([sys.executable, "-c", code], env=environment(), capture_output=True, text=True, timeout=PATIENCE)
         self.assertEqual((ran.stdout, ran.stderr), ("True\n", ""))
@@ -364,7 +364,7 @@ class Bounds(Room):
             lines = list(session.find(decode="bytes"))
             cursor = session.find(sort={"_id": -1}, decode="bytes")
             found = [next(cursor) for _ in range(7)]
-            rest = list(session.find(sort={"_id": -1}, after=cursor.token(), decode="bytes"))
+            rest = list(session.find(sort={"_id": -1}, after=cursor.token, decode="bytes"))
         self.assertEqual(found + rest, lines[::-1])
 
 
@@ -380,7 +380,7 @@ class Failing(Room):
         )
         parts = plan(PEOPLE, 40_000) + plan(self.file(DOUBLE))
         begun = time.monotonic()
-        with mock.patch("bsonfind._merge._Asking.try_request"), self.assertRaises(PartError) as raised:
+        with mock.patch("bsonfind._ask.merge._Asking.try_request"), self.assertRaises(PartError) as raised:
             find_parts(parts, workers=4, program=program)
         self.assertEqual((raised.exception.part, raised.exception.fault), (parts[-1], (0, 4, "d", "bad boolean")))
         self.assertLess(time.monotonic() - begun, 30)

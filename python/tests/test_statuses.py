@@ -1,4 +1,4 @@
-"""Tests of the statuses of the commands: 0 is good, 1 is a finding, 2 is what could not be done or seen."""
+"""Tests of the statuses of the commands: 0 is good, 1 is a finding, 2 is what could not be done or seen; of those of the program 1 is both."""
 
 import gzip
 import json
@@ -26,6 +26,9 @@ sys.exit(main())
 COMMANDS = ("check", "dump", "find", "prepare", "audit", "salvage", "compare", "query", "ids")
 # Those that begin with the run that reads the dump; the others try the program before.
 ONE_RUN = COMMANDS[:3]
+# Those with the statuses of the program, and what each has for what could not be done.
+AS_THE_PROGRAM = ("check", "dump", "find", "prepare")
+FAILED = {**dict.fromkeys(COMMANDS, 2), **dict.fromkeys(AS_THE_PROGRAM, 1)}
 # What they have where a dump has a fault: what judges it, or stops at it, has found something; what needs all of it could not be done.
 OF_A_FAULT = {**dict.fromkeys(COMMANDS, 1), "compare": 2, "ids": 2}
 
@@ -79,13 +82,13 @@ class Statuses(Room):
         self.want(f"{cut}::club.people", OF_A_FAULT)
 
     def test_dumps_that_are_not_seen(self) -> None:
-        self.want(self.room / "missing.bson", dict.fromkeys(COMMANDS, 2))
+        self.want(self.room / "missing.bson", FAILED)
         (self.room / "folder.bson").mkdir()
-        self.want(self.room / "folder.bson", dict.fromkeys(COMMANDS, 2))
+        self.want(self.room / "folder.bson", FAILED)
         (self.room / "link.bson").symlink_to("nothing")
-        self.want(self.room / "link.bson", dict.fromkeys(COMMANDS, 2))
+        self.want(self.room / "link.bson", FAILED)
         whole = self.file(archive([("club", "people", PEOPLE.read_bytes())]), "archive")
-        self.want(f"{whole}::club.nobody", dict.fromkeys(COMMANDS, 2))
+        self.want(f"{whole}::club.nobody", FAILED)
 
     def test_dumps_that_may_not_be_read(self) -> None:
         """The system lets root read every file, so here the call fails."""
@@ -97,21 +100,22 @@ class Statuses(Room):
                 raise PermissionError(13, "Permission denied", name)
             return real(name, *words, **how)
 
-        sources, dumps = (mock.patch(f"bsonfind.{it}.open", refusing, create=True) for it in ("_sources", "_dumps"))
+        sources, dumps = (mock.patch(f"bsonfind.{it}.open", refusing, create=True) for it in ("_dumps.sources", "_dumps.files"))
         with sources, dumps:
             for command in COMMANDS:
                 with self.subTest(command):
-                    self.assertEqual(self.status(*self.words(command, closed)), 2)
+                    self.assertEqual(self.status(*self.words(command, closed)), FAILED[command])
 
     def test_what_is_not_done(self) -> None:
-        failed = dict.fromkeys(COMMANDS, 2)
-        self.want(PEOPLE, failed, "--program", "no-such-program")
-        self.want(PEOPLE, failed, "--no-such-option")
+        self.want(PEOPLE, FAILED, "--program", "no-such-program")
+        self.want(PEOPLE, dict.fromkeys(COMMANDS, 2), "--no-such-option")
         with open("/dev/full", "wb") as full:
             for command in COMMANDS:
                 if command in ("check", "prepare"):
                     continue  # They print nothing there of what is good.
-                self.assertEqual(run_package(*self.words(command, PEOPLE), stdout=full).returncode, 2)
+                run = run_package(*self.words(command, PEOPLE), stdout=full)
+                # The counts of `compare` are on standard error, and these dumps do not differ.
+                self.assertEqual(run.returncode, 0 if command == "compare" else FAILED[command], command)
 
     def test_faulty_and_not_seen(self) -> None:
         """Of two statuses the higher one is that of the command."""
@@ -123,20 +127,20 @@ class Statuses(Room):
         """Of several files each line has the name of its file, and one that is not there does not end the run."""
         bad, missing = self.file(PEOPLE.read_bytes() + DAMAGED), self.room / "missing.bson"
         fault = f'{bad}: document 500, byte 92733, path "d": bad boolean\n'
-        absent = f"bsonfind: {missing}: No such file or directory\n"
+        absent = f"bsonkit: {missing}: No such file or directory\n"
         run = run_package("check", str(missing), str(bad), str(PEOPLE))
         told = f"{absent}{bad}: 501 documents, 1 faulty\n{PEOPLE}: 500 documents, 0 faulty\n"
-        self.assertEqual((run.returncode, run.stdout, run.stderr), (2, fault, told))
+        self.assertEqual((run.returncode, run.stdout, run.stderr), (1, fault, told))
         run = run_package("dump", str(bad), str(missing), str(SHOP))
-        told = f"bsonfind: {fault}{bad}: 500 objects found\n{absent}{SHOP}: 400 objects found\n"
-        self.assertEqual((run.returncode, run.stdout.encode().splitlines(), run.stderr), (2, PEOPLE_LINES + SHOP_LINES, told))
+        told = f"bsonkit: {fault}{bad}: 500 objects found\n{absent}{SHOP}: 400 objects found\n"
+        self.assertEqual((run.returncode, run.stdout.encode().splitlines(), run.stderr), (1, PEOPLE_LINES + SHOP_LINES, told))
         self.assertEqual(self.status("check", str(PEOPLE), str(bad)), 1)
         self.assertEqual(self.status("check", str(PEOPLE), str(SHOP)), 0)
 
     def test_directories_in_place_of_dumps(self) -> None:
-        told = f"bsonfind: cannot read {self.room}: it is a directory\n"
-        for command in ("check", "dump", "find"):
-            self.assertEqual(run_package(command, str(self.room)).stderr, told)
+        told = f"bsonkit: cannot read {self.room}: it is a directory"
+        for command, instead in (("check", ": audit checks all dumps below one"), ("dump", ""), ("find", ": query asks all dumps below one")):
+            self.assertEqual(run_package(command, str(self.room)).stderr, f"{told}{instead}\n")
 
     def test_audits_of_directories(self) -> None:
         """A finding is 1: metadata alone, or none. What was not seen is 2: it may be good or not."""
@@ -159,7 +163,7 @@ class Statuses(Room):
         """As the shell gives the status of a program that a signal ended."""
         program, pids = self.stuck(), self.room / "pids"
         for command in COMMANDS:
-            for number in (signal.SIGINT, signal.SIGTERM):
+            for number in (signal.SIGINT, signal.SIGTERM, signal.SIGHUP):
                 first = self.room / "first"
                 shutil.rmtree(first, ignore_errors=True)
                 if command in ONE_RUN:
@@ -170,4 +174,5 @@ class Statuses(Room):
                 wait_for(lambda: bool(pids.read_text()))
                 run.send_signal(number)
                 with self.subTest(f"{command} {number.name}"):
-                    self.assertEqual(run.wait(60), 128 + number)
+                    # A plain file is checked and printed by the program itself, which the signal ends.
+                    self.assertEqual(run.wait(60), -number if command in ("check", "dump") else 128 + number)

@@ -9,10 +9,10 @@ import unittest
 from unittest import mock
 
 from bsonfind import CommandError, DumpError, Fault, ProgramError
+from bsonfind._ask.replies import documents_in, read_batch, read_reply
+from bsonfind._ask.requests import Request
 from bsonfind._faults import read_fault
-from bsonfind._replies import documents_in, read_batch, read_reply
-from bsonfind._requests import Request
-from bsonfind._messages import error_of
+from bsonfind._run.messages import error_of
 
 
 class Requests(unittest.TestCase):

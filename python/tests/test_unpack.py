@@ -144,10 +144,10 @@ class Unpacks(Room):
     def test_names_that_leave_the_directory(self) -> None:
         """Nothing is written for them, whether the list has them or a block alone."""
         for database in ("..", "../x", "/etc", "a\0b", "."):
-            told = f"bsonfind: A: byte {len(MAGIC + header())}: no name of a database: {database!r}\n"
+            told = f"bsonkit: A: byte {len(MAGIC + header())}: no name of a database: {database!r}\n"
             self.assertEqual(self.unpack(prelude(listed(database, "x")), status=2, told=told), [])
             data = prelude(listed("a", "x")) + block(database, "x", small(1))
-            told = f"bsonfind: A: byte {len(prelude(listed('a', 'x')))}: no name of a database: {database!r}\n"
+            told = f"bsonkit: A: byte {len(prelude(listed('a', 'x')))}: no name of a database: {database!r}\n"
             self.assertEqual(self.unpack(data, status=1, told=told), ["a.x: no end: no documents", *self.table(1, 0, 1)])
             self.assertEqual(sorted(self.files("")), ["a", "out/a/x.metadata.json"])
             (self.room / "out/a/x.metadata.json").unlink()
@@ -188,7 +188,7 @@ class Unpacks(Room):
     def test_what_is_told_of_one_that_was_cut(self) -> None:
         """`audit` of the directory reports the files that are not whole."""
         at = TWO.index(block_header("shop", "orders"), 100_000)
-        told = f"bsonfind: A: byte {at + 5000}: the archive ends inside a block\n"
+        told = f"bsonkit: A: byte {at + 5000}: the archive ends inside a block\n"
         lines = self.unpack(TWO[: at + 5000], status=1, told=told)
         orders, people = (len(documents_of(self.files()[f"{it}.bson.part"])) for it in ("shop/orders", "club/people"))
         # The last document of the last block was cut.
@@ -202,7 +202,7 @@ class Unpacks(Room):
         self.assertEqual(run.stdout.count("\n"), 2 + 4)
 
     def test_gzip_that_was_cut(self) -> None:
-        told = "bsonfind: A: not a sound file of gzip: it ends too soon\n"
+        told = "bsonkit: A: not a sound file of gzip: it ends too soon\n"
         self.unpack(gzip.compress(TWO, 0)[:150_000], status=1, told=told)
         self.assertTrue(SHOP_DATA.startswith(self.files()["shop/orders.bson.part"]))
 
@@ -215,14 +215,14 @@ class Unpacks(Room):
         self.assertEqual((files["shop/orders.bson"], files["club/people.bson.part"]), (SHOP_DATA, PEOPLE_DATA))
         self.assertEqual(len(files), 4)
         (self.room / "out").rename(self.room / "old")
-        lines = self.unpack(data, "--no-crc", told="bsonfind: no CRC-64 is compared, as --no-crc says\n")
+        lines = self.unpack(data, "--no-crc", told="bsonkit: no CRC-64 is compared, as --no-crc says\n")
         self.assertEqual(lines[1], "club.people: 500 documents to O/club/people.bson")
 
     def test_length_that_is_wrong(self) -> None:
         """What comes after it is not read; what was ended before is whole."""
         lists = prelude(listed("a", "x"), listed("a", "y"), listed("a", "z"))
         before = block("a", "x", small(1)) + end("a", "x", small(1)) + block_header("a", "y") + small(2, 3)
-        told = f"bsonfind: A: byte {len(lists + before)}: bad length\n"
+        told = f"bsonkit: A: byte {len(lists + before)}: bad length\n"
         lines = self.unpack(lists + before + b"\4\0\0\0" + END + end("a", "y", small(2, 3)), status=1, told=told)
         wanted = [
             "a.x: 1 documents to O/a/x.bson",
@@ -233,10 +233,10 @@ class Unpacks(Room):
 
     def test_what_is_no_archive(self) -> None:
         for data in (b"", PEOPLE_DATA, gzip.compress(PEOPLE_DATA)):
-            self.unpack(data, status=2, told="bsonfind: A: not an archive of mongodump\n")
-        self.unpack(MAGIC + header("version") + END, status=2, told='bsonfind: A: byte 4: no field "version"\n')
+            self.unpack(data, status=2, told="bsonkit: A: not an archive of mongodump\n")
+        self.unpack(MAGIC + header("version") + END, status=2, told='bsonkit: A: byte 4: no field "version"\n')
         run = run_package("unpack", str(self.room / "none"))
-        self.assertEqual((run.returncode, run.stderr), (2, f"bsonfind: {self.room}/none: No such file or directory\n"))
+        self.assertEqual((run.returncode, run.stderr), (2, f"bsonkit: {self.room}/none: No such file or directory\n"))
         self.assertEqual(sorted(os.listdir(self.room)), ["a"])
 
     def test_what_is_there_is_not_replaced(self) -> None:
@@ -245,18 +245,18 @@ class Unpacks(Room):
         data += block("b", "y", small(1)) + end("b", "y", small(1))
         for name in ("a/x.bson", "a/x.metadata.json", "a/x.bson.part", "b/y.bson", "b/y.bson.part"):
             there = self.file(b"there", f"out/{name}")
-            self.assertEqual(self.unpack(data, status=2, told=f"bsonfind: O/{name}: File exists\n"), [])
+            self.assertEqual(self.unpack(data, status=2, told=f"bsonkit: O/{name}: File exists\n"), [])
             self.assertEqual(self.files(), {name: b"there"})
             there.unlink()
         (self.room / "out/a/x.bson").symlink_to("nothing")
-        self.unpack(data, status=2, told="bsonfind: O/a/x.bson: File exists\n")
+        self.unpack(data, status=2, told="bsonkit: O/a/x.bson: File exists\n")
         (self.room / "out/a/x.bson").unlink()
         self.unpack(data)
         self.assertEqual(sorted(self.files()), ["a/x.bson", "a/x.metadata.json", "b/y.bson"])
 
     def test_names_that_come_to_one_file(self) -> None:
         data = prelude(listed("", "x", ""), listed("$a", "x", "")) + block("", "x", small(1)) + block("$a", "x", small(2))
-        self.assertEqual(self.unpack(data, status=2, told="bsonfind: O/x.bson.part: File exists\n"), [])
+        self.assertEqual(self.unpack(data, status=2, told="bsonkit: O/x.bson.part: File exists\n"), [])
         self.assertFalse((self.room / "out").exists())
 
     def test_file_that_comes_meanwhile(self) -> None:
@@ -314,23 +314,23 @@ class Unpacks(Room):
         command = [sys.executable, "-m", "bsonfind", "unpack", path, str(self.room / "out")]
         limited = ["bash", "-c", 'ulimit -f 100; exec "$@"', "bash", *command]
         run = subprocess.run(limited, env=environment(), stdout=subprocess.PIPE, stderr=subprocess.PIPE, text=True)
-        told = f"bsonfind: {self.room}/out/shop/orders.bson: File too large\n"
+        told = f"bsonkit: {self.room}/out/shop/orders.bson: File too large\n"
         self.assertEqual((run.returncode, run.stdout, run.stderr), (2, "", told))
         self.assertEqual(os.listdir(self.room), ["a"])
         with open("/dev/full", "wb") as full:
             run = run_package("unpack", path, str(self.room / "out"), stdout=full)
-        self.assertEqual((run.returncode, run.stderr), (2, "bsonfind: cannot write: No space left on device\n"))
+        self.assertEqual((run.returncode, run.stderr), (2, "bsonkit: cannot write: No space left on device\n"))
         self.assertEqual((self.files()["shop/orders.bson"], self.files()["club/people.bson"]), (SHOP_DATA, PEOPLE_DATA))
 
     def test_directory_that_cannot_be(self) -> None:
         path = str(self.file(TWO, "a"))
         run = run_package("unpack", path, f"{path}/out")
-        self.assertEqual((run.returncode, run.stderr), (2, f"bsonfind: {path}/out: Not a directory\n"))
+        self.assertEqual((run.returncode, run.stderr), (2, f"bsonkit: {path}/out: Not a directory\n"))
 
     def test_read_that_fails(self) -> None:
         """What was read before is kept, as of an archive that was cut."""
         reads = [TWO[:100_000], OSError(5, "Input/output error")]
-        with mock.patch("bsonfind._sources.read_some", side_effect=reads):
+        with mock.patch("bsonfind._dumps.sources.read_some", side_effect=reads):
             done = unpack(self.file(TWO, "a"), self.room / "out")
         self.assertEqual((done.is_good, done.error), (False, "Input/output error"))
         self.assertEqual([it.error for it in done.collections], ["no end"] * 2)
@@ -368,7 +368,7 @@ class Unpacks(Room):
         limited = ["sh", "-c", 'ulimit -S -v 131072; exec "$@"', "sh", *command]
         run = subprocess.run(limited, env=environment(), stdout=subprocess.PIPE, stderr=subprocess.PIPE, text=True)
         size = path.stat().st_size
-        told = f"bsonfind: {path}: byte {size}: the archive ends before the end of a.x\n"
+        told = f"bsonkit: {path}: byte {size}: the archive ends before the end of a.x\n"
         self.assertEqual((run.returncode, run.stderr), (1, told))
         self.assertIn("a.x: no end: 20 documents to ", run.stdout)
 
@@ -510,7 +510,7 @@ class Members(Room):
         for name in (good, bad):
             words = {"--good": str(good), "--bad": str(bad), f"--{name.name}": str(self.plain)}
             run = run_package("salvage", path, *(it for pair in words.items() for it in pair))
-            self.assertEqual((run.returncode, run.stderr), (2, f"bsonfind: {self.plain} is the dump\n"))
+            self.assertEqual((run.returncode, run.stderr), (2, f"bsonkit: {self.plain} is the dump\n"))
         self.assertEqual(self.plain.read_bytes(), TWO)
 
     def test_doubles(self) -> None:

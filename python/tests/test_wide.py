@@ -7,8 +7,8 @@ import sys
 from typing import List, Tuple, Union
 from unittest import mock
 
-from bsonfind._commands import check_file, dump_file
-from bsonfind._console import Console
+from bsonfind._command.checks import check_file, dump_file
+from bsonfind._command.console import Console
 
 from .bson import document, field, text
 from .support import DAMAGED, DOUBLE, PATIENCE, PEOPLE, PEOPLE_LINES, PROGRAM, Room, environment, packed
@@ -63,7 +63,9 @@ class Commands(Room):
                 told = self.run_command("check", word, stdin=stdin)
                 self.assertEqual(told, (1, [line.encode()], "503 documents, 1 faulty\n"))
                 told = self.run_command("dump", word, stdin=stdin)
-                self.assertEqual(told, (1, [*PEOPLE_LINES, LINES[0], LINES[0]], f"bsonfind: {line}\n502 objects found\n"))
+                # A plain file is printed by the program itself.
+                name = "bsonwide" if str(word).endswith("dump.bson") else "bsonkit"
+                self.assertEqual(told, (1, [*PEOPLE_LINES, LINES[0], LINES[0]], f"{name}: {line}\n502 objects found\n"))
 
     def test_deepest_and_longest_documents(self) -> None:
         """Doubles at the end of 200 levels, and of 16,793,600 bytes, of which 24 are not the text."""
@@ -82,8 +84,8 @@ class Commands(Room):
     def test_names(self) -> None:
         """What is reported of a file that is not there, or no file, is what the program reports."""
         for command in ("check", "dump"):
-            self.assertEqual(self.run_command(command, "none.bson")[::2], (2, "bsonfind: cannot open none.bson\n"))
-            self.assertEqual(self.run_command(command, self.room)[0], 2)
+            self.assertEqual(self.run_command(command, "none.bson")[::2], (1, "bsonkit: cannot open none.bson\n"))
+            self.assertEqual(self.run_command(command, self.room)[0], 1)
         path = os.fsencode(self.room) + b"/-\xff.bson"
         with open(path, "wb") as file:
             file.write(DOUBLE)
@@ -104,7 +106,7 @@ class Commands(Room):
         self.assertEqual(self.starts(), [])
         for command in ("check", "dump"):
             told = self.run_command("--program", f"{program}s", command, path)
-            self.assertEqual(told, (2, [], f"bsonfind: cannot start {program}s: No such file or directory\n"))
+            self.assertEqual(told, (1, [], f"bsonkit: cannot start {program}s: No such file or directory\n"))
 
     def test_larger_than_what_a_run_reads(self) -> None:
         """With a largest input of 30,000 bytes in place of 4,294,967,295."""
@@ -112,7 +114,7 @@ class Commands(Room):
         path = str(self.file(data))
         place = f'document 1001, byte {len(data) - 2}, path "d": bad boolean'
         for run, wanted in ((check_file, [place]), (dump_file, [*PEOPLE_LINES, LINES[0], *PEOPLE_LINES])):
-            with open(self.room / "out", "w+b") as out, mock.patch("bsonfind._framing.LARGEST_INPUT", 30_000):
+            with open(self.room / "out", "w+b") as out, mock.patch("bsonfind._dumps.framing.LARGEST_INPUT", 30_000):
                 with mock.patch("sys.stdout", open(out.fileno(), "w", closefd=False)), mock.patch("sys.stderr", open(os.devnull, "w")) as err:
                     self.assertFalse(run(path, PROGRAM, Console()))
                     err.close()

@@ -29,7 +29,7 @@ sys.path.insert(0, str(Path(__file__).resolve().parents[1]))
 from support import PROGRAM, ROOT
 
 # What a command writes, and a word of it that may name a file.
-WRITTEN = re.compile(r"\d?>>?\s*\S+|\bmv \S+ \S+|\btee \S+|\bof=\S+|--(?:good|bad|missing) \S+")
+WRITTEN = re.compile(r"\d?>>?\s*\S+|\bmv \S+ \S+|\btee \S+|\bof=\S+|--(?:good|bad|missing|out) \S+")
 WORD = re.compile(r"(?<![\w./$*-])(?<!bsonfind )(?<!bsonwide )(?<!bsonkit )\w[\w./*-]*")
 FUNCTION = re.compile(r"(\w+)\(\) \{")
 # Programs that see a damaged file; cp, head and others take it as it is.
@@ -58,8 +58,10 @@ class Shell:
     LOOP = 'while IFS= read -rd "" command; do eval "$command" </dev/null >"$0" 2>&1; echo $?; done'
 
     def __init__(self, room: Path, printed: Path) -> None:
-        kit = printed.with_name("bsonkit")
-        kit.write_text('#!/bin/sh\nexec python3 -m bsonfind "$@"\n', encoding="utf-8")
+        # As `make install` puts it, with the way to the package here.
+        kit = printed.parent / "bin/bsonkit"
+        kit.parent.mkdir(exist_ok=True)
+        kit.write_text((ROOT / "packaging/bsonkit").read_text(encoding="ascii").replace("@PACKAGES@", f"{ROOT}/python"), encoding="utf-8")
         kit.chmod(0o755)
         env = {**os.environ, "PATH": f"{kit.parent}:{PROGRAM.parent}:{os.environ['PATH']}", "PYTHONPATH": f"{ROOT}/python", "LC_ALL": "C"}
         env["PYTHONDONTWRITEBYTECODE"] = "1"
@@ -202,24 +204,24 @@ def number(value: float) -> bytes:
 
 def backup(room: Path, is_damaged: bool) -> None:
     """Makes what README.md names: a backup, and files beside it."""
-    shop = room / "backup/shop"
-    shop.mkdir(parents=True)
-    orders = bytearray((ROOT / "examples/shop.bson").read_bytes())
-    orders[90] = 2 if is_damaged else orders[90]
-    (shop / "orders.bson").write_bytes(orders)
+    people = bytearray((ROOT / "examples/people.bson").read_bytes())
+    at = people.index(b"Reykjav")
+    people[at] = 0xFF if is_damaged else people[at]
     prices = b""
     for item, price, placed in ((b"pen", number(1.5), 1), (b"desk", number(1249.0), 2), (b"lamp", b"\x13price\0" + struct.pack("<QQ", 2950, 0x303C << 48), 3)):
         day = b"\x09placed\0" + struct.pack("<q", 1764450000000 + placed * 45000000)
         body = b"\x02item\0" + struct.pack("<i", len(item) + 1) + item + b"\0" + price + day
         prices += struct.pack("<i", len(body) + 5) + body + b"\0"
-    (shop / "prices.bson").write_bytes(prices)
-    for name in ("orders", "prices"):
-        (shop / f"{name}.metadata.json").write_text('{"indexes":[]}\n', encoding="utf-8")
-    lines = "".join(f"2026-11-25T21:00:00.000+0000\tdone dumping shop.{name} ({count} documents)\n" for name, count in (("orders", 400), ("prices", 3)))
+    for name, data in (("club/people", bytes(people)), ("shop/prices", prices)):
+        file = room / f"backup/{name}.bson"
+        file.parent.mkdir(parents=True)
+        file.write_bytes(data)
+        file.with_suffix(".metadata.json").write_text('{"indexes":[]}\n', encoding="utf-8")
+    lines = "".join(f"2026-11-25T21:00:00.000+0000\tdone dumping {name} ({count} documents)\n" for name, count in (("club.people", 500), ("shop.prices", 3)))
     (room / "mongodump.log").write_text(lines, encoding="utf-8")
     for name in ("monday", "tuesday"):
         shutil.copytree(room / "backup", room / name)
-    shutil.copyfile(shop / "orders.bson", room / "orders.bson")
+    shutil.copyfile(room / "examples/shop.bson", room / "orders.bson")
     shutil.copyfile(room / "examples/people.bson", room / "people.bson")
     shutil.copyfile(room / "examples/backup.archive", room / "night.archive")
     (room / "lines.jsonl").write_text('{"a":1}\n', encoding="utf-8")

@@ -1,5 +1,6 @@
 #!/usr/bin/env python3
-"""Looks whether the identifiers and the comments of the crates use one word for one meaning: it counts the words that are gone.
+"""Looks whether the identifiers and the comments of the crates, and the comments and docstrings of the package of Python, use one word for
+one meaning: it counts the words that are gone.
 
 usage: tests/docs/words.py     Each line names a file, and an identifier or a line of a comment with a word that is gone. The last line is
                                'N passed, M failed'.
@@ -7,13 +8,19 @@ usage: tests/docs/words.py     Each line names a file, and an identifier or a li
 A part of an identifier is what is between `_` and capitals: `front_of` has the word `front`, and so has `TextFront`. A name that a file
 imports from the kit is the kit's, and so is a label of a clause of the kit. A comment may have any word in backquotes, and in an example.
 """
+import ast
+import io
 import re
 import sys
+import tokenize
 from collections.abc import Iterator
 from fnmatch import fnmatchcase
 from pathlib import Path
 
 CRATES = Path(__file__).resolve().parents[2] / "crates"
+PACKAGE = CRATES.parent / "python"
+# Modules that go once `bsonwide` searches dumps with doubles by itself.
+UNREAD = {"copies.py", "codes.py", "hiding.py", "finding.py"}
 
 # Each word that is gone, what to write, and where it stays: crates, or names that have another meaning. A name ends no pattern of crates.
 WORDS = {
@@ -149,6 +156,26 @@ def faults_of(path: Path, roots: set[str]) -> Iterator[str]:
                 yield f"line {line}: {found[0]} is gone from comments, write {write}"
 
 
+def prose_of(path: Path) -> Iterator[tuple[int, str]]:
+    """The comments and docstrings of a module of Python, with the number of the line, without what is in backquotes."""
+    text = path.read_text(encoding="utf-8")
+    for token in tokenize.generate_tokens(io.StringIO(text).readline):
+        if token.type == tokenize.COMMENT:
+            yield token.start[0], QUOTED.sub("", token.string)
+    for node in ast.walk(ast.parse(text)):
+        if isinstance(node, (ast.Module, ast.ClassDef, ast.FunctionDef, ast.AsyncFunctionDef)) and ast.get_docstring(node):
+            start = node.body[0].lineno
+            yield from enumerate(QUOTED.sub("", ast.get_docstring(node) or "").splitlines(), start)
+
+
+def faults_of_module(path: Path) -> Iterator[str]:
+    """What is to be written otherwise in a module of Python."""
+    for line, prose in prose_of(path):
+        for gone, write in GONE.items():
+            if found := gone.search(prose):
+                yield f"line {line}: {found[0]} is gone from comments, write {write}"
+
+
 def main() -> int:
     sources = [it for kind in ("src", "specs", "proofs") for it in CRATES.glob(f"*/{kind}/**/*") if it.suffix in PLAIN]
     roots = {it.name for it in CRATES.iterdir()} | {"crate", "self", "super"}
@@ -160,6 +187,12 @@ def main() -> int:
         faults = list(faults_of(source, roots))
         for fault in faults:
             print(f"{source.relative_to(CRATES)}: {fault}")
+        failed += len(faults)
+        passed += not faults
+    for module in sorted(it for it in (PACKAGE / "bsonfind").rglob("*.py") if it.name not in UNREAD):
+        faults = list(faults_of_module(module))
+        for fault in faults:
+            print(f"{module.relative_to(PACKAGE)}: {fault}")
         failed += len(faults)
         passed += not faults
     print(f"{passed} passed, {failed} failed")

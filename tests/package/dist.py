@@ -35,11 +35,14 @@ RENAMED = {
     "share/doc/bsonfind/CHANGELOG.md": "share/doc/bsonfind/changelog.gz",
     "share/man/man1/bsonfind.1": "share/man/man1/bsonfind.1.gz",
     "share/man/man1/bsonwide.1": "share/man/man1/bsonwide.1.gz",
+    "share/man/man1/bsonkit.1": "share/man/man1/bsonkit.1.gz",
     "share/zsh/site-functions/_bsonfind": "share/zsh/vendor-completions/_bsonfind",
     "share/zsh/site-functions/_bsonwide": "share/zsh/vendor-completions/_bsonwide",
+    "share/zsh/site-functions/_bsonkit": "share/zsh/vendor-completions/_bsonkit",
 }
 OWN = "share/lintian/overrides/bsonfind"
 PROGRAMS = ("bsonfind", "bsonwide")
+COMMANDS = (*PROGRAMS, "bsonkit")
 
 
 def run(words: list[str], cwd: Optional[Path] = None, umask: int = -1, **env: str) -> subprocess.CompletedProcess:
@@ -160,7 +163,7 @@ class Archives(unittest.TestCase):
         """Check that all entries have fixed owners, modes and times, and that their names are sorted."""
         for it in entries:
             self.assertEqual((it.uid, it.gid, it.uname, it.gname, it.mtime), (0, 0, "root", "root", TIME), it.name)
-            runs = it.isdir() or it.name.endswith(tuple(f"/bin/{program}" for program in PROGRAMS))
+            runs = it.isdir() or it.name.endswith(tuple(f"/bin/{command}" for command in COMMANDS))
             self.assertEqual(it.mode, 0o755 if runs else 0o644, it.name)
         names = [Path(it.name) for it in entries]
         self.assertEqual(names, sorted(names))
@@ -220,9 +223,12 @@ class Archives(unittest.TestCase):
         path = f"{prefix}/bin:{os.environ['PATH']}"
         told = run([sys.executable, "-c", asks, str(examples / "shop.bson")], self.own, PYTHONPATH=str(prefix / MODULES), PATH=path)
         self.assertEqual(told.stdout, f"{VERSION} {VERSION} 3\n", told.stderr)
+        # It finds the package and the programs that were installed with it, whatever stands on PATH.
+        told = run([str(prefix / "bin/bsonkit"), "audit", str(examples / "shop.bson")], self.own, PATH=os.defpath)
+        self.assertEqual((told.returncode, told.stdout.splitlines()[0][-23:]), (0, "400 documents, 0 faulty"), told.stderr)
         self.assertEqual(links_that_lead_nowhere(prefix / "share/doc/bsonfind"), [])
         if shutil.which("man"):
-            for name in PROGRAMS:
+            for name in COMMANDS:
                 page = run(["man", name], MANPATH=str(prefix / "share/man"), MANWIDTH="80").stdout
                 self.assertEqual(page.splitlines()[-1].split()[:2], ["bsonfind", VERSION])
 
@@ -266,8 +272,9 @@ class Archives(unittest.TestCase):
         ran = self.dpkg(top, "-i", str(deb))
         self.assertEqual(ran.returncode, 0, ran.stdout + ran.stderr)
         self.want_working(top / "usr")
-        Path(top, "usr", MODULES, "bsonfind/__pycache__").mkdir(exist_ok=True)
-        Path(top, "usr", MODULES, "bsonfind/__pycache__/told.cpython-311.pyc").touch()
+        for folder in ("bsonfind", "bsonfind/_run"):
+            Path(top, "usr", MODULES, folder, "__pycache__").mkdir(exist_ok=True)
+            Path(top, "usr", MODULES, folder, "__pycache__/told.cpython-311.pyc").touch()
         told = self.dpkg(top, "--verify", "bsonfind")
         self.assertEqual((told.returncode, told.stdout), (0, ""), told.stderr)
         ran = self.dpkg(top, "-r", "bsonfind")

@@ -89,7 +89,7 @@ class Wheels(unittest.TestCase):
             self.assertIsNone(archive.testzip())
             self.assertEqual(archive.read("bsonfind/VERSION").decode().strip(), VERSION)
             metadata = archive.read(f"bsonfind-{VERSION}.dist-info/METADATA").decode()
-        wanted = sorted(str(it.relative_to(PACKAGE)) for it in (PACKAGE / "bsonfind").iterdir() if it.suffix != ".pyc" and it.is_file())
+        wanted = sorted(str(it.relative_to(PACKAGE)) for it in (PACKAGE / "bsonfind").rglob("*") if it.suffix != ".pyc" and it.is_file())
         self.assertEqual([it for it in names if it.startswith("bsonfind/")], wanted)
         self.assertIn(f"\nVersion: {VERSION}\n", metadata)
         self.assertIn("\nRequires-Python: >=3.9\n", metadata)
@@ -100,7 +100,7 @@ class Wheels(unittest.TestCase):
         place = self.room / "there"
         self.pip("install", "--no-deps", "--target", place, self.wheel())
         self.want_working(place, str(place))
-        tools = place / "bin/bsonfind-tools"
+        tools = place / "bin/bsonkit"
         self.assertIn(VERSION, self.done(tools, "--version", PYTHONPATH=str(place)))
         told = self.done(tools, "audit", "--program", PROGRAM_HERE, ROOT / "examples/people.bson", PYTHONPATH=str(place))
         self.assertIn("500 documents, 0 faulty", told)

@@ -488,21 +488,26 @@ installed() {
 # The files of the package of Python, where this one looks for them.
 packages=$("$root/tools/packages.py" /usr)
 info=bsonfind-$(cat "$root/VERSION").dist-info
-package=$(cd "$root/python" && printf ".$packages/%s\n" "$info/INSTALLER" "$info/METADATA" bsonfind/*.py bsonfind/py.typed bsonfind/VERSION | sort)
+package=$(cd "$root/python" && printf ".$packages/%s\n" "$info/INSTALLER" "$info/METADATA" bsonfind/*.py bsonfind/*/*.py bsonfind/py.typed bsonfind/VERSION | sort)
 documents=$(cd "$root" && printf './usr/share/doc/bsonfind/%s\n' CHANGELOG.md CONTRIBUTING.md LICENSE README.md SECURITY.md docs/*.md docs/*.svg examples/* python/README.md | sort)
 
 installed install
 expect 'make install' 0 "./usr/bin/bsonfind
+./usr/bin/bsonkit
 ./usr/bin/bsonwide
 $package
 ./usr/share/bash-completion/completions/bsonfind
+./usr/share/bash-completion/completions/bsonkit
 ./usr/share/bash-completion/completions/bsonwide
 $documents
 ./usr/share/fish/vendor_completions.d/bsonfind.fish
+./usr/share/fish/vendor_completions.d/bsonkit.fish
 ./usr/share/fish/vendor_completions.d/bsonwide.fish
 ./usr/share/man/man1/bsonfind.1
+./usr/share/man/man1/bsonkit.1
 ./usr/share/man/man1/bsonwide.1
 ./usr/share/zsh/site-functions/_bsonfind
+./usr/share/zsh/site-functions/_bsonkit
 ./usr/share/zsh/site-functions/_bsonwide" ''
 
 installed uninstall

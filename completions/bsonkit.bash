@@ -1,0 +1,36 @@
+# Completion of bsonkit in bash.
+
+# Files whose names begin with the word, and directories; after two colons nothing is known.
+_bsonkit_files() {
+	compopt -o filenames 2>/dev/null
+	mapfile -t COMPREPLY < <(compgen -f -- "$1")
+}
+
+_bsonkit() {
+	local word=${COMP_WORDS[COMP_CWORD]} command=${COMP_WORDS[1]} before=${COMP_WORDS[COMP_CWORD - 1]} options
+	COMPREPLY=()
+	if ((COMP_CWORD == 1)); then
+		mapfile -t COMPREPLY < <(compgen -W 'check dump find prepare audit salvage unpack compare query ids --help --version' -- "$word")
+		return
+	fi
+	case $before in
+	--query | --sort | --index | --after | --skip | --limit | --batch | --jobs | --max-faults | --by | --only) return ;;
+	esac
+	if [[ $word != -* ]]; then
+		_bsonkit_files "$word"
+		return
+	fi
+	case $command in
+	find) options='--query --sort --index --after --skip --limit --batch --bson --copy' ;;
+	audit) options='--list --expect --json --quiet --jobs --max-faults' ;;
+	salvage) options='--good --bad --out' ;;
+	unpack) options='--only --no-crc' ;;
+	compare) options='--by' ;;
+	query) options='--list --query --jobs' ;;
+	ids) options='--ids --missing --bson' ;;
+	*) options='' ;;
+	esac
+	mapfile -t COMPREPLY < <(compgen -W "$options --program --version --help" -- "$word")
+}
+
+complete -F _bsonkit bsonkit

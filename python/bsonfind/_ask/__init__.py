@@ -1,0 +1,1 @@
+"""Questions about one dump, and their answers."""

@@ -1,0 +1,187 @@
+"""The answer to one request over a file."""
+
+from __future__ import annotations
+
+import os
+from typing import Any, Callable, Iterator, TypeVar, overload
+
+from .._errors import CancelledError, CursorStateError
+from .._names import File, name_of
+from .._numbers import seconds, whole
+from .._run.processes import Group, check_owner
+from . import steps
+from .copies import AnyLines, Questions
+from .decoding import Decode, Dicts, Raw, Texts, decoder, with_uuids
+from .lines import Lines
+from .requests import Filter, Request, Sort
+from .values import Uuids
+
+T = TypeVar("T")
+
+
+class Answer(Iterator[T]):
+    """Documents, as the program prints them.
+
+    Once all are read, `token` leads on to what follows them, None if no document was given yet; and `end` is whether nothing
+    does. Leaving or closing the answer ends the program. Where a document cannot be decoded, or the caller is interrupted, the
+    next call gives the documents after it; an answer that was interrupted while it read says so by a `CursorStateError`.
+    """
+
+    def __init__(self, lines: Lines, group: Group, decode: Decode[T], timeout: float | None) -> None:
+        self.token: str | None = None
+        self.end = False
+        self._lines, self._batches = lines, lines.batches()
+        self._group, self._timeout = group, seconds(timeout)
+        self._document_of = decoder(decode)
+        self._owner = os.getpid()
+        self._texts = Texts([], self._document_of)
+        # False from the moment on when the program is asked for lines until they are kept.
+        self._is_known = True
+
+    def __next__(self) -> T:
+        if os.getpid() != self._owner:
+            check_owner(self._owner)
+        while not self._texts.left:
+            self._read_on()
+        document: T = self._texts.give()
+        return document
+
+    def _read_on(self) -> None:
+        """Reads the next lines; ends the iteration if there are none."""
+        if not self._is_known:
+            raise CursorStateError("interrupted while documents were read: ask again")
+        if self._timeout is not None:
+            timeout, self._timeout = self._timeout, None
+            self._group.end_after(timeout)
+        self._is_known = False
+        try:
+            batch = next(self._batches)
+        except StopIteration:
+            self.end, self.token = self._lines.end, self._lines.token
+            self._finish()
+            raise
+        except Exception:
+            self._finish()
+            raise
+        self._texts = Texts(batch, self._document_of)
+        self._is_known = True
+
+    def _finish(self) -> None:
+        self._group.rest()
+        self._is_known = True
+
+    def cancel(self) -> None:
+        """Ends the program at once, from any thread: a call that waits for a document gets a `CancelledError`."""
+        check_owner(self._owner)
+        self._group.end(CancelledError("cancelled"))
+
+    def close(self) -> None:
+        """Ends the program; no document follows."""
+        check_owner(self._owner)
+        self._batches.close()
+        self._texts = Texts([], self._document_of)
+        self._finish()
+
+    def __enter__(self) -> Answer[T]:
+        return self
+
+    def __exit__(self, *_: object) -> None:
+        self.close()
+
+
+# fmt: off
+@overload
+def find(
+    path: File, filter: Filter | None = None, *, sort: Sort | None = None, skip: int = 0, limit: int = 0,
+    page: int | None = None, batch_size: int = 0, index: str | None = None, after: str | None = None, decode: Dicts = "plain",
+    uuid_representation: Uuids = "standard", program: str = "bsonfind", timeout: float | None = None,
+) -> Answer[dict[str, Any]]: ...
+@overload
+def find(
+    path: File, filter: Filter | None = None, *, sort: Sort | None = None, skip: int = 0, limit: int = 0,
+    page: int | None = None, batch_size: int = 0, index: str | None = None, after: str | None = None, decode: Raw,
+    uuid_representation: Uuids = "standard", program: str = "bsonfind", timeout: float | None = None,
+) -> Answer[bytes]: ...
+@overload
+def find(
+    path: File, filter: Filter | None = None, *, sort: Sort | None = None, skip: int = 0, limit: int = 0,
+    page: int | None = None, batch_size: int = 0, index: str | None = None, after: str | None = None, decode: Callable[[bytes], T],
+    uuid_representation: Uuids = "standard", program: str = "bsonfind", timeout: float | None = None,
+) -> Answer[T]: ...
+# fmt: on
+def find(
+    path: File,
+    filter: Filter | None = None,
+    *,
+    sort: Sort | None = None,
+    skip: int = 0,
+    limit: int = 0,
+    page: int | None = None,
+    batch_size: int = 0,
+    index: str | None = None,
+    after: str | None = None,
+    decode: Decode[Any] = "plain",
+    uuid_representation: Uuids = "standard",
+    program: str = "bsonfind",
+    timeout: float | None = None,
+) -> Answer[Any]:
+    """Finds documents of a dump by one run of the program, which begins with the first document that is asked for.
+
+    `page` gives one page of this many documents in place of all, and `after` resumes after the documents that were given
+    with this token. `batch_size`, which pymongo takes, changes nothing: documents come as they are found. `index` makes an index
+    on a path, and changes no answer. `uuid_representation` says, by pymongo's names, how a `UUID` is asked for, and which values
+    are one for `decode="plain"`. Where the whole answer is not there within `timeout` seconds, that is a `TimedOutError`.
+    """
+    request, group = Request.of(filter, sort, skip, limit, uuid_representation), Group()
+    whole("batch_size", batch_size)
+    size = None if page is None else whole("page", page)
+    lines = AnyLines(name_of(path), request, program, is_bson=decode == "bson", size=size, index=index, after=after, group=group)
+    return Answer(lines, group, with_uuids(decode, uuid_representation), timeout)
+
+
+# fmt: off
+@overload
+def find_one(
+    path: File, filter: Filter | None = None, *, sort: Sort | None = None, skip: int = 0, decode: Dicts = "plain",
+    uuid_representation: Uuids = "standard", program: str = "bsonfind", timeout: float | None = None,
+) -> dict[str, Any] | None: ...
+@overload
+def find_one(
+    path: File, filter: Filter | None = None, *, sort: Sort | None = None, skip: int = 0, decode: Raw,
+    uuid_representation: Uuids = "standard", program: str = "bsonfind", timeout: float | None = None,
+) -> bytes | None: ...
+@overload
+def find_one(
+    path: File, filter: Filter | None = None, *, sort: Sort | None = None, skip: int = 0, decode: Callable[[bytes], T],
+    uuid_representation: Uuids = "standard", program: str = "bsonfind", timeout: float | None = None,
+) -> T | None: ...
+# fmt: on
+def find_one(
+    path: File,
+    filter: Filter | None = None,
+    *,
+    sort: Sort | None = None,
+    skip: int = 0,
+    decode: Decode[Any] = "plain",
+    uuid_representation: Uuids = "standard",
+    program: str = "bsonfind",
+    timeout: float | None = None,
+) -> Any:
+    """The first document of an answer, None if it has none."""
+    how: dict[str, Any] = {"decode": decode, "uuid_representation": uuid_representation, "program": program, "timeout": timeout}
+    with find(path, filter, sort=sort, skip=skip, limit=1, **how) as answer:
+        return next(answer, None)
+
+
+def count_documents(
+    path: File,
+    filter: Filter | None = None,
+    *,
+    uuid_representation: Uuids = "standard",
+    program: str = "bsonfind",
+    timeout: float | None = None,
+) -> int:
+    """How many documents of a dump match."""
+    request = Request.of(filter, uuids=uuid_representation)
+    with Questions(path, program, timeout) as questions:
+        return questions.do(steps.count, request)

@@ -1,0 +1,298 @@
+"""Asks the parts of a dump, each by a run of the program, and makes one answer of what they gave.
+
+    newest = find_parts(plan("orders.bson", 2_500_000_000), {"status": "open"}, sort=[("created", -1)], limit=10, workers=4)
+
+`workers` asks this many parts side by side. In place of that an engine runs the parts by its `map`: a function that applies
+another one to each part, and gives the results in the order of the parts. That of an executor does so in threads or processes,
+and that of an engine over many machines where the files, this package and the program are:
+`lambda ask, parts: client.gather(client.map(ask, parts))` for Dask.
+
+What is found goes from the parts to the whole as lines. So no document of a part may begin with a name such as "$oid", alone or
+inside another: its text is that of another value. `find_parts` looks for such names in all documents, and raises a `PartError`
+with the byte.
+"""
+
+from __future__ import annotations
+
+import re
+from concurrent.futures import ThreadPoolExecutor
+from functools import partial
+from typing import Any, Callable, Iterable, Iterator, Literal, NamedTuple, Sequence, TypeVar, overload
+
+from .._dumps.checking import checking, faults_of, finish_check, is_wide
+from .._dumps.parts import Part, PartError
+from .._dumps.plain import plain_pieces
+from .._dumps.sources import Input
+from .._errors import ArgumentError, BsonfindError, DumpError, ProgramError
+from .._faults import Fault
+from .._numbers import seconds, whole
+from .._run.processes import Dump, Group, Run
+from . import steps
+from .connections import Connection
+from .copies import AnyLines, Original, Questions, compares_wide, try_request
+from .decoding import Decode, Dicts, Texts, decoder, refuse_bson, with_uuids
+from .lines import Lines, counted
+from .requests import Filter, Request, Sort
+from .values import Uuids
+
+T = TypeVar("T")
+Map = Callable[[Callable[[Part], Any], Sequence[Part]], Iterable[Any]]
+_PACKED = re.compile(r"\d+ objects packed\n")
+
+
+class Check(NamedTuple):
+    """How many documents there are, and the first fault of each that has one; doubles and decimal128 are none."""
+
+    documents: int
+    faults: list[Fault]
+
+
+# fmt: off
+@overload
+def find_parts(
+    parts: Sequence[Part], filter: Filter | None = None, *, sort: Sort | None = None, skip: int = 0, limit: int = 0,
+    workers: int = 1, map: Map | None = None, decode: Dicts = "plain", uuid_representation: Uuids = "standard",
+    program: str = "bsonfind", timeout: float | None = None,
+) -> list[dict[str, Any]]: ...
+@overload
+def find_parts(
+    parts: Sequence[Part], filter: Filter | None = None, *, sort: Sort | None = None, skip: int = 0, limit: int = 0,
+    workers: int = 1, map: Map | None = None, decode: Literal["bytes"], uuid_representation: Uuids = "standard",
+    program: str = "bsonfind", timeout: float | None = None,
+) -> list[bytes]: ...
+@overload
+def find_parts(
+    parts: Sequence[Part], filter: Filter | None = None, *, sort: Sort | None = None, skip: int = 0, limit: int = 0,
+    workers: int = 1, map: Map | None = None, decode: Callable[[bytes], T], uuid_representation: Uuids = "standard",
+    program: str = "bsonfind", timeout: float | None = None,
+) -> list[T]: ...
+# fmt: on
+def find_parts(
+    parts: Sequence[Part],
+    filter: Filter | None = None,
+    *,
+    sort: Sort | None = None,
+    skip: int = 0,
+    limit: int = 0,
+    workers: int = 1,
+    map: Map | None = None,
+    decode: Decode[Any] = "plain",
+    uuid_representation: Uuids = "standard",
+    program: str = "bsonfind",
+    timeout: float | None = None,
+) -> list[Any]:
+    """The documents that `find` gives over the parts joined, in its order.
+
+    Each part is asked for its own answer, what they gave is packed and joined, and asked again. A part that fails is a
+    `PartError`, and at once ends the others that run in this process; so does a `timeout`, in seconds, for all of it.
+    """
+    refuse_bson(decode)
+    document_of = decoder(with_uuids(decode, uuid_representation))
+    request = Request.of(filter, sort, skip, limit, uuid_representation)
+    with _Asking(program, workers, map, timeout) as asking:
+        asking.try_request(request)
+        packed = asking.each(parts, partial(_packed_answer, request.of_part(), program))
+        lines = _joined_answer(packed, request, program, asking.group)
+    texts = Texts(lines, document_of)
+    return [texts.give() for _ in lines]
+
+
+def count_parts(
+    parts: Sequence[Part],
+    filter: Filter | None = None,
+    *,
+    workers: int = 1,
+    map: Map | None = None,
+    uuid_representation: Uuids = "standard",
+    program: str = "bsonfind",
+    timeout: float | None = None,
+) -> int:
+    """How many documents of the parts match a filter."""
+    request = Request.of(filter, uuids=uuid_representation)
+    with _Asking(program, workers, map, timeout) as asking:
+        asking.try_request(request)
+        return sum(asking.each(parts, partial(_count, request, program)))
+
+
+def check_parts(
+    parts: Sequence[Part],
+    *,
+    workers: int = 1,
+    map: Map | None = None,
+    program: str = "bsonfind",
+    timeout: float | None = None,
+) -> Check:
+    """Checks each document of the parts. Numbers of documents and bytes of faults are those of the whole file."""
+    with _Asking(program, workers, map, timeout) as asking:
+        asking.try_request(Request())
+        checks = asking.each(parts, partial(_check, program))
+    return Check(sum(it.documents for it in checks), [fault for it in checks for fault in it.faults])
+
+
+class _Asking:
+    """The asking of parts: how they are run, and what ends all of them."""
+
+    def __init__(self, program: str, workers: int, map: Map | None, timeout: float | None) -> None:
+        self._program, self._workers, self._map = program, whole("workers", workers, 1), map
+        if not (map is None or callable(map)):
+            raise ArgumentError(f"map is a function, not {map!r}")
+        if map and workers != 1:
+            raise ArgumentError("workers and map both say how the parts are run: give one of them")
+        self.group = Group()
+        limit = seconds(timeout)
+        if limit is not None:
+            self.group.end_after(limit)
+
+    def try_request(self, request: Request) -> None:
+        """Asks no documents, so that a refused request or a missing program is reported before any part is asked."""
+        try_request(request, self._program, self.group)
+
+    def each(self, parts: Sequence[Part], ask: Callable[[Group, Part], T]) -> list[T]:
+        """What each part gives, in their order. Where one fails, or the caller is interrupted, all runs of this process end."""
+        all_parts: list[Any] = list(parts) if isinstance(parts, Iterable) else [None]
+        if not all(isinstance(it, Part) for it in all_parts):
+            raise ArgumentError("parts is a list of parts, as plan makes it")
+        try:
+            given = list(self._run(partial(_asked, ask, self.group), all_parts))
+        except BaseException as error:
+            self.group.end()
+            if self.group.error and isinstance(error, Exception):
+                raise self.group.error from None  # The first part that failed, which ended the others.
+            raise
+        if [it[0] for it in given if isinstance(it, tuple)] != all_parts:
+            raise ProgramError("map did not give a result for each part, in the order of the parts")
+        return [result for _, result in given]
+
+    def _run(self, ask: Callable[[Part], T], parts: Sequence[Part]) -> Iterator[T]:
+        if self._map:
+            given = self._map(ask, parts)
+            yield from given if isinstance(given, Iterable) else ()
+        elif self._workers == 1:
+            yield from (ask(part) for part in parts)
+        else:
+            with ThreadPoolExecutor(self._workers) as pool:
+                try:
+                    yield from pool.map(ask, parts)
+                except BaseException:
+                    self.group.end()
+                    raise
+
+    def __enter__(self) -> _Asking:
+        return self
+
+    def __exit__(self, *_: object) -> None:
+        self.group.rest()
+        self.group.end()
+
+
+def _asked(ask: Callable[[Group, Part], T], group: Group, part: Part) -> tuple[Part, T]:
+    """The part with what it gave; where it fails, the others of this process are ended for its error."""
+    try:
+        return part, ask(group, part)
+    except (BsonfindError, OSError) as error:
+        ended = group.error
+        failed = ended if ended is error and ended else _part_error(part, error)
+        group.end(failed)
+        raise failed from None
+
+
+def _part_error(part: Part, error: BsonfindError | OSError) -> PartError:
+    """Why a part failed; its fault counts in the whole file."""
+    if isinstance(error, PartError):
+        return error
+    fault = error.fault if isinstance(error, DumpError) else None
+    fault = fault and fault.moved(part.first, part.offset)
+    return PartError(part, str(fault or error), fault)
+
+
+def _packed_answer(request: Request, program: str, group: Group, part: Part) -> bytes:
+    """The documents of a part that are found, as a dump. Those of a part with doubles or decimal128 are found by a copy."""
+    if not compares_wide(request):
+        try:
+            return _packed_lines(request, program, group, part)
+        except DumpError as error:
+            if not is_wide(error):
+                raise
+    original = Original.of_pieces(part.pieces())
+    original.first, original.offset = part.first, part.offset
+    try:
+        found = AnyLines(original, request, program, is_bson=True, group=group)
+        return b"".join(document for batch in found.batches() for document in batch)
+    finally:
+        original.close()
+
+
+def _joined_answer(packed: list[bytes], request: Request, program: str, group: Group) -> list[bytes]:
+    """The lines of the answer over what the parts gave. A fault of that has no place in the dump."""
+    try:
+        return _lines_over(packed, request, program, group)
+    except DumpError as error:
+        if not error.fault:
+            raise
+        raise DumpError(f"what the parts gave, joined, cannot be asked: {error.fault.kind}") from None
+
+
+def _lines_over(packed: list[bytes], request: Request, program: str, group: Group) -> list[bytes]:
+    if not compares_wide(request):
+        try:
+            return [line for batch in Lines(Dump(pieces=packed), request, program, group=group).batches() for line in batch]
+        except DumpError as error:
+            if not is_wide(error):
+                raise
+    original = Original.of_pieces(packed)
+    try:
+        return [line for batch in AnyLines(original, request, program, is_known=True, group=group).batches() for line in batch]
+    finally:
+        original.close()
+
+
+def _packed_lines(request: Request, program: str, group: Group, part: Part) -> bytes:
+    dump = Dump(pieces=plain_pieces(part))
+    if request.is_long:
+        batches = Lines(dump, request, program, group=group).batches()
+        texts = (b"".join(line + b"\n" for line in batch) for batch in batches)
+        with Run([program, "pack", "-"], texts, group=group) as packed:
+            data = packed.stdout.read()
+            packed.finish(_PACKED)
+            return data
+    with Run.over(dump, program, "find", request.words(), group=group) as found:
+        with Run([program, "pack", "-"], stdin=found.stdout, group=group) as packed:
+            found.stdout.close()
+            data = packed.stdout.read()
+            _finish(found, packed)
+            return data
+
+
+def _finish(found: Run, packed: Run) -> None:
+    """Raises what went wrong with `find` or, where that could write no more, with the `pack` that read it."""
+    try:
+        counted(found)
+    except ProgramError as error:
+        if str(error) == "cannot write":
+            packed.finish(_PACKED)
+        raise
+    packed.finish(_PACKED)
+
+
+def _count(request: Request, program: str, group: Group, part: Part) -> int:
+    if not compares_wide(request):
+        try:
+            with Connection(Dump(pieces=part.pieces()), program, group=group) as connection:
+                return connection.do(steps.count(request))
+        except DumpError as error:
+            if not is_wide(error):
+                raise
+    original = Original.of_pieces(part.pieces())
+    original.first, original.offset = part.first, part.offset
+    try:
+        with Questions(original, program, group=group) as questions:
+            return questions.do(steps.count, request)
+    finally:
+        original.close()
+
+
+def _check(program: str, group: Group, part: Part) -> Check:
+    with checking(Input(0, 0, None, part.pieces()), program, group) as run:
+        faults = list(faults_of(run))
+        documents = finish_check(run)
+    return Check(documents, [fault.moved(part.first, part.offset) for fault in faults])

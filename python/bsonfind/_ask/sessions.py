@@ -1,0 +1,222 @@
+"""Sessions: many requests of one dump, by a run of `serve`."""
+
+from __future__ import annotations
+
+from os import getpid
+from typing import Any, Callable, Iterator, TypeVar, overload
+
+from .._names import File
+from . import steps
+from .connections import Connection
+from .copies import Questions
+from .decoding import Decode, Dicts, Raw, with_uuids
+from .requests import Filter, Request, Sort
+from .steps import Hint, Reading, use_of
+from .values import Uuids, uuids_of
+
+T = TypeVar("T")
+
+
+class Session:
+    """A dump with its indexes and cursors, kept by a run of the program to the end of the session.
+
+    Threads may share a session, and a cursor belongs to one thread at a time. Another process, such as one by a fork, opens its
+    own session: there each call of this one is an `OtherProcessError`. A dump that is refused is a `DumpError` at once, and a
+    `SessionEndedError` reports that the program went away later. A dump with doubles or decimal128 is asked by way of a copy, which
+    is written when the session begins; a request that needs codes of further numbers has another copy, which is kept too. Where a `timeout` is given, no reply may take more seconds: a
+    `TimedOutError` then ends the session.
+    """
+
+    def __init__(
+        self,
+        path: File,
+        program: str = "bsonfind",
+        *,
+        timeout: float | None = None,
+        copy: File | None = None,
+        uuid_representation: Uuids = "standard",
+    ) -> None:
+        """Opens a dump, of which a `copy` by `prepare` may be given. UUIDs are those of `find`."""
+        self._uuids = uuids_of(uuid_representation)
+        self._questions = Questions(path, program, timeout, copy)
+
+    # fmt: off
+    @overload
+    def find(
+        self, filter: Filter | None = None, *, sort: Sort | None = None, skip: int = 0, limit: int = 0, batch_size: int = 100,
+        hint: Hint | None = None, after: str | None = None, decode: Dicts = "plain",
+    ) -> Cursor[dict[str, Any]]: ...
+    @overload
+    def find(
+        self, filter: Filter | None = None, *, sort: Sort | None = None, skip: int = 0, limit: int = 0, batch_size: int = 100,
+        hint: Hint | None = None, after: str | None = None, decode: Raw,
+    ) -> Cursor[bytes]: ...
+    @overload
+    def find(
+        self, filter: Filter | None = None, *, sort: Sort | None = None, skip: int = 0, limit: int = 0, batch_size: int = 100,
+        hint: Hint | None = None, after: str | None = None, decode: Callable[[bytes], T],
+    ) -> Cursor[T]: ...
+    # fmt: on
+    def find(
+        self,
+        filter: Filter | None = None,
+        *,
+        sort: Sort | None = None,
+        skip: int = 0,
+        limit: int = 0,
+        batch_size: int = 100,
+        hint: Hint | None = None,
+        after: str | None = None,
+        decode: Decode[Any] = "plain",
+    ) -> Cursor[Any]:
+        """Opens a cursor over an answer, or over what follows a token of the same request.
+
+        Documents are read `batch_size` at a time, or fewer if they are long. `hint` says how they are found, as in pymongo: the path
+        of an index, [(PATH, 1)], or {"$natural": 1} for a scan. Without it the program chooses.
+        """
+        return self._cursor(filter, sort, skip, limit, batch_size, hint, after, decode)
+
+    def _cursor(
+        self,
+        filter: Filter | None,
+        sort: Sort | None,
+        skip: int,
+        limit: int,
+        batch_size: int,
+        hint: Hint | None,
+        after: str | None,
+        decode: Decode[Any],
+    ) -> Cursor[Any]:
+        decode = with_uuids(decode, self._uuids)
+        asked = self._questions.asked(Request.of(filter, sort, skip, limit, self._uuids), is_bson=decode == "bson")
+        reading = Reading(asked.request, use_of(hint), batch_size, after, decode, asked.documents_of(decode))
+        with asked.places():
+            return Cursor(asked.connection, reading)
+
+    # fmt: off
+    @overload
+    def find_one(
+        self, filter: Filter | None = None, *, sort: Sort | None = None, skip: int = 0, hint: Hint | None = None,
+        decode: Dicts = "plain",
+    ) -> dict[str, Any] | None: ...
+    @overload
+    def find_one(
+        self, filter: Filter | None = None, *, sort: Sort | None = None, skip: int = 0, hint: Hint | None = None,
+        decode: Raw,
+    ) -> bytes | None: ...
+    @overload
+    def find_one(
+        self, filter: Filter | None = None, *, sort: Sort | None = None, skip: int = 0, hint: Hint | None = None,
+        decode: Callable[[bytes], T],
+    ) -> T | None: ...
+    # fmt: on
+    def find_one(
+        self,
+        filter: Filter | None = None,
+        *,
+        sort: Sort | None = None,
+        skip: int = 0,
+        hint: Hint | None = None,
+        decode: Decode[Any] = "plain",
+    ) -> Any:
+        """The first document of an answer, None if it has none."""
+        with self._cursor(filter, sort, skip, 1, 100, hint, None, decode) as cursor:
+            return next(cursor, None)
+
+    def count_documents(self, filter: Filter | None = None) -> int:
+        """How many documents match."""
+        return self._questions.do(steps.count, Request.of(filter, uuids=self._uuids))
+
+    def create_index(self, path: str, sparse: bool = False) -> dict[str, Any]:
+        """Makes an index on a path: how many `entries` it has, and whether a document has more than one (`multikey`)."""
+        return self._questions.create_index(path, sparse)
+
+    def drop_index(self, path: str) -> None:
+        """Drops the index on a path; cursors that were opened by it give the same."""
+        self._questions.drop_index(path)
+
+    def explain(
+        self,
+        filter: Filter | None = None,
+        *,
+        sort: Sort | None = None,
+        skip: int = 0,
+        limit: int = 0,
+        hint: Hint | None = None,
+    ) -> dict[str, Any]:
+        """How an answer is found: the `plan`, the path of the `index`, and how many `entries`, `documents` and `matches`."""
+        request = Request.of(filter, sort, skip, limit, self._uuids)
+        return self._questions.do(steps.explain, request, use_of(hint))
+
+    def cancel(self) -> None:
+        """Ends the session at once, from any thread: a call that waits for a reply gets a `CancelledError`."""
+        self._questions.cancel()
+
+    def close(self) -> None:
+        """Ends the session."""
+        self._questions.close()
+
+    def __enter__(self) -> Session:
+        return self
+
+    def __exit__(self, *_: object) -> None:
+        self.close()
+
+
+class Cursor(Iterator[T]):
+    """The documents of an answer, which are asked for a batch at a time.
+
+    A batch that was read is kept as it came. So where a document cannot be decoded, or the caller is interrupted, the next call
+    gives the documents after it; a cursor that was interrupted while it read says so by a `CursorStateError`.
+    """
+
+    def __init__(self, connection: Connection, reading: Reading[T]) -> None:
+        self._connection, self._reading = connection, reading
+        self._owner = getpid()
+        self._is_closed = False
+        connection.do(reading.start())
+
+    def __next__(self) -> T:
+        if getpid() != self._owner:
+            self._connection.check()
+        documents = self._reading.held.documents
+        while not documents.left and not self._reading.is_at_end and not self._is_closed:
+            self._connection.check_open()
+            self._connection.do(self._reading.read_on())
+            documents = self._reading.held.documents
+        if self._is_closed or not documents.left:
+            raise StopIteration
+        document: T = documents.give()
+        return document
+
+    @property
+    def token(self) -> str | None:
+        """The token that leads on to what follows the documents that were given; None if none was.
+
+        Within a batch the program is asked for it, by a cursor that gives the same documents again.
+        """
+        return self._connection.do(self._reading.token())
+
+    def explain(self) -> dict[str, Any]:
+        """How the answer is found, as `Session.explain` says it."""
+        return self._connection.do(self._reading.explain())
+
+    def close(self) -> None:
+        """Closes the cursor: no document follows. Its token stays."""
+        self._connection.check()
+        self._is_closed = True
+        self._leave()
+
+    def _leave(self) -> None:
+        number, self._reading.number = self._reading.number, None
+        if number is not None:
+            self._connection.leave(number)
+
+    def __enter__(self) -> Cursor[T]:
+        return self
+
+    def __exit__(self, *_: object) -> None:
+        self.close()
+
+    def __del__(self) -> None:
+        self._leave()

@@ -1,0 +1,212 @@
+"""Audits: the check of many files, as many at once as there are processors."""
+
+from __future__ import annotations
+
+import os
+from concurrent.futures import ThreadPoolExecutor, as_completed
+from dataclasses import replace
+from typing import Callable, Iterable
+
+from .._dumps.archive import Archive
+from .._dumps.archive_frames import Namespace
+from .._dumps.checking import Checking, try_program
+from .._dumps.files import name_in
+from .._dumps.sources import Source
+from .._errors import ArgumentError, BsonfindError, DumpError
+from .._faults import Fault, NO_DAMAGE
+from .._names import File, name_of
+from .._numbers import whole
+from .._run.processes import Group, processors
+from .backups import Dump, dumps_of, is_inside, namespace_of, place_of, read_log, text_lines
+from .damage import details_of, rest_after
+from .metadata import fault_of_listed, fault_of_metadata
+from .reports import Audit, Report
+from .split import split
+from .watching import Unwatched, Watch
+
+# How many faults of a file are reported one by one.
+MOST_FAULTS = 10
+
+
+def audit(
+    paths: File | Iterable[File],
+    *,
+    expect: File | None = None,
+    jobs: int | None = None,
+    max_faults: int = MOST_FAULTS,
+    program: str = "bsonfind",
+) -> Audit:
+    """Checks the dumps of one or more names, and those below directories, several at once; `expect` is a log of mongodump.
+
+    Nothing is skipped in silence: what cannot be read has a report with its error.
+    """
+    jobs, most = None if jobs is None else whole("jobs", jobs, 1), whole("max_faults", max_faults)
+    names = [paths] if isinstance(paths, (str, bytes, os.PathLike)) else paths
+    if not isinstance(names, Iterable) or not (names := list(names)):
+        raise ArgumentError(f"audit takes a name, or some names, not {paths!r}")
+    return audit_dumps(dumps_of(map(name_of, names)), expect, jobs, most, program)
+
+
+def audit_dumps(
+    dumps: list[Dump],
+    expect: File | None = None,
+    jobs: int | None = None,
+    max_faults: int = MOST_FAULTS,
+    program: str = "bsonfind",
+    take: Callable[[Report], None] = lambda _: None,
+    watch: Callable[[int, int], Watch] = lambda files, size: Unwatched(),
+) -> Audit:
+    """Checks dumps, and passes on the report of each as soon as it is there. What prints how far it is gets how many files and bytes."""
+    log = read_log(text_lines(expect)) if expect is not None else None
+    try_program(program)
+    sizes = {it.file: it.size or 0 for it in dumps}
+    with watch(len(dumps), sum(sizes.values())) as progress:
+        reports = _check_all(dumps, _Checker(max_faults, program, take, progress), jobs or processors())
+    missing: dict[str, int] = {}
+    if log:
+        counts = {**log.documents, **({} if log.oplog is None else {"oplog": log.oplog})}
+        there = _collections(reports, counts)
+        for report in there.values():
+            report.compare(counts)
+        named = {name for report in there.values() for name in report.names_in_log()}
+        missing = {namespace: count for namespace, count in counts.items() if namespace not in named}
+    return Audit(reports, missing)
+
+
+def _collections(reports: list[Report], counts: dict[str, int]) -> dict[str, Report]:
+    """The file that represents each collection; others of it are noted, and those of a backup inside of this one."""
+    there: dict[str, Report] = {}
+    places = {it.place for it in reports if it.place and not counts.keys().isdisjoint(it.names_in_log())}
+    for report in reports:
+        if report.place and is_inside(report.place, places):
+            report.copy = "in a directory below that of the other dumps, so it stands for none of them"
+        elif report.namespace and there.setdefault(report.namespace, report) is not report:
+            report.copy = f"{report.namespace} is in {there[report.namespace].name} too"
+    return there
+
+
+def _check_all(dumps: list[Dump], checker: _Checker, jobs: int) -> list[Report]:
+    """The reports of all dumps, in their order; the largest is checked first, and a file with several names once."""
+    files: dict[object, list[Dump]] = {}
+    for dump in dumps:
+        files.setdefault(dump.file or id(dump), []).append(dump)
+    reports: dict[int, list[Report]] = {}
+    with ThreadPoolExecutor(jobs) as pool:
+        try:
+            largest = sorted(files.values(), key=lambda names: -(names[0].size or 0))
+            for future in as_completed([pool.submit(checker.check, names) for names in largest]):
+                reports.update(future.result())
+        except BaseException:
+            checker.group.end()
+            pool.shutdown(cancel_futures=True)
+            raise
+    return [report for dump in dumps for report in reports[id(dump)]]
+
+
+class _Checker:
+    """The check of one file after the other; threads share it."""
+
+    def __init__(self, max_faults: int, program: str, take: Callable[[Report], None], progress: Watch) -> None:
+        self.group = Group()
+        self._max_faults, self._program = max_faults, program
+        self._take, self._progress = take, progress
+
+    def check(self, names: list[Dump]) -> dict[int, list[Report]]:
+        """Checks a file, or each collection of an archive; the reports are those of each of its names."""
+        first = names[0]
+        found, is_archive = self._check_file(first)
+        reports: dict[int, list[Report]] = {}
+        for dump in names:
+            these = [replace(it, name=dump.name + it.name[len(first.name) :]) for it in found]
+            reports[id(dump)] = these
+            for it in these:
+                self._name(it, dump, is_archive)
+            self._progress.add_file()
+        return reports
+
+    def _check_file(self, dump: Dump) -> tuple[list[Report], bool]:
+        """The reports of a file, or of each collection of an archive, and whether it is one."""
+        report, is_archive = Report(dump.name, error=dump.error, is_fault=dump.is_fault), False
+        if not dump.error:
+            try:
+                with Source(dump.name) as source, self._progress.over(source):
+                    is_archive = source.is_archive
+                    if is_archive:
+                        return self._check_archive(source), True
+                    self._check_documents(report, source)
+            except (BsonfindError, OSError) as error:
+                self._note(report, error)
+        return [report], is_archive
+
+    def _name(self, report: Report, dump: Dump, is_archive: bool) -> None:
+        """Notes what a report has by the name of its file, and passes it on."""
+        if dump.is_below and not dump.error:
+            report.place = os.path.abspath(dump.name) if is_archive else place_of(dump.name)
+        if not (dump.error or is_archive):
+            report.namespace, report.metadata = namespace_of(dump.name), fault_of_metadata(dump.name, dump.is_below)
+        self._take(report)
+
+    def _note(self, report: Report, error: BsonfindError | OSError) -> None:
+        """Notes why a file was not read to its end; where all was ended, that is raised."""
+        if self.group.is_ended:
+            raise error
+        report.error = (error.strerror if isinstance(error, OSError) else None) or str(error)
+        report.is_fault = isinstance(error, DumpError) and error.is_finding
+
+    def _check_archive(self, source: Source) -> list[Report]:
+        """The reports of the collections of an archive, which are checked side by side as their documents come."""
+        archive = Archive(source.raw())
+        reports: dict[Namespace, Report] = {}
+
+        def report_of(namespace: Namespace) -> Report:
+            if namespace not in reports:
+                name = name_in(source.name, namespace)
+                reports[namespace] = Report(name, namespace=namespace_of(name))
+            return reports[namespace]
+
+        def note_damage(namespace: Namespace, error: str) -> None:
+            report = report_of(namespace)
+            report.error, report.is_fault = error, True
+
+        def check(namespace: Namespace, documents: Source) -> None:
+            report = report_of(namespace)
+            try:
+                self._check_documents(report, documents)
+            except (BsonfindError, OSError) as error:
+                self._note(report, error)
+
+        others: list[Report] = []
+        try:
+            for end in split(archive, check):
+                if end.error:
+                    note_damage(end.namespace, end.error)
+        except (BsonfindError, OSError) as error:
+            others = [Report(source.name)]
+            self._note(others[0], error)
+        # After a refusal that is no fault of the archive, ends were not looked for.
+        for namespace in archive.unended() if not others or others[0].is_fault else ():
+            note_damage(namespace, "no end")
+        for listed in archive.listed:
+            if fault := fault_of_listed(listed):
+                report_of(listed.buckets if listed.buckets in reports else listed.namespace).metadata = fault
+        return [*(reports[namespace] for namespace in sorted(reports)), *others]
+
+    def _check_documents(self, report: Report, source: Source) -> None:
+        harmless: dict[str, Fault] = {}
+        checking, last = Checking(self._program, self.group), None
+        try:
+            for fault in checking.faults(source):
+                report.kinds[fault.kind] += 1
+                if fault.kind in NO_DAMAGE:
+                    harmless.setdefault(fault.kind, fault)
+                else:
+                    last = fault
+                    if len(report.faults) < self._max_faults:
+                        report.faults.append(fault)
+        finally:
+            report.documents = checking.documents
+            report.faults.extend(harmless.values())
+        if last and source.size is not None and not source.is_packed:
+            report.rest = rest_after(last, source.size)
+        damage = [it for it in report.faults if it.kind not in NO_DAMAGE]
+        report.details = details_of(source, damage, self._program, self.group)

@@ -1,0 +1,252 @@
+"""What a backup holds: its dumps, the collections that they are of, and what the log of mongodump says of them."""
+
+from __future__ import annotations
+
+import os
+import re
+import stat
+from base64 import urlsafe_b64encode
+from dataclasses import dataclass
+from hashlib import sha1
+from pathlib import PurePath
+from typing import Iterable, Iterator, NamedTuple
+from urllib.parse import quote, unquote
+
+from .._dumps.archive_frames import Namespace
+from .._dumps.files import file_of, is_whole_archive, member_of
+from .._errors import FileError
+from .._names import File, name_of
+from .metadata import OPLOG, is_at_top, is_oplog, read_metadata, read_metadata_file
+
+_ENDING = re.compile(r"\.bson(\.gz)?$")
+_METADATA = re.compile(r"\.metadata\.json(\.gz)?$")
+_DUMPED = re.compile(r"done dumping (\S.*) \((\d+) documents?\)")
+_OPLOG_DUMPED = re.compile(r"dumped (\d+) oplog entr(?:y|ies)")
+# The names of files that mongodump writes beside dumps.
+_BESIDE = re.compile(r"(\.metadata|^prelude)\.json(\.gz)?$")
+# The names that archives have by custom; below a directory each is known by its first bytes.
+_ARCHIVE = re.compile(r"\.archive(\.gz)?$")
+# A file that is not whole, as `unpack` leaves it.
+_HALF = re.compile(r"\.bson\.part$")
+# What mongodump does not escape in the name of a collection beside letters, digits and "_.-~"; its longest name of a file without
+# an ending, and how much of a longer one stays before "%24" and a hash.
+_UNESCAPED, _LONGEST_STEM, _KEPT = "$&+:=@", 238, 208
+
+
+@dataclass
+class Dump:
+    """A dump by its name, with its size; or what could not be found, and why."""
+
+    name: str
+    is_below: bool = False
+    size: int | None = None
+    error: str | None = None
+    # Whether that is damage of the backup, as where only the metadata is there.
+    is_fault: bool = False
+    # What it has in common with other names of the same bytes, None if it was not found.
+    file: tuple[object, ...] | None = None
+
+
+class Log(NamedTuple):
+    """How many documents of each collection mongodump reports to have dumped, and how many entries of the oplog."""
+
+    documents: dict[str, int]
+    oplog: int | None
+
+
+def dumps_of(names: Iterable[str]) -> list[Dump]:
+    """The files of these names, and in place of a directory the dumps below it. A name that is met twice is there once.
+
+    Each name of a file with several ones, such as a link, is that of a dump. What cannot be found below a directory is there with
+    its error, so that nothing is skipped in silence.
+    """
+    dumps: dict[tuple[str, str | None], Dump] = {}
+    for name in names:
+        for dump in dumps_below(name) if os.path.isdir(name) else [_named(name)]:
+            directory, base = os.path.split(dump.name)
+            first = dumps.setdefault((os.path.join(os.path.realpath(directory), base), dump.error), dump)
+            first.is_below |= dump.is_below
+            if first is dump and not dump.error:
+                _look_at(dump)
+    return list(dumps.values())
+
+
+def _named(name: str) -> Dump:
+    """The dump of a name, such as that of any file below a directory whose files a shell has named."""
+    return Dump(name, error="no dump: mongodump writes it beside dumps" if _BESIDE.search(os.path.basename(name)) else None)
+
+
+def _look_at(dump: Dump) -> None:
+    """Notes the size of a file, and what it is."""
+    try:
+        status = os.stat(file_of(dump.name))
+    except OSError as error:
+        dump.error = error.strerror
+        return
+    dump.size = status.st_size if stat.S_ISREG(status.st_mode) else None
+    member = member_of(dump.name)
+    dump.file = status.st_dev, status.st_ino, member and member.namespace
+
+
+def dumps_below(directory: str) -> Iterator[Dump]:
+    """The dumps and archives below a directory, in the order of their names, and what cannot be found there or is missing.
+
+    A directory without any is an error, such as where a disk is missing; that of a database may have views alone.
+    """
+    # The directories that are open, from the first to the innermost: their names, what was not looked at yet, and what was found.
+    open_ones = [_Directory(directory)]
+    while open_ones:
+        inner = open_ones[-1]
+        for found in inner.rest:
+            if isinstance(found, str):
+                open_ones.append(_Directory(found))
+                break
+            inner.is_empty = False
+            yield found
+        else:
+            open_ones.pop()
+            if inner.is_empty:
+                yield Dump(inner.name, error="no dump is below this directory")
+            if open_ones:
+                open_ones[-1].is_empty = False
+
+
+class _Directory:
+    """A directory that is looked at: the names of directories in it, and the dumps in it or what is wrong."""
+
+    def __init__(self, name: str) -> None:
+        self.name, self.is_empty = name, False
+        self.rest: Iterator[str | Dump]
+        try:
+            with os.scandir(name) as listed:
+                entries = sorted(listed, key=lambda entry: entry.name)
+        except OSError as error:
+            self.rest = iter([Dump(name, error=f"cannot read the directory: {error.strerror}")])
+            return
+        self.is_empty = not any(_METADATA.search(entry.name) for entry in entries)
+        self.rest = _found_among(entries, name)
+
+
+def _found_among(entries: list[os.DirEntry[str]], directory: str) -> Iterator[str | Dump]:
+    """The dumps and archives among the entries of a directory, and the names of directories in it."""
+    stems = {it.sub("", entry.name) for entry in entries for it in (_ENDING, _HALF) if it.search(entry.name)}
+    for entry in entries:
+        try:
+            if entry.is_dir(follow_symlinks=False):
+                yield entry.path
+            else:
+                found = _file_among(entry, directory, stems)
+                if found:
+                    yield found
+        except OSError as error:
+            yield Dump(entry.path, error=error.strerror)
+
+
+def _file_among(entry: os.DirEntry[str], directory: str, stems: set[str]) -> Dump | None:
+    """The dump of an entry that is no directory, or what is wrong with it; None of a file that is no dump."""
+    if entry.is_dir():
+        return Dump(entry.path, error="a link to a directory, which is not followed: name it too")
+    if entry.is_symlink() and not os.path.exists(entry.path):
+        return Dump(entry.path, error="a link to nothing that can be seen")
+    if _ENDING.search(entry.name):
+        return Dump(entry.path, is_below=True, error=None if entry.is_file() else "not a regular file")
+    if _HALF.search(entry.name):
+        return Dump(entry.path, error="not whole: unpack left it so", is_fault=True)
+    if _METADATA.search(entry.name) and _METADATA.sub("", entry.name) not in stems:
+        stem = _stem_wanted(entry.path)
+        if stem is not None and stem not in stems:
+            return Dump(os.path.join(directory, f"{stem}.bson"), error=f"missing: only {entry.name} is there", is_fault=True)
+    elif is_whole_archive(entry.path):
+        return Dump(entry.path, is_below=True)
+    elif _ARCHIVE.search(entry.name):
+        return Dump(entry.path, error="no archive, by its first bytes", is_fault=True)
+    return None
+
+
+def text_lines(path: File) -> list[str]:
+    """The lines of a file; bytes that are not UTF-8 stay as they are in names."""
+    name = name_of(path)
+    try:
+        with open(name, encoding="utf-8", errors="surrogateescape", newline="\n") as file:
+            return file.read().split("\n")
+    except OSError as error:
+        raise FileError(error.errno, error.strerror, name) from None
+
+
+def read_log(lines: Iterable[str]) -> Log:
+    """What the log of mongodump says."""
+    documents: dict[str, int] = {}
+    oplog = None
+    for line in lines:
+        if found := _DUMPED.search(line):
+            documents[found.group(1).replace("`", "")] = int(found.group(2))
+        elif found := _OPLOG_DUMPED.search(line):
+            oplog = int(found.group(1))
+    return Log(documents, oplog)
+
+
+def namespace_of(name: str) -> str:
+    """The database and the collection whose dump a file is: by its directory, and by its name or the metadata beside it.
+
+    mongodump shortens the name of a file whose collection has a long name, so the name in the metadata decides.
+    """
+    if is_oplog(name):
+        return str(OPLOG)
+    member = member_of(name)
+    directory, base = os.path.split(os.path.abspath(name))
+    stem = member.namespace.collection if member else _ENDING.sub("", base)
+    if stem.startswith("$admin."):
+        return unquote(stem[1:])  # The users and roles of one database are dumped beside it.
+    if member:
+        return str(member.namespace)
+    metadata, _ = read_metadata(name)
+    collection = (metadata or {}).get("collectionName")
+    return f"{os.path.basename(directory)}.{collection if isinstance(collection, str) else unquote(stem)}"
+
+
+def place_of(name: str) -> str | None:
+    """The directory that has those of the databases, one of which has a dump, or the oplog; None if that is not known."""
+    directory, base = os.path.split(name)
+    directory = os.path.realpath(directory)
+    if is_oplog(name):
+        return directory
+    return None if base.startswith("$") else os.path.dirname(directory)
+
+
+def is_inside(place: str, places: set[str]) -> bool:
+    """Whether a place is below one of others."""
+    return any(str(it) in places for it in PurePath(place).parents)
+
+
+def stem_of(namespace: Namespace) -> str:
+    """The name of a file by mongodump for a collection, below its directory and without an ending.
+
+    A collection without a database, and one of a database that begins with "$", is at the top.
+    """
+    escaped = quote(namespace.collection, _UNESCAPED)
+    if len(escaped) > _LONGEST_STEM:
+        digest = urlsafe_b64encode(sha1(namespace.collection.encode()).digest()).decode().rstrip("=")
+        escaped = f"{escaped[:_KEPT]}%24{digest}"
+    return escaped if is_at_top(namespace) else os.path.join(os.fsdecode(namespace.database.encode()), escaped)
+
+
+def _stem_wanted(path: str) -> str | None:
+    """The name without an ending of the dump whose metadata is in this file, None of a view, which has none.
+
+    That of a time series is the dump of its buckets.
+    """
+    found, _ = read_metadata_file(path)
+    stem, metadata = _METADATA.sub("", os.path.basename(path)), found or {}
+    kind, options = metadata.get("type"), metadata.get("options")
+    keys = {*options} if isinstance(options, dict) else set()
+    if kind == "view" or "viewOn" in keys:
+        return None
+    if (kind != "timeseries" and "timeseries" not in keys) or stem.startswith("system.buckets."):
+        return stem
+    collection = metadata.get("collectionName")
+    return stem_of(Namespace("", f"system.buckets.{collection if isinstance(collection, str) else unquote(stem)}"))
+
+
+def stem_of_file(name: str) -> str:
+    """The name of the file of a dump, without an ending."""
+    return _ENDING.sub("", name)

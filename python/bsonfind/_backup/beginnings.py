@@ -1,0 +1,174 @@
+"""Where documents begin again after a wrong length, which is a guess."""
+
+from __future__ import annotations
+
+import re
+import struct
+from typing import Callable, Iterable, Iterator, NamedTuple
+
+from .._dumps.checking import checking, faults_of, finish_check
+from .._dumps.framing import LONGEST, SHORTEST
+from .._dumps.sources import Input
+from .._faults import Fault, NO_DAMAGE
+from .._run.processes import Group, Run
+from .window import Window
+
+# From this many documents in a row, or from fewer that end with the file, a place is guessed to be the beginning of a document.
+IN_A_ROW = 4
+# The type of a first element after the last byte of a length. A document that begins with MinKey or MaxKey is not looked for.
+_BEGINNING = re.compile(rb"[\x01-\x13](?<=[\x00\x01].)", re.DOTALL)
+# The same after the last byte of a document.
+_NEXT_BEGINNING = re.compile(rb"[\x01-\x13](?<=\x00...[\x00\x01].)", re.DOTALL)
+_BEFORE = 4
+# The types of fields whose value may look like a document: a document, an array, and an int32 that is the number of bytes left.
+_LIKE_DOCUMENTS = (b"\x03", b"\x04", b"\x10")
+# The bytes of a name that is looked for before a value, and how many.
+_OF_NAMES, _LONGEST_NAME = bytes(range(0x20, 0x100)), 256
+# The types of first elements, and the last byte of a document without any.
+_TYPES = frozenset([*range(0x14), 0x7F, 0xFF])
+# This many chains of documents are looked at by one run at most.
+_MOST_CHAINS = 1024
+# How many bytes of chains one run looks at, once it has this many.
+_MOST = 1 << 22
+_PIECE = 1 << 20
+_length_at = struct.Struct("<i").unpack_from
+
+
+class Check:
+    """The check of some documents after others."""
+
+    def __init__(self, program: str, group: Group | None = None) -> None:
+        self._program, self._group = program, group
+
+    def run(self, data: list[bytes]) -> Run:
+        """A run over documents."""
+        return checking(Input(0, 0, None, iter(data)), self._program, self._group)
+
+    def faults(self, data: list[bytes], documents: int, run: Run | None = None) -> list[Fault]:
+        """The damage of this many documents, as a run that was started finds it."""
+        run = run or self.run(data)
+        with run:
+            faults = list(faults_of(run))
+            finish_check(run, documents)
+        return faults
+
+
+class Beginnings:
+    """The places of a stream from which documents follow one another without damage."""
+
+    def __init__(self, window: Window, check: Check, say: Callable[[str], None]) -> None:
+        self._window, self._check, self._say = window, check, say
+
+    def after(self, start: int) -> int | None:
+        """Where a document begins after a wrong length, None if none seems to. What is before that is dropped."""
+        at = start + 1
+        while self._window.has(at + SHORTEST):
+            self._window.has(at + _PIECE)
+            piece = self._window.part(at, min(at + _PIECE, self._window.end))
+            for beginning in self._undamaged(self._chain(at + it, start) for it in _places(_BEGINNING, piece, 0)):
+                return beginning
+            # A beginning may go over the end of the piece.
+            at += len(piece) - _BEFORE
+            self._window.drop(max(at - _LONGEST_NAME, self._window.start))
+        return None
+
+    def inside(self, start: int, end: int, kind: str) -> int | None:
+        """Where documents begin that the length of a bad document skips, None if this length seems to be right.
+
+        It is wrong where documents are inside from which others lead on to the end or beyond it, or where none begins at the
+        end. Else they are a part of the document, such as a dump in its binary data.
+        """
+        is_whole = kind in NO_DAMAGE
+        pattern = _NEXT_BEGINNING if is_whole else _BEGINNING
+        self._window.has(end + _BEFORE)
+        data = self._window.part(start, min(end + _BEFORE, self._window.end))
+        places = _places(pattern, data, SHORTEST, not is_whole)
+        for beginning in self._undamaged(self._chain(start + it, start) for it in places):
+            if self._reaches(beginning, end) or not self._is_end_or_beginning(end):
+                return beginning
+            inside = f"documents stand inside it from byte {beginning} on"
+            self._say(f"bad document at byte {start}: {inside}, and are copied with it")
+            return None
+        return None
+
+    def _reaches(self, at: int, end: int) -> bool:
+        """Whether documents lead on from there to a place or beyond it."""
+        while at < end:
+            after = self._window.document_end(at)
+            if after is None:
+                return False
+            at = after
+        return True
+
+    def _is_end_or_beginning(self, at: int) -> bool:
+        return not self._window.has(at + 1) or any(True for _ in self._undamaged([self._chain(at)]))
+
+    def _chain(self, at: int, start: int | None = None) -> Chain | None:
+        """The documents that seem to follow, by their lengths, the types of their first elements and their last bytes.
+
+        Where the bytes before them look like a field, they may be its value, inside the document with a fault that begins at
+        `start`. Then this one, as if it ended before them, must have no fault.
+        """
+        end, documents = at, 0
+        while documents < IN_A_ROW and (documents == 0 or self._window.has(end + 1)):
+            after = self._window.document_end(end)
+            if after is None or self._window.byte(after - 1) or self._window.byte(end + 4) not in _TYPES:
+                return None
+            end, documents = after, documents + 1
+        before = b""
+        if start is not None and _is_field(self._window.part_before(at, _LONGEST_NAME)):
+            if not SHORTEST <= at - start <= LONGEST or start < self._window.start:
+                return None
+            before = (at - start).to_bytes(4, "little") + self._window.part(start + 4, at)
+        return Chain(at, before, documents, self._window.part(at, end))
+
+    def _undamaged(self, chains: Iterable[Chain | None]) -> Iterator[int]:
+        """The places of those chains in which `check` finds no damage. One run looks at one chain at first, then at more."""
+        waiting: list[Chain] = []
+        most = 1
+        for chain in filter(None, chains):
+            waiting.append(chain)
+            if len(waiting) == most or sum(len(it.data) for it in waiting) > _MOST:
+                yield from self._undamaged_of(waiting)
+                waiting, most = [], min(2 * most, _MOST_CHAINS)
+        yield from self._undamaged_of(waiting)
+
+    def _undamaged_of(self, chains: list[Chain]) -> list[int]:
+        """The places of those chains in which one run finds no damage."""
+        if not chains:
+            return []
+        data = [data for it in chains for data in (it.before, it.data)]
+        faults = {it.document: it.kind for it in self._check.faults(data, sum(bool(it.before) + it.documents for it in chains))}
+        places, first = [], 0
+        for chain in chains:
+            documents = range(first + bool(chain.before), first + bool(chain.before) + chain.documents)
+            is_ended = not chain.before or first not in faults
+            if is_ended and all(faults.get(it, NO_DAMAGE[0]) in NO_DAMAGE for it in documents):
+                places.append(chain.place)
+            first = documents.stop
+        return places
+
+
+def _is_field(before: bytes) -> bool:
+    """Whether bytes end with the type and the name of a field whose value may look like a document."""
+    return before.endswith(b"\0") and before[:-1].rstrip(_OF_NAMES).endswith(_LIKE_DOCUMENTS)
+
+
+def _places(pattern: re.Pattern[bytes], data: bytes, first: int, with_values: bool = True) -> Iterator[int]:
+    """Where a document may begin in some bytes, by its length, and by its last byte where this is among them."""
+    size = len(data)
+    for found in pattern.finditer(data, first + _BEFORE):
+        at = found.start() - _BEFORE
+        (length,) = _length_at(data, at)
+        if SHORTEST <= length <= LONGEST and (at + length > size or not data[at + length - 1]):
+            if with_values or not _is_field(data[max(at - _LONGEST_NAME, 0) : at]):
+                yield at
+
+
+class Chain(NamedTuple):
+    """Documents that seem to follow one another from a place on, and perhaps one that must have no fault before them."""
+
+    place: int
+    before: bytes
+    documents: int
+    data: bytes

@@ -1,0 +1,247 @@
+"""Compares two dumps, or the dumps of two directories, in memory that does not grow with them."""
+
+from __future__ import annotations
+
+import os
+from collections import Counter
+from hashlib import blake2b
+from typing import Callable, Iterable, Iterator, NamedTuple, Sequence
+
+from .._dumps.checking import checking, faults_of, finish_check
+from .._dumps.elements import value_at
+from .._dumps.files import is_whole_archive
+from .._dumps.framing import LONGEST, inputs, is_length
+from .._dumps.printing import texts_of_values
+from .._dumps.sources import Input, Source
+from .._errors import BsonfindError, DumpError
+from .backups import dumps_below
+from .sorting import Sorter
+
+# How many keys, or bytes of keys, are printed at once.
+_MOST_KEYS, _MOST_BYTES = 1000, 1 << 22
+# How documents differ, in the order in which they are counted.
+KINDS = ("same", "changed", "removed", "added")
+
+
+class CompareError(BsonfindError):
+    """Dumps that cannot be compared."""
+
+
+class Pair(NamedTuple):
+    """The names of two dumps of one collection, None if there is none, and the name that both have in their directories."""
+
+    name: str
+    first: str | None
+    second: str | None
+
+
+class Comparison(NamedTuple):
+    """How many documents two dumps have, and how many of them are of each kind, have the key of another one, or none.
+
+    `alone` counts the dumps that only one of two directories has.
+    """
+
+    documents: tuple[int, int]
+    kinds: Counter[str]
+    repeated: int = 0
+    without: int = 0
+    alone: int = 0
+
+    @property
+    def is_same(self) -> bool:
+        """Whether both have the same documents, in whatever order."""
+        return not (self.alone or any(self.kinds[kind] for kind in KINDS[1:]))
+
+    def __add__(self, other: Comparison) -> Comparison:  # type: ignore[override]
+        """The counts of both together."""
+        first, second = (a + b for a, b in zip(self.documents, other.documents))
+        counts = (a + b for a, b in zip(self[2:], other[2:]))
+        return Comparison((first, second), self.kinds + other.kinds, *counts)
+
+
+NOTHING = Comparison((0, 0), Counter())
+
+
+def pairs_of(first: str, second: str) -> tuple[list[Pair], list[CompareError]]:
+    """The pairs of two dumps, or of the dumps below two directories, and what cannot be found there."""
+    if not os.path.isdir(first) and not os.path.isdir(second):
+        return [Pair(second, first, second)], []
+    for name, other in ((first, second), (second, first)):
+        if is_whole_archive(name):
+            raise CompareError(f"{name} is an archive, and {other} is a directory: unpack the archive, and compare two directories")
+        if not os.path.isdir(name):
+            raise CompareError(f"{name} is no directory, and {other} is one")
+    found: list[dict[str, str]] = []
+    problems: list[CompareError] = []
+    for directory in (first, second):
+        names: dict[str, str] = {}
+        for dump in dumps_below(directory):
+            name = os.path.relpath(dump.name, directory)
+            name = name[:-3] if name.endswith(".gz") else name
+            if dump.error:
+                problems.append(CompareError(f"{dump.name}: {dump.error}"))
+            elif name in names:
+                problems.append(CompareError(f"{dump.name}: {names[name]} is there too"))
+            else:
+                names[name] = dump.name
+        found.append(names)
+    a, b = found
+    return [Pair(name, a.get(name), b.get(name)) for name in sorted({*a, *b})], problems
+
+
+def compare(pair: Pair, path: str, program: str, say: Callable[[str], None]) -> Comparison:
+    """Compares the documents of two dumps, which belong together by the value at a path; `say` gets what differs.
+
+    Documents are the same if their bytes are, and so are values. The order of documents does not count, that of fields does.
+    """
+    if pair.first is None or pair.second is None:
+        return _one_alone(pair, program, say)
+    names = [name.encode() for name in path.split(".")]
+    documents = [0, 0]
+    with Sorter() as sorter:
+        for side, name in enumerate((pair.first, pair.second)):
+            mark = b"\t%d\n" % side
+
+            def take(document: bytes, mark: bytes = mark) -> None:
+                # The key comes first, in digits, so that lines are sorted by it. Documents without a key come before all others.
+                key = (value_at(document, names) or b"").hex().encode()
+                sorter.add(b"%s\t%s%s" % (key, blake2b(document, digest_size=16).hexdigest().encode(), mark))
+
+            documents[side] = _each_document(name, program, take)
+        with _Keys(program, say) as keys:
+            return _compare_sorted(sorter.all(), (documents[0], documents[1]), path, keys)
+
+
+class _Keys:
+    """Lines that name keys, whose texts some at once are made by one run."""
+
+    def __init__(self, program: str, say: Callable[[str], None]) -> None:
+        self._program, self._say = program, say
+        self._waiting: list[tuple[str, bytes, str]] = []
+        self._size = 0
+
+    def say(self, before: str, key: bytes = b"", after: str = "") -> None:
+        """Prints a line of a text, a key and another text."""
+        self._waiting.append((before, key, after))
+        self._size += len(key)
+        if len(self._waiting) >= _MOST_KEYS or self._size >= _MOST_BYTES:
+            self._print()
+
+    def _print(self) -> None:
+        lines, self._waiting, self._size = self._waiting, [], 0
+        values = [bytes.fromhex(key.decode()) for _, key, _ in lines if key]
+        texts = iter(texts_of_values(values, self._program) if values else ())
+        for before, key, after in lines:
+            self._say(f"{before}{next(texts) if key else ''}{after}")
+
+    def __enter__(self) -> _Keys:
+        return self
+
+    def __exit__(self, kind: object, *_: object) -> None:
+        if kind is None:
+            self._print()
+
+
+def _compare_sorted(lines: Iterator[bytes], documents: tuple[int, int], path: str, keys: _Keys) -> Comparison:
+    """Compares the sorted lines of two dumps."""
+    kinds: Counter[str] = Counter()
+    repeated = without = 0
+    for key, first, second, same in _by_key(lines):
+        if key and same == first == second == 1:
+            kinds["same"] += 1
+            continue
+        removed, added = first - same, second - same
+        if key:
+            changed = min(removed, added)
+            counts = {"changed": changed, "removed": removed - changed, "added": added - changed}
+            if max(first, second) > 1:
+                repeated += sum(count for count in (first, second) if count > 1)
+                keys.say("repeated ", key, f": {first} and {second} documents")
+            for kind, count in counts.items():
+                for _ in range(count):
+                    keys.say(f"{kind} ", key)
+        else:
+            counts, without = {"removed": removed, "added": added}, first + second
+            keys.say(f"without {path}: {first} and {second} documents, {removed} removed, {added} added")
+        kinds.update(counts, same=same)
+    return Comparison(documents, kinds, repeated, without)
+
+
+def _by_key(lines: Iterator[bytes]) -> Iterator[tuple[bytes, int, int, int]]:
+    """Each key of sorted lines, how many documents of it each dump has, and how many of these are the same in both.
+
+    A line has the key, a digest of the document, and which dump it is of.
+    """
+    key, document = b"", b""
+    first = second = same = one = other = 0
+    for line in lines:
+        found = line[:-2]
+        if found != document:
+            first, second, same = first + one, second + other, same + min(one, other)
+            one = other = 0
+            document, found = found, found[: found.index(b"\t")]
+            if found != key:
+                if first or second:
+                    yield key, first, second, same
+                key = found
+                first = second = same = 0
+        if line.endswith(b"0\n"):
+            one += 1
+        else:
+            other += 1
+    first, second, same = first + one, second + other, same + min(one, other)
+    if first or second:
+        yield key, first, second, same
+
+
+def _one_alone(pair: Pair, program: str, say: Callable[[str], None]) -> Comparison:
+    """The counts of a dump that only one of two directories has."""
+    name, kind = (pair.first, "removed") if pair.second is None else (pair.second, "added")
+    assert name is not None
+    count = _each_document(name, program, lambda _: None)
+    say(f"{kind} with all of its {count} documents")
+    return Comparison((count, 0) if kind == "removed" else (0, count), Counter({kind: count}), alone=1)
+
+
+def _each_document(name: str, program: str, take: Callable[[bytes], None]) -> int:
+    """Has the documents of a dump checked as they pass on, and gives their number. What is wrong is raised with its name."""
+    documents = 0
+    try:
+        with Source(name) as source:
+            for offset, first, pieces in inputs(source.pieces()):
+                with checking(Input(offset, first, None, _taken(pieces, take)), program) as run:
+                    for fault in faults_of(run):
+                        moved = fault.moved(first, offset)
+                        raise DumpError(str(moved), moved)
+                    documents = first + finish_check(run)
+    except (BsonfindError, OSError) as error:
+        raise CompareError(f"{name}: {getattr(error, 'strerror', None) or error}") from None
+    return documents
+
+
+def _taken(pieces: Iterable[bytes], take: Callable[[bytes], None]) -> Iterator[bytes]:
+    """The pieces as they pass, whose documents are taken. After a wrong length, which is a fault, none is."""
+    rest, is_wrong = b"", False
+    for piece in pieces:
+        data = rest + piece if rest else piece
+        at, size = 0, len(data)
+        while not is_wrong and at + 4 <= size:
+            length = int.from_bytes(data[at : at + 4], "little")
+            is_wrong = not is_length(length, LONGEST)
+            if is_wrong or at + length > size:
+                break
+            take(data[at : at + length])
+            at += length
+        rest = b"" if is_wrong else data[at:]
+        yield piece
+
+
+def rows(done: Comparison, names: Sequence[str], path: str) -> list[tuple[str, int]]:
+    """The table of counts."""
+    named = f"with the {path} of another", f"without {path}", "dumps of one alone"
+    more = zip(named, (done.repeated, done.without, done.alone))
+    return [
+        *((f"documents in {name}", count) for name, count in zip(names, done.documents)),
+        *((kind, done.kinds[kind]) for kind in KINDS),
+        *((name, count) for name, count in more if count),
+    ]

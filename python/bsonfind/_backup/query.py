@@ -1,0 +1,104 @@
+"""One query over many dumps."""
+
+from __future__ import annotations
+
+from collections import deque
+from typing import Iterator, NamedTuple, Sequence
+
+from .._ask.copies import AnyLines, compares_wide, originals, try_request
+from .._ask.lines import counted
+from .._ask.requests import Request
+from .._dumps.checking import is_wide
+from .._dumps.printing import Batches, lines_of
+from .._dumps.sources import Input, Source
+from .._errors import BsonfindError, DumpError
+from .._faults import Fault
+from .._run.processes import Group
+from .backups import Dump
+
+# What one run holds in memory of a larger dump.
+MOST_HELD = 1 << 28
+
+
+class Found(NamedTuple):
+    """Documents of a dump, or why it does not give all of them."""
+
+    name: str
+    lines: list[bytes]
+    error: Exception | None = None
+
+
+def query_dumps(dumps: Sequence[Dump], request: Request, jobs: int, program: str) -> Iterator[Found]:
+    """The documents of dumps that match, in the order of the dumps; this many are asked at once. A refused request is raised."""
+    try_request(request, program)
+    is_copied = compares_wide(request)
+    group = Group()
+    ahead: deque[Iterator[Found]] = deque()
+    try:
+        for dump in dumps:
+            answer = _answer(dump, request, program, group, is_copied)
+            ahead.append(answer)
+            next(answer)  # starts the first run, whose answer waits until it is read
+            if len(ahead) >= jobs:
+                yield from ahead.popleft()
+        while ahead:
+            yield from ahead.popleft()
+    finally:
+        group.end()
+
+
+def _answer(dump: Dump, request: Request, program: str, group: Group, is_copied: bool) -> Iterator[Found]:
+    """The documents of a dump, after one thing that is empty, which is given when its first run is started."""
+    name, is_started = dump.name, False
+    # Where the parts begin that are asked by way of copies.
+    copied_from = 0 if is_copied else None
+    try:
+        if dump.error:
+            raise DumpError(dump.error)
+        with Source(name) as source:
+            for part in source.inputs(MOST_HELD) if copied_from is None else ():
+                with part.run([program, "find", "-", *request.words()], group=group) as run:
+                    if not is_started:
+                        is_started = True
+                        yield Found(name, [])
+                    for lines in lines_of(run.stdout):
+                        source.check()
+                        yield Found(name, lines)
+                    try:
+                        counted(run)
+                    except DumpError as error:
+                        if not is_wide(error) or source.size is None:
+                            raise moved(error, part) from None
+                        copied_from = part.offset
+                        break
+            if copied_from is not None:
+                if not is_started:
+                    is_started = True
+                    yield Found(name, [])
+                for lines in _by_copies(source, copied_from, request, program, group):
+                    source.check()
+                    yield Found(name, lines)
+    except (BsonfindError, OSError) as error:
+        if not is_started:
+            yield Found(name, [])
+        yield Found(name, [], error)
+        return
+    if not is_started:
+        yield Found(name, [])
+
+
+def _by_copies(source: Source, start: int, request: Request, program: str, group: Group) -> Batches:
+    """The lines of the documents from a place on, some of which hold doubles or decimal128, in parts that are copied."""
+    for part, original in originals(source, start, MOST_HELD):
+        try:
+            yield from AnyLines(original, request, program, is_known=True, group=group).batches()
+        except DumpError as error:
+            raise moved(error, part) from None
+
+
+def moved(error: DumpError, part: Input) -> DumpError:
+    """The error of an input, with the place in the whole dump."""
+    if not error.fault:
+        return error
+    fault: Fault = error.fault.moved(part.first, part.offset)
+    return DumpError(str(fault), fault)

@@ -1,0 +1,210 @@
+"""What an audit found: a report of each file, and the table and the JSON of all."""
+
+from __future__ import annotations
+
+import json
+from collections import Counter
+from dataclasses import dataclass, field
+from typing import Any, Iterator, NamedTuple
+
+from .._faults import Fault, NO_DAMAGE
+from .damage import Detail
+
+# What is between a database and the name of a time series in the name of the collection of its documents.
+_BUCKETS = ".system.buckets."
+
+
+@dataclass
+class Report:
+    """What the check of a file came to.
+
+    `kinds` says how many documents have each kind of first fault, and `faults` has the first of those that are damage, and then
+    the first of each other kind. `error` says why the file was not read to its end, `metadata` what is wrong with its metadata.
+    """
+
+    name: str
+    documents: int = 0
+    kinds: Counter[str] = field(default_factory=Counter)
+    faults: list[Fault] = field(default_factory=list)
+    # What is known of damaged documents beside their faults, by their numbers.
+    details: dict[int, Detail] = field(default_factory=dict)
+    # How many bytes at the end are not known to be a document. They count as one, with a fault.
+    rest: int = 0
+    error: str | None = None
+    metadata: str | None = None
+    # Whether the error is a fault of the backup: a file of gzip that is truncated or damaged, or metadata without its dump.
+    is_fault: bool = False
+    # The collection that it is of, where that is known, and below a directory the place that has those of the databases.
+    namespace: str | None = None
+    place: str | None = None
+    # What the log says of the collection, and why the file does not represent it.
+    expected: int | None = None
+    is_miscounted: bool = False
+    is_untold: bool = False
+    copy: str | None = None
+
+    @property
+    def faulty(self) -> int:
+        """How many documents have a fault."""
+        return sum(self.kinds.values())
+
+    @property
+    def harmless(self) -> int:
+        """How many documents have a fault that is no damage."""
+        return sum(self.kinds[kind] for kind in NO_DAMAGE)
+
+    @property
+    def is_good(self) -> bool:
+        """Whether nothing is wrong with the file by itself."""
+        return not (self.faulty or self.error or self.metadata)
+
+    def names_in_log(self) -> list[str]:
+        """The names that the log may have for the collection: that of a time series is its own, or that of its documents."""
+        name = self.namespace or ""
+        return [name, name.replace(_BUCKETS, ".", 1)] if _BUCKETS in name else [name]
+
+    def compare(self, counts: dict[str, int]) -> None:
+        """Compares the count with that in the log, which may say nothing of the oplog."""
+        self.expected = next((counts[name] for name in self.names_in_log() if name in counts), None)
+        self.is_miscounted = self.expected not in (None, self.documents)
+        self.is_untold = self.expected is None and self.namespace != "oplog"
+
+    def lines(self) -> Iterator[str]:
+        """What is printed of the file."""
+        damage = [it for it in self.faults if it.kind not in NO_DAMAGE]
+        for fault in damage:
+            yield f"{fault}{self.details.get(fault.document, '')}"
+        more = self.faulty - self.harmless - len(damage)
+        if more:
+            yield f"and {more} more"
+        harmless = [it for it in self.faults if it.kind in NO_DAMAGE]
+        if harmless:
+            counts = ", ".join(f"{self.kinds[it.kind]} {it.kind}" for it in harmless)
+            yield f"no damage, but not readable: {counts}; the first at {harmless[0]}"
+        documents = f"{self.documents - 1} documents and a rest of {self.rest} bytes" if self.rest else f"{self.documents} documents"
+        yield self.error or f"{documents}, {self.faulty} faulty"
+        if self.metadata:
+            yield f"metadata: {self.metadata}"
+
+    def _fault_as_json(self, fault: Fault) -> dict[str, Any]:
+        detail = self.details.get(fault.document, Detail())
+        return {
+            "document": fault.document,
+            "byte": fault.offset,
+            "path": fault.path,
+            "kind": fault.kind,
+            "value": detail.value,
+            "id": None if detail.id is None else json.loads(detail.id),
+            "goes_on": detail.goes_on,
+        }
+
+    def as_json(self) -> dict[str, Any]:
+        """The report as an object of JSON."""
+        return {
+            "name": self.name,
+            "documents": self.documents,
+            "faulty": self.faulty,
+            "kinds": self.kinds,
+            "faults": [self._fault_as_json(it) for it in self.faults],
+            "rest": self.rest,
+            "error": self.error,
+            "metadata": self.metadata,
+            "expected": self.expected,
+        }
+
+
+class Audit(NamedTuple):
+    """The reports of all files, and what the log of mongodump says that has no file, with how many documents."""
+
+    reports: list[Report]
+    missing: dict[str, int]
+
+    @property
+    def kinds(self) -> Counter[str]:
+        """How many documents have each kind of first fault."""
+        return sum((it.kinds for it in self.reports), Counter())
+
+    @property
+    def unread(self) -> list[Report]:
+        """The files and directories that could not be read to their ends."""
+        return [it for it in self.reports if it.error]
+
+    @property
+    def unseen(self) -> list[Report]:
+        """Those of them that may be good: they are not there, or could not be read."""
+        return [it for it in self.unread if not it.is_fault]
+
+    @property
+    def miscounted(self) -> list[Report]:
+        """The files that have another number of documents than mongodump reports."""
+        return [it for it in self.reports if it.is_miscounted]
+
+    @property
+    def untold(self) -> list[Report]:
+        """The files of which the log says nothing, as one that was interrupted leaves them."""
+        return [it for it in self.reports if it.is_untold]
+
+    @property
+    def copies(self) -> list[Report]:
+        """The files that represent no collection of the log, since another one does, or they are in another backup inside of this."""
+        return [it for it in self.reports if it.copy]
+
+    @property
+    def without_metadata(self) -> list[Report]:
+        """The files whose metadata is missing or cannot be read."""
+        return [it for it in self.reports if it.metadata]
+
+    @property
+    def is_good(self) -> bool:
+        """Whether all files are there, whole and without faults."""
+        findings = self.kinds, self.unread, self.miscounted, self.untold, self.copies, self.without_metadata, self.missing
+        return not any(findings)
+
+    def lines(self) -> Iterator[str]:
+        """What is printed of the files beside the log."""
+        for report in self.miscounted:
+            yield f"{report.name}: {report.documents} documents in place of {report.expected}"
+        for report in self.untold:
+            yield f"{report.name}: not in the log"
+        for report in self.copies:
+            yield f"{report.name}: {report.copy}"
+        for namespace, count in self.missing.items():
+            yield f"{namespace}: missing, with {count} documents"
+
+    def rows(self) -> list[tuple[str, int]]:
+        """The table; the kinds of faults that are no damage come last."""
+        kinds = self.kinds.most_common()
+        damage = [(f"  {kind}", count) for kind, count in kinds if kind not in NO_DAMAGE]
+        harmless = [(f"  {kind} (no damage)", count) for kind, count in kinds if kind in NO_DAMAGE]
+        others = (
+            ("not read", self.unread),
+            ("other counts than expected", self.miscounted),
+            ("not in the log", self.untold),
+            ("other copies", self.copies),
+            ("without metadata", self.without_metadata),
+            ("missing", self.missing),
+        )
+        return [
+            ("files", len(self.reports)),
+            ("documents", sum(it.documents for it in self.reports)),
+            ("faulty", sum(self.kinds.values())),
+            *damage,
+            *harmless,
+            *((name, len(those)) for name, those in others if those),
+        ]
+
+    def as_json(self) -> str:
+        """All of it, as one line of JSON."""
+        return json.dumps(
+            {
+                "good": self.is_good,
+                "files": [it.as_json() for it in self.reports],
+                "documents": sum(it.documents for it in self.reports),
+                "faulty": sum(self.kinds.values()),
+                "kinds": self.kinds,
+                "miscounted": [it.name for it in self.miscounted],
+                "untold": [it.name for it in self.untold],
+                "copies": [it.name for it in self.copies],
+                "missing": self.missing,
+            }
+        )

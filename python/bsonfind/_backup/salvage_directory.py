@@ -1,0 +1,94 @@
+"""Takes what is good out of the dumps of a directory, so that mongorestore loads it."""
+
+from __future__ import annotations
+
+import os
+from contextlib import ExitStack
+from functools import partial
+from typing import Callable, ContextManager, NamedTuple
+
+from .._dumps.checking import try_program
+from .._dumps.outputs import NewOutput, is_same
+from .._dumps.sources import Source
+from .._errors import ArgumentError, BsonfindError, FileError
+from .backups import Dump, dumps_below, stem_of_file
+from .metadata import metadata_of
+from .salvage import Salvaged, Salvaging
+
+# The endings of the files that are written of a dump, and those that they have before they are whole.
+_GOOD, _BAD, _METADATA, _PART = ".bson", ".bad", ".metadata.json", ".part"
+
+
+class SalvagedDirectory(NamedTuple):
+    """What was salvaged of each dump, by its name, and what could not be."""
+
+    files: dict[str, Salvaged]
+    problems: list[str]
+
+    @property
+    def is_good(self) -> bool:
+        """Whether no dump has a fault."""
+        return all(it.is_good for it in self.files.values())
+
+
+def salvage_directory(
+    directory: str, out: str, program: str, say: Callable[[str], None], progress: Callable[[Source], ContextManager[object]]
+) -> SalvagedDirectory:
+    """Copies the good documents of each dump below a directory to the same name below another one, with its metadata.
+
+    Other documents whose length is known go to a file with the ending `.bad`, which mongorestore skips. Nothing is replaced.
+    """
+    if not os.path.isdir(directory):
+        raise ArgumentError(f"{directory} is no directory: give --good and --bad for a dump")
+    if not out or is_same(directory, out) or os.path.realpath(out).startswith(os.path.realpath(directory) + os.sep):
+        raise ArgumentError("the directory of --out is another one, and not below that of the dumps")
+    try_program(program)
+    done = SalvagedDirectory({}, [])
+    for dump in list(dumps_below(directory)):
+        try:
+            if dump.error:
+                done.problems.append(f"{dump.name}: {dump.error}")
+                continue
+            name = os.path.join(out, os.path.relpath(stem_of_file(dump.name), directory))
+            done.files[dump.name] = _salvage_one(dump, name, program, partial(_say_of, say, dump.name), progress)
+        except FileError as error:
+            done.problems.append(str(error))
+        except (BsonfindError, OSError) as error:
+            done.problems.append(f"{dump.name}: {getattr(error, 'strerror', None) or error}")
+    return done
+
+
+def _salvage_one(
+    dump: Dump, name: str, program: str, say: Callable[[str], None], progress: Callable[[Source], ContextManager[object]]
+) -> Salvaged:
+    with ExitStack() as files:
+        source = files.enter_context(Source(dump.name))
+        files.enter_context(progress(source))
+        source.refuse_archive()
+        _make_directory(os.path.dirname(name))
+        good, bad = (NewOutput(name + ending, name + ending + _PART, source.mode) for ending in (_GOOD, _BAD))
+        files.enter_context(good)
+        files.enter_context(bad)
+        metadata = metadata_of(dump.name)
+        about = NewOutput(name + _METADATA, name + _METADATA + _PART, source.mode) if metadata is not None else None
+        if about:
+            files.enter_context(about)
+            about.write(metadata or b"")
+        done = Salvaging(source, good, bad, program, say).copy()
+        for output in (good, *([bad] if done.bad else []), *([about] if about else [])):
+            output.complete()
+            output.put_in_place()
+        told = f", {done.bad} to {name}{_BAD}, {done.bytes_left_out} bytes left out" if not done.is_good else ""
+        say(f"{done.good} documents to {name}{_GOOD}{told}")
+    return done
+
+
+def _say_of(say: Callable[[str], None], name: str, text: str) -> None:
+    say(f"{name}: {text}")
+
+
+def _make_directory(name: str) -> None:
+    try:
+        os.makedirs(name, exist_ok=True)
+    except OSError as error:
+        raise FileError(error.errno, error.strerror, name) from None

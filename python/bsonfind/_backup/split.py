@@ -1,0 +1,77 @@
+"""The collections of an archive as dumps that pass side by side."""
+
+from __future__ import annotations
+
+import os
+from concurrent.futures import Future, ThreadPoolExecutor
+from typing import Callable, Iterator
+
+from .._dumps.archive import Archive, Documents, End
+from .._dumps.archive_frames import Namespace
+from .._dumps.sources import Source
+from .._errors import DumpError
+from .._run.processes import close
+
+# This many collections may have begun and not ended. mongodump writes four at once, or as many as its option says.
+MOST_AT_ONCE = 64
+Read = Callable[[Namespace, Source], None]
+
+
+def split(archive: Archive, read: Read) -> Iterator[End]:
+    """Has each collection of an archive read by a thread, and gives the ends of those whose CRC is wrong.
+
+    The archive is read once. What is wrong with it is raised when all threads have read what came before.
+    """
+    readings: dict[Namespace, _Reading] = {}
+    with ThreadPoolExecutor(MOST_AT_ONCE) as pool:
+        try:
+            for block in archive.blocks():
+                reading = readings.get(block.namespace)
+                if reading is None:
+                    if len(readings) == MOST_AT_ONCE:
+                        raise DumpError(f"more than {MOST_AT_ONCE} collections at once: unpack it")
+                    reading = readings[block.namespace] = _Reading(block.namespace, read, pool)
+                if isinstance(block, Documents):
+                    reading.write(block.data)
+                else:
+                    reading.close()
+                    readings.pop(block.namespace).wait()
+                    if block.error:
+                        yield block
+        finally:
+            for reading in readings.values():
+                reading.close()
+        for reading in readings.values():
+            reading.wait()
+
+
+class _Reading:
+    """A thread that reads the documents of a collection from a pipe."""
+
+    def __init__(self, namespace: Namespace, read: Read, pool: ThreadPoolExecutor) -> None:
+        output, pipe = os.pipe()
+        self._pipe = open(pipe, "wb")
+        self._future: Future[None] = pool.submit(_read_all, namespace, read, output)
+
+    def write(self, data: memoryview) -> None:
+        """Writes bytes to the pipe. A thread that has ended reads no more; an error that ended it is raised."""
+        try:
+            self._pipe.write(data)
+        except BrokenPipeError:
+            self._future.result()
+
+    def close(self) -> None:
+        """Writes no more."""
+        close(self._pipe)
+
+    def wait(self) -> None:
+        """Waits until all is read."""
+        self._future.result()
+
+
+def _read_all(namespace: Namespace, read: Read, pipe: int) -> None:
+    try:
+        with Source(f"/dev/fd/{pipe}") as source:
+            read(namespace, source)
+    finally:
+        os.close(pipe)

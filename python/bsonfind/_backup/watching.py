@@ -1,0 +1,42 @@
+"""How far a command is, for whoever prints it."""
+
+from __future__ import annotations
+
+from contextlib import nullcontext
+from typing import Any, Callable, ContextManager, Protocol
+
+from .._dumps.sources import Source
+
+# What gets each line that a command prints.
+Say = Callable[[str], None]
+
+
+class Watch(Protocol):
+    """What learns which sources are read, and how many files were."""
+
+    def over(self, source: Source) -> ContextManager[None]:
+        """Counts what is read of a source meanwhile."""
+
+    def add_file(self) -> None:
+        """Counts a file that was read."""
+
+    def __enter__(self) -> Any: ...
+
+    def __exit__(self, *_: object) -> None: ...
+
+
+class Unwatched:
+    """A watch that prints nothing."""
+
+    def over(self, source: Source) -> ContextManager[None]:
+        """Counts nothing."""
+        return nullcontext()
+
+    def add_file(self) -> None:
+        """Counts nothing."""
+
+    def __enter__(self) -> Unwatched:
+        return self
+
+    def __exit__(self, *_: object) -> None:
+        pass

@@ -1,0 +1,48 @@
+"""The commands `check` and `dump` of the program, over any dump: any type of BSON, any size, and files by `mongodump --gzip`."""
+
+from __future__ import annotations
+
+import os
+import sys
+
+from .._dumps.checking import Checking
+from .._dumps.printing import Printing
+from .._dumps.sources import Source
+from .._errors import DumpError
+from .console import Console
+
+
+def check_file(name: str, program: str, console: Console, front: str = "") -> bool:
+    """Prints the damage of a dump, as `check` does, each line after a text; gives whether there is none."""
+    if os.path.isdir(name):
+        raise DumpError(f"cannot read {name}: it is a directory: audit checks all dumps below one")
+    faulty = 0
+    checking, is_sound = Checking(program), True
+    with Source(name, is_named=not front) as source:
+        try:
+            for fault in checking.faults(source):
+                faulty += 1
+                console.line(f"{front}{fault}")
+        except DumpError as error:
+            if not error.is_finding:
+                raise
+            console.problem(f"{front}{error}")
+            is_sound = False
+    console.note(f"{front}{checking.documents} documents, {faulty} faulty")
+    return is_sound and not faulty
+
+
+def dump_file(name: str, program: str, console: Console, front: str = "") -> bool:
+    """Prints the documents of a dump, as `dump` does, and what it says after a text; gives whether no document is refused."""
+    sys.stdout.flush()
+    printing, refused = Printing(program, stdout=sys.stdout.fileno()), False
+    try:
+        for _ in printing.lines(name, is_named=not front):
+            pass  # Each run prints by itself.
+    except DumpError as error:
+        if not error.is_finding:
+            raise
+        console.problem(f"{front}{error}")
+        refused = True
+    console.note(f"{front}{printing.documents} objects found")
+    return not refused

@@ -1,0 +1,254 @@
+"""The commands, as their arguments say: each gives its status, and what it prints goes to a console."""
+
+from __future__ import annotations
+
+import argparse
+import os
+
+from .._errors import DumpError
+from .arguments import Refused
+from .console import Console, Progress, visible
+
+# As `typing.TYPE_CHECKING`, without `typing`, which takes long to import.
+TYPE_CHECKING = False
+if TYPE_CHECKING:
+    from typing import Callable, Sequence
+
+    from .._backup.reports import Audit, Report
+
+GOOD, FAULTY, FAILED = 0, 1, 2
+# The commands with the statuses of the program, in which 1 is all that failed.
+AS_THE_PROGRAM = ("check", "dump", "find", "prepare")
+
+
+def run(words: argparse.Namespace) -> int:
+    """Runs the command that was named, and gives its status."""
+    command: Callable[[argparse.Namespace], int] = globals()[f"_run_{words.command}"]
+    return command(words)
+
+
+def _run_check(words: argparse.Namespace) -> int:
+    from .checks import check_file
+
+    return _run_each(words, check_file)
+
+
+def _run_dump(words: argparse.Namespace) -> int:
+    from .checks import dump_file
+
+    return _run_each(words, dump_file)
+
+
+def _run_each(words: argparse.Namespace, run_one: Callable[[str, str, Console, str], bool]) -> int:
+    """Runs a command over one dump after the other. Of several each line that it says begins with the name."""
+    console, status = Console(), GOOD
+    _refuse_twice(words.files)
+    for name in words.files:
+        front = f"{name}: " if len(words.files) > 1 else ""
+        try:
+            status = max(status, GOOD if run_one(name, words.program, console, front) else FAULTY)
+        except DumpError as error:
+            if not front:
+                raise
+            console.problem(f"{front}{error}")
+            status = FAULTY
+    return status
+
+
+def _refuse_twice(names: Sequence[str]) -> None:
+    """Refuses standard input that is named twice: the second time there is nothing left of it."""
+    if names.count("-") > 1:
+        raise Refused("standard input is named twice")
+
+
+def _run_find(words: argparse.Namespace) -> int:
+    from .._ask.requests import Request
+    from .finding import Finding
+
+    request = Request(words.query, words.sort, words.skip, words.limit)
+    finding = Finding(words.file, request, words.batch, words.index, words.after, words.bson, words.copy)
+    return GOOD if finding.print(words.program, Console()) else FAULTY
+
+
+def _run_prepare(words: argparse.Namespace) -> int:
+    from .._ask.copies import prepare
+
+    console = Console()
+    try:
+        paths = prepare(words.file, words.copy, program=words.program)
+    except DumpError as error:
+        if not error.is_finding:
+            raise
+        console.problem(f"{words.file}: {error}")
+        return FAULTY
+    console.note(f"{words.copy}: codes at {', '.join(paths) or 'no path'}")
+    return GOOD
+
+
+def _run_audit(words: argparse.Namespace) -> int:
+    from .._backup.audit import audit_dumps
+    from .._backup.backups import dumps_of
+
+    console = Console()
+
+    def show(report: Report) -> None:
+        """Prints a good file as soon as it was checked. The others come last, where they are found."""
+        if report.is_good and not (words.json or words.quiet):
+            _print_report(report)
+
+    def _print_report(report: Report) -> None:
+        for line in report.lines():
+            console.line(f"{report.name}: {line}")
+
+    def watch(files: int, size: int) -> Progress:
+        return Progress(None if words.json else console, files, size)
+
+    dumps = dumps_of(_names_in(words))
+    done: Audit = audit_dumps(dumps, words.expect, words.jobs, words.max_faults, words.program, show, watch)
+    if words.json:
+        console.line(done.as_json())
+    elif not (words.quiet and done.is_good):
+        for report in done.reports:
+            if not report.is_good:
+                _print_report(report)
+        for line in done.lines():
+            console.line(line)
+        for line in table(done.rows()):
+            console.line(line)
+    return FAILED if done.unseen else GOOD if done.is_good else FAULTY
+
+
+def _names_in(words: argparse.Namespace) -> list[str]:
+    """The names that are given, and those of a list."""
+    from .._backup.backups import text_lines
+
+    names = list(words.files)
+    for number, name in enumerate(text_lines(words.list) if words.list else (), 1):
+        if "\0" in name:
+            raise Refused(f"{words.list}: line {number} has a zero byte; each line is a name")
+        if name:
+            names.append(name)
+    if not names:
+        raise Refused("no dump is named")
+    return names
+
+
+def table(rows: Sequence[tuple[str, int]]) -> list[str]:
+    """The lines of a table of names and counts."""
+    wide = max(len(name) for name, _ in rows)
+    return [f"{name:{wide}} {count:12}" for name, count in rows]
+
+
+def _run_salvage(words: argparse.Namespace) -> int:
+    from .._backup.salvage import salvage
+    from .._backup.salvage_directory import salvage_directory
+
+    console, name = Console(), words.file
+    if (words.out is None) == (words.good is None and words.bad is None) or (words.good is None) != (words.bad is None):
+        raise Refused("salvage takes --good and --bad for a dump, or --out for a directory")
+    with Progress(console) as progress:
+        if words.out is not None:
+            done = salvage_directory(name, words.out, words.program, console.line, progress.over)
+            for problem in done.problems:
+                console.problem(problem)
+            return FAILED if done.problems else GOOD if done.is_good else FAULTY
+        one = salvage(
+            name,
+            words.good,
+            words.bad,
+            program=words.program,
+            say=lambda text: console.line(f"{name}: {text}"),
+            progress=progress.over,
+        )
+    return GOOD if one.is_good else FAULTY
+
+
+def _run_unpack(words: argparse.Namespace) -> int:
+    from .._backup.unpack import unpack
+
+    console = Console()
+    if words.no_crc:
+        console.problem("no CRC-64 is compared, as --no-crc says")
+    how = {"only": words.only, "with_crc": not words.no_crc, "say": console.line}
+    with Progress(console) as progress:
+        done = unpack(words.archive, words.directory, progress=progress.over, **how)
+    if done.error:
+        console.problem(f"{words.archive}: {done.error}")
+    rows = [("collections", len(done.collections)), ("documents", sum(it.documents for it in done.collections))]
+    broken = sum(bool(it.error) for it in done.collections)
+    for line in table([*rows, *([("not whole", broken)] if broken else [])]):
+        console.line(line)
+    return GOOD if done.is_good else FAULTY
+
+
+def _run_compare(words: argparse.Namespace) -> int:
+    from .._backup.compare import CompareError, NOTHING, compare, pairs_of, rows
+    from .._dumps.checking import try_program
+
+    console = Console()
+    _refuse_twice([words.first, words.second])
+    try_program(words.program)
+    pairs, problems = pairs_of(words.first, words.second)
+    is_of_directories, total, compared = os.path.isdir(words.first), NOTHING, 0
+    for pair in pairs:
+        front = f"{pair.name}: " if is_of_directories else ""
+        try:
+            total += compare(pair, words.by, words.program, lambda text: console.line(f"{front}{text}"))
+            compared += 1
+        except CompareError as error:
+            problems.append(error)
+    # Zeros of dumps that were not compared would say that they are the same.
+    if compared or not problems:
+        for line in table(rows(total, (words.first, words.second), words.by)):
+            console.note(line)
+    for problem in problems:
+        console.problem(str(problem))
+    return FAILED if problems else GOOD if total.is_same else FAULTY
+
+
+def _run_query(words: argparse.Namespace) -> int:
+    from .._ask.requests import Request
+    from .._backup.backups import dumps_of
+    from .._backup.query import query_dumps
+    from .._run.processes import processors
+
+    console, dumps = Console(), dumps_of(_names_in(words))
+    documents, failed, status, names = 0, 0, GOOD, set()
+    for name, lines, error in query_dumps(dumps, Request(words.query), words.jobs or processors(), words.program):
+        if lines:
+            front = os.fsencode(visible(name)) + b"\t"
+            console.documents([front + line + b"\n" for line in lines])
+            documents += len(lines)
+            names.add(name)
+        if error:
+            console.problem(f"{name}: {getattr(error, 'strerror', None) or error}")
+            failed += 1
+            status = max(status, FAULTY if isinstance(error, DumpError) and error.is_finding else FAILED)
+    console.note(f"{documents} documents in {len(names)} of {len(dumps)} files" + (f", {failed} not asked in full" if failed else ""))
+    return status
+
+
+def _run_ids(words: argparse.Namespace) -> int:
+    from contextlib import ExitStack
+
+    from .._backup.backups import text_lines
+    from .._backup.ids import Ids, find_ids
+    from .._dumps.outputs import Output, refuse_names
+
+    console = Console()
+    ids = Ids(text_lines(words.ids), words.ids)
+    if words.missing is not None:
+        refuse_names(words.file, words.missing, words.ids)
+    with ExitStack() as files:
+        # It is opened first: if it cannot be written no document is printed.
+        output = None if words.missing is None else files.enter_context(Output(words.missing))
+        missing = find_ids(words.file, ids, words.program, console.documents, is_bson=words.bson)
+        if output:
+            output.write("".join(f"{line}\n" for line in missing).encode(errors="surrogateescape"))
+            output.complete()
+            output.put_in_place()
+        else:
+            for line in missing:
+                console.note(f"missing: {line}")
+    console.note(f"{len(ids) - len(missing)} of {len(ids)} ids found")
+    return FAULTY if missing else GOOD

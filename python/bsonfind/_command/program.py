@@ -1,0 +1,75 @@
+"""Commands that become the program itself, so that Python costs its start alone."""
+
+from __future__ import annotations
+
+import os
+import signal
+import stat
+
+from .._run.program import located_wide
+
+# The signals that Python ignores by itself.
+_IGNORED = (signal.SIGPIPE, signal.SIGXFSZ)
+# What a run of the program reads at most.
+_LARGEST = 4_294_967_295
+# The first bytes of what is no plain dump: an archive, or a file of gzip, which may hold one.
+_OTHERS = (b"\x6d\xe2\x99\x81", b"\x1f\x8b")
+# The commands of one plain file that are those of the program, with what the program calls the file.
+_COMMANDS = {"check": "-", "dump": "-"}
+
+
+def become_program(words: list[str]) -> None:
+    """Becomes the program for a command over one plain file; returns if the command is another one, or if that is not possible.
+
+    The file that was opened to look at it is passed on as standard input, so no name is opened twice. Signals are as the shell gave
+    them: Python ignores two, which is undone, and an exec undoes its handlers.
+    """
+    rest, program = list(words), "bsonfind"
+    if rest[:1] == ["--program"] and len(rest) > 1:
+        program, rest = rest[1], rest[2:]
+    if len(rest) != 2 or rest[0] not in _COMMANDS or rest[1] != "-" and rest[1].startswith("-"):
+        return
+    wide = located_wide(program)
+    if wide is None or not _take_as_input(rest[1]):
+        return
+    for number in _IGNORED:
+        signal.signal(number, signal.SIG_DFL)
+    try:
+        os.execv(wide, [wide, rest[0], _COMMANDS[rest[0]]])
+    except OSError:
+        for number in _IGNORED:
+            signal.signal(number, signal.SIG_IGN)  # The command says why it cannot be started.
+
+
+def _take_as_input(name: str) -> bool:
+    """Makes standard input of a plain file; False if it is another one, or a standard stream is closed."""
+    try:
+        for number in range(3):
+            os.fstat(number)
+        descriptor = 0 if name == "-" else _opened(name)
+    except (OSError, ValueError):
+        return False  # What reads it says what is wrong with it.
+    if descriptor is None:
+        return False
+    is_plain = _is_plain(descriptor)
+    if descriptor:
+        if is_plain:
+            os.dup2(descriptor, 0)
+        os.close(descriptor)
+    return is_plain
+
+
+def _opened(name: str) -> int | None:
+    """A descriptor of a regular file, which may be packed by its name."""
+    if name.endswith(".gz") or not stat.S_ISREG(os.stat(name).st_mode):
+        return None
+    return os.open(name, os.O_RDONLY)
+
+
+def _is_plain(descriptor: int) -> bool:
+    """Whether a run can read it: a regular file, of at most this many bytes from where it is, and no archive."""
+    status = os.fstat(descriptor)
+    if not stat.S_ISREG(status.st_mode):
+        return False
+    at = os.lseek(descriptor, 0, os.SEEK_CUR)
+    return status.st_size - at <= _LARGEST and not os.pread(descriptor, 4, at).startswith(_OTHERS)

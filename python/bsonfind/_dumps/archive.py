@@ -1,0 +1,185 @@
+"""Archives of `mongodump --archive`: a list of the collections, then blocks with their documents, as they pass.
+
+An archive is read once, in memory of one piece of it. Nothing is looked at but the frames: lengths, names, ends and CRCs.
+"""
+
+from __future__ import annotations
+
+import json
+from typing import Collection, Iterator, NamedTuple
+
+from .._errors import DumpError
+from .archive_frames import Namespace, Reader, bad, block_of, fields_of, joined_pieces, namespace_in, plain
+from .crc64 import Crc64
+from .gzip import UnpackError
+
+MAGIC = b"\x6d\xe2\x99\x81"
+_NO_ARCHIVE = "not an archive of mongodump"
+_VERSION = "0.1"
+_HEADER = {"concurrent_collections": int, "version": str, "server_version": str, "tool_version": str}
+_LISTED = {"db": str, "collection": str, "metadata": str, "size": int, "type": str}
+# This many headers of blocks are kept at most.
+_MOST_KNOWN = 1000
+
+
+class Listed(NamedTuple):
+    """What the list of an archive says of a collection. Its metadata is the text of its `.metadata.json`, or empty."""
+
+    namespace: Namespace
+    metadata: str
+    kind: str
+
+    @property
+    def buckets(self) -> Namespace:
+        """Where the documents are of a time series."""
+        return Namespace(self.namespace.database, f"system.buckets.{self.namespace.collection}")
+
+    def is_among(self, namespaces: set[Namespace]) -> bool:
+        """Whether its documents are among those of these collections; a view has none."""
+        return self.kind == "view" or self.namespace in namespaces or self.kind == "timeseries" and self.buckets in namespaces
+
+
+class Documents(NamedTuple):
+    """The next bytes of the documents of a collection, and how many documents end in them."""
+
+    namespace: Namespace
+    data: memoryview
+    ended: int
+
+
+class End(NamedTuple):
+    """The end of a collection, and what is wrong with it."""
+
+    namespace: Namespace
+    error: str | None
+
+
+class Archive:
+    """An archive of which the list is read; then its blocks are, once.
+
+    What does not fit is an `UnpackError` with the byte at which it is. The bytes of an archive by `--gzip` count as unpacked.
+    """
+
+    def __init__(self, pieces: Iterator[bytes], with_crc: bool = True) -> None:
+        """Reads the list. Whether the pieces are those of a file of gzip is known by the first of them."""
+        self._reader = Reader(plain(pieces))
+        self._with_crc = with_crc
+        if self._reader.take(len(MAGIC), _NO_ARCHIVE) != MAGIC:
+            raise DumpError(_NO_ARCHIVE)
+        start = self._reader.offset
+        version = fields_of(self._document(), start, _HEADER)["version"]
+        if version != _VERSION:
+            raise bad(start, f"version {version} of archives is not known")
+        self.listed: list[Listed] = []
+        self._read_list()
+        # The collections that were begun, each with its CRC, and those of which the end was read.
+        self._open: dict[Namespace, Crc64 | None] = {}
+        self._ended: set[Namespace] = set()
+
+    def _read_list(self) -> None:
+        known: set[Namespace] = set()
+        start = self._reader.offset
+        while (data := self._reader.document()) is not None:
+            fields = fields_of(data, start, _LISTED, type="")
+            namespace = namespace_in(fields, start)
+            if namespace in known:
+                raise bad(start, f"{namespace} is listed twice")
+            known.add(namespace)
+            metadata = str(fields["metadata"])
+            self.listed.append(Listed(namespace, metadata, str(fields["type"]) or _kind_of(metadata)))
+            start = self._reader.offset
+
+    def blocks(self, only: Collection[Namespace] | None = None) -> Iterator[Documents | End]:
+        """The documents of all collections, or of some, as they come, and the end of each. That one is missing is an error."""
+        # What the headers of blocks say, which come again and again.
+        known: dict[bytes, tuple[Namespace, int | None]] = {}
+        while not self._reader.is_at_end():
+            start, header = self._reader.offset, self._document()
+            if header not in known:
+                if len(known) == _MOST_KNOWN:
+                    known.clear()
+                known[header] = block_of(header, start)
+            namespace, crc = known[header]
+            if namespace in self._ended:
+                raise bad(start, f"a block of {namespace} after its end")
+            is_wanted = only is None or namespace in only
+            if namespace not in self._open:
+                self._open[namespace] = Crc64() if self._with_crc and is_wanted else None
+            if crc is None:
+                yield from self._documents(namespace, is_wanted)
+            else:
+                yield self._end(namespace, crc)
+        for namespace in self.unended():
+            raise bad(self._reader.offset, f"the archive ends before the end of {namespace}")
+
+    def _documents(self, namespace: Namespace, is_wanted: bool) -> Iterator[Documents]:
+        """The documents of a block."""
+        crc = self._open[namespace]
+        for data, ended in self._reader.documents():
+            if crc:
+                crc.add(data)
+            if is_wanted:
+                yield Documents(namespace, data, ended)
+
+    def _end(self, namespace: Namespace, crc: int) -> End:
+        """The end of a collection, after whose block nothing may be."""
+        start = self._reader.offset
+        if self._reader.document() is not None:
+            raise bad(start, f"a document after the end of {namespace}")
+        found = self._open.pop(namespace)
+        self._ended.add(namespace)
+        is_right = found is None or found.is_of(crc & 0xFFFF_FFFF_FFFF_FFFF)
+        return End(namespace, None if is_right else "wrong CRC-64")
+
+    def unended(self) -> list[Namespace]:
+        """The collections whose end was not read: those that were begun, and then those that are only listed."""
+        seen = {*self._open, *self._ended}
+        return [*self._open, *(it.namespace for it in self.listed if not it.is_among(seen))]
+
+    def _document(self) -> bytes:
+        """The document that must be next."""
+        start = self._reader.offset
+        data = self._reader.document()
+        if data is None:
+            raise bad(start, "no header of a block")
+        return data
+
+
+def is_archive(head: bytes) -> bool:
+    """Whether the first bytes of a file are those of an archive, packed by gzip or not."""
+    try:
+        return next(joined_pieces(plain(iter([head])), len(MAGIC))).startswith(MAGIC)
+    except UnpackError:
+        return False
+
+
+def documents_of(pieces: Iterator[bytes], namespace: Namespace) -> Iterator[bytes]:
+    """The documents of one collection of an archive. It is read up to the end of the collection, which is checked."""
+    archive = Archive(pieces)
+    for block in archive.blocks([namespace]):
+        if isinstance(block, Documents):
+            yield bytes(block.data)
+        elif block.namespace == namespace:
+            if block.error:
+                raise UnpackError(f"{namespace}: {block.error}")
+            return
+    raise DumpError(why_none(archive.listed, namespace))
+
+
+def why_none(listed: list[Listed], namespace: Namespace) -> str:
+    """Why an archive has no documents of a name."""
+    found = next((it for it in listed if it.namespace == namespace), None)
+    if found and found.kind == "view":
+        return f"{namespace} is a view, which has no documents"
+    if found and found.kind == "timeseries":
+        return f"{namespace} is a time series, whose documents are those of {found.buckets}"
+    return f"{namespace} is not in the archive"
+
+
+def _kind_of(metadata: str) -> str:
+    """Whether metadata is that of a view or a time series, which the list of an old mongodump does not say."""
+    try:
+        options = json.loads(metadata)["options"]
+        return "view" if "viewOn" in options else "timeseries" if "timeseries" in options else ""
+    except (ValueError, KeyError, TypeError, RecursionError):
+        return ""

@@ -1,0 +1,98 @@
+"""The check of dumps by `bsonwide check`: the lines of its faults, and of its count."""
+
+from __future__ import annotations
+
+import os
+import re
+from typing import Iterator
+
+from .._errors import DumpError, ProgramError
+from .._faults import Fault, read_fault
+from .._run.processes import Group, Run
+from .._run.program import wide_beside
+from .sources import Input, Source
+
+_COUNTED = re.compile(r"(\d+) documents, (\d+) faulty\n")
+_VERSION = re.compile(r"bsonwide (\S+)\n")
+_PIECE = 1 << 10
+# What `order` says that is read no more.
+NOT_READ = "bsonwide: cannot write"
+# The faults that `bsonfind` alone reports.
+_WIDE = ("double", "decimal128")
+# How many bytes of a file are looked at first: the program refuses a dump only once it has read all of it.
+_HEAD = 1 << 18
+
+
+def is_wide(error: DumpError) -> bool:
+    """Whether a dump was refused for a double or a decimal128."""
+    return error.fault is not None and error.fault.kind in _WIDE
+
+
+def begins_wide(source: Source, program: str, group: Group | None = None) -> bool:
+    """Whether the program refuses a large file for a double or a decimal128 near its beginning."""
+    if not source.is_plain or (source.size or 0) <= _HEAD:
+        return False
+    head = os.pread(source.file.fileno(), _HEAD, 0)
+    with Run([program, "check", "-"], [head], group=group) as run:
+        first = next(faults_of(run), None)
+    return first is not None and first.kind in _WIDE
+
+
+class Checking:
+    """The check of a dump of all types. `documents` is how many were checked by now."""
+
+    def __init__(self, program: str, group: Group | None = None) -> None:
+        self._program, self._group = program, group or Group()
+        self.documents = 0
+
+    def faults(self, source: Source) -> Iterator[Fault]:
+        """The damage, in the order of the documents."""
+        for part in source.inputs():
+            with checking(part, self._program, self._group) as run:
+                for fault in faults_of(run):
+                    yield fault.moved(self.documents, part.offset)
+                self.documents += finish_check(run)
+
+
+def faults_of(run: Run) -> Iterator[Fault]:
+    """The faults of a dump, in the order of its documents, as a run of `check` finds them."""
+    for line in run.stdout:
+        fault = read_fault(line.decode().rstrip("\n"))
+        if fault:
+            yield fault
+
+
+def finish_check(run: Run, wanted: int | None = None) -> int:
+    """Waits for the end of a run of `check`, and gives the number of documents; raises the error of a run that did not end well.
+
+    Where the number is known, another one is an error.
+    """
+    status, counted = run.wait(), _COUNTED.fullmatch(run.messages())
+    if not counted or status not in (0, min(1, int(counted.group(2)))):
+        raise run.error()
+    documents = int(counted.group(1))
+    if wanted not in (None, documents):
+        raise ProgramError(f"check found {documents} documents in place of {wanted}")
+    return documents
+
+
+def checking(given: Input, program: str, group: Group | None = None) -> Run:
+    """A run that checks some documents of all types."""
+    return given.run([wide_beside(program), "check", "-"], group=group)
+
+
+def try_program(program: str) -> None:
+    """Refuses a program that cannot be started or that is of another version than the package, before anything else is done."""
+    from .. import __version__
+
+    wide = wide_beside(program)
+    with Run([wide, "--version"]) as run:
+        told = run.stdout.read(_PIECE).decode(errors="replace")
+        status, said = run.wait(), run.messages()
+        if status or said:
+            raise run.error()
+    found = _VERSION.fullmatch(told)
+    if not found:
+        raise ProgramError(f"{wide} is not bsonwide: it printed {told[:60]!r}")
+    if found[1] != __version__:
+        raise ProgramError(f"{wide} is of version {found[1]}, and the package of Python of version {__version__}: install one version of both")

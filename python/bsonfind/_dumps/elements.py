@@ -1,0 +1,53 @@
+"""The elements of a document, as far as their lengths say where they end."""
+
+from __future__ import annotations
+
+from typing import Sequence
+
+# How many bytes the values of a type have; or the first four count, beside all but this many.
+_FIXED = {0x01: 8, 0x06: 0, 0x07: 12, 0x08: 1, 0x09: 8, 0x0A: 0, 0x10: 4, 0x11: 8, 0x12: 8, 0x13: 16, 0x7F: 0, 0xFF: 0}
+_COUNTED = {0x02: 4, 0x03: 0, 0x04: 0, 0x05: 5, 0x0C: 16, 0x0D: 4, 0x0E: 4, 0x0F: 0}
+_PATTERN, _DOCUMENT = 0x0B, 0x03
+
+
+def value_end(data: bytes, kind: int, at: int) -> int | None:
+    """Where a value of a type ends that begins at a byte; None if that is not known, or not in these bytes."""
+    end = None
+    if kind in _FIXED:
+        end = at + _FIXED[kind]
+    elif kind in _COUNTED and at + 4 <= len(data):
+        end = at + int.from_bytes(data[at : at + 4], "little", signed=True) + _COUNTED[kind]
+    elif kind == _PATTERN:
+        options = data.find(b"\0", at) + 1
+        end = options and (data.find(b"\0", options) + 1 or None) or None
+    return end if end is not None and at <= end <= len(data) else None
+
+
+def value_at(document: bytes, names: Sequence[bytes]) -> bytes | None:
+    """The type and the bytes of the value to which names lead, from document to document; None if they lead to none.
+
+    Of two fields of one name it is the first.
+    """
+    at, end = 4, len(document) - 1
+    found = b""
+    for name in names:
+        if found and found[0] != _DOCUMENT:
+            return None
+        while True:
+            if at >= end:
+                return None
+            kind, zero = document[at], document.find(b"\0", at + 1)
+            stop = value_end(document, kind, zero + 1) if zero > 0 else None
+            if stop is None:
+                return None
+            if document[at + 1 : zero] == name:
+                found = document[at : at + 1] + document[zero + 1 : stop]
+                at, end = zero + 5, stop - 1
+                break
+            at = stop
+    return found
+
+
+def document_with(name: bytes, value: bytes) -> bytes:
+    """The document that has one field, with a value as `value_at` gives it."""
+    return (len(name) + len(value) + 6).to_bytes(4, "little") + value[:1] + name + b"\0" + value[1:] + b"\0"

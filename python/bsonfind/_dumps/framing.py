@@ -1,0 +1,130 @@
+"""The lengths with which the documents of a dump begin."""
+
+from __future__ import annotations
+
+import os
+import struct
+from typing import BinaryIO, Iterable, Iterator
+
+from .._errors import DumpError
+from .._faults import Fault
+
+SHORTEST, LONGEST = 5, 16_793_600
+# What a run of the program reads at most.
+LARGEST_INPUT = 4_294_967_295
+_PIECE = 1 << 18
+_length_at = struct.Struct("<i").unpack_from
+
+
+def is_length(length: int, left: int) -> bool:
+    """Whether a document of that length may begin where this many bytes are left."""
+    return SHORTEST <= length <= min(LONGEST, left)
+
+
+def read_at(file: BinaryIO, at: int, most: int, least: int = 1) -> bytes:
+    """Some bytes of a file at a place; an error where the file no longer has this many."""
+    piece = os.pread(file.fileno(), most, at)
+    if len(piece) < least:
+        raise DumpError(f"no bytes at byte {at}: the file became shorter")
+    return piece
+
+
+def walk(file: BinaryIO, start: int = 0, end: int | None = None) -> Iterator[int]:
+    """The place after each document from a place on, by its length alone.
+
+    A length that is wrong is a `DumpError`; its fault counts documents from the first that was passed. The file is read a piece
+    at a time, and long documents are skipped. No map of the file is made, since the system ends a program that looks at a map
+    of a file that shrinks.
+    """
+    end = os.fstat(file.fileno()).st_size if end is None else end
+    at, number = start, 0
+    # The piece that is kept, where it begins, and the last place in it of a whole length.
+    piece, base, last = b"", start, start - 1
+    while at < end:
+        if at > last:
+            piece, base = read_at(file, at, min(_PIECE, end - at), min(4, end - at)), at
+            last = base + len(piece) - 4
+            if at > last:
+                raise _bad(number, at, "length cut short")
+        (length,) = _length_at(piece, at - base)
+        if not SHORTEST <= length <= LONGEST or length > end - at:
+            raise _bad(number, at, "bad length")
+        at += length
+        number += 1
+        yield at
+
+
+def inputs(pieces: Iterable[bytes], most: int | None = None) -> Iterator[tuple[int, int, Iterator[bytes]]]:
+    """Splits bytes between documents, as they pass, into inputs of at most this many bytes, or of as many as a run can read.
+
+    Each input comes with the offset and the number of its first document, and is read to its end before the next one begins. A
+    longer document is an input by itself. Only the lengths are looked at: with a wrong one the last input begins.
+    """
+    return _Inputs(pieces, LARGEST_INPUT if most is None else most).all()
+
+
+class _Inputs:
+    """A stream of bytes that is split between documents."""
+
+    def __init__(self, pieces: Iterable[bytes], most: int) -> None:
+        self._pieces, self._most = iter(pieces), most
+        # What was read and not passed on, the offset of its first byte, and that of the next document.
+        self._held, self._offset, self._next = b"", 0, 0
+        self._number = 0
+        self._is_wrong = self._is_passed_on = False
+
+    def all(self) -> Iterator[tuple[int, int, Iterator[bytes]]]:
+        """The inputs; none follows one that was not read to its end."""
+        self._is_passed_on = True
+        while self._is_passed_on and (self._held or self._read()):
+            self._is_passed_on = False
+            yield self._offset, self._number, self._input()
+
+    def _input(self) -> Iterator[bytes]:
+        start = self._offset
+        while self._held or self._read():
+            size, is_end = self._size(start)
+            if size:
+                piece, self._held = self._held[:size], self._held[size:]
+                self._offset += size
+                yield piece
+            if is_end:
+                break
+            if self._held and not self._read():
+                self._is_wrong = True  # The bytes end within a length.
+                if self._offset > start:
+                    break
+        self._is_passed_on = True
+
+    def _read(self) -> bool:
+        """Reads the next piece; False if there is none."""
+        for piece in self._pieces:
+            if piece:
+                self._held += piece
+                return True
+        return False
+
+    def _size(self, start: int) -> tuple[int, bool]:
+        """How many of the bytes that are kept belong to the input that began there, and whether it ends with them."""
+        held, most = self._held, start + self._most - self._offset
+        if self._is_wrong:
+            return len(held), False
+        at, last, number = self._next - self._offset, len(held) - 4, self._number
+        while at <= last:
+            (length,) = _length_at(held, at)
+            if not SHORTEST <= length <= LONGEST or at + length > most:
+                self._next, self._number = self._offset + at, number
+                if self._next > start:
+                    return at, True
+                if not SHORTEST <= length <= LONGEST:
+                    self._is_wrong = True
+                    return len(held), False
+            at += length
+            number += 1
+        self._next, self._number = self._offset + at, number
+        return min(at, len(held)), False
+
+
+def _bad(number: int, at: int, kind: str) -> DumpError:
+    fault = Fault(number, at, "", kind)
+    return DumpError(str(fault), fault)

@@ -1,0 +1,174 @@
+"""Files that a command writes: they are opened first, written beside their names, and get these at the end."""
+
+from __future__ import annotations
+
+import errno
+import os
+import stat
+
+from .._errors import ArgumentError, FileError
+from .files import file_of
+
+# What a file system says that has no second names of files.
+_NO_LINKS = (errno.EPERM, errno.EOPNOTSUPP, errno.ENOSYS)
+
+
+def refuse_names(dump: str, good: str, bad: str) -> None:
+    """Refuses files that are the dump, or one another, by whatever names."""
+    for name in (good, bad):
+        if _is_dump(name, dump):
+            raise ArgumentError(f"{name} is the dump")
+    if is_same(good, bad) and not (os.path.exists(good) and stat.S_ISCHR(os.stat(good).st_mode)):
+        raise ArgumentError(f"{good} is named twice")
+
+
+def _is_dump(name: str, dump: str) -> bool:
+    """Whether a name is that of the dump, which for `-` is the file that standard input has open."""
+    return os.path.exists(name) and os.path.samefile(name, 0) if dump == "-" else is_same(name, file_of(dump))
+
+
+def is_same(one: str, other: str) -> bool:
+    """Whether two names are of one file, or would be."""
+    if os.path.exists(one) and os.path.exists(other):
+        return os.path.samefile(one, other)
+    return os.path.realpath(one) == os.path.realpath(other)
+
+
+class Output:
+    """A file that is written under another name beside it, and gets its name at the end. A device or pipe is written as it is."""
+
+    def __init__(self, name: str, mode: int | None = None) -> None:
+        """A file that is there keeps its rights; a new one may be given those of what it is a copy of."""
+        self.name = name
+        self._path = self._beside = os.path.realpath(name)
+        try:
+            refuse_no_file(name)
+            there = os.stat(name) if os.path.exists(name) else None
+            if there and not stat.S_ISREG(there.st_mode):
+                self._path = self._beside = name
+                self._file = open(name, "wb")
+                return
+            if there and _is_standard_output(there):
+                raise OSError(errno.EBUSY, "it is standard output", name)
+            self._beside = os.path.join(os.path.dirname(self._path), f".{os.urandom(8).hex()}.new")
+            self._file = open(self._beside, "xb")
+            mode = stat.S_IMODE(there.st_mode) if there else mode
+            if mode is not None:
+                os.chmod(self._beside, mode)
+        except OSError as error:
+            raise self._named(error) from None
+
+    def write(self, data: bytes | memoryview) -> None:
+        """Writes bytes."""
+        try:
+            self._file.write(data)
+        except OSError as error:
+            raise self._named(error) from None
+
+    def complete(self) -> None:
+        """Has all bytes on the disk."""
+        try:
+            self._file.flush()
+            if self._beside != self._path:
+                os.fsync(self._file.fileno())
+        except OSError as error:
+            raise self._named(error) from None
+
+    def put_in_place(self) -> None:
+        """Gives the file its name."""
+        if self._beside != self._path:
+            try:
+                os.replace(self._beside, self._path)
+            except OSError as error:
+                raise self._named(error) from None
+            self._beside = self._path
+
+    def _named(self, error: OSError) -> FileError:
+        return FileError(error.errno, error.strerror, self.name)
+
+    def __enter__(self) -> Output:
+        return self
+
+    def __exit__(self, kind: object, *_: object) -> None:
+        try:
+            self._file.close()
+        except OSError as error:
+            if kind is None:
+                raise self._named(error) from None
+        finally:
+            if self._beside != self._path:
+                os.unlink(self._beside)
+
+
+class NewOutput(Output):
+    """A file that is written under the name of a part, and gets its own at the end. Nothing may be there of either name."""
+
+    def __init__(self, name: str, part: str, mode: int | None = None) -> None:
+        self.name = self._path = name
+        self._beside = part
+        refuse_there(name, part)
+        try:
+            self._file = open(self._beside, "xb")
+            if mode is not None:
+                os.chmod(self._beside, mode)
+        except OSError as error:
+            raise self._named(error) from None
+
+    @property
+    def path(self) -> str:
+        """The name that the file has now."""
+        return self._beside
+
+    def complete(self) -> None:
+        """Has all bytes on the disk, and takes no more."""
+        super().complete()
+        self._file.close()
+
+    def put_in_place(self) -> None:
+        """Gives the file its name, unless something has it by now."""
+        try:
+            self._rename()
+        except OSError as error:
+            raise self._named(error) from None
+        self._beside = self._path = self.name
+
+    def _rename(self) -> None:
+        try:
+            os.link(self._beside, self.name)
+        except OSError as error:
+            if error.errno not in _NO_LINKS:
+                raise
+            refuse_there(self.name)
+            os.rename(self._beside, self.name)
+        else:
+            os.unlink(self._beside)
+
+    def keep(self) -> None:
+        """Leaves the file the name that it has, unless it gets its own."""
+        self._path = self._beside
+
+
+def refuse_no_file(name: str) -> None:
+    """Refuses what is no name of a file that can be written: an empty one, as of a variable that is not set, and a directory."""
+    if not name:
+        raise FileError(errno.ENOENT, "an empty name", "''")
+    if os.path.isdir(name) or name.endswith(os.sep):
+        raise FileError(errno.EISDIR, os.strerror(errno.EISDIR), name)
+
+
+def _is_standard_output(there: os.stat_result) -> bool:
+    """Whether a file is what standard output or standard error is written to: it would be replaced, and what is printed lost."""
+    for number in (1, 2):
+        try:
+            if os.path.samestat(os.fstat(number), there):
+                return True
+        except OSError:
+            continue  # It is closed.
+    return False
+
+
+def refuse_there(*names: str) -> None:
+    """Refuses names of what is there."""
+    for name in names:
+        if os.path.lexists(name):
+            raise FileError(errno.EEXIST, os.strerror(errno.EEXIST), name)

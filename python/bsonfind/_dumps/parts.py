@@ -1,0 +1,166 @@
+"""Parts of a dump, which are split between documents."""
+
+from __future__ import annotations
+
+import os
+import stat
+import struct
+from dataclasses import dataclass, field
+from typing import BinaryIO, Iterable, Iterator
+
+from .._errors import DumpError
+from .._faults import Fault
+from .._names import File, name_of
+from .._numbers import whole
+from .files import FileState, is_packed, member_of, opened, refuse_archive, unpacked
+from .framing import LONGEST, SHORTEST, walk
+
+# What a part has at most where nothing else is asked for; a run of `find` holds its part in memory.
+MOST = 1 << 30
+# What a file has at most.
+LARGEST = (1 << 63) - 1
+_PIECE = 1 << 20
+_length_at = struct.Struct("<i").unpack_from
+
+
+@dataclass(frozen=True)
+class Part:
+    """Some documents of a file: where they begin, how many bytes they have, and the number of the first one.
+
+    Of a file by `mongodump --gzip` the bytes count as unpacked. A part that `plan` made keeps the state of its file, and is
+    refused once the file is another one or was written to.
+    """
+
+    path: str
+    offset: int
+    length: int
+    first: int
+    state: FileState | None = field(default=None, compare=False)
+
+    def __post_init__(self) -> None:
+        name_of(self.path)
+        for name in ("offset", "length", "first"):
+            whole(name, getattr(self, name), 0, LARGEST)
+
+    def __str__(self) -> str:
+        return f"{self.path}, the part of {self.length} bytes at byte {self.offset}"
+
+    def pieces(self) -> Iterator[bytes]:
+        """The bytes of the part, which is an error where the file no longer has them."""
+        left = self.length
+        with opened(self.path) as file:
+            self._check_state(file)
+            for piece in self._bytes_of(file):
+                yield piece
+                left -= len(piece)
+            if left:
+                raise PartError(self, f"{left} bytes are missing: the file became shorter")
+            self._check_state(file)
+
+    def _bytes_of(self, file: BinaryIO) -> Iterator[bytes]:
+        """The bytes of the part, as many as the file has."""
+        if is_packed(self.path):
+            yield from _between(unpacked(self.path), self.offset, self.offset + self.length)
+            return
+        left = self.length
+        file.seek(self.offset)
+        while left and (piece := file.read(min(left, _PIECE))):
+            left -= len(piece)
+            yield piece
+
+    def _check_state(self, file: BinaryIO) -> None:
+        """Refuses a file that is no longer the one that was split."""
+        if not self.state:
+            return
+        now = FileState.of(file)
+        if (now.inode, now.device) != (self.state.inode, self.state.device):
+            raise PartError(self, "the file was replaced since it was cut")
+        if now.size < self.state.size:
+            raise PartError(self, f"{self.state.size - now.size} bytes are missing: the file became shorter")
+        if now != self.state:
+            raise PartError(self, "the file was written to since it was cut")
+
+
+class PartError(DumpError):
+    """A part that could not be asked, and why; the fault counts in the whole file."""
+
+    def __init__(self, part: Part, text: str, fault: Fault | None = None) -> None:
+        super().__init__(text, fault)
+        self.args = part, text, fault
+        self.part = part
+
+    def __str__(self) -> str:
+        return f"{self.part}: {self.text}"
+
+
+def _between(pieces: Iterator[bytes], start: int, end: int) -> Iterator[bytes]:
+    """The bytes from one place to another."""
+    at = 0
+    for piece in pieces:
+        if at >= end:
+            return
+        if at + len(piece) > start:
+            yield piece[max(start - at, 0) : end - at]
+        at += len(piece)
+
+
+def plan(path: File, most: int = MOST) -> list[Part]:
+    """Splits a file of any size between documents into parts of at most this many bytes; a longer document is a part by itself.
+
+    Nothing but the lengths is looked at. Where one is wrong there is no plan, but a `DumpError` that gives the byte. A file by
+    `mongodump --gzip` is unpacked for the plan, and again from its beginning for each part.
+    """
+    whole("most", most, 1, LARGEST)
+    name = name_of(path)
+    parts: list[Part] = []
+    start = first = at = number = 0
+    with opened(name) as file:
+        if member_of(name) is None and stat.S_ISREG(os.fstat(file.fileno()).st_mode):
+            refuse_archive(name, file)
+        state = FileState.of(file)
+        for number, after in enumerate(_ends(name, file)):
+            if after - start > most and at > start:
+                parts.append(Part(name, start, at - start, first, state))
+                start, first = at, number
+            at = after
+    if at > start:
+        parts.append(Part(name, start, at - start, first, state))
+    return parts
+
+
+def _ends(name: str, file: BinaryIO) -> Iterator[int]:
+    """The place after each document of a file. What has no size, such as a pipe, cannot be split: each part opens it again."""
+    if not stat.S_ISREG(os.fstat(file.fileno()).st_mode):
+        raise DumpError(f"{name} is no regular file")
+    try:
+        yield from ends_in(unpacked(name)) if is_packed(name) else walk(file)
+    except OSError as error:
+        raise DumpError(f"cannot read {name}: {error.strerror}") from error
+
+
+def ends_in(pieces: Iterable[bytes]) -> Iterator[int]:
+    """The place after each document of bytes that pass, by its length alone; a length that is wrong is a `DumpError`."""
+    # The bytes from the next length on, how many passed, where the next length is, and where the last document begins.
+    held, seen, at, start, number = b"", 0, 0, 0, 0
+    for piece in pieces:
+        held, seen = held + piece, seen + len(piece)
+        while at <= seen:
+            if at > start:
+                yield at
+                start, number = at, number + 1
+            if at + 4 > seen:
+                break
+            (length,) = _length_at(held, len(held) - (seen - at))
+            if not SHORTEST <= length <= LONGEST:
+                raise _bad(number, at, "bad length")
+            at += length
+        held = held[len(held) - (seen - at) :] if at < seen else b""
+    if at > seen:
+        raise _bad(number, start, "bad length")
+    if at < seen:
+        raise _bad(number, at, "length cut short")
+
+
+def _bad(number: int, at: int, kind: str) -> DumpError:
+    fault = Fault(number, at, "", kind)
+    return DumpError(str(fault), fault)

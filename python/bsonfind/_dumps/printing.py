@@ -1,0 +1,83 @@
+"""The documents of any dump as lines of canonical Extended JSON, as `dump` prints them."""
+
+from __future__ import annotations
+
+import re
+import subprocess
+from io import BufferedReader
+from typing import Generator, Iterable, Sequence
+
+from .._errors import DumpError, ProgramError
+from .._run.processes import Group, Run
+from .._run.program import wide_beside
+from .elements import document_with
+from .sources import Input, Source
+
+Batches = Generator["list[bytes]", None, None]
+_PIECE = 1 << 16
+_FOUND = re.compile(r"(\d+) objects found\n")
+
+
+class Printing:
+    """The lines of a dump of all types. `documents` is how many were printed by now."""
+
+    def __init__(self, program: str, stdout: int = subprocess.PIPE) -> None:
+        """Where the runs print to a descriptor, no lines are given."""
+        self._words, self._stdout = [wide_beside(program), "dump", "-"], stdout
+        self.documents = 0
+
+    def lines(self, path: str, *, is_named: bool = False) -> Batches:
+        """The lines as they come, of `-` those of standard input. A fault is a `DumpError`, with its place in the dump."""
+        with Source(path, is_named=is_named) as source:
+            yield from self._of(source.inputs())
+            source.check()
+
+    def _of(self, parts: Iterable[Input]) -> Batches:
+        for part in parts:
+            with part.run(self._words, stdout=self._stdout) as run:
+                try:
+                    if self._stdout == subprocess.PIPE:
+                        yield from lines_of(run.stdout)
+                    self.documents = part.first + finish_dump(run)
+                except DumpError as error:
+                    if not error.fault:
+                        raise
+                    fault = error.fault.moved(part.first, part.offset)
+                    self.documents = fault.document
+                    raise DumpError(str(fault), fault) from None
+
+
+def lines_of_documents(documents: Sequence[bytes], program: str, group: Group | None = None) -> list[bytes]:
+    """The lines of some documents, by one run. A fault is a `DumpError` that counts in these documents."""
+    with Run([wide_beside(program), "dump", "-"], documents, group=group) as run:
+        lines = [line for batch in lines_of(run.stdout) for line in batch]
+        refuse_other_count(finish_dump(run), len(documents))
+    return lines
+
+
+def texts_of_values(values: Sequence[bytes], program: str, group: Group | None = None) -> list[str]:
+    """The texts of values as `dump` prints them, each by a document that has it alone."""
+    lines = lines_of_documents([document_with(b"", it) for it in values], program, group)
+    return [line[len('{"":') : -1].decode() for line in lines]
+
+
+def finish_dump(run: Run) -> int:
+    """Waits for the end of a run of `dump`, and gives the number of documents; raises the error of a run that did not end well."""
+    return int(run.finish(_FOUND).group(1))
+
+
+def refuse_other_count(documents: int, wanted: int) -> None:
+    """Refuses another number of documents than was given to a run, as after one that was killed."""
+    if documents != wanted:
+        raise ProgramError(f"dump printed {documents} documents in place of {wanted}")
+
+
+def lines_of(pipe: BufferedReader) -> Batches:
+    """The lines that a program prints, as they come. Bytes after the last newline are none."""
+    parts: list[bytes] = []
+    while piece := pipe.read1(_PIECE):
+        parts.append(piece)
+        if b"\n" in piece:
+            *lines, rest = b"".join(parts).split(b"\n")
+            parts = [rest]
+            yield lines

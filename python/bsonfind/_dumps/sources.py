@@ -1,0 +1,177 @@
+"""The bytes of dumps: of a file of any size, of one that mongodump --gzip wrote, of a pipe or a device."""
+
+from __future__ import annotations
+
+import os
+import stat
+from typing import Any, BinaryIO, Iterable, Iterator, NamedTuple, Sequence
+
+from .._errors import DumpError
+from .._names import File, name_of
+from .._run.processes import Dump, Run
+from . import framing
+from .files import FileState, begins_as_archive, file_of, is_packed, member_of, not_opened, read_some, refuse_archive, unpacked_of
+
+_PIECE = 1 << 18
+
+
+class Input(NamedTuple):
+    """What one run reads of a dump: the place of its first document, and the open file, or pieces that are written to it."""
+
+    offset: int
+    first: int
+    file: BinaryIO | None
+    pieces: Iterator[bytes] | None
+
+    def run(self, words: Sequence[str], **how: Any) -> Run:
+        """A run of the program that reads it as standard input."""
+        return Run(words, stdin=self.file, **how) if self.file else Run(words, self.pieces, **how)
+
+
+class Source:
+    """A dump that is open by one descriptor. Its size is that of the file as it is on the disk, None for a pipe or a device.
+
+    The name `-` is that of standard input, which is read from where it is. A file can be read as often as is needed, and is
+    refused once it is no longer as it was when it was opened. A pipe with a name is opened once it is read, since that waits.
+
+    The errors do not name it, unless that is asked for: whoever reads many adds the name.
+    """
+
+    def __init__(self, path: File, *, is_named: bool = False) -> None:
+        self.name, self.is_packed = name_of(path), is_packed(path)
+        self._is_named = is_named
+        self._file: BinaryIO | None = None
+        self.size: int | None = None
+        # What says whether a file is still the same.
+        self.state: FileState | None = None
+        # The rights of the file, None for a pipe or a device.
+        self.mode: int | None = None
+        self._start = self._read = 0
+        if self.name == "-" or not _is_pipe(self.name):
+            status = os.fstat(self.file.fileno())
+            if stat.S_ISREG(status.st_mode):
+                self._start = os.lseek(self.file.fileno(), 0, os.SEEK_CUR)
+                self.size = max(0, status.st_size - self._start)
+                self.state, self.mode = FileState.of(self.file), stat.S_IMODE(status.st_mode)
+
+    @property
+    def file(self) -> BinaryIO:
+        """The open file."""
+        if self._file is None:
+            try:
+                self._file = _standard_input() if self.name == "-" else open(file_of(self.name), "rb", buffering=0)
+            except OSError as error:
+                if not self._is_named:
+                    raise DumpError(str(error.strerror)) from error
+                if self.name == "-":
+                    raise DumpError(f"cannot read standard input: {error.strerror}") from error
+                raise not_opened(self.name, error) from error
+        return self._file
+
+    @property
+    def is_plain(self) -> bool:
+        """Whether it is a file that is read as it is, from its beginning."""
+        return self.size is not None and not self.is_packed and not self._start
+
+    @property
+    def is_archive(self) -> bool:
+        """Whether it is an archive, and not one of its collections, by its first bytes. Those of a pipe would be lost."""
+        return self.size is not None and member_of(self.name) is None and begins_as_archive(self.file, self._start)
+
+    def refuse_archive(self) -> None:
+        """Refuses an archive."""
+        if self.is_archive:
+            refuse_archive(self.name, self.file, self._start)
+
+    def dump(self) -> Dump:
+        """What a run reads."""
+        if not self.is_plain:
+            return Dump(self.pieces())
+        self.refuse_archive()
+        self.file.seek(0)
+        return Dump(file=self.file)
+
+    def pieces(self) -> Iterator[bytes]:
+        """All bytes of the dump, unpacked where it is packed. One that is damaged is an `UnpackError` after what comes before."""
+        self.refuse_archive()
+        return unpacked_of(self.name, self.raw()) if self.is_packed else self.raw()
+
+    def inputs(self, most: int | None = None) -> Iterator[Input]:
+        """What runs read one after the other, at most this many bytes each; without a number as many as a run can read.
+
+        What goes wrong with the file is raised after the run over the bytes before it.
+        """
+        limit = framing.LARGEST_INPUT if most is None else most
+        if self.is_packed or self.size is None or self.size > limit:
+            errors: list[Exception] = []
+            for offset, first, pieces in framing.inputs(up_to_error(self.pieces(), errors), limit):
+                yield Input(offset, first, None, pieces)
+            if errors:
+                raise errors[0]
+        else:
+            self.refuse_archive()
+            self.file.seek(self._start)
+            yield Input(0, 0, self.file, None)
+            self.check()
+
+    def position(self) -> int:
+        """How many bytes of the file were read by now, by this process or by a run."""
+        is_read = self._file and self.size is not None and not self._file.closed
+        return self._read or (self.file.tell() - self._start if is_read else 0)
+
+    def raw(self) -> Iterator[bytes]:
+        """All bytes of the file, as they are on the disk."""
+        self._read = 0
+        if self.size is not None:
+            os.lseek(self.file.fileno(), self._start, os.SEEK_SET)
+        try:
+            while piece := read_some(self.file, _PIECE):
+                self._read += len(piece)
+                yield piece
+        except OSError as error:
+            if not self._is_named:
+                raise
+            raise DumpError(f"cannot read {self.name}: {error.strerror}") from error
+        if self.size is not None and self._read < self.size:
+            raise DumpError(f"no bytes at byte {self._start + self._read}: the file became shorter")
+        self.check()
+
+    def check(self) -> None:
+        """Refuses a file that is no longer as it was when it was opened, as long as it is open."""
+        if self.state and not self.file.closed:
+            self.state.refuse_other(self.file)
+
+    def close(self) -> None:
+        """Closes the file."""
+        if self._file:
+            self._file.close()
+
+    def __enter__(self) -> Source:
+        return self
+
+    def __exit__(self, *_: object) -> None:
+        self.close()
+
+
+def _standard_input() -> BinaryIO:
+    """Standard input; an error where it is closed or a directory."""
+    try:
+        os.read(0, 0)
+    except BlockingIOError:
+        pass  # It can be read later.
+    return open(0, "rb", buffering=0, closefd=False)
+
+
+def _is_pipe(name: str) -> bool:
+    try:
+        return stat.S_ISFIFO(os.stat(file_of(name)).st_mode)
+    except OSError:
+        return False  # Whoever opens it says what is wrong with it.
+
+
+def up_to_error(pieces: Iterable[bytes], errors: list[Exception]) -> Iterator[bytes]:
+    """The pieces before an error, which is put into a list."""
+    try:
+        yield from pieces
+    except (DumpError, OSError) as error:
+        errors.append(error)

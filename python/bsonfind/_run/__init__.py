@@ -1,0 +1,1 @@
+"""What starts programs and moves bytes."""

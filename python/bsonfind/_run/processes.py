@@ -1,0 +1,302 @@
+"""Runs of the program: bytes go in, bytes come out, and what it printed on standard error is read."""
+
+from __future__ import annotations
+
+import fcntl
+import io
+import os
+import re
+import subprocess
+import threading
+from typing import IO, Any, BinaryIO, Callable, Iterable, NamedTuple, Sequence
+
+from .._errors import ArgumentError, BsonfindError, OtherProcessError, ProgramError, TimedOutError
+from .messages import error_of, own_text
+from .program import located
+
+# As many bytes as a pipe of Linux holds.
+_BUFFER = 1 << 16
+# How many seconds a source of bytes that stalls is waited for, once no one reads them.
+_PATIENCE = 1.0
+
+
+class Dump(NamedTuple):
+    """What a run reads as a dump: pieces, an open file, or nothing."""
+
+    pieces: Iterable[bytes] | None = None
+    file: BinaryIO | None = None
+
+
+class Group:
+    """Runs that end together. A copy of it in another process, as a pool makes one, begins without runs."""
+
+    def __init__(self) -> None:
+        self._lock = threading.Lock()
+        self._processes: set[subprocess.Popen[bytes]] = set()
+        self._timer: threading.Timer | None = None
+        self.is_ended = False
+        # Why it was ended, where that is an error. Each run has it then.
+        self.error: BsonfindError | None = None
+
+    def start(self, words: Sequence[str], **streams: Any) -> subprocess.Popen[bytes]:
+        """Starts a program. What follows its name is UTF-8 in every locale."""
+        with self._lock:
+            if self.is_ended:
+                raise self.error or ProgramError("not started: what it is for was ended")
+            try:
+                process = subprocess.Popen([located(words[0]), *(it.encode() for it in words[1:])], **streams)
+            except (OSError, TypeError, ValueError) as error:
+                raise start_error(words[0], error) from error
+            self._processes.add(process)
+            return process
+
+    def leave(self, process: subprocess.Popen[bytes]) -> None:
+        """Forgets a program that was waited for."""
+        with self._lock:
+            self._processes.discard(process)
+
+    def end(self, error: BsonfindError | None = None) -> None:
+        """Kills what runs, for the first error that is given; nothing is started any more. Any thread may call it."""
+        with self._lock:
+            self.is_ended = True
+            self.error = self.error or error
+            for process in self._processes:
+                process.kill()
+
+    def end_after(self, timeout: float) -> None:
+        """Ends the group once this many seconds have passed, unless `rest` comes first."""
+        self._timer = threading.Timer(timeout, self.end, [TimedOutError(f"no answer within {timeout:g} seconds")])
+        self._timer.daemon = True
+        self._timer.start()
+
+    def rest(self) -> None:
+        """Takes back what `end_after` has set."""
+        timer, self._timer = self._timer, None
+        if timer:
+            timer.cancel()
+
+    def __reduce__(self) -> tuple[type[Group], tuple[()]]:
+        return Group, ()
+
+
+def start_error(program: object, error: OSError | TypeError | ValueError) -> BsonfindError:
+    """Why a program cannot be started; a word that no program takes is an argument of the caller."""
+    kind = ProgramError if isinstance(error, OSError) else ArgumentError
+    return kind(f"cannot start {program}: {getattr(error, 'strerror', None) or error}")
+
+
+def file_for_messages(program: object) -> IO[bytes]:
+    """A file in memory for standard error, so that no message is too long for a pipe, and no disk is too full for it."""
+    try:
+        return open(os.memfd_create("messages"), "w+b")
+    except OSError as error:
+        raise start_error(program, error) from error
+
+
+class Feeder(threading.Thread):
+    """Writes pieces to the pipe of a program, closes it, and keeps what was wrong with the pieces."""
+
+    def __init__(self, pieces: Iterable[bytes], pipe: IO[bytes], kill: Callable[[], object]) -> None:
+        super().__init__(daemon=True)
+        self._pieces, self._pipe, self._kill = pieces, pipe, kill
+        self.error: Exception | None = None
+
+    def run(self) -> None:
+        """Writes all of them, or as many as are read. After an error the program is killed before it sees an end."""
+        try:
+            for piece in self._pieces:
+                self._pipe.write(piece)
+        except BrokenPipeError:
+            pass  # The program reads no more, and its end says why.
+        except Exception as error:  # noqa: BLE001 - it is raised where the run is waited for
+            self.error = error
+            self._kill()
+        finally:
+            close(self._pipe)
+
+
+class Run:
+    """A run of the program, which is killed where it has not ended when the run is left."""
+
+    def __init__(
+        self,
+        words: Sequence[str],
+        pieces: Iterable[bytes] | None = None,
+        stdin: int | IO[bytes] = subprocess.DEVNULL,
+        stdout: int = subprocess.PIPE,
+        group: Group | None = None,
+    ) -> None:
+        streams = {"stdin": stdin if pieces is None else subprocess.PIPE, "stdout": stdout}
+        self._start(words, group, streams)
+        if pieces is not None:
+            self._feed(pieces, self.stdin)
+
+    @classmethod
+    def over(cls, dump: Dump, program: str, command: str, options: Sequence[str] = (), **how: Any) -> Run:
+        """A run of a command that reads a dump."""
+        return cls([program, command, "-", *options], dump.pieces, dump.file or subprocess.DEVNULL, **how)
+
+    @classmethod
+    def serving(cls, dump: Dump, program: str, group: Group | None = None) -> Run:
+        """A run of `serve`, which reads commands from its standard input, and the dump from another descriptor.
+
+        Ctrl-C at the terminal reaches the caller alone, so that the session can continue after it.
+        """
+        run = cls.__new__(cls)
+        streams = {"stdin": subprocess.PIPE, "stdout": subprocess.PIPE, "bufsize": _BUFFER, "start_new_session": True}
+        with Descriptor(dump) as descriptor:
+            run._start([program, "serve", descriptor.word], group, {**streams, "pass_fds": descriptor.passed})
+            if dump.pieces is not None:
+                run._feed(dump.pieces, descriptor.take_pipe())
+        return run
+
+    def _start(self, words: Sequence[str], group: Group | None, streams: dict[str, Any]) -> None:
+        self._group = group or Group()
+        self._feeder: Feeder | None = None
+        self._owner = os.getpid()
+        self._stderr = file_for_messages(words[0])
+        try:
+            self.process = self._group.start(words, **streams, stderr=self._stderr)
+        except BaseException:
+            self._stderr.close()
+            raise
+
+    def _feed(self, pieces: Iterable[bytes], pipe: IO[bytes]) -> None:
+        """Begins to write pieces to a pipe."""
+        try:
+            self._feeder = Feeder(pieces, pipe, self.process.kill)
+            self._feeder.start()
+        except BaseException:
+            self._feeder = None
+            self.close()
+            raise
+
+    @property
+    def stdin(self) -> IO[bytes]:
+        """The pipe to standard input."""
+        assert self.process.stdin is not None
+        return self.process.stdin
+
+    @property
+    def stdout(self) -> io.BufferedReader:
+        """The pipe from standard output."""
+        assert isinstance(self.process.stdout, io.BufferedReader)
+        return self.process.stdout
+
+    def check_process(self) -> None:
+        """Refuses a call in another process than the one that started the run."""
+        check_owner(self._owner)
+
+    def wait(self) -> int:
+        """The status, once the run has ended, and 0 where another part of this process took it.
+
+        Raises why its group was ended, or what was wrong with the pieces.
+        """
+        status = self.process.wait()
+        if self._group.error:
+            raise self._group.error
+        if self._feeder:
+            self._feeder.join()
+            if self._feeder.error:
+                raise self._feeder.error
+        return status
+
+    def messages(self) -> str:
+        """What the program says on standard error, once the run has ended."""
+        self._stderr.seek(0)
+        return own_text(self._stderr.read().decode(errors="replace"))
+
+    def finish(self, line: re.Pattern[str]) -> re.Match[str]:
+        """Waits for the end, and gives the line with the counts; raises the error of a run that did not end well.
+
+        It ended well only if this line is all that it says. A status of 0 proves nothing, and the line follows an error too.
+        """
+        status, found = self.wait(), line.fullmatch(self.messages())
+        if status or not found:
+            raise self.error()
+        return found
+
+    def error(self) -> BsonfindError:
+        """The error of a run that did not end well."""
+        try:
+            return error_of(self.wait(), self.messages())
+        except BsonfindError as error:
+            return error
+
+    def close(self) -> None:
+        """Kills the program where it runs, and frees all that was opened. In another process it does nothing."""
+        if os.getpid() != self._owner:
+            return
+        self.process.kill()
+        self.process.wait()
+        self._group.leave(self.process)
+        if self._feeder:
+            self._feeder.join(_PATIENCE)
+        for stream in (self.process.stdin, self.process.stdout):
+            if stream:
+                close(stream)
+        self._stderr.close()
+
+    def __enter__(self) -> Run:
+        return self
+
+    def __exit__(self, *_: object) -> None:
+        self.close()
+
+
+def check_owner(owner: int) -> None:
+    """Refuses a call in another process than the one with this number, such as after a fork: both would read from one pipe."""
+    if os.getpid() != owner:
+        raise OtherProcessError(f"opened in process {owner}, used in process {os.getpid()}: open it again in each process")
+
+
+class Descriptor:
+    """The word that names a dump to `serve`, and the descriptor that goes with it."""
+
+    def __init__(self, dump: Dump) -> None:
+        self._dump = dump
+        self._pipe: IO[bytes] | None = None
+        self.word = os.devnull
+        self.passed: tuple[int, ...] = ()
+
+    def __enter__(self) -> Descriptor:
+        if self._dump.file is not None:
+            self._pass(self._dump.file.fileno())
+        elif self._dump.pieces is not None:
+            read, write = os.pipe()
+            self._pipe = open(write, "wb")
+            with open(read, "rb"):
+                self._pass(read)
+        return self
+
+    def _pass(self, descriptor: int) -> None:
+        """Passes a copy of a descriptor, with a number above those of the standard streams."""
+        copy = fcntl.fcntl(descriptor, fcntl.F_DUPFD_CLOEXEC, 3)
+        self.word, self.passed = f"/dev/fd/{copy}", (copy,)
+
+    def take_pipe(self) -> IO[bytes]:
+        """The pipe to the program, which the caller closes."""
+        pipe, self._pipe = self._pipe, None
+        assert pipe is not None
+        return pipe
+
+    def __exit__(self, *_: object) -> None:
+        for descriptor in self.passed:
+            os.close(descriptor)
+        if self._pipe:
+            close(self._pipe)
+
+
+def close(pipe: IO[bytes]) -> None:
+    """Closes a pipe, of which the other end may be gone."""
+    try:
+        pipe.close()
+    except BrokenPipeError:
+        pass  # What was not written is not read.
+
+
+def processors() -> int:
+    """How many processors this process may use."""
+    if hasattr(os, "sched_getaffinity"):
+        return len(os.sched_getaffinity(0))
+    return os.cpu_count() or 1

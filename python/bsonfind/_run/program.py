@@ -1,0 +1,60 @@
+"""Which programs are run: those beside the package as it is installed, and else those on PATH."""
+
+from __future__ import annotations
+
+import os
+
+# The folders of packages below a prefix, such as /usr/lib/python3/dist-packages, which has its programs in /usr/bin.
+_PACKAGES = ("site-packages", "dist-packages")
+
+
+def located(program: str) -> str:
+    """The file of a program, or the name by itself if there is none: then it cannot be started, and the error says why."""
+    return _found(program) or program
+
+
+def wide_beside(program: object) -> str:
+    """The program for all types that goes with a program: the one beside it or what it links to, and else the one that is found."""
+    from .._names import name_of
+
+    name = name_of(program)  # type: ignore[arg-type]
+    return _wide_beside(name) or (located("bsonwide") if _found(name) else name)
+
+
+def located_wide(program: str) -> str | None:
+    """The file of that program, None if there is none."""
+    return _wide_beside(program) or (_found("bsonwide") if _found(program) else None)
+
+
+def _wide_beside(program: str) -> str | None:
+    found = _found(program)
+    for file in (found, os.path.realpath(found)) if found else ():
+        beside = os.path.join(os.path.dirname(file), "bsonwide")
+        if _is_program(beside):
+            return beside
+    return None
+
+
+def _found(program: str) -> str | None:
+    """The file of a program by its name, as a shell finds it, but that beside the package comes first."""
+    if os.path.dirname(program):
+        return program if _is_program(program) else None
+    for folder in (*_beside_package(), *os.get_exec_path()):
+        file = os.path.join(folder, program)
+        if _is_program(file):
+            return file
+    return None
+
+
+def _beside_package() -> list[str]:
+    packages = os.path.dirname(os.path.dirname(os.path.dirname(os.path.abspath(__file__))))
+    if os.path.basename(packages) not in _PACKAGES:
+        return []
+    return [os.path.join(os.path.dirname(os.path.dirname(os.path.dirname(packages))), "bin")]
+
+
+def _is_program(file: str) -> bool:
+    try:
+        return os.path.isfile(file) and os.access(file, os.X_OK)
+    except ValueError:
+        return False  # No name of a file.

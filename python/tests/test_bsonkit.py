@@ -1,0 +1,251 @@
+"""Tests of the command `bsonkit`: its arguments, its pages, and how it becomes the program."""
+
+import argparse
+import gzip
+import os
+import re
+import signal
+import subprocess
+import sys
+from typing import Dict, List, Set, Tuple
+
+from bsonfind import __version__
+from bsonfind._command.arguments import parser
+from bsonfind._command.program import _LARGEST, _is_plain
+
+from .archives import archive
+from .support import DAMAGED, DOUBLE, PATIENCE, PEOPLE, PEOPLE_LINES, PROGRAM, ROOT, SHOP, WIDE, Room, environment, run_package, wait_for
+
+FAULT = 'document 500, byte 92733, path "d": bad boolean'
+
+
+def options() -> Dict[str, Set[str]]:
+    """The options of each command, without those of all."""
+    (commands,) = (it for it in parser("bsonkit")._actions if isinstance(it, argparse._SubParsersAction))
+    common = {"--help", "--program", "--version"}
+    return {name: {it for action in command._actions for it in action.option_strings if it.startswith("--")} - common for name, command in commands.choices.items()}
+
+
+class Arguments(Room):
+    def refused(self, *words: str) -> str:
+        """What is said of arguments, with status 2."""
+        run = run_package(*words)
+        self.assertEqual((run.returncode, run.stdout), (2, ""), words)
+        return run.stderr.splitlines()[-1]
+
+    def test_numbers(self) -> None:
+        """They are of the digits 0 to 9, as the program takes them, and in a range, which is named."""
+        for word in ("1_0", "١", "-1", "1.0", " 1", "0x1", "", "2147483648", "9" * 5000):
+            for option in ("--skip", "--limit", "--batch"):
+                told = self.refused("find", str(PEOPLE), f"{option}={word}")
+                self.assertIn(f"argument {option}: a number from 0 to 2147483647, not {word}", told)
+        for command in ("audit", "query"):
+            self.assertIn("argument --jobs: a number from 1 to 2147483647, not 0", self.refused(command, str(PEOPLE), "--jobs", "0"))
+        for word in ("+5", "007"):
+            self.assertEqual(len(run_package("find", str(PEOPLE), "--limit", word).stdout.splitlines()), int(word))
+
+    def test_options_are_not_shortened(self) -> None:
+        for words in (("find", str(PEOPLE), "--lim", "1"), ("audit", str(PEOPLE), "--js"), ("--prog", PROGRAM, "check", str(PEOPLE))):
+            self.assertRegex(self.refused(*words), "unrecognized arguments|invalid choice")
+
+    def test_standard_input_twice(self) -> None:
+        for words in (("check", "-", "-"), ("dump", "-", str(PEOPLE), "-"), ("compare", "-", "-")):
+            self.assertEqual(self.refused(*words), "bsonkit: standard input is named twice")
+
+    def test_outputs_of_a_salvage(self) -> None:
+        for words in ((), ("--good", "a"), ("--good", "a", "--bad", "b", "--out", "c"), ("--bad", "b", "--out", "c")):
+            self.assertEqual(self.refused("salvage", str(PEOPLE), *words), "bsonkit: salvage takes --good and --bad for a dump, or --out for a directory")
+
+    def test_names(self) -> None:
+        """One name for the script; the module is the same thing."""
+        kit = self.room / "bsonkit"
+        kit.write_text((ROOT / "packaging/bsonkit").read_text().replace("@PACKAGES@", str(ROOT / "python")))
+        kit.chmod(0o755)
+        run = subprocess.run([kit, "--version"], capture_output=True, text=True)
+        self.assertEqual((run.returncode, run.stdout, run.stderr), (0, f"bsonkit {__version__}\n", ""))
+        run = subprocess.run([kit, "--help"], capture_output=True, text=True)
+        self.assertTrue(run.stdout.startswith("usage: bsonkit "))
+        self.assertTrue(run_package("--help").stdout.startswith("usage: python3 -m bsonfind "))
+
+    def test_pages(self) -> None:
+        """The man page and the completions have each command and each option, and no other."""
+        wanted = {name for names in options().values() for name in names}
+        for page, pattern in (
+            ("man/bsonkit.1", r"\.(?:It|Op) ?Fl -([\w-]+)|^\.Fl -([\w-]+)|Fl -json \| -(quiet)"),
+            ("completions/bsonkit.bash", r"(?<=[ '])--([\w-]+)"),
+            ("completions/_bsonkit", r"'\*?--([\w-]+)\["),
+            ("completions/bsonkit.fish", r"^complete .* -l ([\w-]+)"),
+        ):
+            text = (ROOT / page).read_text(encoding="utf-8")
+            found = {f"--{''.join(it)}" for it in re.findall(pattern, text, re.MULTILINE)} - {"--help", "--version", "--program", "--gzip", "--"}
+            self.assertEqual(found, wanted, page)
+            for command in options():
+                self.assertRegex(text, rf"\b{command}\b", page)
+
+    def test_names_with_control_characters(self) -> None:
+        """They forge no line, and a terminal obeys none of them."""
+        path = self.file(PEOPLE.read_bytes() + DAMAGED, "a\n\x1b[2Kb\tc.bson")
+        lines = run_package("audit", str(path)).stdout.splitlines()
+        shown = f"{self.room}/a\\x0a\\x1b[2Kb\\x09c.bson"
+        self.assertEqual([it for it in lines if it.startswith(shown)], [f"{shown}: {FAULT} 02", f"{shown}: 501 documents, 1 faulty"])
+        good = self.file(PEOPLE.read_bytes(), "a\tb.bson")
+        run = run_package("query", str(good), "--query", '{"_id":7}')
+        self.assertEqual(run.stdout.split("\t"), [f"{self.room}/a\\x09b.bson", PEOPLE_LINES[7].decode() + "\n"])
+
+
+class Becoming(Room):
+    """`check` and `dump` of one plain file are the program itself."""
+
+    def started(self, *words: str, **how: object) -> Tuple[int, bytes, bytes, List[str]]:
+        """The status of a command over programs that say how they were started, its streams, and the lines that say so."""
+        self.script('echo "$$ $PPID $*" >>"$ROOM/starts"\nexec "$WIDE" "$@"', "bsonwide")
+        program = self.script('exec "$PROGRAM" "$@"')
+        command = [sys.executable, "-m", "bsonfind", "--program", program, *words]
+        with subprocess.Popen(command, env=environment(), stdout=subprocess.PIPE, stderr=subprocess.PIPE, **how) as run:  # type: ignore[call-overload]
+            out, told = run.communicate(timeout=PATIENCE)
+        lines = (self.room / "starts").read_text().splitlines() if (self.room / "starts").exists() else []
+        (self.room / "starts").unlink(missing_ok=True)
+        return run.returncode, out, told, [f"{'itself' if int(it.split()[0]) == run.pid else 'child'} {' '.join(it.split()[2:])}" for it in lines]
+
+    def test_plain_files(self) -> None:
+        """Also one whose name is not UTF-8, that begins as another one, or that is empty; and standard input that is a file."""
+        bad = PEOPLE.read_bytes() + DAMAGED
+        for name in ("dump.bson", os.fsdecode(b"\xff.bson"), "a::b.bson", "sp ace.bson"):
+            path = self.file(bad, name)
+            self.assertEqual(self.started("check", str(path)), (1, FAULT.encode() + b"\n", b"501 documents, 1 faulty\n", ["itself check -"]))
+            told = f"bsonwide: {FAULT}\n500 objects found\n".encode()
+            self.assertEqual(self.started("dump", str(path)), (1, b"\n".join([*PEOPLE_LINES, b""]), told, ["itself dump -"]))
+        self.assertEqual(self.started("check", str(self.file(b"", "none.bson"))), (0, b"", b"0 documents, 0 faulty\n", ["itself check -"]))
+        with open(path, "rb") as file:
+            self.assertEqual(self.started("check", "-", stdin=file)[3], ["itself check -"])
+        with open(path, "rb", buffering=0) as file:
+            file.seek(len(bad) - len(DAMAGED))
+            self.assertEqual(self.started("check", "-", stdin=file)[1], b'document 0, byte 7, path "d": bad boolean\n')
+
+    def test_others(self) -> None:
+        """What is packed, a pipe, an archive, several files, one above 4 GiB, and what cannot be read go on as they did."""
+        path = self.file(PEOPLE.read_bytes())
+        packed = self.file(gzip.compress(PEOPLE.read_bytes()), "dump.bson.gz")
+        whole = self.file(archive([("club", "people", PEOPLE.read_bytes())]), "archive")
+        good = b"500 documents, 0 faulty\n"
+        for words in ((str(packed),), (f"{whole}::club.people",)):
+            status, _, told, starts = self.started("check", *words)
+            self.assertEqual((status, told, starts), (0, good, ["child check -"]))
+        status, _, told, starts = self.started("check", str(path), str(path))
+        self.assertEqual((status, starts), (0, ["child check -"] * 2))
+        read, write = os.pipe()
+        os.write(write, DOUBLE)
+        os.close(write)
+        status, _, told, starts = self.started("check", "-", stdin=read)
+        os.close(read)
+        self.assertEqual((status, told, starts), (0, b"1 documents, 0 faulty\n", ["child check -"]))
+        status, _, told, starts = self.started("check", str(whole))
+        self.assertEqual((status, starts), (1, []))
+        self.assertIn(b"an archive: name one of its collections", told)
+        status, _, told, starts = self.started("check", str(self.room / "missing"))
+        self.assertEqual((status, told, starts), (1, f"bsonkit: cannot open {self.room}/missing\n".encode(), []))
+        large = self.room / "large.bson"
+        with open(large, "wb") as file:
+            for size, is_plain in ((_LARGEST, True), (_LARGEST + 1, False)):
+                file.truncate(size)
+                with open(large, "rb") as opened:
+                    self.assertEqual(_is_plain(opened.fileno()), is_plain)
+
+    def test_a_file_that_is_named_hyphen(self) -> None:
+        """It never stands for standard input."""
+        whole = self.file(archive([("club", "people", PEOPLE.read_bytes())]), "-")
+        run = subprocess.run(
+            [sys.executable, "-m", "bsonfind", "--program", PROGRAM, "dump", "-"],
+            env=environment(), cwd=self.room, input=DOUBLE, stdout=subprocess.PIPE, stderr=subprocess.PIPE,
+        )  # fmt: skip
+        self.assertEqual((run.returncode, run.stdout, run.stderr), (0, b'{"d":{"$numberDouble":"1.0"}}\n', b"1 objects found\n"))
+        self.assertTrue(whole.exists())
+
+    def test_signals(self) -> None:
+        """They are as the shell gave them: nothing is ignored that was not."""
+        self.script('grep SigIgn /proc/self/status', "bsonwide")
+        program = self.script('exec "$PROGRAM" "$@"')
+        command = [sys.executable, "-m", "bsonfind", "--program", program, "check", str(PEOPLE)]
+        ignored = {}
+        for number in (None, signal.SIGINT, signal.SIGHUP):
+            before = (lambda: None) if number is None else (lambda: signal.signal(number, signal.SIG_IGN) and None)  # noqa: B023
+            run = subprocess.run(command, env=environment(), stdout=subprocess.PIPE, text=True, preexec_fn=before, restore_signals=True)
+            ignored[number] = int(run.stdout.split()[1], 16)
+        self.assertEqual(ignored[None], 0)
+        for number in (signal.SIGINT, signal.SIGHUP):
+            self.assertEqual(ignored[number], 1 << (number - 1))
+
+    def test_time(self) -> None:
+        """A plain file takes few calls beside the start of Python."""
+        code = "import sys\nfrom bsonfind.__main__ import main\nsys.argv[1:] = ['check', sys.argv[1]]\nmain()"
+        run = subprocess.run([sys.executable, "-c", code, str(PEOPLE)], env=environment(), stderr=subprocess.PIPE, text=True)
+        self.assertEqual((run.returncode, run.stderr), (0, "500 documents, 0 faulty\n"))
+
+
+class Programs(Room):
+    def test_version(self) -> None:
+        """One of another version is refused, and what is no bsonwide."""
+        for text, told in (
+            ("echo bsonwide 9.9.9", "is of version 9.9.9, and the package of Python of version"),
+            ("echo something else", "is not bsonwide: it printed 'something else"),
+            ("exit 3", "ended with status 3"),
+        ):
+            program = self.wide(f'if [ "$1" = --version ]; then {text}; exit; fi\nexec "$WIDE" "$@"')
+            for words in (("audit", str(PEOPLE)), ("compare", str(PEOPLE), str(PEOPLE)), ("salvage", str(PEOPLE), "--good", f"{self.room}/g", "--bad", f"{self.room}/b")):
+                run = run_package("--program", program, *words)
+                self.assertEqual((run.returncode, run.stdout), (2, ""), words)
+                self.assertIn(told, run.stderr)
+
+    def test_beside_the_package(self) -> None:
+        """The program that was installed with the package comes before those on PATH."""
+        packages = self.room / "lib/python3/dist-packages"
+        packages.mkdir(parents=True)
+        (packages / "bsonfind").symlink_to(ROOT / "python/bsonfind")
+        for name, real in (("bsonfind", PROGRAM), ("bsonwide", WIDE)):
+            self.script(f'echo {name} >>"$ROOM/starts"\nexec "{real}" "$@"', f"bin/{name}")
+            self.script("exit 7", f"other/{name}")
+        env = {**os.environ, "PYTHONPATH": str(packages), "PATH": f"{self.room}/other:{os.environ['PATH']}"}
+        for words, wanted in ((("check", str(PEOPLE)), "bsonwide"), (("find", str(SHOP), "--limit", "1"), "bsonfind"), (("audit", str(PEOPLE)), "bsonwide")):
+            run = subprocess.run([sys.executable, "-m", "bsonfind", *words], env=env, cwd=self.room, capture_output=True, text=True)
+            self.assertEqual(run.returncode, 0, run.stderr)
+            self.assertEqual({*(self.room / "starts").read_text().split()}, {wanted})
+            (self.room / "starts").unlink()
+
+
+class Streams(Room):
+    def test_standard_error_that_takes_nothing(self) -> None:
+        """The status is not that of a fault."""
+        path = self.file(gzip.compress(PEOPLE.read_bytes()), "dump.bson.gz")
+        with open("/dev/full", "wb") as full:
+            for words, status in ((("audit", str(path)), 0), (("compare", str(path), str(path)), 2), (("audit", "missing"), 2), (("query", str(path)), 2)):
+                command = [sys.executable, "-m", "bsonfind", "--program", PROGRAM, *words]
+                run = subprocess.run(command, env=environment(), stdout=subprocess.DEVNULL, stderr=full)
+                self.assertEqual(run.returncode, status, words)
+
+    def test_outputs_that_are_standard_output(self) -> None:
+        """They would be replaced, and what is printed there lost."""
+        path, out = self.file(PEOPLE.read_bytes()), self.room / "out"
+        for name in ("/dev/stdout", str(out)):
+            with open(out, "wb") as file:
+                run = subprocess.run(
+                    [sys.executable, "-m", "bsonfind", "--program", PROGRAM, "salvage", str(path), "--good", name, "--bad", f"{self.room}/bad"],
+                    env=environment(), stdout=file, stderr=subprocess.PIPE, text=True,
+                )  # fmt: skip
+            self.assertEqual((run.returncode, run.stderr), (2, f"bsonkit: {name}: it is standard output\n"))
+            self.assertEqual(sorted(it.name for it in self.room.iterdir()), ["dump.bson", "out"])
+
+    def test_hangup(self) -> None:
+        """SIGHUP leaves no file behind, and ends the runs; where it is ignored, as by nohup, it does nothing."""
+        program, pids = self.stuck(), self.room / "pids"
+        for command, name in (("salvage", "--good"), ("ids", "--missing")):
+            words = ["--good", str(self.room / "good"), "--bad", str(self.room / "bad")]
+            if command == "ids":
+                words = ["--ids", str(self.file(b"7\n", "ids")), "--missing", str(self.room / "missing")]
+            pids.write_text("")
+            (self.room / "first").rmdir() if (self.room / "first").exists() else None
+            before = {it.name for it in self.room.iterdir()} | {"first"}
+            run = subprocess.Popen([sys.executable, "-m", "bsonfind", "--program", program, command, str(PEOPLE), *words], env=environment(), stdout=subprocess.DEVNULL)
+            wait_for(lambda: bool(pids.read_text()))
+            run.send_signal(signal.SIGHUP)
+            self.assertEqual(run.wait(PATIENCE), 129)
+            self.assertEqual({it.name for it in self.room.iterdir()}, before, name)

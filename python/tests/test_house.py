@@ -1,0 +1,170 @@
+"""Tests of the sources of the package: its floors, the size of its modules, what it imports, and where it reads what a program printed."""
+
+import ast
+import shutil
+import subprocess
+import sys
+import unittest
+from typing import Dict, Iterator, Set, Tuple
+
+from .support import PACKAGE, PEOPLE, environment
+
+SOURCES = PACKAGE / "bsonfind"
+# A module imports from its own folder and from those before it; the first has the modules beside the folders.
+FLOORS = ("", "_run", "_dumps", "_ask", "_backup", "_command")
+MOST_LINES = 350
+# These go once `bsonwide` searches dumps with doubles by itself.
+LONGER = {"_ask/copies", "_ask/codes"}
+# How many modules `--help` may import beside those of Python's own start; ours among them.
+MOST_IMPORTED, MOST_OWN = 60, 12
+# What reads what a program printed.
+READERS = {
+    "lines_of", "faults_of", "finish", "finish_check", "finish_dump", "counted", "read_reply", "read_batch", "documents_in", "raw_decode",
+    "id_of", "field_of", "numbers_in", "error_of", "error_line", "read_fault", "messages", "lines_of_documents", "refuse_other_count",
+}  # fmt: skip
+# Each place that calls one of them, and what it does with what was printed. None of them decides what is a fault, or what matches.
+PLACES = {
+    "_ask/aio_connection.AsyncConnection._error": "makes an error of a message",
+    "_ask/copies.Codes.raise_level": "makes an error of a message",
+    "_ask/copies.Ordering.is_last": "takes a run that says nothing for one that refused nothing",
+    "_ask/copies.Original.fault": "takes the first fault",
+    "_ask/copies.Original.given": "takes the numbers of documents out of the lines of a copy",
+    "_ask/copies.Original.lines": "moves the place of a fault to that in the dump; compares the count with that of what was given",
+    "_ask/copies.Questions.asked": "cuts a batch into its documents",
+    "_ask/copies._unread": "makes an error of a message",
+    "_ask/copies.connect_copy": "takes a run that says nothing for one that refused nothing",
+    "_ask/decoding.batches_by": "cuts a batch into its documents",
+    "_ask/lines.Lines._by_run": "passes lines on, and the end and the token",
+    "_ask/lines.counted": "reads the line of the count",
+    "_ask/merge._check": "moves the places of faults to those in the whole file",
+    "_ask/merge._finish": "waits for the lines of the counts",
+    "_ask/merge._packed_lines": "passes lines from one run to another",
+    "_ask/replies.read_batch": "reads a reply",
+    "_ask/steps.Reading._read": "reads a reply",
+    "_ask/steps.Reading.token": "reads a reply",
+    "_ask/steps.ask": "reads a reply",
+    "_backup/beginnings.Check.faults": "compares the count with that of what was given",
+    "_backup/compare._each_document": "raises the first fault; adds up the counts of inputs",
+    "_backup/fields.id_of": "takes the id out of a line",
+    "_backup/ids.find_ids": "takes the id out of a line of a document that was found, to report the other ids as missing",
+    "_backup/query._answer": "passes lines on",
+    "_command/finding.Finding._print_own": "passes the line of the count on",
+    "_command/finding.Finding._refused_sort": "passes a message on",
+    "_dumps/checking.Checking.faults": "moves the places of faults of an input to those in the dump, and adds up the counts",
+    "_dumps/checking.begins_wide": "looks whether the first fault is a double",
+    "_dumps/checking.faults_of": "reads the lines of faults",
+    "_dumps/checking.finish_check": "reads the line of the count; compares it with that of what was given",
+    "_dumps/checking.try_program": "compares the version",
+    "_dumps/printing.Printing._of": "passes lines on; moves the place of a fault to that in the dump",
+    "_dumps/printing.finish_dump": "reads the line of the count",
+    "_dumps/printing.lines_of_documents": "compares the count with that of what was given",
+    "_dumps/printing.texts_of_values": "takes the text of a value out of a line, to print it",
+    "_run/messages.error_of": "makes an error of a message",
+    "_run/processes.Run.error": "makes an error of a message",
+    "_run/processes.Run.finish": "compares all that a run says with the line of its count",
+}
+# Where what was printed, or the bytes of a dump, are compared, put in order or counted, and why that decides no answer of a query.
+DECIDES = {
+    "_ask/copies.numbers_in": "the numbers of documents that a search over a copy gives; goes with the copies",
+    "_ask/merge.count_parts": "adds up the counts of parts that have no document in common",
+    "_ask/merge.check_parts": "the same of faults",
+    "_backup/audit._Checker._check_documents": "counts the faults of each kind",
+    "_backup/beginnings.Beginnings._chain": "guesses where documents go on, of which check says whether they have a fault",
+    "_backup/compare._by_key": "documents are the same if their bytes are: that is what the command says",
+    "_backup/compare._compare_sorted": "counts them",
+    "_backup/ids.Ids.missing": "an id is found if a document that the program gave for it has this value as its id",
+    "_backup/reports.Report.compare": "compares a count with that in the log",
+    "_dumps/framing.walk": "the lengths of documents, before a run reads them",
+}
+
+
+def modules() -> Dict[str, ast.Module]:
+    """The modules by their names, such as `_run/processes`, parsed."""
+    files = {str(it.relative_to(SOURCES))[:-3]: it for it in SOURCES.rglob("*.py")}
+    return {name: ast.parse(file.read_text(encoding="utf-8")) for name, file in files.items()}
+
+
+def imported(name: str, tree: ast.Module, known: Set[str]) -> Iterator[str]:
+    """The modules of the package that a module imports, inside of functions too, and for types alone."""
+    for node in ast.walk(tree):
+        if isinstance(node, ast.ImportFrom) and node.level:
+            folder = name.rpartition("/")[0] if node.level == 1 else ""
+            place = "/".join(it for it in (folder, *(node.module or "").split(".")) if it)
+            for it in [place, *("/".join(filter(None, (place, alias.name))) for alias in node.names)]:
+                if it in known:
+                    yield it
+
+
+class House(unittest.TestCase):
+    def test_floors(self) -> None:
+        """No module imports from a floor above its own, and no modules import one another in a ring."""
+        trees = modules()
+        imports = {name: set(imported(name, tree, set(trees))) for name, tree in trees.items() if not name.startswith("__")}
+        for name, others in imports.items():
+            for other in others:
+                floors = [FLOORS.index(it.rpartition("/")[0]) for it in (name, other)]
+                self.assertGreaterEqual(floors[0], floors[1], f"{name} imports {other}")
+        left = dict(imports)
+        while left:
+            free = [name for name, others in left.items() if not any(other in left for other in others)]
+            self.assertTrue(free, f"these import one another: {sorted(left)}")
+            for name in free:
+                del left[name]
+
+    def test_sizes(self) -> None:
+        for file in SOURCES.rglob("*.py"):
+            name = str(file.relative_to(SOURCES))[:-3]
+            lines = len(file.read_text(encoding="utf-8").splitlines())
+            self.assertEqual(lines > MOST_LINES, name in LONGER, f"{name} has {lines} lines")
+
+    def test_types(self) -> None:
+        """mypy finds nothing, in its strict mode."""
+        if not shutil.which("mypy"):
+            self.skipTest("this machine has no mypy")
+        run = subprocess.run(["mypy", "--strict", "bsonfind"], cwd=PACKAGE, capture_output=True, text=True)
+        self.assertEqual(run.returncode, 0, run.stdout)
+
+    def test_imports(self) -> None:
+        """`--help` and one plain file import little, so that they start fast; no public name is lost by that."""
+        code = "import sys\nbefore = {*sys.modules}\nfrom bsonfind.__main__ import main\ntry: main(['--help'])\nexcept SystemExit: pass\n"
+        code += "print(*sorted({*sys.modules} - before), file=sys.stderr)"
+        run = subprocess.run([sys.executable, "-c", code], env=environment(), capture_output=True, text=True)
+        names = run.stderr.split()
+        own = [it for it in names if it.startswith("bsonfind")]
+        self.assertLessEqual(len(own), MOST_OWN, own)
+        self.assertLessEqual(len(names), MOST_IMPORTED, names)
+        self.assertNotIn("subprocess", names)
+        code = "import sys\nbefore = {*sys.modules}\nfrom bsonfind._command import program\nprogram.os.execv = lambda *_: None\n"
+        code += f"program.become_program(['check', {str(PEOPLE)!r}])\nprint(*sorted({{*sys.modules}} - before))"
+        run = subprocess.run([sys.executable, "-c", code], env=environment(), capture_output=True, text=True)
+        self.assertEqual(
+            [it for it in run.stdout.split() if it.startswith("bsonfind")],
+            ["bsonfind", "bsonfind._command", "bsonfind._command.program", "bsonfind._run", "bsonfind._run.program"],
+            run.stderr,
+        )
+
+    def test_what_is_read_of_programs(self) -> None:
+        """Each place that reads what a program printed is listed, with what it does with that."""
+        found: Set[str] = set()
+        for name, tree in modules().items():
+            for place, node in functions(name, tree):
+                calls = (it.func for it in ast.walk(node) if isinstance(it, ast.Call))
+                names = {it.attr if isinstance(it, ast.Attribute) else it.id for it in calls if isinstance(it, (ast.Attribute, ast.Name))}
+                if names & READERS:
+                    found.add(place)
+        self.assertEqual(found, set(PLACES))
+        known = {place for name, tree in modules().items() for place, _ in functions(name, tree)}
+        self.assertEqual(set(DECIDES) - known, set())
+
+
+def functions(name: str, tree: ast.AST, inside: str = "") -> Iterator[Tuple[str, ast.AST]]:
+    """The functions of a module, and those of its classes; what is inside of a function is a part of it."""
+    for node in ast.iter_child_nodes(tree):
+        if isinstance(node, (ast.FunctionDef, ast.AsyncFunctionDef)):
+            yield f"{name}.{inside}{node.name}", node
+        elif isinstance(node, ast.ClassDef):
+            yield from functions(name, node, f"{inside}{node.name}.")
+
+
+if __name__ == "__main__":
+    unittest.main()
