@@ -22,7 +22,8 @@ from model.texts import decimal_in
 from support import PROGRAM as BUILT
 from support import Tests
 
-from bsonfind import CommandError, DumpError, Session, _wide, find
+from bsonfind import CommandError, DumpError, Session, find
+from bsonfind._dumps import checking
 
 PROGRAM = str(Path(sys.argv[1]).resolve()) if len(sys.argv) > 1 else str(BUILT)
 DUMPS = int(sys.argv[2]) if len(sys.argv) > 2 else 200
@@ -126,7 +127,7 @@ class Asking:
         documents = self.inputs.documents()
         model, path = Dump(documents), self.room / "dump.bson"
         path.write_bytes(model.bytes)
-        _wide._HEAD = self.rng.choice([30, 300, 1 << 18])
+        checking._HEAD = self.rng.choice([30, 300, 1 << 18])
         try:
             with Session(path, PROGRAM) as session:
                 for _ in range(self.rng.choice([0, 0, 1, 2])):
@@ -185,7 +186,7 @@ class Raw(str):
 
 
 def main() -> int:
-    import bsonfind._requests as requests
+    import bsonfind._ask.requests as requests
 
     plain = requests.text_of
     requests.text_of = lambda value, *uuids: str(value) if isinstance(value, Raw) else plain(value, *uuids)
