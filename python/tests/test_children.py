@@ -80,7 +80,8 @@ class Children(Room):
         self.assertEqual((status, lines, told[:17]), (0, [FIRST], "1 documents, end,"))
         self.assertEqual(self.run_command("check", bad), (1, [fault], "7 documents, 1 faulty\n"))
         self.assertEqual(self.run_command("find", bad), (1, [], f"bsonkit: {fault}\n"))
-        self.assertEqual(self.run_command("dump", bad)[::2], (1, f"bsonkit: {fault}\n6 objects found\n"))
+        # Of one plain file the command becomes the program, which has its own name.
+        self.assertEqual(self.run_command("dump", bad)[::2], (1, f"bsonwide: {fault}\n6 objects found\n"))
 
     def test_process_that_is_killed(self) -> None:
         """Nothing is answered of what it wrote before: of `order`, which says nothing at its end, two documents of the six."""
@@ -97,7 +98,8 @@ class Children(Room):
                     self.assertEqual((status, len(lines), told), (0, len(ANSWERS), ""))
                     for number, (line, answer) in enumerate(zip(lines, ANSWERS)):
                         if number in failed:
-                            self.assertRegex(line, "^(ProgramError|DumpError): ")
+                            # An audit goes on with the next file, and says of this one that it was not read.
+                            self.assertRegex(line, r"^(ProgramError|DumpError): |^\[\(0, 0, '(no count was printed|ended by signal 9)'\)\]$")
                         else:
                             self.assertEqual(line, answer)
 

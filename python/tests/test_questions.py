@@ -315,7 +315,8 @@ class Pymongo(Room):
         self.assertEqual(list(self.session.find(OLD, batch_size=5, decode="bytes")), OLD_LINES)
 
     def test_errors_end_in_error(self) -> None:
-        errors = [it for it in vars(bsonfind).values() if inspect.isclass(it) and issubclass(it, Exception)]
+        members = [getattr(bsonfind, name) for name in bsonfind.__all__]
+        errors = [it for it in members if inspect.isclass(it) and issubclass(it, Exception)]
         self.assertGreater(len(errors), 8)
         for error in errors:
             self.assertTrue(error.__name__.endswith("Error"), error)

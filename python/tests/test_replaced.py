@@ -114,12 +114,13 @@ class Replaced(Room):
             program = self.script(f'"${real}" "$@"\nstatus=$?\n{after}\nexit $status', name)
         ids = self.file(b"0\n1\n", "ids")
         # A second file makes of these two commands more than one run of the program.
-        for words in (["check", str(PEOPLE)], ["dump", str(PEOPLE)], ["find"], ["query"], ["ids", "--ids", str(ids)]):
+        for words in (["check"], ["dump"], ["find"], ["query"], ["ids", "--ids", str(ids)]):
             self.path.unlink()
             self.file(b"".join(OLD))
             # The first run of these asks no documents.
             self.file(b"".join(NEW), "later" if words[0] in ("query", "ids") else "next")
-            run = run_package("--program", program, *words, str(self.path))
+            second = [str(PEOPLE)] if words[0] in ("check", "dump") else []
+            run = run_package("--program", program, *words, str(self.path), *second)
             with self.subTest(words):
                 self.assertEqual(run.returncode, 2 if words[0] in ("query", "ids") else 1)
                 self.assertRegex(run.stderr, CHANGED)

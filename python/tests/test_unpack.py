@@ -407,9 +407,9 @@ class Audits(Room):
         lines = self.audit(data, status=1)
         fault = f'document 1, byte {len(DOUBLE) + 100}, path "address.lines.0": not UTF-8'
         wanted = [
+            "A::shop.orders: 401 documents, 0 faulty",
             f"A::club.people: {fault}",
             "A::club.people: 501 documents, 1 faulty",
-            "A::shop.orders: 401 documents, 0 faulty",
         ]
         self.assertEqual(lines[:3], wanted)
 
@@ -455,7 +455,7 @@ class Audits(Room):
         done = audit(self.file(TWO, "a"), program=killed)
         self.assertEqual([it.error for it in done.reports], ["ended by signal 9"] * 2)
         path = str(self.file(archive([("shop", "orders", SHOP_DATA)]), "a"))
-        empty = '[ "$(head -c 4 | wc -c)" = 4 ] || exec "$WIDE" check /dev/null'
+        empty = '[ "$1" = --version ] && exec "$WIDE" --version; [ "$(head -c 4 | wc -c)" = 4 ] || exec "$WIDE" check /dev/null'
         stuck = self.wide(f'{empty}\necho $$ >>"$ROOM/pids"\nexec sleep 600')
         words = ["--program", stuck, "audit", path]
         self.assertEqual(self.interrupt(f"import sys\nfrom bsonfind.__main__ import main\nsys.exit(main({words!r}))", 1), 130)
@@ -498,7 +498,7 @@ class Members(Room):
         lines = run_package("audit", *self.people).stdout.splitlines()
         self.assertEqual(lines[2:], ["files                2", "documents         1000", "faulty               0"])
         run = run_package("compare", path, str(PEOPLE))
-        self.assertEqual((run.returncode, run.stderr), (0, ""))
+        self.assertEqual((run.returncode, run.stdout), (0, ""))
         run = run_package("query", path, "--query", '{"age":99}')
         self.assertEqual((run.returncode, run.stdout.count(f"{path}\t")), (0, 5))
         ids = self.file(b'{"$numberInt":"7"}\n{"$numberInt":"700"}\n', "ids")
@@ -559,7 +559,8 @@ class Members(Room):
             outputs = ["salvage", "--good", good, "--bad", bad], ["prepare", good]
             for words in (["query"], ["compare", str(PEOPLE)], ["find"], ["dump"], *outputs):
                 run = run_package(words[0], str(path), *words[1:])
-                self.assertEqual((run.returncode, f"{told}\n" in run.stderr), (2, True), run.stderr)
+                status = 1 if words[0] in ("dump", "find", "prepare") else 2
+                self.assertEqual((run.returncode, f"{told}\n" in run.stderr), (status, True), run.stderr)
             for ask in (count_documents, lambda path, program: list(find(path, program=program)), Session, plan_and_count):
                 with self.assertRaises(DumpError) as caught:
                     ask(path, program=PROGRAM)
