@@ -166,14 +166,15 @@ class Becoming(Room):
         self.script('grep SigIgn /proc/self/status', "bsonwide")
         program = self.script('exec "$PROGRAM" "$@"')
         command = [sys.executable, "-m", "bsonfind", "--program", program, "check", str(PEOPLE)]
-        ignored = {}
         for number in (None, signal.SIGINT, signal.SIGHUP):
             before = (lambda: None) if number is None else (lambda: signal.signal(number, signal.SIG_IGN) and None)  # noqa: B023
-            run = subprocess.run(command, env=environment(), stdout=subprocess.PIPE, text=True, preexec_fn=before, restore_signals=True)
-            ignored[number] = int(run.stdout.split()[1], 16)
-        self.assertEqual(ignored[None], 0)
-        for number in (signal.SIGINT, signal.SIGHUP):
-            self.assertEqual(ignored[number], 1 << (number - 1))
+            ignored = []
+            for words in (command, ["grep", "SigIgn", "/proc/self/status"]):
+                run = subprocess.run(words, env=environment(), stdout=subprocess.PIPE, text=True, preexec_fn=before, restore_signals=True)
+                ignored.append(int(run.stdout.split()[1], 16))
+            self.assertEqual(*ignored)
+            if number is not None:
+                self.assertTrue(ignored[0] & 1 << (number - 1))
 
     def test_time(self) -> None:
         """A plain file takes few calls beside the start of Python."""
