@@ -541,7 +541,7 @@ class Audits(Room):
 
     def test_what_cannot_be_read(self) -> None:
         """gzip -t finds each of them faulty, the empty one too."""
-        packed, a, b = gzip.compress(SHOP.read_bytes()), "backup/shop/a.bson.gz", "backup/shop/b.bson.gz"
+        packed = gzip.compress(SHOP.read_bytes())
         self.people.write_bytes(gzip.compress(PEOPLE.read_bytes(), 0)[:50_000])  # Its bytes stand there as they are.
         wrong = bytearray(packed)
         wrong[-5] ^= 1

@@ -229,8 +229,8 @@ class Fields(Room):
             (b"{}", None),
         ):
             self.assertEqual(id_of(line), wanted)
-        for number, text in enumerate(SHOP_LINES + PEOPLE_LINES):
-            self.assertEqual(json.loads(id_of(text) or b""), json.loads(text)["_id"], number)
+        for number, line in enumerate(SHOP_LINES + PEOPLE_LINES):
+            self.assertEqual(json.loads(id_of(line) or b""), json.loads(line)["_id"], number)
 
     def test_sorted_lines(self) -> None:
         chance = random.Random(4)

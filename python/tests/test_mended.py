@@ -32,7 +32,7 @@ from bsonfind._dumps.files import member_of
 from bsonfind._errors import ProgramError
 
 from .archives import archive
-from .bson import document, field, text
+from .bson import document, field
 from .support import DAMAGED, PEOPLE, PEOPLE_LINES, PROGRAM, ROOT, SHOP, SHOP_LINES, Room, environment, packed, run_package
 
 ARCHIVE = ROOT / "examples/backup.archive"
