@@ -5,7 +5,8 @@ usage: tests/docs/reference.py     The last line is 'N passed, M failed'. It nee
 
 - docs/REFERENCE.md is current, and each line of it has its comment in the sources; so has each definition that it does not name,
   and each lemma that more than one other file uses. Each function stands there, or in the line `by` of one that does.
-- docs/PROVED.md names each law. What it has in backquotes is the name of a crate, function, type, clause or definition.
+- docs/PROVED.md names each law. What it has in backquotes, and what README.md has under "How sure is it?", is the name of a crate,
+  function, type, clause or definition. Names of code in docs/ARCHITECTURE.md and docs/DECISIONS.md are in the crates.
 - docs/ARCHITECTURE.md has each crate but those of tests, and no page but the changelog names a crate that does not exist.
 - `specs/inside/` has the definitions that only functions inside a crate cite, and no other. Proofs that a definition needs, such as
   those in `Unique.antt` and `Sound.antt`, stay beside it, and so do the definitions of bd_io_stdout, whose methods run over a cell.
@@ -24,7 +25,9 @@ sys.path.insert(0, str(ROOT / "tools"))
 import reference
 
 PAGES = sorted([*ROOT.glob("*.md"), *ROOT.glob("docs/*.md"), ROOT / "python/README.md"])
-# Commands, names of formats and of the system, which docs/PROVED.md has in backquotes.
+# A name in backquotes that is written as code is: `Type`, `some_name`, `Type::name`.
+CODE = re.compile(r"`((?=[^`]*(?:_|::|[a-z][A-Z])|[A-Z][a-z]+`|[A-Z]\w*<)[A-Za-z]\w*(?:::\w+)*)(?:<[^`]*>)?`")
+# Commands, names of formats and of the system, which these pages have in backquotes.
 WORDS = {"main", "check", "dump", "pack", "find", "serve", "order", "$oid", '{"$oid":..}'}
 
 
@@ -82,8 +85,19 @@ def proved() -> Iterator[tuple[bool, str]]:
     for name in laws():
         yield name in quoted, f"docs/PROVED.md does not name the law {name}"
     known = names()
-    for name in sorted(quoted - WORDS):
-        yield known.issuperset(name.split("::")), f"docs/PROVED.md names {name}, which does not exist"
+    sure = text_of(ROOT / "README.md").partition("\n## How sure is it?\n")[2]
+    yield bool(sure), "README.md has no part 'How sure is it?'"
+    for page, found in (("docs/PROVED.md", quoted), ("README.md", set(re.findall(r"`([^`\n]+)`", sure)))):
+        for name in sorted(found - WORDS):
+            yield known.issuperset(name.split("::")), f"{page} names {name}, which does not exist"
+
+
+def named() -> Iterator[tuple[bool, str]]:
+    sources = (file for _, name in reference.crates() for pattern in ("src/**/*.rt", "specs/**/*.antt") for file in reference.files_of(name, pattern))
+    known = {word for file in sources for word in re.findall(r"\w+", text_of(file))}
+    for page in ("docs/ARCHITECTURE.md", "docs/DECISIONS.md"):
+        for name in sorted(set(CODE.findall(text_of(ROOT / page)))):
+            yield known.issuperset(name.split("::")), f"{page} names {name}, which is not in the crates"
 
 
 def crates() -> Iterator[tuple[bool, str]]:
@@ -142,7 +156,7 @@ def roots() -> Iterator[tuple[bool, str]]:
 def main() -> int:
     passed = failed = 0
     current = text_of(reference.PAGE) == reference.page()
-    for holds, message in ((current, "docs/REFERENCE.md is not current: make reference"), *comments(), *functions(), *proved(), *crates(), *links(), *inside(), *roots()):
+    for holds, message in ((current, "docs/REFERENCE.md is not current: make reference"), *comments(), *functions(), *proved(), *named(), *crates(), *links(), *inside(), *roots()):
         if holds:
             passed += 1
         else:
