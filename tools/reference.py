@@ -29,6 +29,9 @@ value before the call and `x.new` after it. A function changes nothing else, exc
 functions of the crate that this one calls, and those that they call: each serves the clauses above it. So from any function there are
 two steps: look here for its name, and read up. A line such as `// Tree as Reading: kind` has methods of a type that serve the clauses
 of a trait. [PROVED.md](PROVED.md) has the laws in words, [ARCHITECTURE.md](ARCHITECTURE.md) draws the crates."""
+# Of these crates the definitions of what commands print, and the crate whose definitions say which fault of a mistyped text is reported.
+RUNS = {"bd_cli_scan": ("dump_run", "check_run"), "bd_cli_files": ("pack_run",), "bd_cli_find": ("find_run",)}
+FAULTS_OF_TEXTS = "bd_extjson_fault"
 IMPORT = re.compile(r"^ *(?:pub |ghost )*use ([\w.]+?)(?:\.\{([^}]*)\}| as (\w+))?;?$", re.M)
 # The start of a definition, of a block of methods, of an item of code and of a clause; the rest of the head of a function.
 DEFINED = re.compile(r" *(?:abbrev |unfoldable )?pub (?!mod |use )(?:record |data )?([^\s:]+)")
@@ -237,13 +240,28 @@ def reached() -> set[str]:
     """Return the paths of the definitions that public contracts cite, or that another crate names, and of what these cite."""
     known = definitions("specs")
     found = (cited() | promised()) & set(known)
-    found |= {path for path, crate in users() if path in known and known[path].crate != crate}
+    return below(found | {path for path, crate in users() if path in known and known[path].crate != crate})
+
+
+def below(paths: set[str]) -> set[str]:
+    """Return these definitions, and all that they stand on."""
+    known = definitions("specs")
+    found = set(paths)
     fresh = list(found)
     while fresh:
         more = {it for it in known[fresh.pop()].cites if it in known and it not in found}
         found |= more
         fresh += more
     return found
+
+
+def to_read(crate: str) -> Iterator[str]:
+    """Yield for each command of a crate how many definitions say what it prints, and which of these may be left aside."""
+    for run in RUNS.get(crate, ()):
+        read = below({path for path, it in definitions("specs").items() if it.crate == crate and path.endswith(f".{run}")})
+        aside = sum(definitions("specs")[path].crate == FAULTS_OF_TEXTS for path in read)
+        line = f"What `{run.partition('_')[0]}` prints is `{run}`, which stands on {len(read) - 1} definitions."
+        yield f"{line} A reader may leave aside the {aside} of [{FAULTS_OF_TEXTS}](#{FAULTS_OF_TEXTS}): they say only which fault of a mistyped text is reported." if aside else line
 
 
 def promised() -> set[str]:
@@ -339,6 +357,7 @@ def others(crate: str) -> list[Key]:
 def blocks(crate: str) -> Iterator[str]:
     """Yield the parts of the section of a crate: what it is, a list for each file of definitions, a block for each of code."""
     yield sentence(first_comment((files_of(crate, "src/lib.rt") or files_of(crate, "src/main.rt"))[0], "//!"))
+    yield from to_read(crate)
     for file in (it for it in files_of(crate, "specs/**/*.antt") if "inside" not in it.parts):
         lines = [f"[{file.name}](../{file.relative_to(ROOT)}): {sentence(first_comment(file, '--'))}"]
         for path, it in definitions("specs").items():
