@@ -11,6 +11,8 @@ usage: tests/docs/reference.py     The last line is 'N passed, M failed'. It nee
 - `specs/inside/` has the definitions that only functions inside a crate cite, and no other. Proofs that a definition needs, such as
   those in `Unique.antt` and `Sound.antt`, stay beside it, and so do the definitions of bd_io_stdout, whose methods run over a cell.
 - Each link of a page leads to a file, and to a heading of it.
+- README.md has at most 100 lines and 1,200 words, 250 of them in the 30 lines of its first screen, and no line above 110 columns but in
+  tables.
 - The root of each crate names its modules, and each file of specs that it names exists.
 """
 
@@ -131,6 +133,15 @@ def links() -> Iterator[tuple[bool, str]]:
                 yield leads, f"{page.relative_to(ROOT)}: {link} leads nowhere"
 
 
+def first_page() -> Iterator[tuple[bool, str]]:
+    lines = text_of(ROOT / "README.md").splitlines()
+    for part, most_lines, most_words in ((lines, 100, 1200), (lines[:30], 30, 250)):
+        words = len(" ".join(part).split())
+        yield len(part) <= most_lines and words <= most_words, f"README.md: {len(part)} lines, {words} words; at most {most_lines}, {most_words}"
+    wide = [number for number, line in enumerate(lines, 1) if len(line) > 110 and not line.startswith("|")]
+    yield not wide, f"README.md: lines {wide} are above 110 columns"
+
+
 def inside() -> Iterator[tuple[bool, str]]:
     reached = reference.reached()
     for path, it in reference.definitions("specs").items():
@@ -156,7 +167,7 @@ def roots() -> Iterator[tuple[bool, str]]:
 def main() -> int:
     passed = failed = 0
     current = text_of(reference.PAGE) == reference.page()
-    for holds, message in ((current, "docs/REFERENCE.md is not current: make reference"), *comments(), *functions(), *proved(), *named(), *crates(), *links(), *inside(), *roots()):
+    for holds, message in ((current, "docs/REFERENCE.md is not current: make reference"), *comments(), *functions(), *proved(), *named(), *crates(), *links(), *first_page(), *inside(), *roots()):
         if holds:
             passed += 1
         else:
