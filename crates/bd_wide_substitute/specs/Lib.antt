@@ -1,2 +1,3 @@
 pub mod Substitutes
+pub mod Told
 pub mod inside

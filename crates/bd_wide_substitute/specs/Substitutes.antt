@@ -1,10 +1,14 @@
 -- A text of Extended JSON with other values, of the same length, for its doubles and decimal128.
-use Rattle.std.specs.Prelude.{◌≡◌, ◌≢◌, ◌⊎◌, ℕ, ◌-◌, ◌==◌, ◌||◌, Bool, true, false, if◌then◌else◌, List, [], ◌∷◌, ◌++◌, Ok, length, codes, replicate}
-use Rattle.std.specs.{Char.is_ascii_digit, List.list_any}
+use Rattle.std.specs.Prelude.{◌≡◌, ◌≢◌, ◌⊎◌, ℕ, ◌-◌, ◌==◌, ◌||◌, not, nat_eq, Bool, true, false, if◌then◌else◌, List, [], ◌∷◌, ◌++◌, length, codes, replicate, take, drop}
+use Rattle.std.specs.Prelude.{Option, Some, None, option_map, option_and_then, Result, Ok, Err}
+use Rattle.std.specs.{Char.is_ascii_digit, Cmp.Lexicographic.pointwise, List.list_any, Option.option_map_or}
 use Rattle.bd_wide_number.specs.declared.number.Number.{Number}
-use Rattle.bd_wide_number.specs.declared.number.Number.TheVariants.{Whole, Double, Decimal128}
+use Rattle.bd_wide_number.specs.declared.number.Number.TheVariants.{Double, Decimal128}
 use Rattle.bd_wide_read.specs.DecimalText.{IsRead, numeric_of}
 use Rattle.bd_wide_read.specs.DoubleText.{double_bits, number_bits}
+use Rattle.bd_wide_read.specs.declared.fault.TextFault.{TextFault}
+use Rattle.bd_wide_substitute.specs.declared.wrapped.NumberType.{NumberType}
+use Rattle.bd_wide_substitute.specs.declared.wrapped.NumberType.TheVariants as types
 
 -- ---- the parts of a text (RFC 8259)
 
@@ -34,34 +38,70 @@ abbrev mutual
 
 -- ---- numbers
 
--- The bytes are white space.
-abbrev pub AreBlank : List ℕ → Type 0
-AreBlank bytes = after is_blank bytes ≡ []
+-- what follows a word; None if it does not come first
+abbrev pub strip : List ℕ → List ℕ → Option (List ℕ)
+strip word bytes = if pointwise nat_eq (take (length word) bytes) word then Some (drop (length word) bytes) else None
 
--- After its only name an object has a string with these contents and ends; the rest follows.
-abbrev pub EndsObject : List ℕ → List ℕ → List ℕ → Type 0
-EndsObject bytes contents rest = (a b c : List ℕ) × AreBlank a × AreBlank b × AreBlank c
-    × (bytes ≡ a ++ (58 ∷ (b ++ (34 ∷ (contents ++ (34 ∷ (c ++ (125 ∷ rest))))))))
+-- what follows white space and a word; None if they do not come first
+abbrev pub after_word : List ℕ → List ℕ → Option (List ℕ)
+after_word word bytes = strip word (after is_blank bytes)
 
--- The bytes are an object of one name, which is written so, and of a string with these contents.
-abbrev pub IsObject : List ℕ → List ℕ → List ℕ → Type 0
-IsObject name contents bytes =
-    (a end : List ℕ) × AreBlank a × EndsObject end contents [] × (bytes ≡ 123 ∷ (a ++ (name ++ end)))
+-- whether a byte is no quote
+abbrev pub is_no_quote : ℕ → Bool
+is_no_quote c = not (c == 34)
 
--- The bytes are the wrapper of a number.
-abbrev pub IsWrapped : Number → List ℕ → Type 0
-IsWrapped (Whole z) bytes = ⊥
-IsWrapped (Double bits) bytes =
-    (contents : List ℕ) × IsObject (codes "\"$numberDouble\"") contents bytes × (double_bits contents ≡ Ok bits)
-IsWrapped (Decimal128 low high) bytes =
-    (contents : List ℕ) × IsObject (codes "\"$numberDecimal\"") contents bytes × IsRead (numeric_of contents) (Ok (low, high))
+-- the bytes before this rest of them, which begins with a quote, and what follows the quote; None without a quote
+abbrev pub quoted_before : List ℕ → List ℕ → Option (List ℕ × List ℕ)
+quoted_before bytes [] = None
+quoted_before bytes (quote ∷ rest) = Some (take (length bytes - length (quote ∷ rest)) bytes, rest)
+
+-- the contents of a string up to the next quote, and what follows the quote
+abbrev pub quoted : List ℕ → Option (List ℕ × List ℕ)
+quoted inside = quoted_before inside (after is_no_quote inside)
+
+-- the contents of a string, and what follows the brace that comes after it
+abbrev pub before_brace : List ℕ × List ℕ → Option (List ℕ × List ℕ)
+before_brace p = option_map (λ rest. (p.0, rest)) (after_word (codes "}") p.1)
+
+-- the contents of the only string of an object, after its name, and what follows the object
+abbrev pub last_string : List ℕ → Option (List ℕ × List ℕ)
+last_string bytes =
+    option_and_then before_brace
+    (option_and_then quoted (option_and_then (after_word (codes "\"")) (after_word (codes ":") bytes)))
+
+-- the wrapper of a number: its type, and what its string is, if it has only that
+abbrev pub Wrapper : Type 0
+Wrapper = NumberType × Option (List ℕ × List ℕ)
+
+-- the wrapper of a number after its brace, if its name comes first, spelled so
+abbrev pub wrapper_inside : List ℕ → Option Wrapper
+wrapper_inside inside = option_map_or (λ end. Some (types.Double, last_string end))
+    (after_word (codes "\"$numberDouble\"") inside)
+    (option_map (λ end. (types.Decimal128, last_string end)) (after_word (codes "\"$numberDecimal\"") inside))
+
+-- the wrapper of a number that bytes begin with
+abbrev pub wrapper_at : List ℕ → Option Wrapper
+wrapper_at [] = None
+wrapper_at (c ∷ inside) = if c == 123 then wrapper_inside inside else None
+
+-- The contents of the string of a wrapper are read as this number, or have this fault.
+abbrev pub IsMeant : NumberType → List ℕ → Result Number TextFault → Type 0
+IsMeant types.Double contents (Ok (Double bits)) = double_bits contents ≡ Ok bits
+IsMeant types.Double contents (Err fault) = double_bits contents ≡ Err fault
+IsMeant types.Decimal128 contents (Ok (Decimal128 low high)) = IsRead (numeric_of contents) (Ok (low, high))
+IsMeant types.Decimal128 contents (Err fault) = IsRead (numeric_of contents) (Err fault)
+IsMeant type contents meaning = ⊥
+
+-- The bytes begin with the wrapper of this number, and this follows.
+abbrev pub BeginsNumber : List ℕ → Number → List ℕ → Type 0
+BeginsNumber bytes n rest = (type : NumberType) × (contents : List ℕ)
+    × (wrapper_at bytes ≡ Some (type, Some (contents, rest))) × IsMeant type contents (Ok n)
 
 -- The bytes are a double without a wrapper: a number with a fraction or an exponent.
 abbrev pub IsBare : Number → List ℕ → Type 0
-IsBare (Whole z) bytes = ⊥
 IsBare (Double bits) bytes =
     (list_any (λ c. c == 46 || c == 69 || c == 101) bytes ≡ true) × (number_bits bytes ≡ Ok bits)
-IsBare (Decimal128 low high) bytes = ⊥
+IsBare n bytes = ⊥
 
 -- ---- a text in pieces
 
@@ -83,14 +123,19 @@ IsString bytes rest = (inside : List ℕ) × (bytes ≡ 34 ∷ inside) × (after
 abbrev pub IsRun : List ℕ → List ℕ → Type 0
 IsRun bytes rest = (after is_of_number bytes ≡ []) × (after is_of_number rest ≡ rest)
 
--- One byte that is neither a quote nor of a number.
-abbrev pub IsOther : List ℕ → Type 0
-IsOther bytes = (c : ℕ) × (bytes ≡ c ∷ []) × (c ≢ 34) × (is_of_number c ≡ false)
+-- The bytes are no double.
+abbrev pub IsNoDouble : List ℕ → Type 0
+IsNoDouble bytes = (bits : ℕ) → IsBare (Double bits) bytes → ⊥
 
--- The piece is before the rest of a text: strings and runs of bytes of numbers are whole.
+-- One byte that is neither a quote nor of a number, and with which no wrapper of a number begins.
+abbrev pub IsOther : List ℕ → List ℕ → Type 0
+IsOther bytes rest = (c : ℕ) × (bytes ≡ c ∷ []) × (c ≢ 34) × (is_of_number c ≡ false)
+    × ((n : Number) (more : List ℕ) → BeginsNumber (c ∷ rest) n more → ⊥)
+
+-- The piece is before the rest of a text: strings and runs of bytes of numbers are whole, and each number is a piece.
 abbrev pub IsBefore : Piece → List ℕ → Type 0
-IsBefore (same bytes) rest = IsString bytes rest ⊎ (IsRun bytes rest ⊎ IsOther bytes)
-IsBefore (number bytes n) rest = IsWrapped n bytes ⊎ (IsBare n bytes × IsRun bytes rest)
+IsBefore (same bytes) rest = IsString bytes rest ⊎ ((IsRun bytes rest × IsNoDouble bytes) ⊎ IsOther bytes rest)
+IsBefore (number bytes n) rest = BeginsNumber (bytes ++ rest) n rest ⊎ (IsBare n bytes × IsRun bytes rest)
 
 -- The text is these pieces.
 abbrev pub ArePieces : List ℕ → List Piece → Type 0

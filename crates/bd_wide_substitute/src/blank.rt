@@ -1,12 +1,12 @@
 //! The parts of a text that are skipped.
 
-ghost use Rattle.std.specs.Prelude.{◌≡◌, ◌==◌, ◌||◌, ◌≤◌, ◌++◌, List, [], drop, length, ℕ};
+ghost use Rattle.std.specs.Prelude.{◌≡◌, ◌==◌, ◌||◌, ◌≤◌, drop, length};
 ghost use Rattle.std.specs.{Char.is_ascii_digit, List.list_any};
-ghost use Rattle.bd_wide_substitute.specs.Substitutes.{AreBlank, after, after_string, is_blank as is_blank_of, is_of_number as is_of_number_of};
+ghost use Rattle.bd_wide_substitute.specs.Substitutes.{after, after_string, is_blank as is_blank_of, is_no_quote, is_of_number as is_of_number_of};
 
 /// What follows the white space at the start.
 pub(crate) fn skip_blanks(bytes: &[u8]) -> &[u8]
-    ensures { (a : List ℕ) × AreBlank a × (bytes.now ≡ a ++ result.now) }
+    ensures { result.now ≡ after is_blank_of bytes.now }
 {
     let mut rest = bytes;
     while let [c, more @ ..] = rest {
@@ -18,6 +18,7 @@ pub(crate) fn skip_blanks(bytes: &[u8]) -> &[u8]
     rest
 }
 
+/// Whether a byte is white space of JSON.
 fn is_blank(c: u8) -> bool
     ensures { result ≡ is_blank_of c }
 {
@@ -39,7 +40,7 @@ pub(crate) fn skip_run(bytes: &[u8]) -> &[u8]
     rest
 }
 
-/// Whether a byte may filled in a number.
+/// Whether a byte may stand in a number.
 pub(crate) fn is_of_number(c: u8) -> bool
     ensures { result ≡ is_of_number_of c }
 {
@@ -55,6 +56,21 @@ pub(crate) fn has_fraction_or_exponent(bytes: &[u8]) -> bool
         }
     }
     false
+}
+
+/// The bytes from the first quote on.
+pub(crate) fn skip_to_quote(bytes: &[u8]) -> &[u8]
+    ensures rest { result.now ≡ after is_no_quote bytes.now }
+    ensures inside { length result.now ≤ length bytes.now }
+{
+    let mut rest = bytes;
+    while let [c, more @ ..] = rest {
+        if *c == b'"' {
+            return rest;
+        }
+        rest = more;
+    }
+    rest
 }
 
 /// What follows a string, after its first quote.

@@ -1,8 +1,8 @@
 //! The two texts, from the start of a text to its end.
 
-ghost use Rattle.std.specs.Prelude.{◌≡◌, ◌≤◌, ◌<◌, ◌++◌, ◌∷◌, [], List, ℕ, IfOk, IfSome, OnOk, length, replicate, take};
+ghost use Rattle.std.specs.Prelude.{◌≡◌, ◌≤◌, ◌<◌, ◌++◌, ◌∷◌, [], List, ℕ, IfOk, IfNone, IfSome, OnOk, length, replicate, take};
 ghost use Rattle.bd_wide_number.specs.declared.number.Number.TheVariants.{Double};
-ghost use Rattle.bd_wide_substitute.specs.Substitutes.{ArePieces, IsBare, Piece, after, all_numbers, is_of_number as is_of_number_of, filler_of, text, whole, with_fillers};
+ghost use Rattle.bd_wide_substitute.specs.Substitutes.{ArePieces, IsBare, IsNoDouble, Piece, after, all_numbers, is_of_number as is_of_number_of, filler_of, text, whole, with_fillers};
 ghost use Rattle.bd_wide_substitute.specs.inside.Taken.{IsTaken};
 
 use crate::blank::{has_fraction_or_exponent, is_of_number, skip_run, skip_string};
@@ -84,9 +84,10 @@ fn take_run(bytes: &[u8], made: &mut Substituted) -> Result<usize, NoMemory>
 
 /// The double that a run of bytes is: a number with a fraction or an exponent.
 fn bare_number(run: &[u8]) -> Option<u64>
-    ensures { IfSome result (λ bits. IsBare (Double bits) run.now × (2 ≤ length run.now)) }
+    ensures some { IfSome result (λ bits. IsBare (Double bits) run.now) }
+    ensures none { IfNone result (IsNoDouble run.now) }
 {
-    if run.len() < 2 || !has_fraction_or_exponent(run) {
+    if !has_fraction_or_exponent(run) {
         return None;
     }
     read_number(run).ok()

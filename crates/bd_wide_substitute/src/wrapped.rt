@@ -1,83 +1,107 @@
 //! The wrappers of doubles and decimal128.
 
-ghost use Rattle.std.specs.Prelude.{◌≡◌, ◌++◌, ◌∷◌, List, ℕ, IfSome, Ok};
-ghost use Rattle.bd_wide_read.specs.{DecimalText.IsRead, DecimalText.numeric_of, DoubleText.double_bits};
-ghost use Rattle.bd_wide_substitute.specs.Substitutes.{EndsObject, IsWrapped};
+ghost use Rattle.std.specs.Prelude.{◌≡◌, ◌≤◌, ◌++◌, List, ℕ, IfSome, IfNone, length, option_map};
+ghost use Rattle.bd_wide_number.specs.declared.number.Number.{Number};
+ghost use Rattle.bd_wide_substitute.specs.Substitutes.{BeginsNumber, IsMeant, after_word as after_word_of, last_string as last_string_of, quoted as quoted_of, wrapper_at as wrapper_at_of, wrapper_inside as wrapper_inside_of};
 
-use crate::blank::skip_blanks;
+use crate::blank::{skip_blanks, skip_to_quote};
 use bd_wide_number::Number;
-use bd_wide_read::{read_decimal128, read_double};
+use bd_wide_read::{TextFault, read_decimal128, read_double};
 
 const DOUBLE: &[u8] = b"\"$numberDouble\"";
 
 const DECIMAL: &[u8] = b"\"$numberDecimal\"";
 
+/// A type of numbers that has a wrapper.
+#[derive(Clone, Copy)]
+pub(crate) enum NumberType {
+    Double,
+    Decimal128,
+}
+
+/// The wrapper of a number: its type, and the contents of its string with what follows the object, if it has only that.
+type Wrapper<'a> = (NumberType, Option<(&'a [u8], &'a [u8])>);
+
 /// The number whose wrapper the bytes begin with, and what follows.
 pub(crate) fn wrapped_number(bytes: &[u8]) -> Option<(Number, &[u8])>
-    ensures { IfSome result (λ r. (object : List ℕ)
-        × IsWrapped r.0 object × (bytes.now ≡ object ++ r.1.now)) }
+    ensures some { IfSome result (λ r. BeginsNumber bytes.now r.0 r.1.now) }
+    ensures none { IfNone result ((n : Number) (rest : List ℕ) →
+        BeginsNumber bytes.now n rest → ⊥) }
+    ensures rest { IfSome result (λ r. (object : List ℕ) × (2 ≤ length object)
+        × (bytes.now ≡ object ++ r.1.now)) }
 {
-    let inside = after_word(bytes, b"{")?;
-    let named = skip_blanks(inside);
-    if let Some(end) = after_word(named, DOUBLE) {
-        let (bits, rest) = double_in(end)?;
-        return Some((Number::Double(bits), rest));
+    let (number_type, string) = wrapper_at(bytes)?;
+    let (contents, rest) = string?;
+    match read_contents(number_type, contents) {
+        Ok(number) => Some((number, rest)),
+        Err(_) => None,
     }
-    let ((low, high), rest) = decimal128_in(after_word(named, DECIMAL)?)?;
-    Some((Number::Decimal128(low, high), rest))
 }
 
-/// The double that the end of a wrapper writes, and what follows.
-fn double_in(end: &[u8]) -> Option<(u64, &[u8])>
-    ensures { IfSome result (λ r. (contents : List ℕ)
-        × EndsObject end.now contents r.1.now × (double_bits contents ≡ Ok r.0)) }
+/// The number that the contents of a wrapper's string mean, or why they mean none.
+pub(crate) fn read_contents(number_type: NumberType, contents: &[u8]) -> Result<Number, TextFault>
+    ensures { IsMeant number_type contents.now result }
 {
-    let (contents, rest) = last_string(end)?;
-    Some((read_double(contents).ok()?, rest))
+    match number_type {
+        NumberType::Double => match read_double(contents) {
+            Ok(bits) => Ok(Number::Double(bits)),
+            Err(fault) => Err(fault),
+        },
+        NumberType::Decimal128 => match read_decimal128(contents) {
+            Ok((low, high)) => Ok(Number::Decimal128(low, high)),
+            Err(fault) => Err(fault),
+        },
+    }
 }
 
-/// The decimal128 that the end of a wrapper writes, and what follows.
-fn decimal128_in(end: &[u8]) -> Option<((u64, u64), &[u8])>
-    ensures { IfSome result (λ r. (contents : List ℕ)
-        × EndsObject end.now contents r.1.now × IsRead (numeric_of contents) (Ok r.0)) }
+/// The wrapper of a number that bytes begin with.
+pub(crate) fn wrapper_at(bytes: &[u8]) -> Option<Wrapper<'_>>
+    ensures { option_map (λ w. (w.0, option_map (λ p. (p.0.now, p.1.now)) w.1)) result
+        ≡ wrapper_at_of bytes.now }
 {
-    let (contents, rest) = last_string(end)?;
-    Some((read_decimal128(contents).ok()?, rest))
+    match bytes {
+        [b'{', inside @ ..] => wrapper_inside(inside),
+        _ => None,
+    }
 }
 
-/// The contents of the string after the only name of an object, up to the first quote, and what follows the object.
+/// The same after the brace.
+fn wrapper_inside(inside: &[u8]) -> Option<Wrapper<'_>>
+    ensures { option_map (λ w. (w.0, option_map (λ p. (p.0.now, p.1.now)) w.1)) result
+        ≡ wrapper_inside_of inside.now }
+{
+    if let Some(end) = after_word(inside, DOUBLE) {
+        return Some((NumberType::Double, last_string(end)));
+    }
+    let end = after_word(inside, DECIMAL)?;
+    Some((NumberType::Decimal128, last_string(end)))
+}
+
+/// The contents of the only string of an object, after its name, and what follows the object.
 fn last_string(bytes: &[u8]) -> Option<(&[u8], &[u8])>
-    ensures { IfSome result (λ r. EndsObject bytes.now r.0.now r.1.now) }
+    ensures { option_map (λ p. (p.0.now, p.1.now)) result ≡ last_string_of bytes.now }
 {
-    let [b':', more @ ..] = skip_blanks(bytes) else {
-        return None;
-    };
-    let [b'"', string @ ..] = skip_blanks(more) else {
-        return None;
-    };
-    let (contents, end) = quoted(string)?;
-    let [b'}', rest @ ..] = skip_blanks(end) else {
-        return None;
-    };
+    let inside = after_word(after_word(bytes, b":")?, b"\"")?;
+    let (contents, end) = quoted(inside)?;
+    let rest = after_word(end, b"}")?;
     Some((contents, rest))
 }
 
-/// What comes before the first quote, and what follows it.
-fn quoted(bytes: &[u8]) -> Option<(&[u8], &[u8])>
-    ensures { IfSome result (λ r. bytes.now ≡ r.0.now ++ (34 ∷ r.1.now)) }
+/// The contents of a string up to the next quote, and what follows the quote.
+fn quoted(inside: &[u8]) -> Option<(&[u8], &[u8])>
+    ensures { option_map (λ p. (p.0.now, p.1.now)) result ≡ quoted_of inside.now }
 {
-    for (i, c) in bytes.iter().enumerate() {
-        if *c == b'"' {
-            return Some((&bytes[..i], &bytes[i + 1..]));
-        }
-    }
-    None
+    let from = skip_to_quote(inside);
+    let [_, rest @ ..] = from else {
+        return None;
+    };
+    let (contents, _) = inside.split_at(inside.len() - from.len());
+    Some((contents, rest))
 }
 
-/// What follows a word at the start.
+/// What follows white space and a word.
 fn after_word<'a>(bytes: &'a [u8], word: &[u8]) -> Option<&'a [u8]>
-    ensures { IfSome result (λ rest. bytes.now ≡ word.now ++ rest.now) }
+    ensures { option_map (λ s. s.now) result ≡ after_word_of word.now bytes.now }
 {
-    let rest = bytes.strip_prefix(word)?;
-    Some(rest)
+    skip_blanks(bytes).strip_prefix(word)
 }
