@@ -1,2 +1,4 @@
 pub mod FilledLemmas
+pub mod LineLemmas
 pub mod MixLemmas
+pub mod PlainLemmas

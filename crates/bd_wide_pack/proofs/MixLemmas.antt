@@ -269,16 +269,16 @@ leaf_is (doc fs) e = absurd cc
 leaf_is (array is) e = absurd cc
 leaf_is (code_scope s fs) e = absurd cc
 
-record KeptValue (s : Scalar) (v : List ℕ) : Type 0 where
-  value : List ℕ
-  spells : IsValuedScalar raw (kept s) value
-  whole : (name : List ℕ) → written_typed (leaf (kept s)) name value ≡ type_byte (scalar_kind s) ∷ (name ++ 0 ∷ v)
+pub record KeptValue (s : Scalar) (v : List ℕ) : Type 0 where
+  pub value : List ℕ
+  pub spells : IsValuedScalar raw (kept s) value
+  pub whole : (name : List ℕ) → written_typed (leaf (kept s)) name value ≡ type_byte (scalar_kind s) ∷ (name ++ 0 ∷ v)
 
 long_length : (n : ℕ) → length (long n) ≡ 8
 unfolding long
 long_length n = refl
 
-kept_value : (s : Scalar) (v : List ℕ) → IsScalar s v → KeptValue s v
+pub kept_value : (s : Scalar) (v : List ℕ) → IsScalar s v → KeptValue s v
 kept_value (trees.int32 z) v h = record {
   value = 16 ∷ v;
   spells = record { kind = as_int32; value = v; typed = refl; sized = ap (λ (x : List ℕ). length x) h.1 ∙ number_length _; is_worth = ap (raw (Kept kinds.Int32)) h.1 };

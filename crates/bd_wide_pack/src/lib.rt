@@ -1,29 +1,29 @@
-//! A document with doubles and decimal128, from two documents that have other values for them.
+//! Lines of Extended JSON with numbers of all types, as BSON. Which document a line is, and which bytes: `specs/WideLine.antt`.
 //!
-//! In one document each of the numbers is the int32 0, in the other the empty text; all else is equal. Both are read in step, so
-//! each value in which they differ so is the next number. Which document that is: `specs/Filled.antt`, over the grammar of all
-//! types, in which a number is its type and its bits.
+//! A line is read twice, by the reader of nineteen types: with a whole number for each double and decimal128, and with an empty
+//! text. Where the two documents differ is the next number, and the document with the numbers is written from both. A line
+//! without such numbers is packed at once.
 //!
-//! An example, which `bd_wide_pack_tests` proves and runs as `examples::mixed`:
+//! An example, which `bd_wide_pack_tests` proves and runs as `examples::packed`:
 //!
 //! ```
-//! let whole = b"\x0c\0\0\0\x10d\0\0\0\0\0\0";
-//! let text = b"\x0d\0\0\0\x02d\0\x01\0\0\0\0\0";
-//! check_document(alloc, whole, 0, 0)?;
-//! check_document(alloc, text, 0, 0)?;
-//! let numbers = [Number::Double(0x3ff8_0000_0000_0000)];
+//! let mut packer = WidePacker::new(alloc);
 //! let mut out = Vec::new(alloc);
-//! assert!(rt; mix(whole, text, &numbers, &mut out)?);
+//! let fault = packer.pack_line(b"{\"d\":1.5}", &mut out)?;
+//! assert!(rt; fault.is_none());
 //! let wanted = b"\x10\0\0\0\x01d\0\0\0\0\0\0\0\xf8\x3f\0";
 //! assert!(rt; out.as_slice() == wanted.as_slice());
 //! ```
 //!
-//! - `step`: `mix`, and the values of both documents in step.
+//! - `line`: `WidePacker`, which packs a line at a time.
+//! - `step`: `mix`, which writes the document with the numbers: `specs/Filled.antt`.
 //! - `laws`: two documents and numbers have one such document at most.
 #![tactic(auto)]
 
 mod laws;
+mod line;
 mod step;
 
 pub use laws::one_document;
+pub use line::WidePacker;
 pub use step::mix;

@@ -4,4 +4,6 @@
 #[cfg(test)]
 mod examples;
 #[cfg(test)]
+mod line;
+#[cfg(test)]
 mod mix;
