@@ -13,7 +13,7 @@ use Rattle.bd_extjson_pack.specs.declared.line.LineFault.{LineFault}
 use Rattle.bd_extjson_pack.specs.declared.line.LineFault.TheVariants as faults
 use Rattle.bd_wide_number.specs.declared.number.Number.{Number}
 use Rattle.bd_wide_pack.specs.WideLine.{IsBad, IsMixed, IsPacked, IsRead, both, both_documents, document_of, earlier, has_no_byte}
-use Rattle.bd_wide_pack.specs.inside.Outcome.{AreOutcome, IsMade, IsNotMixed, IsOutcome, IsToldAs, first_of}
+use Rattle.bd_wide_pack.specs.inside.Outcome.{AreOutcome, IsMade, IsNotMixed, IsOutcome, IsReportedAs, first_of}
 use Rattle.bd_wide_pack.proofs.PlainLemmas.{plain_mixed}
 use Rattle.bd_wide_substitute.specs.Substitutes.{ArePieces, Filler, Piece, all_numbers, number, same, text, whole, with_fillers}
 use Rattle.bd_wide_substitute.specs.declared.scan.Substituted.{Substituted}
@@ -80,11 +80,11 @@ module _ (line : List ℕ) (pieces : List Piece) (numbers : List Number) (are : 
     is_long (inl a) = record { wholes = w; texts = t; numbers = numbers; read = is_read; long = inl a }
     is_long (inr b) = record { wholes = w; texts = t; numbers = numbers; read = is_read; long = inr (inl b) }
 
-  -- the fault of the texts is that of the line, as it is told
-  pub fault_told : (wholes texts : List ℕ) (f g : LineFault) → AreOutcome pieces wholes texts (Some f) → IsToldAs line f g → IsBad line g
-  fault_told wholes texts (faults.Unread f) (faults.Unread g) h told = inl (record { pieces = pieces; are = are; first = f; documents = h; at = told.0; kind = told.1 })
-  fault_told wholes texts (faults.Unread f) faults.TooLong h told = absurd told
-  fault_told wholes texts faults.TooLong g h told = subst (IsBad line) (sym told) (is_long h.0 h.1 h.2 h.3)
+  -- the fault of the texts is that of the line, as it is reported
+  pub fault_reported : (wholes texts : List ℕ) (f g : LineFault) → AreOutcome pieces wholes texts (Some f) → IsReportedAs line f g → IsBad line g
+  fault_reported wholes texts (faults.Unread f) (faults.Unread g) h reports = inl (record { pieces = pieces; are = are; first = f; documents = h; at = reports.0; kind = reports.1 })
+  fault_reported wholes texts (faults.Unread f) faults.TooLong h reports = absurd reports
+  fault_reported wholes texts faults.TooLong g h reports = subst (IsBad line) (sym reports) (is_long h.0 h.1 h.2 h.3)
 
 -- ---- a line without numbers
 
@@ -113,10 +113,10 @@ plain_outcome line bytes ps are none o h =
     first_same (Some faults.TooLong) = refl
 
 module _ {E : Type 0} (line : List ℕ) (ps : List Piece) (are : ArePieces line ps) (none : all_numbers ps ≡ []) (r : Result (Option LineFault) E) where
-  pub plain_bad : {X : Type 0} (f g : LineFault) → r ≡ Ok (Some f) → IfOk r (λ o. IfSome o (λ f. plainly.IsBad line f × X)) → IsToldAs line f g → IsBad line g × X
-  plain_bad {X} f g is bad told =
+  pub plain_bad : {X : Type 0} (f g : LineFault) → r ≡ Ok (Some f) → IfOk r (λ o. IfSome o (λ f. plainly.IsBad line f × X)) → IsReportedAs line f g → IsBad line g × X
+  plain_bad {X} f g is bad reports =
       let h : plainly.IsBad line f × X = subst (λ (r : Result (Option LineFault) E). IfOk r (λ o. IfSome o (λ f. plainly.IsBad line f × X))) is bad in
-      (fault_told line ps [] are (sym none) [] [] f g (plain_outcome line [] ps are none (Some f) (bad_outcome line [] f h.0)) told, h.1)
+      (fault_reported line ps [] are (sym none) [] [] f g (plain_outcome line [] ps are none (Some f) (bad_outcome line [] f h.0)) reports, h.1)
 
   pub plain_packed : (old new : List ℕ) → ((line : List ℕ) (d : Doc) → IsPackable line d → IsDocument d (plain d)) → r ≡ Ok None
       → (r ≡ Ok None → (d : Doc) × IsPackable line d × (new ≡ old ++ plain d)) → (bytes : List ℕ) × IsPacked line bytes × (new ≡ old ++ bytes)

@@ -17,7 +17,7 @@ use Rattle.bd_wide_dump.specs.Raw.{raw}
 use Rattle.bd_wide_number.specs.declared.number.Number.{Number}
 use Rattle.bd_wide_pack.specs.Filled.{AreFilled}
 use Rattle.bd_wide_substitute.specs.Substitutes.{ArePieces, Piece, all_numbers, text, whole, with_fillers}
-use Rattle.bd_wide_substitute.specs.Told.{IsTold}
+use Rattle.bd_wide_substitute.specs.Reported.{IsReported}
 
 -- whether a fault has no byte, since the text as a whole is no document
 abbrev pub has_no_byte : JsonFaultKind → Bool
@@ -66,14 +66,14 @@ pub record IsPacked (line bytes : List ℕ) : Type 0 where
   pub mixed : IsMixed wholes texts numbers bytes
   pub short : length bytes ≤ longest_document
 
--- One of the texts of the line is no document, and this is told of the line.
+-- One of the texts of the line is no document, and this is reported.
 pub record IsUnread (line : List ℕ) (fault : JsonFault) : Type 0 where
   pub pieces : List Piece
   pub are : ArePieces line pieces
   pub first : JsonFault
   pub documents : both_documents pieces ≡ Err first
   pub at : fault.at ≡ first.at
-  pub kind : IsTold (drop first.at line) first.kind fault.kind
+  pub kind : IsReported (drop first.at line) first.kind fault.kind
 
 -- Both texts are documents, and no document has the numbers where they differ.
 pub record IsUnlike (line : List ℕ) (fault : JsonFault) : Type 0 where

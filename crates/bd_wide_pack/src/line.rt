@@ -4,7 +4,7 @@ ghost use Rattle.std.specs.Prelude.{◌≡◌, ◌≤◌, ◌++◌, List, [], �
 ghost use Rattle.bd_value.specs.{Limits.longest_document, Tree.Doc};
 ghost use Rattle.bd_bson_view.specs.Spelling.{IsDocument};
 ghost use Rattle.bd_wide_pack.specs.WideLine.{IsBad, IsMixed, IsPacked, earlier as earlier_of, has_no_byte as has_no_byte_of};
-ghost use Rattle.bd_wide_pack.specs.inside.Outcome.{IsMade, IsNotMixed, IsOutcome, IsToldAs, first_of};
+ghost use Rattle.bd_wide_pack.specs.inside.Outcome.{IsMade, IsNotMixed, IsOutcome, IsReportedAs, first_of};
 ghost use Rattle.bd_wide_substitute.specs.Substitutes.{ArePieces, Piece, all_numbers};
 
 use crate::step::mix;
@@ -74,7 +74,7 @@ impl WidePacker {
     {
         packs_documents();
         match self.packer.pack_line(line, out)? {
-            Some(fault) => Ok(Some(told(line, fault))),
+            Some(fault) => Ok(Some(reported(line, fault))),
             None => Ok(None),
         }
     }
@@ -96,7 +96,7 @@ impl WidePacker {
         let whole = pack_text(&mut self.packer, &made.wholes, &mut self.wholes)?;
         let text = pack_text(&mut self.packer, &made.texts, &mut self.texts)?;
         match first_fault(whole, text) {
-            Some(fault) => Ok(Some(told(line, fault))),
+            Some(fault) => Ok(Some(reported(line, fault))),
             None => put_mixed(
                 &self.wholes,
                 &self.texts,
@@ -109,8 +109,8 @@ impl WidePacker {
 }
 
 /// The fault of a line, by that of its text.
-fn told(line: &[u8], fault: LineFault) -> LineFault
-    ensures { IsToldAs line.now fault result }
+fn reported(line: &[u8], fault: LineFault) -> LineFault
+    ensures { IsReportedAs line.now fault result }
 {
     match fault {
         LineFault::Unread(fault) => LineFault::Unread(fault_of_line(line, fault)),

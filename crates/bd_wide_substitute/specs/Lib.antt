@@ -1,3 +1,3 @@
 pub mod Substitutes
-pub mod Told
+pub mod Reported
 pub mod inside

@@ -40,7 +40,7 @@ pub(crate) fn skip_run(bytes: &[u8]) -> &[u8]
     rest
 }
 
-/// Whether a byte may stand in a number.
+/// Whether a byte can be part of a number.
 pub(crate) fn is_of_number(c: u8) -> bool
     ensures { result ≡ is_of_number_of c }
 {

@@ -6,7 +6,7 @@
 //! of the numbers, in order; and a number that is no value, as in a date, is refused in one of them. What is not spelled as a
 //! number stays, and is refused in both.
 //!
-//! What the two texts are: `specs/Substitutes.antt`. What a fault of one of them says of the line: `specs/Told.antt`.
+//! What the two texts are: `specs/Substitutes.antt`. What a fault of one of them says of the line: `specs/Reported.antt`.
 //!
 //! An example, which `bd_wide_read_tests` proves and runs as `examples::substituted`:
 //!
@@ -19,14 +19,14 @@
 //!
 //! - `scan`: `substitute`, from the start of a text to its end.
 //! - `wrapped`: the wrappers of numbers.
-//! - `told`: what is wrong with a line, by what is wrong with a text.
+//! - `reported`: what is wrong with a line, by what is wrong with a text.
 //! - `blank`: the parts of a text that are skipped.
 #![tactic(auto)]
 
 mod blank;
+mod reported;
 mod scan;
-mod told;
 mod wrapped;
 
+pub use reported::fault_of_line;
 pub use scan::{Substituted, substitute};
-pub use told::fault_of_line;

@@ -10,7 +10,7 @@ use Rattle.bd_extjson_fault.specs.declared.json_fault.JsonFaultKind.TheVariants 
 use Rattle.bd_wide_number.specs.declared.number.Number.{Number}
 use Rattle.bd_wide_pack.specs.Filled.{AreFilled}
 use Rattle.bd_wide_substitute.specs.Substitutes.{ArePieces, Piece, all_numbers, text, whole, with_fillers}
-use Rattle.bd_wide_substitute.specs.Told.{IsTold}
+use Rattle.bd_wide_substitute.specs.Reported.{IsReported}
 use Rattle.bd_wide_substitute.specs.declared.scan.Substituted.{Substituted}
 use Rattle.bd_wide_pack.specs.WideLine.{IsMixed, both_documents, document_of, earlier}
 
@@ -52,8 +52,8 @@ pub record IsMade (line : List ℕ) (made : Substituted) : Type 0 where
   pub texts : made.texts.items ≡ with_fillers text pieces
   pub numbers : made.numbers.items ≡ all_numbers pieces
 
--- This fault of a text is told of the line as that one.
-abbrev pub IsToldAs : List ℕ → LineFault → LineFault → Type 0
-IsToldAs line (faults.Unread f) (faults.Unread g) = (g.at ≡ f.at) × IsTold (drop f.at line) f.kind g.kind
-IsToldAs line (faults.Unread f) faults.TooLong = ⊥
-IsToldAs line faults.TooLong g = g ≡ faults.TooLong
+-- This fault of a text is reported of the line as that one.
+abbrev pub IsReportedAs : List ℕ → LineFault → LineFault → Type 0
+IsReportedAs line (faults.Unread f) (faults.Unread g) = (g.at ≡ f.at) × IsReported (drop f.at line) f.kind g.kind
+IsReportedAs line (faults.Unread f) faults.TooLong = ⊥
+IsReportedAs line faults.TooLong g = g ≡ faults.TooLong

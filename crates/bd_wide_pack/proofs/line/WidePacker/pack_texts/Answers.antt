@@ -1,6 +1,6 @@
 use Rattle.std.proofs.Common.{List, ℕ, ◌∙◌, Some, None, refl, sym, subst}
 use Rattle.bd_bson_view.specs.Spelling.{IsDocument}
-use Rattle.bd_wide_pack.proofs.LineLemmas.{fault_told, is_packed, made_outcome, mixed_bad}
+use Rattle.bd_wide_pack.proofs.LineLemmas.{fault_reported, is_packed, made_outcome, mixed_bad}
 use Rattle.bd_wide_pack.proofs.line.WidePacker.pack_texts.Goals as goal
 
 pub returns-in-Some-clause-bad : goal.returns-in-Some-clause-bad
@@ -8,7 +8,7 @@ returns-in-Some-clause-bad c =
     let m = c.requires in
     let all = made_outcome c.args.line.now c.deref.result.now c.deref-2.result.now c.pack_text.new.bytes.items c.pack_text-2.new.bytes.items c.args.made.now m c.in_ok-whole.whole c.in_ok-text.text
     (Some c.in-Some.fault) c.deref.ensures.value c.deref-2.ensures.value c.in_ok-whole.ensures c.in_ok-text.ensures (sym c.in-Some.is ∙ c.first_fault.ensures) in
-    (fault_told c.args.line.now m.pieces c.args.made.now.numbers.items m.are m.numbers c.pack_text.new.bytes.items c.pack_text-2.new.bytes.items c.in-Some.fault c.told.result all c.told.ensures, refl)
+    (fault_reported c.args.line.now m.pieces c.args.made.now.numbers.items m.are m.numbers c.pack_text.new.bytes.items c.pack_text-2.new.bytes.items c.in-Some.fault c.reported.result all c.reported.ensures, refl {a = c.args.out.now.items})
 
 pub returns-in-None-clause-packed : goal.returns-in-None-clause-packed
 returns-in-None-clause-packed c done =

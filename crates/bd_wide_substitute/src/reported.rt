@@ -1,7 +1,7 @@
 //! What is wrong with a line, by what is wrong with a text in which its numbers have other values.
 
 ghost use Rattle.std.specs.Prelude.{◌≡◌, drop};
-ghost use Rattle.bd_wide_substitute.specs.Told.{IsKindHere, IsKindOfWrapper, IsTold};
+ghost use Rattle.bd_wide_substitute.specs.Reported.{IsKindHere, IsKindOfWrapper, IsReported};
 
 use crate::wrapped::{read_contents, wrapper_at};
 use bd_extjson_fault::{JsonFault, JsonFaultKind};
@@ -11,7 +11,7 @@ use bd_wide_read::TextFault;
 /// range, or its wrapper is bad.
 pub fn fault_of_line(line: &[u8], fault: JsonFault) -> JsonFault
     ensures at { result.at ≡ fault.at }
-    ensures kind { IsTold (drop fault.at line.now) fault.kind result.kind }
+    ensures kind { IsReported (drop fault.at line.now) fault.kind result.kind }
 {
     let at = fault.at as usize;
     if at >= line.len() {

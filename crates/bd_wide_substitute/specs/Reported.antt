@@ -36,7 +36,7 @@ abbrev pub IsKindHere : List ℕ → JsonFaultKind → Type 0
 IsKindHere bytes kind = (begins_number bytes ≡ true → kind ≡ kinds.NumberRange)
     × (begins_number bytes ≡ false → IsKindOfWrapper bytes kind)
 
--- The fault of a text at these bytes of the line is told of the line as this.
-abbrev pub IsTold : List ℕ → JsonFaultKind → JsonFaultKind → Type 0
-IsTold bytes kinds.NotInProfile kind = IsKindHere bytes kind
-IsTold bytes stays kind = kind ≡ stays
+-- The fault of a text at these bytes of the line is reported as this.
+abbrev pub IsReported : List ℕ → JsonFaultKind → JsonFaultKind → Type 0
+IsReported bytes kinds.NotInProfile kind = IsKindHere bytes kind
+IsReported bytes stays kind = kind ≡ stays
