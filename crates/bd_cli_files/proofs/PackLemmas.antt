@@ -14,7 +14,7 @@ use Rattle.bd_extjson_pack.specs.declared.line.LineFault.{LineFault}
 use Rattle.bd_cli_files.specs.{declared.pack.BadLine.BadLine, declared.pack.Packing.Packing}
 use Rattle.bd_cli_scan.specs.{declared.output.OutputFault.TheVariants.Unwritten, declared.output.Status.Status, declared.output.Status.TheVariants.Failed}
 use Rattle.bd_cli_scan.specs.Output.{Transcript, cannot_write, error_line, no_memory, wrong_line, wrong_status}
-use Rattle.bd_cli_files.specs.Pack.{IsOutputOfPack, PacksLines, bad_line_text, objects_packed, pack_output}
+use Rattle.bd_cli_files.specs.Pack.{Form, IsOutputBy, IsOutputOfPack, PacksBy, PacksLines, bad_line_text, named, objects_packed, pack_output}
 use Rattle.bd_cli_scan.specs.Run.{Prints, ReportsMessage, partial_run}
 use Rattle.bd_cli_scan.proofs.OutputLemmas.{all_output, stop_output}
 use Rattle.bd_cli_files.specs.inside.Pack.{ArePacked, IsTaken, PacksFirst}
@@ -67,7 +67,7 @@ packs_once number (line ∷ lines) ds es bad other (inr (inr (full, (f, is, none
 pub packed_once : (input : Result (List ℕ) ReadFault) (s t : Transcript) → IsOutputOfPack input s → IsOutputOfPack input t → s ≡ t
 packed_once (Ok text) s t (ds, bad, packs, prints) (es, other, packed, showed) =
     let same = packs_once 1 (text_lines text) ds es bad other packs packed in
-    prints ∙ ap₂ pack_output same.0 same.1 ∙ sym showed
+    prints ∙ ap₂ (pack_output named) same.0 same.1 ∙ sym showed
 packed_once (Err fault) s t p q = p ∙ sym q
 
 -- ---- all lines are packed in some way
@@ -98,20 +98,20 @@ packs_some number (line ∷ lines) = by_blank (is_empty_line line) refl (packs_s
 -- ---- the end of a run
 
 -- these lines are all: the documents before the first bad line are all that are packed
-all_lines : (lines : List (List ℕ)) (ds : List Doc) (bad : Option BadLine) → PacksFirst lines ds bad → PacksLines 1 lines ds bad
-all_lines lines ds None first = let p = first [] [] None (refl, refl) in rw (append-nil lines, append-nil ds) at p
-all_lines lines ds (Some bad) first = let p = first [] in rw (append-nil lines) at p
+all_lines : (form : Form) (lines : List (List ℕ)) (ds : List form.Document) (bad : Option BadLine) → PacksFirst form lines ds bad → PacksBy form 1 lines ds bad
+all_lines form lines ds None first = let p = first [] [] None (refl, refl) in rw (append-nil lines, append-nil ds) at p
+all_lines form lines ds (Some bad) first = let p = first [] in rw (append-nil lines) at p
 
-module _ (program text : List ℕ) (packing : Packing) (packed : ArePacked (text_lines text) packing) (out_old out_new err_old err_new : Writer) (status : Status) where
+module _ (form : Form) {P : Type 0} (program text : List ℕ) (packing : Packing P) (packed : ArePacked form (text_lines text) packing) (out_old out_new err_old err_new : Writer) (status : Status) where
   -- the run printed an output of `pack` for the text
   abbrev PrintsPacked : Type 0
-  PrintsPacked = (output : Transcript) × IsOutputOfPack (Ok text) output × Prints program (partial_run output) (between out_old out_new) (between err_old err_new) status
+  PrintsPacked = (output : Transcript) × IsOutputBy form (Ok text) output × Prints program (partial_run output) (between out_old out_new) (between err_old err_new) status
 
   abbrev output : Transcript
-  output = pack_output packed.0 packing.bad
+  output = pack_output form packed.0 packing.bad
 
   prints : Prints program (partial_run output) (between out_old out_new) (between err_old err_new) status → PrintsPacked
-  prints printed = (output, (packed.0, packing.bad, all_lines (text_lines text) packed.0 packing.bad packed.1, refl), printed)
+  prints printed = (output, (packed.0, packing.bad, all_lines form (text_lines text) packed.0 packing.bad packed.1, refl), printed)
 
   -- the bad line, if any, and the count were reported, or that memory ran out
   abbrev ReportsPacking : ℕ → Type 0
@@ -129,7 +129,7 @@ module _ (program text : List ℕ) (packing : Packing) (packed : ArePacked (text
 
 -- ---- one more line
 
-module _ (line : List ℕ) (lines : List (List ℕ)) where
+module _ (form : Form) (line : List ℕ) (lines : List (List ℕ)) where
   abbrev more : List (List ℕ)
   more = lines ++ line ∷ []
 
@@ -140,90 +140,92 @@ module _ (line : List ℕ) (lines : List (List ℕ)) where
   before_rest rest = append_assoc lines (line ∷ []) rest
 
   -- after a bad line it is not read
-  pub after_bad : (ds : List Doc) (bad : BadLine) → PacksFirst lines ds (Some bad) → PacksFirst more ds (Some bad)
+  pub after_bad : (ds : List form.Document) (bad : BadLine) → PacksFirst form lines ds (Some bad) → PacksFirst form more ds (Some bad)
   after_bad ds bad first rest = rw (before_rest rest) (first (line ∷ rest))
 
-  pub packs_blank : (ds : List Doc) → IsTrue (is_empty_line line) → PacksFirst lines ds None → PacksFirst more ds None
+  pub packs_blank : (ds : List form.Document) → IsTrue (is_empty_line line) → PacksFirst form lines ds None → PacksFirst form more ds None
   packs_blank ds blank first rest es bad p =
       let q = rw one_more at p in rw (before_rest rest) (first (line ∷ rest) es bad (inl (blank, q)))
 
-  pub packs_one : (ds : List Doc) (d : Doc) → IsFalse (is_empty_line line) → IsPackable line d → PacksFirst lines ds None → PacksFirst more (ds ++ d ∷ []) None
+  pub packs_one : (ds : List form.Document) (d : form.Document) → IsFalse (is_empty_line line) → form.IsPackable line d → PacksFirst form lines ds None → PacksFirst form more (ds ++ d ∷ []) None
   packs_one ds d full is first rest es bad p =
       let q = rw one_more at p in
       rw (before_rest rest, append_assoc ds (d ∷ []) es) (first (line ∷ rest) (d ∷ es) bad (inr (inl (full, (d, es, is, refl, q)))))
 
-  pub ends_bad : (ds : List Doc) (fault : LineFault) (number : ℕ) → number ≡ length lines → IsFalse (is_empty_line line) → IsBad line fault → PacksFirst lines ds None
-      → PacksFirst more ds (Some (record { number = number + 1; fault = fault }))
+  pub ends_bad : (ds : List form.Document) (fault : LineFault) (number : ℕ) → number ≡ length lines → IsFalse (is_empty_line line) → form.IsBad line fault → PacksFirst form lines ds None
+      → PacksFirst form more ds (Some (record { number = number + 1; fault = fault }))
   ends_bad ds fault number counted full is first rest =
       let next : number + 1 ≡ suc (length lines) = omega (arith, counted) in
       let p = first (line ∷ rest) [] (Some (record { number = suc (length lines); fault = fault })) (inr (inr (full, (fault, is, refl, refl)))) in
       rw (before_rest rest, next) (rw (append-nil ds) at p)
 
 -- the BSON of one more document
-pub one_more_document : (ds : List Doc) (d : Doc) (old new : List ℕ) → old ≡ flat_map plain ds → new ≡ old ++ plain d → new ≡ flat_map plain (ds ++ d ∷ [])
-one_more_document ds d old new was grown =
-    grown ∙ ap₂ (λ (x y : List ℕ). x ++ y) was (sym (append-nil (plain d))) ∙ sym (flat_map-append plain ds (d ∷ []))
+pub one_more_document : (form : Form) (ds : List form.Document) (d : form.Document) (old new : List ℕ) → old ≡ flat_map form.bson ds → new ≡ old ++ form.bson d
+    → new ≡ flat_map form.bson (ds ++ d ∷ [])
+one_more_document form ds d old new was grown =
+    grown ∙ ap₂ (λ (x y : List ℕ). x ++ y) was (sym (append-nil (form.bson d))) ∙ sym (flat_map-append form.bson ds (d ∷ []))
 
 -- ---- a text, block by block
 
--- before the first block
-pub starts : (packing : Packing) → ArePacked [] packing → IsTaken [] packing []
-starts packing none = ([], none, All-nil (λ b. is_newline b ≡ false), λ rest. refl)
+module _ (form : Form) {P : Type 0} where
+  -- before the first block
+  pub starts : (packing : Packing P) → ArePacked form [] packing → IsTaken form [] packing []
+  starts packing none = ([], none, All-nil (λ b. is_newline b ≡ false), λ rest. refl)
 
--- a line that ends: what was taken of it, the rest of it, and its newline
-pub takes_line : (text partial line : List ℕ) (packing next : Packing) → IsLine line → IsTaken text packing partial
-    → ((lines : List (List ℕ)) → ArePacked lines packing → ArePacked (lines ++ (partial ++ line) ∷ []) next) → IsTaken (text ++ (line ++ 10 ∷ [])) next []
-takes_line text partial line packing next is (lines, packed, begun, splits) packs = (
-  lines ++ (partial ++ line) ∷ [],
-  packs lines packed,
-  All-nil (λ b. is_newline b ≡ false),
-  λ rest.
-      let whole : text_lines (partial ++ line) ≡ (partial ++ line) ∷ [] = slice_split_none is_newline (partial ++ line) (line_grows partial line begun is) in
-      let apart : text_lines (partial ++ (line ++ 10 ∷ rest)) ≡ (partial ++ line) ∷ text_lines rest
-      = ap text_lines (sym (append_assoc partial line (10 ∷ rest))) ∙ lines_apart (partial ++ line) rest ∙ ap (λ l. l ++ text_lines rest) whole in
-      let joined : (text ++ (line ++ 10 ∷ [])) ++ rest ≡ text ++ (line ++ 10 ∷ rest)
-      = append_assoc text (line ++ 10 ∷ []) rest ∙ ap (λ x. text ++ x) (append_assoc line (10 ∷ []) rest) in
-      ap text_lines joined ∙ splits (line ++ 10 ∷ rest) ∙ ap (λ l. lines ++ l) apart ∙ sym (append_assoc lines ((partial ++ line) ∷ []) (text_lines rest)),
-)
+  -- a line that ends: what was taken of it, the rest of it, and its newline
+  pub takes_line : (text partial line : List ℕ) (packing next : Packing P) → IsLine line → IsTaken form text packing partial
+      → ((lines : List (List ℕ)) → ArePacked form lines packing → ArePacked form (lines ++ (partial ++ line) ∷ []) next) → IsTaken form (text ++ (line ++ 10 ∷ [])) next []
+  takes_line text partial line packing next is (lines, packed, begun, splits) packs = (
+    lines ++ (partial ++ line) ∷ [],
+    packs lines packed,
+    All-nil (λ b. is_newline b ≡ false),
+    λ rest.
+        let whole : text_lines (partial ++ line) ≡ (partial ++ line) ∷ [] = slice_split_none is_newline (partial ++ line) (line_grows partial line begun is) in
+        let apart : text_lines (partial ++ (line ++ 10 ∷ rest)) ≡ (partial ++ line) ∷ text_lines rest
+        = ap text_lines (sym (append_assoc partial line (10 ∷ rest))) ∙ lines_apart (partial ++ line) rest ∙ ap (λ l. l ++ text_lines rest) whole in
+        let joined : (text ++ (line ++ 10 ∷ [])) ++ rest ≡ text ++ (line ++ 10 ∷ rest)
+        = append_assoc text (line ++ 10 ∷ []) rest ∙ ap (λ x. text ++ x) (append_assoc line (10 ∷ []) rest) in
+        ap text_lines joined ∙ splits (line ++ 10 ∷ rest) ∙ ap (λ l. lines ++ l) apart ∙ sym (append_assoc lines ((partial ++ line) ∷ []) (text_lines rest)),
+  )
 
--- more of a line
-pub takes_part : (text partial part : List ℕ) (packing : Packing) → IsLine part → IsTaken text packing partial → IsTaken (text ++ part) packing (partial ++ part)
-takes_part text partial part packing is (lines, packed, begun, splits) = (
-  lines,
-  packed,
-  line_grows partial part begun is,
-  λ rest. ap text_lines (append_assoc text part rest) ∙ splits (part ++ rest) ∙ ap (λ x. lines ++ text_lines x) (sym (append_assoc partial part rest)),
-)
+  -- more of a line
+  pub takes_part : (text partial part : List ℕ) (packing : Packing P) → IsLine part → IsTaken form text packing partial → IsTaken form (text ++ part) packing (partial ++ part)
+  takes_part text partial part packing is (lines, packed, begun, splits) = (
+    lines,
+    packed,
+    line_grows partial part begun is,
+    λ rest. ap text_lines (append_assoc text part rest) ∙ splits (part ++ rest) ∙ ap (λ x. lines ++ text_lines x) (sym (append_assoc partial part rest)),
+  )
 
--- the end of the text ends its last line
-pub ends_text : (text partial : List ℕ) (packing next : Packing) → IsTaken text packing partial
-    → ((lines : List (List ℕ)) → ArePacked lines packing → ArePacked (lines ++ partial ∷ []) next) → ArePacked (text_lines text) next
-ends_text text partial packing next (lines, packed, begun, splits) packs =
-    let last : text_lines partial ≡ partial ∷ [] = slice_split_none is_newline partial begun in
-    let all : text_lines text ≡ lines ++ partial ∷ []
-    = ap text_lines (sym (append-nil text)) ∙ splits [] ∙ ap (λ x. lines ++ text_lines x) (append-nil partial) ∙ ap (λ l. lines ++ l) last in
-    subst (λ (ls : List (List ℕ)). ArePacked ls next) (sym all) (packs lines packed)
+  -- the end of the text ends its last line
+  pub ends_text : (text partial : List ℕ) (packing next : Packing P) → IsTaken form text packing partial
+      → ((lines : List (List ℕ)) → ArePacked form lines packing → ArePacked form (lines ++ partial ∷ []) next) → ArePacked form (text_lines text) next
+  ends_text text partial packing next (lines, packed, begun, splits) packs =
+      let last : text_lines partial ≡ partial ∷ [] = slice_split_none is_newline partial begun in
+      let all : text_lines text ≡ lines ++ partial ∷ []
+      = ap text_lines (sym (append-nil text)) ∙ splits [] ∙ ap (λ x. lines ++ text_lines x) (append-nil partial) ∙ ap (λ l. lines ++ l) last in
+      subst (λ (ls : List (List ℕ)). ArePacked form ls next) (sym all) (packs lines packed)
 
--- the first lines of a block were taken, and this is the rest of it
-abbrev pub TakesFirst : List ℕ → Packing → List ℕ → List ℕ → Packing → List ℕ → Type 0
-TakesFirst block old was rest now partial =
-    (taken : List ℕ) × (block ≡ taken ++ rest) × ((text : List ℕ) → IsTaken text old was → IsTaken (text ++ taken) now partial)
+  -- the first lines of a block were taken, and this is the rest of it
+  abbrev pub TakesFirst : List ℕ → Packing P → List ℕ → List ℕ → Packing P → List ℕ → Type 0
+  TakesFirst block old was rest now partial =
+      (taken : List ℕ) × (block ≡ taken ++ rest) × ((text : List ℕ) → IsTaken form text old was → IsTaken form (text ++ taken) now partial)
 
-pub takes_none : (block was : List ℕ) (old : Packing) → TakesFirst block old was block old was
-takes_none block was old = ([], refl, λ text before. rw (append-nil text) before)
+  pub takes_none : (block was : List ℕ) (old : Packing P) → TakesFirst block old was block old was
+  takes_none block was old = ([], refl, λ text before. rw (append-nil text) before)
 
-pub takes_next : (block was rest partial line after : List ℕ) (old now next : Packing) → TakesFirst block old was rest now partial → rest ≡ line ++ 10 ∷ after → IsLine line
-    → ((lines : List (List ℕ)) → ArePacked lines now → ArePacked (lines ++ (partial ++ line) ∷ []) next) → TakesFirst block old was after next []
-takes_next block was rest partial line after old now next (taken, split, takes) splits is packs = (
-  taken ++ (line ++ 10 ∷ []),
-  split ∙ ap (λ x. taken ++ x) (splits ∙ sym (append_assoc line (10 ∷ []) after)) ∙ sym (append_assoc taken (line ++ 10 ∷ []) after),
-  λ text before. subst (λ x. IsTaken x next []) (append_assoc text taken (line ++ 10 ∷ [])) (takes_line (text ++ taken) partial line now next is (takes text before) packs),
-)
+  pub takes_next : (block was rest partial line after : List ℕ) (old now next : Packing P) → TakesFirst block old was rest now partial → rest ≡ line ++ 10 ∷ after → IsLine line
+      → ((lines : List (List ℕ)) → ArePacked form lines now → ArePacked form (lines ++ (partial ++ line) ∷ []) next) → TakesFirst block old was after next []
+  takes_next block was rest partial line after old now next (taken, split, takes) splits is packs = (
+    taken ++ (line ++ 10 ∷ []),
+    split ∙ ap (λ x. taken ++ x) (splits ∙ sym (append_assoc line (10 ∷ []) after)) ∙ sym (append_assoc taken (line ++ 10 ∷ []) after),
+    λ text before. subst (λ x. IsTaken form x next []) (append_assoc text taken (line ++ 10 ∷ [])) (takes_line (text ++ taken) partial line now next is (takes text before) packs),
+  )
 
-pub takes_all : (block was rest partial : List ℕ) (old now : Packing) → TakesFirst block old was rest now partial → IsLine rest
-    → (text : List ℕ) → IsTaken text old was → IsTaken (text ++ block) now (partial ++ rest)
-takes_all block was rest partial old now (taken, split, takes) is text before =
-    subst (λ x. IsTaken x now (partial ++ rest)) (append_assoc text taken rest ∙ ap (λ x. text ++ x) (sym split)) (takes_part (text ++ taken) partial rest now is (takes text before))
+  pub takes_all : (block was rest partial : List ℕ) (old now : Packing P) → TakesFirst block old was rest now partial → IsLine rest
+      → (text : List ℕ) → IsTaken form text old was → IsTaken form (text ++ block) now (partial ++ rest)
+  takes_all block was rest partial old now (taken, split, takes) is text before =
+      subst (λ x. IsTaken form x now (partial ++ rest)) (append_assoc text taken rest ∙ ap (λ x. text ++ x) (sym split)) (takes_part (text ++ taken) partial rest now is (takes text before))
 
 -- a vector grew, or a call failed
 pub on_ok_grown : {A E : Type 0} (r : Result A E) (P : List ℕ → Type 0) (old part new : List ℕ) → new ≡ (if is_ok r then old ++ part else old) → P (old ++ part) → OnOk r (P new)
@@ -231,10 +233,10 @@ on_ok_grown (Ok x) P old part new is h = subst P (sym is) h
 on_ok_grown (Err e) P old part new is h = _
 
 -- the loop over the blocks
-pub record SoFar {R : Type 0} (state : R → Reader) (gives : R → Option (List ℕ) → R → Type 0) (old new : R) (remaining : ℕ) (packing : Packing) (partial : List ℕ) : Type 0 where
+pub record SoFar (form : Form) {P R : Type 0} (state : R → Reader) (gives : R → Option (List ℕ) → R → Type 0) (old new : R) (remaining : ℕ) (packing : Packing P) (partial : List ℕ) : Type 0 where
   pub text : List ℕ
   pub turns : ℕ
-  pub taken : IsTaken text packing partial
+  pub taken : IsTaken form text packing partial
   pub consumed : Consumes (state old).remaining (state new).remaining text
   pub reads : AreReads gives turns old text new
   pub within : length text + remaining ≡ longest_input
@@ -258,4 +260,4 @@ all_given (Some xs) (Some rest) given all end = sym (all ∙ ap (λ x. given ++ 
 pub packed_some : (text : List ℕ) → (output : Transcript) × IsOutputOfPack (Ok text) output
 packed_some text =
     let w = packs_some 1 (text_lines text) in
-    (pack_output w.0 w.1, (w.0, w.1, w.2, refl))
+    (pack_output named w.0 w.1, (w.0, w.1, w.2, refl))

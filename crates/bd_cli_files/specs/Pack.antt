@@ -15,15 +15,31 @@ use Rattle.bd_cli_scan.specs.Run.{Run, run_after}
 use Rattle.bd_extjson_fault.specs.declared.json_fault.JsonFaultKind.TheVariants as kinds
 use Rattle.bd_extjson_pack.specs.declared.line.LineFault.TheVariants as faults
 
+-- how a program packs lines
+pub record Form : Type 1 where
+  -- what a line is read as
+  pub Document : Type 0
+  -- The line is this document, and is packed.
+  pub IsPackable : List ℕ → Document → Type 0
+  -- the BSON of a document
+  pub bson : Document → List ℕ
+  -- The line is not packed, for this reason.
+  pub IsBad : List ℕ → LineFault → Type 0
+
+-- the form of `bsonfind`: documents of the nineteen kinds
+abbrev pub named : Form
+named = record { Document = Doc; IsPackable = IsPackable; bson = plain; IsBad = IsBad }
+
 -- From lines whose numbers begin at `number`: the documents before the first bad line, and that line,
 -- if any. Lines of white space are skipped.
-abbrev pub PacksLines : ℕ → List (List ℕ) → List Doc → Option BadLine → Type 0
-PacksLines number [] ds bad = (ds ≡ []) × (bad ≡ None)
-PacksLines number (line ∷ lines) ds bad = (IsTrue (is_empty_line line) × PacksLines (suc number) lines ds bad)
+abbrev pub PacksBy : (form : Form) → ℕ → List (List ℕ) → List form.Document → Option BadLine → Type 0
+PacksBy form number [] ds bad = (ds ≡ []) × (bad ≡ None)
+PacksBy form number (line ∷ lines) ds bad = (IsTrue (is_empty_line line) × PacksBy form (suc number) lines ds bad)
     ⊎ (IsFalse (is_empty_line line)
-    × ((d : Doc) × (es : List Doc) × IsPackable line d × (ds ≡ d ∷ es) × PacksLines (suc number) lines es bad))
+    × ((d : form.Document) × (es : List form.Document) × form.IsPackable line d × (ds ≡ d ∷ es)
+    × PacksBy form (suc number) lines es bad))
     ⊎ (IsFalse (is_empty_line line)
-    × ((fault : LineFault) × IsBad line fault × (ds ≡ []) × (bad ≡ Some (record { number = number; fault = fault }))))
+    × ((fault : LineFault) × form.IsBad line fault × (ds ≡ []) × (bad ≡ Some (record { number = number; fault = fault }))))
 
 -- the byte offset of a fault in a line, after this text; empty if the line as a whole is no document
 abbrev pub byte_text : List ℕ → JsonFaultKind → ℕ → List ℕ
@@ -45,16 +61,30 @@ objects_packed = codes " objects packed" ++ 10 ∷ []
 
 -- the output of `pack`: the BSON of the documents before the first bad line, the message of that line,
 -- and how many were packed
-abbrev pub pack_output : List Doc → Option BadLine → Transcript
-pack_output ds bad = output_before (flat_map plain ds) (option_map bad_line_text bad)
+abbrev pub pack_output : (form : Form) → List form.Document → Option BadLine → Transcript
+pack_output form ds bad = output_before (flat_map form.bson ds) (option_map bad_line_text bad)
     (decimal (length ds) ++ objects_packed)
 
 -- This is the output of `pack` for a text, or for an input that was not read completely.
-abbrev pub IsOutputOfPack : Result (List ℕ) ReadFault → Transcript → Type 0
-IsOutputOfPack (Ok text) output =
-    (ds : List Doc) × (bad : Option BadLine) × PacksLines 1 (text_lines text) ds bad × (output ≡ pack_output ds bad)
-IsOutputOfPack (Err fault) output = output ≡ refusal_output (read_words fault)
+abbrev pub IsOutputBy : Form → Result (List ℕ) ReadFault → Transcript → Type 0
+IsOutputBy form (Ok text) output = (ds : List form.Document) × (bad : Option BadLine)
+    × PacksBy form 1 (text_lines text) ds bad × (output ≡ pack_output form ds bad)
+IsOutputBy form (Err fault) output = output ≡ refusal_output (read_words fault)
 
--- A run of `pack`: it reads its whole input first.
+-- A run of `pack` in a form: it reads its whole input first.
+abbrev pub pack_run_by : Form → Over Reader → Run
+pack_run_by form file = run_after (ReadsInput file) (IsOutputBy form)
+
+-- ---- `bsonfind`
+
+-- which documents `bsonfind pack` packs from lines, and which line is bad
+abbrev pub PacksLines : ℕ → List (List ℕ) → List Doc → Option BadLine → Type 0
+PacksLines = PacksBy named
+
+-- This is the output of `bsonfind pack` for a text, or for an input that was not read completely.
+abbrev pub IsOutputOfPack : Result (List ℕ) ReadFault → Transcript → Type 0
+IsOutputOfPack = IsOutputBy named
+
+-- a run of `bsonfind pack`
 abbrev pub pack_run : Over Reader → Run
-pack_run file = run_after (ReadsInput file) IsOutputOfPack
+pack_run = pack_run_by named

@@ -1,13 +1,13 @@
 //! `pack`: the documents in lines of text, as BSON.
 
-ghost use Rattle.std.specs.Prelude.{◌≡◌, ◌++◌, ◌∷◌, ◌+◌, ◌≤◌, ◌⊎◌, ℕ, List, [], Err, IfErr, IfOk, OnOk, Ok, length, decimal, option_map, string_bytes};
+ghost use Rattle.std.specs.Prelude.{◌≡◌, ◌++◌, ◌∷◌, ◌+◌, ◌≤◌, ◌⊎◌, ℕ, List, [], Err, IfErr, IfOk, IfSome, None, OnErr, OnOk, Ok, length, decimal, option_map, string_bytes};
 ghost use Rattle.bd_value.specs.Limits.{longest_input};
 ghost use Rattle.bd_io_device.specs.Devices.{over};
 ghost use Rattle.bd_io_lines.specs.Lines.{text_lines};
 ghost use Rattle.bd_cli_scan.specs.Input.{ReadsInput, ReadsNoFurther};
 ghost use Rattle.bd_cli_scan.specs.Output.{Transcript, error_line, no_memory, wrong_line, wrong_status};
 ghost use Rattle.bd_cli_scan.specs.Run.{Prints, ReportsMessage, partial_run};
-ghost use Rattle.bd_cli_files.specs.Pack.{IsOutputOfPack, bad_line_text, line_fault_text, objects_packed, pack_run};
+ghost use Rattle.bd_cli_files.specs.Pack.{Form, IsOutputBy, bad_line_text, line_fault_text, named, objects_packed, pack_run, pack_run_by};
 ghost use Rattle.bd_cli_files.specs.inside.Pack.{ArePacked, IsTaken};
 ghost use Rattle.bd_cli_scan.specs.declared.output.Status.TheVariants.{Failed};
 
@@ -37,24 +37,66 @@ pub fn pack<R: Input, O: Output, E: Output>(
         (over O.state out.old out.new) (over E.state err.old err.new) result }
     ensures stops_reading { ReadsNoFurther R.read_gives input.old input.new }
 {
-    let mut packing = Packing::new(alloc);
+    pack_by(alloc, program, Packer::new(alloc), input, out, err)
+}
+
+/// What packs lines.
+pub trait LinePacker {
+    /// Which lines it packs, and as what.
+    ghost form: { Form };
+
+    /// Appends the BSON of the document that the line is, or returns why the line is not packed, with `out` unchanged.
+    ///
+    /// # Errors
+    /// `NoMemory` if memory runs out; `out` is unchanged.
+    fn pack_line(&mut self, line: &[u8], out: &mut Vec<u8>) -> Result<Option<LineFault>, NoMemory>
+        ensures packed { result ≡ Ok None → (d : form.Document) × form.IsPackable line.now d
+            × (out.new.items ≡ out.old.items ++ form.bson d) }
+        ensures bad { IfOk result (λ o. IfSome o (λ f.
+            form.IsBad line.now f × (out.new.items ≡ out.old.items))) }
+        ensures err { OnErr result (out.new.items ≡ out.old.items) };
+}
+
+/// Reads the whole input, and writes the BSON of its lines' documents, up to the first line that is not packed.
+pub fn pack_by<P: LinePacker + Drop, R: Input, O: Output, E: Output>(
+    alloc: Global,
+    program: &str,
+    packer: P,
+    input: &mut R,
+    out: &mut O,
+    err: &mut E,
+) -> Status
+    ensures packs { Prints program.now (pack_run_by P.form (over R.state input.old input.new))
+        (over O.state out.old out.new) (over E.state err.old err.new) result }
+    ensures stops_reading { ReadsNoFurther R.read_gives input.old input.new }
+{
+    let mut packing = Packing::new(alloc, packer);
     match pack_input(alloc, input, &mut packing) {
         Ok(()) => write_packing(alloc, program, &packing, out, err),
         Err(fault) => report_read_fault(program, fault, err),
     }
 }
 
+impl LinePacker for Packer {
+    ghost form = { named };
+
+    #[inline(always)]
+    fn pack_line(&mut self, line: &[u8], out: &mut Vec<u8>) -> Result<Option<LineFault>, NoMemory> {
+        Packer::pack_line(self, line, out)
+    }
+}
+
 /// Reads the whole input, and packs each of its lines as soon as its end was read.
-fn pack_input<R: Input>(
+fn pack_input<P: LinePacker, R: Input>(
     alloc: Global,
     input: &mut R,
-    packing: &mut Packing,
+    packing: &mut Packing<P>,
 ) -> Result<(), ReadFault>
-    requires none { ArePacked [] packing.old }
+    requires none { ArePacked P.form [] packing.old }
     requires counts { (packing.old.count ≡ 0) × (packing.old.lines ≡ 0) }
     ensures packs { OnOk result ((text : List ℕ)
         × ReadsInput (over R.state input.old input.new) (Ok text)
-        × ArePacked (text_lines text) packing.new) }
+        × ArePacked P.form (text_lines text) packing.new) }
     ensures fault { IfErr result (λ fault.
         ReadsInput (over R.state input.old input.new) (Err fault)) }
     ensures stops_reading { ReadsNoFurther R.read_gives input.old input.new }
@@ -84,15 +126,15 @@ fn pack_input<R: Input>(
 }
 
 /// Writes the documents of the lines that were packed, and reports them.
-fn write_packing<O: Output, E: Output>(
+fn write_packing<P: LinePacker, O: Output, E: Output>(
     alloc: Global,
     program: &str,
-    packing: &Packing,
+    packing: &Packing<P>,
     out: &mut O,
     err: &mut E,
 ) -> Status
-    ensures { (text : List ℕ) → ArePacked (text_lines text) packing.now →
-        (output : Transcript) × IsOutputOfPack (Ok text) output
+    ensures { (text : List ℕ) → ArePacked P.form (text_lines text) packing.now →
+        (output : Transcript) × IsOutputBy P.form (Ok text) output
         × Prints program.now (partial_run output)
         (over O.state out.old out.new) (over E.state err.old err.new) result }
 {
@@ -113,8 +155,8 @@ pub struct BadLine {
 
 /// The lines of a text that have ended.
 #[derive(Drop)]
-struct Packing {
-    packer: Packer,
+struct Packing<P> {
+    packer: P,
     /// The BSON of the documents before the first bad line.
     bytes: Vec<u8>,
     /// How many documents these are.
@@ -124,14 +166,14 @@ struct Packing {
     bad: Option<BadLine>,
 }
 
-impl Packing {
+impl<P: LinePacker> Packing<P> {
     /// No lines. It takes no memory yet.
-    fn new(alloc: Global) -> Packing
-        ensures none { ArePacked [] result }
+    fn new(alloc: Global, packer: P) -> Packing<P>
+        ensures none { ArePacked P.form [] result }
         ensures counts { (result.count ≡ 0) × (result.lines ≡ 0) }
     {
         Packing {
-            packer: Packer::new(alloc),
+            packer,
             bytes: Vec::new(alloc),
             count: 0,
             lines: 0,
@@ -144,8 +186,8 @@ impl Packing {
     fn pack_block(&mut self, partial: &mut Vec<u8>, block: &[u8]) -> Result<(), NoMemory>
         requires { (self.old.count ≤ self.old.lines)
             × (self.old.lines + length block.now ≤ longest_input) }
-        ensures packs { (text : List ℕ) → IsTaken text self.old partial.old.items →
-            OnOk result (IsTaken (text ++ block.now) self.new partial.new.items) }
+        ensures packs { (text : List ℕ) → IsTaken P.form text self.old partial.old.items →
+            OnOk result (IsTaken P.form (text ++ block.now) self.new partial.new.items) }
         ensures counts { OnOk result ((self.new.count ≤ self.new.lines)
             × (self.new.lines ≤ self.old.lines + length block.now)) }
     {
@@ -160,8 +202,8 @@ impl Packing {
     /// Packs the line that begins with `partial`, which is then empty, and ends with these bytes.
     fn end_line(&mut self, partial: &mut Vec<u8>, end: &[u8]) -> Result<(), NoMemory>
         requires { (self.old.count ≤ self.old.lines) × (self.old.lines ≤ longest_input) }
-        ensures packs { (lines : List (List ℕ)) → ArePacked lines self.old →
-            OnOk result (ArePacked (lines ++ (partial.old.items ++ end.now) ∷ []) self.new) }
+        ensures packs { (lines : List (List ℕ)) → ArePacked P.form lines self.old →
+            OnOk result (ArePacked P.form (lines ++ (partial.old.items ++ end.now) ∷ []) self.new) }
         ensures partial { OnOk result (partial.new.items ≡ []) }
         ensures counts { OnOk result ((self.new.count ≤ self.new.lines)
             × (self.new.lines ≡ self.old.lines + 1)) }
@@ -178,8 +220,8 @@ impl Packing {
     /// Packs a line, unless one before it is bad.
     fn pack_line(&mut self, line: &[u8]) -> Result<(), NoMemory>
         requires { (self.old.count ≤ self.old.lines) × (self.old.lines ≤ longest_input) }
-        ensures packs { (lines : List (List ℕ)) → ArePacked lines self.old →
-            OnOk result (ArePacked (lines ++ line.now ∷ []) self.new) }
+        ensures packs { (lines : List (List ℕ)) → ArePacked P.form lines self.old →
+            OnOk result (ArePacked P.form (lines ++ line.now ∷ []) self.new) }
         ensures counts { OnOk result ((self.new.count ≤ self.new.lines)
             × (self.new.lines ≡ self.old.lines + 1)) }
     {
@@ -199,7 +241,12 @@ impl Packing {
 }
 
 /// Reports how lines were packed, after the bytes on standard output.
-fn report_packing<E: Output>(alloc: Global, program: &str, packing: &Packing, err: &mut E) -> Status
+fn report_packing<P, E: Output>(
+    alloc: Global,
+    program: &str,
+    packing: &Packing<P>,
+    err: &mut E,
+) -> Status
     ensures { ReportsMessage (over E.state err.old err.new)
         (wrong_line program.now (option_map bad_line_text packing.now.bad)
         ++ (decimal packing.now.count ++ objects_packed))

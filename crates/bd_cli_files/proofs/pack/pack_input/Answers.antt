@@ -11,7 +11,7 @@ pub loop-n-init : goal.loop-n-init
 loop-n-init g c = record {
   text = [];
   turns = 0;
-  taken = rw c.new-partial.ensures.items (packs.starts c.args.packing.now c.requires.none);
+  taken = rw c.new-partial.ensures.items (packs.starts g.P.LinePacker.form c.args.packing.now c.requires.none);
   consumed = search rules;
   reads = reads_none _ [] refl;
   within = search rules;
@@ -68,6 +68,6 @@ returns-in-Ok-pack_line-clause-packs g c =
     let end : IsAtEnd after = search rules in (
       inv.text,
       (packs.all_given before after inv.text all end, end, omega (arith, inv.within), search rules),
-      packs.ends_text inv.text c.loop-n.partial.items c.loop-n.packing c.pack_line.new.self inv.taken
-          (λ lines packed. subst (λ (x : List ℕ). ArePacked (lines ++ x ∷ []) c.pack_line.new.self) c.deref.ensures.value (c.in-Ok-pack_line.ensures.packs lines packed)),
+      packs.ends_text g.P.LinePacker.form inv.text c.loop-n.partial.items c.loop-n.packing c.pack_line.new.self inv.taken
+          (λ lines packed. subst (λ (x : List ℕ). ArePacked g.P.LinePacker.form (lines ++ x ∷ []) c.pack_line.new.self) c.deref.ensures.value (c.in-Ok-pack_line.ensures.packs lines packed)),
     )

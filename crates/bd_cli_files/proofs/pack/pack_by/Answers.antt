@@ -3,7 +3,7 @@ use Rattle.bd_io_device.proofs.DevicesLemmas.{takes_none}
 use Rattle.bd_io_device.specs.Devices.{read_words}
 use Rattle.bd_cli_scan.specs.Output.{refusal_output}
 use Rattle.bd_cli_scan.proofs.OutputLemmas.{after_input}
-use Rattle.bd_cli_files.proofs.pack.pack.Goals as goal
+use Rattle.bd_cli_files.proofs.pack.pack_by.Goals as goal
 
 pub returns-in-Ok-clause-packs : goal.returns-in-Ok-clause-packs
 returns-in-Ok-clause-packs g c =
