@@ -13,7 +13,7 @@ use Rattle.bd_extjson_pack.specs.declared.line.LineFault.{LineFault}
 use Rattle.bd_extjson_pack.specs.declared.line.LineFault.TheVariants as faults
 use Rattle.bd_wide_number.specs.declared.number.Number.{Number}
 use Rattle.bd_wide_pack.specs.WideLine.{IsBad, IsMixed, IsPacked, IsRead, both, both_documents, document_of, earlier, has_no_byte}
-use Rattle.bd_wide_pack.specs.inside.Outcome.{AreOutcome, IsMade, IsNotMixed, IsOutcome, IsReportedAs, first_of}
+use Rattle.bd_wide_pack.specs.inside.Outcome.{AreOutcome, HasTexts, IsNotMixed, IsOutcome, IsReportedAs, first_of}
 use Rattle.bd_wide_pack.proofs.PlainLemmas.{plain_mixed}
 use Rattle.bd_wide_substitute.specs.Substitutes.{ArePieces, Filler, Piece, all_numbers, number, same, text, whole, with_fillers}
 use Rattle.bd_wide_substitute.specs.declared.scan.Substituted.{Substituted}
@@ -52,11 +52,11 @@ outcomes ps wholes texts (Some faults.TooLong) (Some (faults.Unread g)) h k = bo
 outcomes ps wholes texts (Some faults.TooLong) (Some faults.TooLong) h k = (h.0, k.0, both_is ps (Ok h.0) (Ok k.0) h.1 k.1, inl h.2)
 
 -- what both texts came to, by their bytes
-pub made_outcome : (line one_text other_text wholes texts : List ℕ) (made : Substituted) (m : IsMade line made) (one other first : Option LineFault) → one_text ≡ made.wholes.items → other_text ≡ made.texts.items
+pub made_outcome : (line one_text other_text wholes texts : List ℕ) (made : Substituted) (m : HasTexts line made) (one other first : Option LineFault) → one_text ≡ made.wholes.items → other_text ≡ made.texts.items
     → IsOutcome one_text wholes one → IsOutcome other_text texts other → first ≡ first_of one other → AreOutcome m.pieces wholes texts first
 made_outcome line one_text other_text wholes texts made m one other first e f h k is =
-    let h1 = subst (λ (x : List ℕ). IsOutcome x wholes one) (e ∙ m.wholes) h in
-    let k1 = subst (λ (x : List ℕ). IsOutcome x texts other) (f ∙ m.texts) k in
+    let h1 = subst (λ (x : List ℕ). IsOutcome x wholes one) (e ∙ m.is.0) h in
+    let k1 = subst (λ (x : List ℕ). IsOutcome x texts other) (f ∙ m.is.1) k in
     subst (λ (f : Option LineFault). AreOutcome m.pieces wholes texts f) (sym is) (outcomes m.pieces wholes texts one other h1 k1)
 
 module _ (line : List ℕ) (pieces : List Piece) (numbers : List Number) (are : ArePieces line pieces) (all : numbers ≡ all_numbers pieces) where

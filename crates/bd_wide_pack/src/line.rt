@@ -4,7 +4,7 @@ ghost use Rattle.std.specs.Prelude.{◌≡◌, ◌≤◌, ◌++◌, List, [], �
 ghost use Rattle.bd_value.specs.{Limits.longest_document, Tree.Doc};
 ghost use Rattle.bd_bson_view.specs.Spelling.{IsDocument};
 ghost use Rattle.bd_wide_pack.specs.WideLine.{IsBad, IsMixed, IsPacked, earlier as earlier_of, has_no_byte as has_no_byte_of};
-ghost use Rattle.bd_wide_pack.specs.inside.Outcome.{IsMade, IsNotMixed, IsOutcome, IsReportedAs, first_of};
+ghost use Rattle.bd_wide_pack.specs.inside.Outcome.{HasTexts, IsNotMixed, IsOutcome, IsReportedAs, first_of};
 ghost use Rattle.bd_wide_substitute.specs.Substitutes.{ArePieces, Piece, all_numbers};
 
 use crate::step::mix;
@@ -18,8 +18,9 @@ use std::alloc::Global;
 /// Packs lines with numbers of all types. It reuses its buffers from line to line, and has no other state.
 #[derive(Drop)]
 pub struct WidePacker {
-    alloc: Global,
     packer: Packer,
+    /// The two texts of a line with numbers.
+    made: Substituted,
     /// The document of a line with whole numbers for its numbers.
     wholes: Vec<u8>,
     /// The one with empty texts for them.
@@ -32,8 +33,8 @@ impl WidePacker {
     /// A packer that has packed nothing. It takes no memory yet.
     pub fn new(alloc: Global) -> WidePacker {
         WidePacker {
-            alloc,
             packer: Packer::new(alloc),
+            made: Substituted::new(alloc),
             wholes: Vec::new(alloc),
             texts: Vec::new(alloc),
             mixed: Vec::new(alloc),
@@ -56,11 +57,11 @@ impl WidePacker {
             × (out.new.items ≡ out.old.items))) }
         ensures err { OnErr result (out.new.items ≡ out.old.items) }
     {
-        let made = substitute(self.alloc, line)?;
-        if made.numbers.is_empty() {
-            return self.pack_plain(line, out);
+        if substitute(line, &mut self.made)? {
+            self.pack_texts(line, out)
+        } else {
+            self.pack_plain(line, out)
         }
-        self.pack_texts(line, &made, out)
     }
 
     /// The same for a line without doubles and decimal128: its bytes are those of its document of nineteen types.
@@ -80,27 +81,22 @@ impl WidePacker {
     }
 
     /// The same by the two texts of the line.
-    fn pack_texts(
-        &mut self,
-        line: &[u8],
-        made: &Substituted,
-        out: &mut Vec<u8>,
-    ) -> Result<Option<LineFault>, NoMemory>
-        requires { IsMade line.now made.now }
+    fn pack_texts(&mut self, line: &[u8], out: &mut Vec<u8>) -> Result<Option<LineFault>, NoMemory>
+        requires { HasTexts line.now self.old.made }
         ensures packed { result ≡ Ok None → (bytes : List ℕ) × IsPacked line.now bytes
             × (out.new.items ≡ out.old.items ++ bytes) }
         ensures bad { IfOk result (λ o. IfSome o (λ f. IsBad line.now f
             × (out.new.items ≡ out.old.items))) }
         ensures err { OnErr result (out.new.items ≡ out.old.items) }
     {
-        let whole = pack_text(&mut self.packer, &made.wholes, &mut self.wholes)?;
-        let text = pack_text(&mut self.packer, &made.texts, &mut self.texts)?;
+        let whole = pack_text(&mut self.packer, &self.made.wholes, &mut self.wholes)?;
+        let text = pack_text(&mut self.packer, &self.made.texts, &mut self.texts)?;
         match first_fault(whole, text) {
             Some(fault) => Ok(Some(reported(line, fault))),
             None => put_mixed(
                 &self.wholes,
                 &self.texts,
-                &made.numbers,
+                &self.made.numbers,
                 &mut self.mixed,
                 out,
             ),

@@ -1,6 +1,6 @@
 //! The examples of use in the roots of `bd_wide_read` and `bd_wide_substitute`.
 use bd_wide_read::{TextFault, read_decimal128, read_double};
-use bd_wide_substitute::substitute;
+use bd_wide_substitute::{Substituted, substitute};
 use std::test::Fail;
 
 #[test]
@@ -14,7 +14,8 @@ fn read(rt: HostRuntime) {
 #[test]
 fn substituted(rt: HostRuntime) -> Result<(), Fail> {
     let alloc = rt.alloc();
-    let made = substitute(alloc, b"[1.5,2]")?;
+    let mut made = Substituted::new(alloc);
+    assert!(rt; substitute(b"[1.5,2]", &mut made)?);
     assert!(rt; made.wholes.as_slice() == b"[0  ,2]".as_slice());
     assert!(rt; made.texts.as_slice() == b"[\"\" ,2]".as_slice());
     assert!(rt; made.numbers.len() == 1);

@@ -1,6 +1,6 @@
 //! Lines with other values for their numbers.
 use bd_wide_number::Number;
-use bd_wide_substitute::substitute;
+use bd_wide_substitute::{Substituted, substitute};
 use std::alloc::Global;
 use std::process::Abort;
 use std::test::Fail;
@@ -12,10 +12,14 @@ fn becomes(
     (line, wholes, texts): (&[u8], &[u8], &[u8]),
     count: usize,
 ) -> Result<(), Fail> {
-    let made = substitute(alloc, line)?;
-    assert!(rt; made.wholes.as_slice() == wholes);
-    assert!(rt; made.texts.as_slice() == texts);
+    let mut made = Substituted::new(alloc);
+    let has = substitute(line, &mut made)?;
+    assert!(rt; has == (count > 0));
     assert!(rt; made.numbers.len() == count);
+    if has {
+        assert!(rt; made.wholes.as_slice() == wholes);
+        assert!(rt; made.texts.as_slice() == texts);
+    }
     Ok(())
 }
 
@@ -86,7 +90,8 @@ fn others(rt: HostRuntime) -> Result<(), Fail> {
 #[test]
 fn numbers(rt: HostRuntime) -> Result<(), Fail> {
     let line = b"[1.5,{\"$numberDecimal\":\"-0.1\"},{\"$numberDouble\":\"1\"}]";
-    let made = substitute(rt.alloc(), line)?;
+    let mut made = Substituted::new(rt.alloc());
+    assert!(rt; substitute(line, &mut made)?);
     match made.numbers.as_slice() {
         [
             Number::Double(a),

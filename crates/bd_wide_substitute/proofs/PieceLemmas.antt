@@ -14,8 +14,8 @@ use Rattle.bd_wide_read.specs.declared.fault.TextFault.TheVariants.{BadText, Out
 use Rattle.bd_wide_substitute.specs.declared.scan.Substituted.{Substituted}
 use Rattle.bd_wide_substitute.specs.declared.wrapped.NumberType.{NumberType}
 use Rattle.bd_wide_substitute.specs.declared.wrapped.NumberType.TheVariants as types
-use Rattle.bd_wide_substitute.specs.Substitutes.{ArePieces, BeginsNumber, IsBare, IsBefore, IsMeant, IsRun, Piece, Wrapper, same, number, Filler, filler_of, after, after_string, after_word, all_numbers, before_brace, is_blank, is_no_quote, is_of_number, last_string, numbers_in, filled, quoted, quoted_before, strip, text, whole, with_fillers, wrapper_at, wrapper_inside}
-use Rattle.bd_wide_substitute.specs.inside.Taken.{AreTaken, IsTaken}
+use Rattle.bd_wide_substitute.specs.Substitutes.{ArePieces, BeginsNumber, IsBare, IsBefore, IsMeant, IsNoDouble, IsRun, Piece, Wrapper, same, number, Filler, filler_of, after, after_string, after_word, all_numbers, before_brace, is_blank, is_no_quote, is_of_number, last_string, numbers_in, original, filled, quoted, quoted_before, strip, text, whole, with_fillers, wrapper_at, wrapper_inside}
+use Rattle.bd_wide_substitute.specs.inside.Taken.{AreTaken, IsFound, IsPiece}
 
 -- ---- what passes a test, and what follows
 
@@ -65,103 +65,6 @@ string_prefix (c ∷ d ∷ ds) =
       ]
     ]
 
-pub string_before : (bytes cs : List ℕ) (n : ℕ) → bytes ≡ 34 ∷ cs → n ≡ length bytes - length (after_string cs)
-    → IsBefore (same (take n bytes)) (drop n bytes) × (1 ≤ n) × (n ≤ length bytes)
-string_before bytes cs n is count =
-    let f = string_prefix cs in
-    let c = split_here bytes (34 ∷ f.0) (after_string cs) n (is ∙ ap (λ t. 34 ∷ t) f.1) count in
-    (inl (f.0, c.0, ap (λ t. after_string (f.0 ++ t)) c.1 ∙ ap after_string (sym f.1) ∙ sym c.1), omega (arith, c.2), c.3)
-
-pub run_before : (bytes : List ℕ) (n : ℕ) → length (after is_of_number bytes) < length bytes → n ≡ length bytes - length (after is_of_number bytes)
-    → IsRun (take n bytes) (drop n bytes) × (1 ≤ n) × (n ≤ length bytes)
-run_before bytes n less count =
-    let s = splits is_of_number bytes in
-    let c = split_here bytes s.prefix (after is_of_number bytes) n s.is count in
-    ((ap (after is_of_number) c.0 ∙ s.all, ap (after is_of_number) c.1 ∙ s.stop ∙ sym c.1), omega arith, c.3)
-
-pub other_before : (bytes cs : List ℕ) (c : ℕ) → bytes ≡ c ∷ cs → (c ≢ 34) → is_of_number c ≡ false → ((n : Number) (more : List ℕ) → BeginsNumber bytes n more → ⊥)
-    → IsBefore (same (take 1 bytes)) (drop 1 bytes) × (1 ≤ length bytes)
-other_before bytes cs c is quote apart none =
-    let whole : c ∷ drop 1 bytes ≡ bytes = ap (λ t. c ∷ t) (ap (drop 1) is) ∙ sym is in
-    (inr (inr (c, ap (take 1) is, quote, apart, λ n more h. none n more (subst (λ b. BeginsNumber b n more) whole h))), omega (arith, ap length is))
-
-pub wrapped_before : (bytes rest : List ℕ) (x : Number) (n : ℕ) → (object : List ℕ) × (2 ≤ length object) × (bytes ≡ object ++ rest) → n ≡ length bytes - length rest
-    → BeginsNumber bytes x rest → IsBefore (number (take n bytes) x) (drop n bytes) × (2 ≤ n) × (n ≤ length bytes)
-wrapped_before bytes rest x n object count begins =
-    let c = split_here bytes object.0 rest n object.2 count in
-    let here : BeginsNumber bytes x (drop n bytes) = subst (λ r. BeginsNumber bytes x r) (sym c.1) begins in
-    (inl (subst (λ b. BeginsNumber b x (drop n bytes)) (sym (take-append-drop n bytes)) here), omega (arith, c.2, object.1), c.3)
-
-after_le : (test : ℕ → Bool) (xs : List ℕ) → length (after test xs) ≤ length xs
-after_le test xs = let s = splits test xs in omega (arith, ap length s.is, length-append s.prefix (after test xs))
-
-pub run_begins : (bytes cs : List ℕ) (c : ℕ) → bytes ≡ c ∷ cs → is_of_number c ≡ true → length (after is_of_number bytes) < length bytes
-run_begins bytes cs c is begins =
-    let one : after is_of_number bytes ≡ after is_of_number cs = ap (after is_of_number) is ∙ rw begins in
-    omega (arith, ap length one, ap length is, after_le is_of_number cs)
-
--- ---- what is appended
-
--- bytes that stay are a piece
-pub copied : {E : Type 0} (r : Result ℕ E) (bytes : List ℕ) (n : ℕ) (old new : Substituted) → IsBefore (same (take n bytes)) (drop n bytes) → 1 ≤ n → n ≤ length bytes
-    → OnOk r (new.wholes.items ≡ old.wholes.items ++ take n bytes) → OnOk r (new.texts.items ≡ old.texts.items ++ take n bytes) → OnOk r (new.numbers.items ≡ old.numbers.items)
-    → IfOk r (λ m. m ≡ n) → IfOk r (λ m. IsTaken bytes m old new)
-copied (Err e) bytes n old new before some within w t x same_n = tt
-copied (Ok m) bytes n old new before some within w t x same_n =
-    subst (λ (k : ℕ). IsTaken bytes k old new) (sym same_n) (record {
-      piece = same (take n bytes);
-      before = before;
-      is = refl;
-      wholes = w;
-      texts = t;
-      numbers = x ∙ sym (append-nil old.numbers.items);
-      some = some;
-      within = within;
-    })
-
--- the other values for a number are a piece
-pub number_put : {E : Type 0} (r : Result ℕ E) (bytes : List ℕ) (x : Number) (n : ℕ) (old new : Substituted) → IsBefore (number (take n bytes) x) (drop n bytes) → 2 ≤ n → n ≤ length bytes
-    → OnOk r (new.wholes.items ≡ old.wholes.items ++ filler_of whole n) → OnOk r (new.texts.items ≡ old.texts.items ++ filler_of text n) → OnOk r (new.numbers.items ≡ old.numbers.items ++ x ∷ [])
-    → IfOk r (λ m. m ≡ n) → IfOk r (λ m. IsTaken bytes m old new)
-number_put (Err e) bytes x n old new before some within w t y same_n = tt
-number_put (Ok m) bytes x n old new before some within w t y same_n =
-    let long : n ≡ length (take n bytes) = omega (arith, length-take n bytes) in
-    subst (λ (k : ℕ). IsTaken bytes k old new) (sym same_n) (record {
-      piece = number (take n bytes) x;
-      before = before;
-      is = refl;
-      wholes = w ∙ ap (λ (k : ℕ). old.wholes.items ++ filler_of whole k) long;
-      texts = t ∙ ap (λ (k : ℕ). old.texts.items ++ filler_of text k) long;
-      numbers = y;
-      some = omega arith;
-      within = within;
-    })
-
--- ---- all pieces
-
-filled_more : (s : Filler) (ps : List Piece) (p : Piece) → with_fillers s (ps ++ (p ∷ [])) ≡ with_fillers s ps ++ filled s p
-filled_more s [] p = append-nil (filled s p)
-filled_more s (q ∷ qs) p = ap (λ t. filled s q ++ t) (filled_more s qs p) ∙ sym (append_assoc (filled s q) (with_fillers s qs) (filled s p))
-
-numbers_more : (ps : List Piece) (p : Piece) → all_numbers (ps ++ (p ∷ [])) ≡ all_numbers ps ++ numbers_in p
-numbers_more [] p = append-nil (numbers_in p)
-numbers_more (q ∷ qs) p = ap (λ t. numbers_in q ++ t) (numbers_more qs p) ∙ sym (append_assoc (numbers_in q) (all_numbers qs) (numbers_in p))
-
-pub taken_next : (line rest : List ℕ) (n : ℕ) (old new : Substituted) → AreTaken line rest old → IsTaken rest n old new → AreTaken line (drop n rest) new
-taken_next line rest n old new all one = record {
-  pieces = all.pieces ++ (one.piece ∷ []);
-  before = λ more h. subst (ArePieces line) (sym (append_assoc all.pieces (one.piece ∷ []) more))
-      (all.before (one.piece ∷ more) (drop n rest, sym (take-append-drop n rest) ∙ ap (λ t. t ++ drop n rest) (sym one.is), one.before, h));
-  wholes = one.wholes ∙ ap (λ t. t ++ filled whole one.piece) all.wholes ∙ sym (filled_more whole all.pieces one.piece);
-  texts = one.texts ∙ ap (λ t. t ++ filled text one.piece) all.texts ∙ sym (filled_more text all.pieces one.piece);
-  numbers = one.numbers ∙ ap (λ t. t ++ numbers_in one.piece) all.numbers ∙ sym (numbers_more all.pieces one.piece);
-}
-
-pub taken_all : (line rest : List ℕ) (made : Substituted) → AreTaken line rest made → length rest < 1
-    → (pieces : List Piece) × ArePieces line pieces × (made.wholes.items ≡ with_fillers whole pieces) × (made.texts.items ≡ with_fillers text pieces) × (made.numbers.items ≡ all_numbers pieces)
-taken_all line [] made all none = (all.pieces, subst (ArePieces line) (append-nil all.pieces) (all.before [] refl), all.wholes, all.texts, all.numbers)
-taken_all line (c ∷ cs) made all none = absurd (omega arith)
-
 -- ---- numbers
 
 -- a number with a fraction or an exponent has two bytes at least
@@ -181,8 +84,176 @@ bare_long bits [] h = absurd (let e = h.0 in cc)
 bare_long bits (c ∷ d ∷ cs) h = omega arith
 bare_long bits (c ∷ []) h = absurd (alone c h.0 (number_of (c ∷ []) bits h.1))
 
-pub run_long : (bits : ℕ) (bytes run : List ℕ) (n : ℕ) → IsBare (Double bits) run → run ≡ take n bytes → n ≤ length bytes → 2 ≤ n
-run_long bits bytes run n bare is within = omega (arith, bare_long bits run bare, ap length is, length-take n bytes, within)
+-- ---- pieces at the start
+
+string_before : (bytes cs : List ℕ) (n : ℕ) → bytes ≡ 34 ∷ cs → n ≡ length bytes - length (after_string cs)
+    → IsBefore (same (take n bytes)) (drop n bytes) × (1 ≤ n) × (n ≤ length bytes)
+string_before bytes cs n is count =
+    let f = string_prefix cs in
+    let c = split_here bytes (34 ∷ f.0) (after_string cs) n (is ∙ ap (λ t. 34 ∷ t) f.1) count in
+    (inl (f.0, c.0, ap (λ t. after_string (f.0 ++ t)) c.1 ∙ ap after_string (sym f.1) ∙ sym c.1), omega (arith, c.2), c.3)
+
+pub string_found : (bytes cs : List ℕ) (n : ℕ) → bytes ≡ 34 ∷ cs → n ≡ length bytes - length (after_string cs) → IsFound bytes n None
+string_found bytes cs n is count =
+    let b = string_before bytes cs n is count in
+    record { piece = same (take n bytes); is = refl; before = b.0; some = b.1; within = b.2 }
+
+run_before : (bytes : List ℕ) (n : ℕ) → length (after is_of_number bytes) < length bytes → n ≡ length bytes - length (after is_of_number bytes)
+    → IsRun (take n bytes) (drop n bytes) × (1 ≤ n) × (n ≤ length bytes)
+run_before bytes n less count =
+    let s = splits is_of_number bytes in
+    let c = split_here bytes s.prefix (after is_of_number bytes) n s.is count in
+    ((ap (after is_of_number) c.0 ∙ s.all, ap (after is_of_number) c.1 ∙ s.stop ∙ sym c.1), omega arith, c.3)
+
+module _ (bytes run : List ℕ) (n : ℕ) (less : length (after is_of_number bytes) < length bytes) (count : n ≡ length bytes - length (after is_of_number bytes)) (is : run ≡ take n bytes) where
+  pub run_found : IsNoDouble run → IsFound bytes n None
+  run_found none =
+      let b = run_before bytes n less count in
+      record { piece = same (take n bytes); is = refl; before = inr (inl (b.0, subst IsNoDouble is none)); some = b.1; within = b.2 }
+
+  pub double_found : (bits : ℕ) → IsBare (Double bits) run → IsFound bytes n (Some (Double bits))
+  double_found bits bare =
+      let b = run_before bytes n less count in
+      let long : 2 ≤ n = omega (arith, bare_long bits run bare, ap length is, length-take n bytes, b.2) in
+      record { piece = number (take n bytes) (Double bits); is = (refl, refl, long); before = inr (subst (IsBare (Double bits)) is bare, b.0); some = b.1; within = b.2 }
+
+pub other_found : (bytes cs : List ℕ) (c : ℕ) → bytes ≡ c ∷ cs → (c ≢ 34) → is_of_number c ≡ false → ((n : Number) (more : List ℕ) → BeginsNumber bytes n more → ⊥) → IsFound bytes 1 None
+other_found bytes cs c is quote apart none =
+    let whole : c ∷ drop 1 bytes ≡ bytes = ap (λ t. c ∷ t) (ap (drop 1) is) ∙ sym is in
+    record {
+      piece = same (take 1 bytes);
+      is = refl;
+      before = inr (inr (c, ap (take 1) is, quote, apart, λ n more h. none n more (subst (λ b. BeginsNumber b n more) whole h)));
+      some = omega arith;
+      within = omega (arith, ap length is);
+    }
+
+pub wrapped_found : (bytes rest : List ℕ) (x : Number) (n : ℕ) → (object : List ℕ) × (2 ≤ length object) × (bytes ≡ object ++ rest) → n ≡ length bytes - length rest
+    → BeginsNumber bytes x rest → IsFound bytes n (Some x)
+wrapped_found bytes rest x n object count begins =
+    let c = split_here bytes object.0 rest n object.2 count in
+    let here : BeginsNumber bytes x (drop n bytes) = subst (λ r. BeginsNumber bytes x r) (sym c.1) begins in
+    let long : 2 ≤ n = omega (arith, c.2, object.1) in
+    record {
+      piece = number (take n bytes) x;
+      is = (refl, refl, long);
+      before = inl (subst (λ b. BeginsNumber b x (drop n bytes)) (sym (take-append-drop n bytes)) here);
+      some = omega (arith, long);
+      within = c.3;
+    }
+
+after_le : (test : ℕ → Bool) (xs : List ℕ) → length (after test xs) ≤ length xs
+after_le test xs = let s = splits test xs in omega (arith, ap length s.is, length-append s.prefix (after test xs))
+
+pub run_begins : (bytes cs : List ℕ) (c : ℕ) → bytes ≡ c ∷ cs → is_of_number c ≡ true → length (after is_of_number bytes) < length bytes
+run_begins bytes cs c is begins =
+    let one : after is_of_number bytes ≡ after is_of_number cs = ap (after is_of_number) is ∙ rw begins in
+    omega (arith, ap length one, ap length is, after_le is_of_number cs)
+
+-- ---- all pieces
+
+filled_more : (s : Filler) (ps : List Piece) (p : Piece) → with_fillers s (ps ++ (p ∷ [])) ≡ with_fillers s ps ++ filled s p
+filled_more s [] p = append-nil (filled s p)
+filled_more s (q ∷ qs) p = ap (λ t. filled s q ++ t) (filled_more s qs p) ∙ sym (append_assoc (filled s q) (with_fillers s qs) (filled s p))
+
+numbers_more : (ps : List Piece) (p : Piece) → all_numbers (ps ++ (p ∷ [])) ≡ all_numbers ps ++ numbers_in p
+numbers_more [] p = append-nil (numbers_in p)
+numbers_more (q ∷ qs) p = ap (λ t. numbers_in q ++ t) (numbers_more qs p) ∙ sym (append_assoc (numbers_in q) (all_numbers qs) (numbers_in p))
+
+start : (line : List ℕ) (made : Substituted) → made.wholes.items ≡ [] → made.texts.items ≡ [] → made.numbers.items ≡ [] → AreTaken line line line made
+start line made w t n = record {
+  pieces = [];
+  before = λ more h. h;
+  skipped = [];
+  split = refl;
+  wholes = ap (λ (x : List ℕ). x ++ []) w;
+  texts = ap (λ (x : List ℕ). x ++ []) t;
+  numbers = n;
+}
+
+pub taken_none : (line : List ℕ) (made : Substituted) → (made.wholes.items ≡ []) × (made.texts.items ≡ []) × (made.numbers.items ≡ []) → AreTaken line line line made
+taken_none line made e = start line made e.0 e.1 e.2
+
+module _ (line pending rest : List ℕ) (n : ℕ) (old : Substituted) (all : AreTaken line pending rest old) where
+  more_before : (p : Piece) → original p ≡ take n rest → IsBefore p (drop n rest) → (more : List Piece) → ArePieces (drop n rest) more → ArePieces line ((all.pieces ++ (p ∷ [])) ++ more)
+  more_before p is here more h = subst (ArePieces line) (sym (append_assoc all.pieces (p ∷ []) more))
+      (all.before (p ∷ more) (drop n rest, sym (take-append-drop n rest) ∙ ap (λ t. t ++ drop n rest) (sym is), here, h))
+
+  filled_on : (s : Filler) (made : List ℕ) (p : Piece) → made ++ all.skipped ≡ with_fillers s all.pieces → (made ++ all.skipped) ++ filled s p ≡ with_fillers s (all.pieces ++ (p ∷ []))
+  filled_on s made p e = ap (λ t. t ++ filled s p) e ∙ sym (filled_more s all.pieces p)
+
+  -- one more piece that stays
+  same_on : (first : List ℕ) → first ≡ take n rest → IsBefore (same first) (drop n rest) → AreTaken line pending (drop n rest) old
+  same_on first is here = record {
+    pieces = all.pieces ++ (same first ∷ []);
+    before = more_before (same first) is here;
+    skipped = all.skipped ++ first;
+    split = all.split ∙ ap (λ t. all.skipped ++ t) (sym (take-append-drop n rest) ∙ ap (λ t. t ++ drop n rest) (sym is)) ∙ sym (append_assoc all.skipped first (drop n rest));
+    wholes = sym (append_assoc old.wholes.items all.skipped first) ∙ filled_on whole old.wholes.items (same first) all.wholes;
+    texts = sym (append_assoc old.texts.items all.skipped first) ∙ filled_on text old.texts.items (same first) all.texts;
+    numbers = all.numbers ∙ sym (append-nil (all_numbers all.pieces)) ∙ sym (numbers_more all.pieces (same first));
+  }
+
+  taken_same : IsFound rest n None → AreTaken line pending (drop n rest) old
+  taken_same found = go found.piece found.is found.before
+    where
+      go : (p : Piece) → IsPiece rest n None p → IsBefore p (drop n rest) → AreTaken line pending (drop n rest) old
+      go (same first) is here = same_on first is here
+      go (number first x) is here = absurd is
+
+  pub taken_other : (found : Option Number) → IsFound rest n found → ((x : Number) → found ≡ Some x → ⊥) → AreTaken line pending (drop n rest) old
+  taken_other None h none = taken_same h
+  taken_other (Some x) h none = absurd (none x refl)
+
+  -- the bytes before a number
+  skipped_is : (before : List ℕ) → before ≡ take (length pending - length rest) pending → before ≡ all.skipped
+  skipped_is before is =
+      let long : length pending ≡ length all.skipped + length rest = ap length all.split ∙ length-append all.skipped rest in
+      is ∙ ap (take (length pending - length rest)) all.split ∙ take_at all.skipped rest (length pending - length rest) (omega arith)
+
+  number_on : (new : Substituted) (x : Number) (first : List ℕ) → first ≡ take n rest → n ≤ length rest → IsBefore (number first x) (drop n rest)
+      → new.wholes.items ≡ old.wholes.items ++ (all.skipped ++ filler_of whole n) → new.texts.items ≡ old.texts.items ++ (all.skipped ++ filler_of text n) → new.numbers.items ≡ old.numbers.items ++ x ∷ []
+      → AreTaken line (drop n rest) (drop n rest) new
+  number_on new x first is within here w t k =
+      let long : n ≡ length first = omega (arith, ap length is, length-take n rest) in
+      let p : Piece = number first x in
+      let both = λ (s : Filler) (made put : List ℕ) (e : made ++ all.skipped ≡ with_fillers s all.pieces) (f : put ≡ made ++ (all.skipped ++ filler_of s n)).
+          append-nil put ∙ f ∙ sym (append_assoc made all.skipped (filler_of s n)) ∙ ap (λ (k : ℕ). (made ++ all.skipped) ++ filler_of s k) long ∙ filled_on s made p e in
+      record {
+        pieces = all.pieces ++ (p ∷ []);
+        before = more_before p is here;
+        skipped = [];
+        split = refl;
+        wholes = both whole old.wholes.items new.wholes.items all.wholes w;
+        texts = both text old.texts.items new.texts.items all.texts t;
+        numbers = k ∙ ap (λ (y : List Number). y ++ x ∷ []) all.numbers ∙ sym (numbers_more all.pieces p);
+      }
+
+  pub taken_number : (new : Substituted) (x : Number) (before : List ℕ) → before ≡ take (length pending - length rest) pending → IsFound rest n (Some x)
+      → new.wholes.items ≡ old.wholes.items ++ (before ++ filler_of whole n) → new.texts.items ≡ old.texts.items ++ (before ++ filler_of text n) → new.numbers.items ≡ old.numbers.items ++ x ∷ []
+      → AreTaken line (drop n rest) (drop n rest) new
+  taken_number new x before is found w t k =
+      let e = skipped_is before is in
+      let w1 = w ∙ ap (λ (y : List ℕ). old.wholes.items ++ (y ++ filler_of whole n)) e in
+      let t1 = t ∙ ap (λ (y : List ℕ). old.texts.items ++ (y ++ filler_of text n)) e in
+      go found.piece found.is found.before w1 t1
+    where
+      go : (p : Piece) → IsPiece rest n (Some x) p → IsBefore p (drop n rest) → new.wholes.items ≡ old.wholes.items ++ (all.skipped ++ filler_of whole n)
+          → new.texts.items ≡ old.texts.items ++ (all.skipped ++ filler_of text n) → AreTaken line (drop n rest) (drop n rest) new
+      go (same first) h here w1 t1 = absurd h
+      go (number first y) h here w1 t1 = number_on new x first h.0 found.within (subst (λ (z : Number). IsBefore (number first z) (drop n rest)) (sym h.1) here) w1 t1 k
+
+-- nothing remains
+pub taken_all : (line pending rest : List ℕ) (made : Substituted) → AreTaken line pending rest made → length rest < 1 → made.numbers.items ≡ [] → (pieces : List Piece) × ArePieces line pieces × (all_numbers pieces ≡ [])
+taken_all line pending [] made all none empty = (all.pieces, subst (ArePieces line) (append-nil all.pieces) (all.before [] refl), sym all.numbers ∙ empty)
+taken_all line pending (c ∷ cs) made all none empty = absurd (omega arith)
+
+pub taken_both : (line pending rest wholes texts : List ℕ) (numbers : List Number) (made : Substituted) → AreTaken line pending rest made → length rest < 1 → wholes ≡ made.wholes.items ++ pending → texts ≡ made.texts.items ++ pending
+    → numbers ≡ made.numbers.items → (pieces : List Piece) × ArePieces line pieces × ((wholes ≡ with_fillers whole pieces) × (texts ≡ with_fillers text pieces) × (numbers ≡ all_numbers pieces))
+taken_both line pending [] wholes texts numbers made all none w t n =
+    let e : pending ≡ all.skipped = all.split ∙ append-nil all.skipped in
+    (all.pieces, subst (ArePieces line) (append-nil all.pieces) (all.before [] refl), (w ∙ ap (λ (x : List ℕ). made.wholes.items ++ x) e ∙ all.wholes, t ∙ ap (λ (x : List ℕ). made.texts.items ++ x) e ∙ all.texts, n ∙ all.numbers))
+taken_both line pending (c ∷ cs) wholes texts numbers made all none w t n = absurd (omega arith)
 
 -- ---- wrappers
 

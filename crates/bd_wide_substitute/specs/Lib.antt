@@ -1,3 +1,4 @@
-pub mod Substitutes
+pub mod Made
 pub mod Reported
+pub mod Substitutes
 pub mod inside

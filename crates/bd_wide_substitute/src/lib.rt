@@ -6,12 +6,13 @@
 //! of the numbers, in order; and a number that is no value, as in a date, is refused in one of them. What is not spelled as a
 //! number stays, and is refused in both.
 //!
-//! What the two texts are: `specs/Substitutes.antt`. What a fault of one of them says of the line: `specs/Reported.antt`.
+//! What the two texts are: `specs/Substitutes.antt`, `specs/Made.antt`. What a fault of one of them says of the line: `specs/Reported.antt`.
 //!
 //! An example, which `bd_wide_read_tests` proves and runs as `examples::substituted`:
 //!
 //! ```
-//! let made = substitute(alloc, b"[1.5,2]")?;
+//! let mut made = Substituted::new(alloc);
+//! assert!(rt; substitute(b"[1.5,2]", &mut made)?);
 //! assert!(rt; made.wholes.as_slice() == b"[0  ,2]".as_slice());
 //! assert!(rt; made.texts.as_slice() == b"[\"\" ,2]".as_slice());
 //! assert!(rt; made.numbers.len() == 1);

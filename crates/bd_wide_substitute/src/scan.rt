@@ -1,9 +1,10 @@
 //! The two texts, from the start of a text to its end.
 
-ghost use Rattle.std.specs.Prelude.{◌≡◌, ◌≤◌, ◌<◌, ◌++◌, ◌∷◌, [], List, ℕ, IfOk, IfNone, IfSome, OnOk, length, replicate, take};
+ghost use Rattle.std.specs.Prelude.{◌≡◌, ◌≤◌, ◌<◌, ◌++◌, ◌∷◌, [], List, ℕ, IfOk, IfNone, IfSome, OnOk, length, replicate};
 ghost use Rattle.bd_wide_number.specs.declared.number.Number.TheVariants.{Double};
-ghost use Rattle.bd_wide_substitute.specs.Substitutes.{ArePieces, IsBare, IsNoDouble, Piece, after, all_numbers, is_of_number as is_of_number_of, filler_of, text, whole, with_fillers};
-ghost use Rattle.bd_wide_substitute.specs.inside.Taken.{IsTaken};
+ghost use Rattle.bd_wide_substitute.specs.Made.{IsMade};
+ghost use Rattle.bd_wide_substitute.specs.Substitutes.{ArePieces, IsBare, IsNoDouble, Piece, after, filler_of, is_of_number as is_of_number_of, text, whole};
+ghost use Rattle.bd_wide_substitute.specs.inside.Taken.{IsFound};
 
 use crate::blank::{has_fraction_or_exponent, is_of_number, skip_run, skip_string};
 use crate::wrapped::wrapped_number;
@@ -23,62 +24,90 @@ pub struct Substituted {
     pub numbers: Vec<Number>,
 }
 
-/// The texts with other values for the doubles and decimal128 of a text.
-pub fn substitute(alloc: Global, line: &[u8]) -> Result<Substituted, NoMemory>
-    ensures { IfOk result (λ made. (pieces : List Piece) × ArePieces line.now pieces
-        × (made.wholes.items ≡ with_fillers whole pieces)
-        × (made.texts.items ≡ with_fillers text pieces)
-        × (made.numbers.items ≡ all_numbers pieces)) }
+/// Makes the texts with other values for the doubles and decimal128 of a line. False if it has none: then nothing is copied.
+pub fn substitute(line: &[u8], made: &mut Substituted) -> Result<bool, NoMemory>
+    ensures { IfOk result (λ has. (pieces : List Piece) × ArePieces line.now pieces
+        × IsMade has pieces made.new) }
 {
-    let mut made = Substituted {
-        wholes: Vec::new(alloc),
-        texts: Vec::new(alloc),
-        numbers: Vec::new(alloc),
-    };
+    made.clear();
+    let mut pending = line;
     let mut rest = line;
     while let [first, ..] = rest {
-        let n = take_piece(*first, rest, &mut made)?;
-        rest = rest.split_at(n).1;
+        let found = next_piece(*first, rest);
+        let (_, after) = rest.split_at(found.count);
+        if let Some(number) = found.number {
+            let (before, _) = pending.split_at(pending.len() - rest.len());
+            made.put(before, number, found.count)?;
+            pending = after;
+        }
+        rest = after;
     }
-    Ok(made)
+    if made.numbers.is_empty() {
+        return Ok(false);
+    }
+    made.wholes.extend_from_slice(pending)?;
+    made.texts.extend_from_slice(pending)?;
+    Ok(true)
 }
 
-/// Appends for the piece that begins with a byte, and says how many bytes it has.
-fn take_piece(first: u8, bytes: &[u8], made: &mut Substituted) -> Result<usize, NoMemory>
+/// A piece of a text: how many bytes it has, and which number it is, if it is one.
+#[derive(Clone, Copy)]
+struct Found {
+    count: usize,
+    number: Option<Number>,
+}
+
+/// The piece that begins with a byte.
+fn next_piece(first: u8, bytes: &[u8]) -> Found
     requires { (cs : List ℕ) × (bytes.now ≡ first ∷ cs) }
-    ensures { IfOk result (λ n. IsTaken bytes.now n made.old made.new) }
+    ensures { IsFound bytes.now result.count result.number }
 {
     if first == b'"' {
-        return take_string(bytes, made);
+        return string_piece(bytes);
     }
     if is_of_number(first) {
-        return take_run(bytes, made);
+        return run_piece(bytes);
     }
     match wrapped_number(bytes) {
-        Some((number, rest)) => put_number(number, bytes.len() - rest.len(), made),
-        None => copy(bytes, 1, made),
+        Some((number, rest)) => Found {
+            count: bytes.len() - rest.len(),
+            number: Some(number),
+        },
+        None => Found {
+            count: 1,
+            number: None,
+        },
     }
 }
 
-/// Appends a string to both texts.
-fn take_string(bytes: &[u8], made: &mut Substituted) -> Result<usize, NoMemory>
+/// The same for a string.
+fn string_piece(bytes: &[u8]) -> Found
     requires { (cs : List ℕ) × (bytes.now ≡ 34 ∷ cs) }
-    ensures { IfOk result (λ n. IsTaken bytes.now n made.old made.new) }
+    ensures { IsFound bytes.now result.count result.number }
 {
     let (_, inside) = bytes.split_at(1);
-    copy(bytes, bytes.len() - skip_string(inside).len(), made)
+    Found {
+        count: bytes.len() - skip_string(inside).len(),
+        number: None,
+    }
 }
 
-/// Appends for a run of bytes of numbers.
-fn take_run(bytes: &[u8], made: &mut Substituted) -> Result<usize, NoMemory>
+/// The same for a run of bytes of numbers.
+fn run_piece(bytes: &[u8]) -> Found
     requires { length (after is_of_number_of bytes.now) < length bytes.now }
-    ensures { IfOk result (λ n. IsTaken bytes.now n made.old made.new) }
+    ensures { IsFound bytes.now result.count result.number }
 {
-    let n = bytes.len() - skip_run(bytes).len();
-    let (run, _) = bytes.split_at(n);
+    let count = bytes.len() - skip_run(bytes).len();
+    let (run, _) = bytes.split_at(count);
     match bare_number(run) {
-        Some(bits) => put_number(Number::Double(bits), n, made),
-        None => copy(bytes, n, made),
+        Some(bits) => Found {
+            count,
+            number: Some(Number::Double(bits)),
+        },
+        None => Found {
+            count,
+            number: None,
+        },
     }
 }
 
@@ -93,45 +122,52 @@ fn bare_number(run: &[u8]) -> Option<u64>
     read_number(run).ok()
 }
 
-/// Appends the first n bytes to both texts.
-fn copy(bytes: &[u8], n: usize, made: &mut Substituted) -> Result<usize, NoMemory>
-    requires { n ≤ length bytes.now }
-    ensures wholes { OnOk result
-        (made.new.wholes.items ≡ made.old.wholes.items ++ take n bytes.now) }
-    ensures texts { OnOk result (made.new.texts.items ≡ made.old.texts.items ++ take n bytes.now) }
-    ensures numbers { OnOk result (made.new.numbers.items ≡ made.old.numbers.items) }
-    ensures n { IfOk result (λ m. m ≡ n) }
-{
-    let (same, _) = bytes.split_at(n);
-    made.wholes.extend_from_slice(same)?;
-    made.texts.extend_from_slice(same)?;
-    Ok(n)
+impl Substituted {
+    /// Two empty texts. They take no memory yet.
+    pub fn new(alloc: Global) -> Substituted {
+        Substituted {
+            wholes: Vec::new(alloc),
+            texts: Vec::new(alloc),
+            numbers: Vec::new(alloc),
+        }
+    }
+
+    /// Leaves the texts empty.
+    fn clear(&mut self)
+        ensures { (self.new.wholes.items ≡ []) × (self.new.texts.items ≡ [])
+            × (self.new.numbers.items ≡ []) }
+    {
+        self.wholes.clear();
+        self.texts.clear();
+        self.numbers.clear();
+    }
+
+    /// Appends the bytes before a number to both texts, and the other values for the number, which has this count of bytes.
+    fn put(&mut self, before: &[u8], number: Number, count: usize) -> Result<(), NoMemory>
+        requires { 2 ≤ count }
+        ensures wholes { OnOk result (self.new.wholes.items
+            ≡ self.old.wholes.items ++ (before.now ++ filler_of whole count)) }
+        ensures texts { OnOk result (self.new.texts.items
+            ≡ self.old.texts.items ++ (before.now ++ filler_of text count)) }
+        ensures numbers { OnOk result (self.new.numbers.items
+            ≡ self.old.numbers.items ++ number ∷ []) }
+    {
+        self.wholes.extend_from_slice(before)?;
+        self.wholes.push(b'0')?;
+        put_blanks(count - 1, &mut self.wholes)?;
+        self.texts.extend_from_slice(before)?;
+        self.texts.extend_from_slice(b"\"\"")?;
+        put_blanks(count - 2, &mut self.texts)?;
+        self.numbers.push(number)?;
+        Ok(())
+    }
 }
 
-/// Appends the other values for a number of n bytes.
-fn put_number(number: Number, n: usize, made: &mut Substituted) -> Result<usize, NoMemory>
-    requires { 2 ≤ n }
-    ensures wholes { OnOk result (made.new.wholes.items
-        ≡ made.old.wholes.items ++ filler_of whole n) }
-    ensures texts { OnOk result (made.new.texts.items
-        ≡ made.old.texts.items ++ filler_of text n) }
-    ensures numbers { OnOk result (made.new.numbers.items
-        ≡ made.old.numbers.items ++ number ∷ []) }
-    ensures n { IfOk result (λ m. m ≡ n) }
+/// Appends blanks.
+fn put_blanks(count: usize, out: &mut Vec<u8>) -> Result<(), NoMemory>
+    ensures { OnOk result (out.new.items ≡ out.old.items ++ replicate count 32) }
 {
-    made.wholes.push(b'0')?;
-    put_blanks(n - 1, &mut made.wholes)?;
-    made.texts.extend_from_slice(b"\"\"")?;
-    put_blanks(n - 2, &mut made.texts)?;
-    made.numbers.push(number)?;
-    Ok(n)
-}
-
-/// Appends n blanks.
-fn put_blanks(n: usize, out: &mut Vec<u8>) -> Result<(), NoMemory>
-    ensures { OnOk result (out.new.items ≡ out.old.items ++ replicate n 32) }
-{
-    for _ in 0..n {
+    for _ in 0..count {
         out.push(b' ')?;
     }
     Ok(())

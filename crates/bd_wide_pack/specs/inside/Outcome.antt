@@ -1,5 +1,5 @@
 -- What the packing of a text came to: used only in proofs.
-use Rattle.std.specs.Prelude.{◌≡◌, ◌<◌, ◌⊎◌, ℕ, List, [], length, drop, Option, Some, None, Ok, Err}
+use Rattle.std.specs.Prelude.{◌≡◌, ◌<◌, ◌⊎◌, ℕ, true, List, [], length, drop, Option, Some, None, Ok, Err}
 use Rattle.bd_value.specs.{Limits.longest_document, Tree.Doc}
 use Rattle.bd_value.specs.Tree.{Fields, fields_of}
 use Rattle.bd_bson_view.specs.Spelling.{IsDocument}
@@ -9,7 +9,8 @@ use Rattle.bd_extjson_pack.specs.declared.line.LineFault.TheVariants as faults
 use Rattle.bd_extjson_fault.specs.declared.json_fault.JsonFaultKind.TheVariants as kinds
 use Rattle.bd_wide_number.specs.declared.number.Number.{Number}
 use Rattle.bd_wide_pack.specs.Filled.{AreFilled}
-use Rattle.bd_wide_substitute.specs.Substitutes.{ArePieces, Piece, all_numbers, text, whole, with_fillers}
+use Rattle.bd_wide_substitute.specs.Substitutes.{ArePieces, Piece}
+use Rattle.bd_wide_substitute.specs.Made.{IsMade}
 use Rattle.bd_wide_substitute.specs.Reported.{IsReported}
 use Rattle.bd_wide_substitute.specs.declared.scan.Substituted.{Substituted}
 use Rattle.bd_wide_pack.specs.WideLine.{IsMixed, both_documents, document_of, earlier}
@@ -44,15 +45,13 @@ IsNotMixed wholes texts numbers (faults.Unread fault) =
 IsNotMixed wholes texts numbers faults.TooLong =
     (bytes : List ℕ) × IsMixed wholes texts numbers bytes × (longest_document < length bytes)
 
--- What was made of a line: its two texts and its numbers
-pub record IsMade (line : List ℕ) (made : Substituted) : Type 0 where
+-- These are the two texts of a line, and its numbers.
+pub record HasTexts (line : List ℕ) (made : Substituted) : Type 0 where
   pub pieces : List Piece
   pub are : ArePieces line pieces
-  pub wholes : made.wholes.items ≡ with_fillers whole pieces
-  pub texts : made.texts.items ≡ with_fillers text pieces
-  pub numbers : made.numbers.items ≡ all_numbers pieces
+  pub is : IsMade true pieces made
 
--- This fault of a text is reported of the line as that one.
+-- This fault of a text is reported as that one of the line.
 abbrev pub IsReportedAs : List ℕ → LineFault → LineFault → Type 0
 IsReportedAs line (faults.Unread f) (faults.Unread g) = (g.at ≡ f.at) × IsReported (drop f.at line) f.kind g.kind
 IsReportedAs line (faults.Unread f) faults.TooLong = ⊥
