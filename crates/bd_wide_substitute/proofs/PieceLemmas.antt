@@ -218,7 +218,7 @@ module _ (line pending rest : List ℕ) (n : ℕ) (old : Substituted) (all : Are
       let long : n ≡ length first = omega (arith, ap length is, length-take n rest) in
       let p : Piece = number first x in
       let both = λ (s : Filler) (made put : List ℕ) (e : made ++ all.skipped ≡ with_fillers s all.pieces) (f : put ≡ made ++ (all.skipped ++ filler_of s n)).
-          append-nil put ∙ f ∙ sym (append_assoc made all.skipped (filler_of s n)) ∙ ap (λ (k : ℕ). (made ++ all.skipped) ++ filler_of s k) long ∙ filled_on s made p e in
+      append-nil put ∙ f ∙ sym (append_assoc made all.skipped (filler_of s n)) ∙ ap (λ (k : ℕ). (made ++ all.skipped) ++ filler_of s k) long ∙ filled_on s made p e in
       record {
         pieces = all.pieces ++ (p ∷ []);
         before = more_before p is here;
