@@ -16,9 +16,11 @@ function __bsonwide_needs_file
 end
 
 complete -c bsonwide -f
-complete -c bsonwide -n 'not __bsonwide_command dump check order' -a dump -d 'print each document as a line'
-complete -c bsonwide -n 'not __bsonwide_command dump check order' -a check -d 'tell the first fault of each document'
-complete -c bsonwide -n 'not __bsonwide_command dump check order' -a order -d 'rewrite numbers as whole numbers, for bsonfind find and serve'
-complete -c bsonwide -n 'not __bsonwide_command dump check order' -s h -l help -d 'print the usage'
-complete -c bsonwide -n '__bsonwide_needs_file dump check order' -a - -d 'standard input'
+complete -c bsonwide -n 'not __bsonwide_command dump check pack order' -a dump -d 'print each document as a line'
+complete -c bsonwide -n 'not __bsonwide_command dump check pack order' -a check -d 'tell the first fault of each document'
+complete -c bsonwide -n 'not __bsonwide_command dump check pack order' -a pack -d 'turn lines of Extended JSON into a dump'
+complete -c bsonwide -n 'not __bsonwide_command dump check pack order' -a order -d 'rewrite numbers as whole numbers, for bsonfind find and serve'
+complete -c bsonwide -n 'not __bsonwide_command dump check pack order' -s h -l help -d 'print the usage'
+complete -c bsonwide -n '__bsonwide_needs_file dump check pack order' -a - -d 'standard input'
 complete -c bsonwide -n '__bsonwide_needs_file dump check order' -k -a '(__fish_complete_suffix .bson)'
+complete -c bsonwide -n '__bsonwide_needs_file pack' -F

@@ -21,7 +21,7 @@ from support import ROOT
 
 COMPLETIONS = ROOT / "completions"
 COMMANDS = {"dump", "check", "pack", "find", "serve"}
-FILTERS = {"dump", "check", "order"}
+OF_WIDE = {"dump", "check", "pack", "order"}
 OPTIONS = {"--query", "--sort", "--skip", "--limit", "--batch", "--index", "--after"}
 DUMPS = {"one.bson", "two.bson", "room/"}
 OTHERS = {"lines.jsonl"}
@@ -62,12 +62,16 @@ OF_BSONFIND: list[Row] = [
     *((f"find {option}=", set(), set()) for option in sorted(OPTIONS)),
 ]
 OF_BSONWIDE: list[Row] = [
-    ("", FILTERS, HELP),
+    ("", OF_WIDE, HELP),
     ("-", {"--help"}, HELP),
     ("o", {"order"}, set()),
+    ("pack ", DUMPS | OTHERS | {"-"}, set()),
+    ("pack l", {"lines.jsonl"}, set()),
+    ("pack -- ", DUMPS | OTHERS | {"-"}, set()),
+    ("pack lines.jsonl ", set(), set()),
     *(
         row
-        for name in sorted(FILTERS)
+        for name in sorted(OF_WIDE - {"pack"})
         for row in (
             (f"{name} ", DUMPS | {"-"}, OTHERS),
             (f"{name} o", {"one.bson"}, set()),
@@ -77,7 +81,7 @@ OF_BSONWIDE: list[Row] = [
     ),
 ]
 ROWS = {"bsonfind": OF_BSONFIND, "bsonwide": OF_BSONWIDE}
-KNOWN = COMMANDS | FILTERS | OPTIONS | DUMPS | OTHERS | HELP | {"-"}
+KNOWN = COMMANDS | OF_WIDE | OPTIONS | DUMPS | OTHERS | HELP | {"-"}
 PROMPT = "ready> "
 
 

@@ -5,7 +5,7 @@ use Rattle.clap.specs.declared.error.kind.ErrorKind.TheVariants.{MissingSubcomma
 use Rattle.clap.specs.Walk.{Row, Text, first_of}
 use Rattle.clap.proofs.{WalkLemmas.first_value-rows, WalkLemmas.one_text-rows, WalkLemmas.raw_values-rows}
 use Rattle.bd_cli_args.specs.FileCommands.{file_app}
-use Rattle.bd_cli_args.specs.WideLine.{OrderView, wide_commands, check, dump, order, line_app, order_app, ordered_by, texts_in}
+use Rattle.bd_cli_args.specs.WideLine.{OrderView, wide_commands, check, dump, pack, order, line_app, order_app, ordered_by, texts_in}
 use Rattle.bd_cli_args.proofs.ProgramLemmas.{EachShape, HasOrders, IsProgram, file_given, file_orders, refused, shape_in}
 
 pub is_program : IsProgram line_app ordered_by
@@ -15,7 +15,7 @@ is_program = record {
   free = refl;
   plain = refl;
   requires_one = λ rows c. refused MissingSubcommand c;
-  each = (of_file (codes "dump") dump (λ rows. refl), (of_file (codes "check") check (λ rows. refl), (orders, tt)));
+  each = (of_file (codes "dump") dump (λ rows. refl), (of_file (codes "check") check (λ rows. refl), (of_file (codes "pack") pack (λ rows. refl), (orders, tt))));
 }
   where
     of_file : (name : Text) (says : Text → OrderView) → ((rows : List Row) → ordered_by name rows ≡ option_map says (first_of (codes "file") rows)) → HasOrders line_app ordered_by (shape_in line_app (file_app name))

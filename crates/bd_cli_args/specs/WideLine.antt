@@ -22,21 +22,23 @@ paths_rule = record (new_rule (codes "path")) {
 abbrev pub order_app : App
 order_app = with_rule (file_app (codes "order")) paths_rule
 
--- the command lines that `bsonwide` accepts: `dump` or `check` with one file,
+-- the command lines that `bsonwide` accepts: `dump`, `check` or `pack` with one file,
 -- and `order` with one file and any paths
 abbrev pub line_app : App
-line_app = program_app (codes "bsonwide") (codes "dump" ∷ codes "check" ∷ []) order_app
+line_app = program_app (codes "bsonwide") (codes "dump" ∷ codes "check" ∷ codes "pack" ∷ []) order_app
 
 -- a command: the meaning of the arguments, with texts as their bytes
 pub data OrderView : Type 0 where
   dump : Text → OrderView
   check : Text → OrderView
+  pack : Text → OrderView
   order : Text → List Text → OrderView
 
 -- the command that a `WideOrder` in memory represents
 abbrev pub meant : WideOrder → OrderView
 meant (WideOrder.Dump file) = dump (string_bytes file)
 meant (WideOrder.Check file) = check (string_bytes file)
+meant (WideOrder.Pack file) = pack (string_bytes file)
 meant (WideOrder.Order file paths) = order (string_bytes file) (map string_bytes paths.items)
 
 -- the texts of an argument; empty if it is not given
@@ -45,7 +47,7 @@ texts_in name rows = unwrap_or (all_of name rows) []
 
 -- what each command does with its FILE, by its name
 abbrev pub wide_commands : List Row → List (Text × (Text → OrderView))
-wide_commands rows = (codes "dump", dump) ∷ (codes "check", check)
+wide_commands rows = (codes "dump", dump) ∷ (codes "check", check) ∷ (codes "pack", pack)
     ∷ (codes "order", λ file. order file (texts_in (codes "path") rows)) ∷ []
 
 -- the command that a name and its parsed arguments mean

@@ -19,11 +19,13 @@ pub enum WideOrder {
     Dump { file: String },
     /// A line for each document that has a fault.
     Check { file: String },
+    /// Each line of text as a document.
+    Pack { file: String },
     /// Numbers as whole numbers in the same order; at these paths by their codes.
     Order { file: String, paths: Vec<String> },
 }
 
-/// The command that the arguments mean, without the program's name. `dump FILE`, `check FILE` and `order FILE [PATH..]` are accepted. A file or a path whose name looks like a flag comes after `--`.
+/// The command that the arguments mean, without the program's name. `dump FILE`, `check FILE`, `pack FILE` and `order FILE [PATH..]` are accepted. A file or a path whose name looks like a flag comes after `--`.
 ///
 /// # Errors
 ///
@@ -62,6 +64,7 @@ fn order_named(alloc: Global, name: &str, matches: &ArgMatches<'_>) -> Result<Wi
     match name {
         "dump" => Ok(WideOrder::Dump { file }),
         "check" => Ok(WideOrder::Check { file }),
+        "pack" => Ok(WideOrder::Pack { file }),
         "order" => {
             let paths = texts_of(alloc, matches, "path")?;
             Ok(WideOrder::Order { file, paths })
@@ -121,4 +124,4 @@ fn paths_argument<'a>(alloc: Global) -> Arg<'a>
 }
 
 /// The commands that take only a file.
-const FILE_COMMANDS: [&str; 2] = ["dump", "check"];
+const FILE_COMMANDS: [&str; 3] = ["dump", "check", "pack"];

@@ -29,4 +29,5 @@ version = codes "bsonwide 0.1.0\n"
 abbrev pub usage : List ℕ
 usage = codes "usage: bsonwide dump FILE\n"
     ++ codes "       bsonwide check FILE\n"
+    ++ codes "       bsonwide pack FILE\n"
     ++ codes "       bsonwide order FILE [PATH..]\n"

@@ -6,28 +6,33 @@ ghost use Rattle.bd_wide_cli.specs.Command.{RunsCommand, block_size};
 
 use crate::dump::WideLines;
 use crate::output::PROGRAM;
+use crate::pack::WideLinePacker;
 use crate::running::filter_file;
+use bd_cli_files::pack::pack_by;
 use bd_cli_scan::Status;
 use bd_cli_scan::check::check_all_types;
 use bd_cli_scan::dump::dump_by;
 use bd_io_device::{Input, Output};
 use bd_wide::Order;
 use bd_wide_dump::WideTextBuffer;
+use bd_wide_pack::WidePacker;
 use std::alloc::Global;
 
-/// What is done with the documents of a file.
+/// What is done with the documents of a file, or with its lines.
 #[derive(Debug, Drop)]
 pub enum Command {
     /// A line for each document that has a fault.
     Check,
     /// Each document as canonical Extended JSON, one a line.
     Dump,
+    /// Each line of canonical Extended JSON as a document.
+    Pack,
     /// Each document with its number, and with whole numbers in the same order.
     Order(Order),
 }
 
 /// Runs a command over a file, and returns the exit status: 0 if all was done, 1 after a fault of the input or of a device, or
-/// if memory runs out. It takes the memory of one document, and of what is written for it.
+/// if memory runs out. It takes the memory of one document, and of what is written for it; for `Pack` that of all documents.
 pub fn run<R: Input, O: Output, E: Output>(
     alloc: Global,
     command: &Command,
@@ -44,6 +49,10 @@ pub fn run<R: Input, O: Output, E: Output>(
             let buffer = WideTextBuffer::new(alloc);
             dump_by(alloc, PROGRAM, WideLines { buffer }, file, out, err)
         }
+        Command::Pack => {
+            let packer = WidePacker::new(alloc);
+            pack_by(alloc, PROGRAM, WideLinePacker { packer }, file, out, err)
+        }
         Command::Order(order) => filter_file(alloc, order, file, out, err),
     }
 }
@@ -54,7 +63,7 @@ pub fn block_size(command: &Command) -> usize
     ensures { result ≡ block_size command.now }
 {
     match command {
-        Command::Check | Command::Dump => 65_536,
+        Command::Check | Command::Dump | Command::Pack => 65_536,
         Command::Order(_) => 16_384,
     }
 }

@@ -17,6 +17,7 @@
 //!
 //! - `command`: `Command`, and `run`, a whole run over devices.
 //! - `dump`: the lines of documents of all types.
+//! - `pack`: the documents of all types in lines.
 //! - `frame`: the next document of a device, or bytes that begin with no document.
 //! - `running`: `order` over a whole file.
 //! - `refusal`: the message for a document that `order` refuses.
@@ -27,6 +28,7 @@ mod command;
 mod dump;
 mod frame;
 mod output;
+mod pack;
 mod refusal;
 mod running;
 

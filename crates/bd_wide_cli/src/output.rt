@@ -46,6 +46,7 @@ pub(crate) fn report_stop<E: Output>(stop: &Stop, err: &mut E) -> Status
 /// The answer to a request for help and to invalid arguments.
 const USAGE: &str = "usage: bsonwide dump FILE
        bsonwide check FILE
+       bsonwide pack FILE
        bsonwide order FILE [PATH..]
 ";
 

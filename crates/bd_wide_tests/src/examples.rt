@@ -65,6 +65,20 @@ fn dumped(rt: HostRuntime) {
     assert!(rt; out.bytes() == b"{}\n".as_slice());
 }
 
+#[test]
+fn packed(rt: HostRuntime) {
+    let mut input = MemoryInput::new(b"{\"d\":1.5}\n", 100, None);
+    let mut buffer = [0; 100];
+    let mut out = MemoryOutput::new(&mut buffer, 100, None);
+    let mut reported = [0; 100];
+    let mut err = MemoryOutput::new(&mut reported, 100, None);
+    let status = run(rt.alloc(), &Command::Pack, &mut input, &mut out, &mut err);
+    assert!(rt; status == Status::Done);
+    let bytes = b"\x10\0\0\0\x01d\0\0\0\0\0\0\0\xf8\x3f\0";
+    assert!(rt; out.bytes() == bytes.as_slice());
+    assert!(rt; err.bytes() == b"1 objects packed\n".as_slice());
+}
+
 /// Out of a dump of two documents, the second cut short: each run of `order` that its devices allow.
 #[test]
 fn ordered_dump(rt: HostRuntime) -> Result<(), Fail> {
@@ -93,6 +107,7 @@ fn ordered_dump(rt: HostRuntime) -> Result<(), Fail> {
 fn reports(rt: HostRuntime) {
     let usage = "usage: bsonwide dump FILE
        bsonwide check FILE
+       bsonwide pack FILE
        bsonwide order FILE [PATH..]
 ";
     let mut buffer = [0; 200];

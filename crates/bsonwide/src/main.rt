@@ -29,6 +29,7 @@ impl Program for Bsonwide {
         match parse_wide_words(alloc, words)? {
             WideOrder::Dump { file } => Ok((Command::Dump, file)),
             WideOrder::Check { file } => Ok((Command::Check, file)),
+            WideOrder::Pack { file } => Ok((Command::Pack, file)),
             WideOrder::Order { file, paths } => {
                 Ok((Command::Order(read_order(alloc, &paths)?), file))
             }
