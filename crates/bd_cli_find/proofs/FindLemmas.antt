@@ -1,50 +1,103 @@
 -- The lines of documents that were found, and the ends of a run of `find`.
-use Rattle.std.proofs.Common.{◌≡◌, ◌<◌, ◌+◌, ℕ, List, [], ◌∷◌, ◌++◌, length, get_or, take, drop, Option, Some, refl, sym, ap, ◌∙◌, subst, inl, inr, ◌⊎◌, Ok, Err}
-use Rattle.std.proofs.{lemmas.List.take-append-drop, lemmas.List.take_more, lemmas.List.Elements.filter_map-append}
-use Rattle.bd_io_device.proofs.DevicesLemmas.{takes_none}
+use Rattle.std.proofs.Common.{◌≡◌, ◌<◌, ◌+◌, ℕ, List, [], ◌∷◌, ◌++◌, length, get_or, take, drop, Option, Some, None, refl, sym, ap, ap₂, ◌∙◌, subst, inl, inr, ◌⊎◌, Result, Ok, Err, append_assoc, append-nil}
+use Rattle.std.proofs.{lemmas.List.take-append-drop, lemmas.List.take_more, lemmas.Option.slice_get-get_or}
+use Rattle.std.proofs.lemmas.List.Elements.{All-cons, All-head, All-nil, All-tail, All-take, filter_map-append}
+use Rattle.std.specs.{List.All}
+use Rattle.bd_io_device.proofs.DevicesLemmas.{takes_both, takes_none, write_fails_after, write_fails_first}
 use Rattle.std.specs.Prelude.{slice_get}
 use Rattle.bd_value.specs.Tree.{Doc, doc, fields_of}
-use Rattle.bd_extjson_text.specs.Text.{text}
+use Rattle.bd_extjson_text.specs.Text.{text as text_of}
 use Rattle.bd_bson_dump.specs.{Collection.documents_at}
 use Rattle.bd_bson_check.specs.Fault.{fault_view}
-use Rattle.bd_cli_scan.specs.{declared.output.Status.Status, declared.output.Status.TheVariants.Failed}
-use Rattle.bd_cli_scan.specs.Output.{Transcript, error_line, fault_text, lines, no_memory, refusal_output}
+use Rattle.bd_cli_scan.specs.{declared.output.OutputFault.OutputFault, declared.output.Status.Status, declared.output.Status.TheVariants.Done, declared.output.Status.TheVariants.Failed}
+use Rattle.bd_cli_scan.specs.Output.{Transcript, error_line, fault_text, lines, no_memory, refusal_output, stop_words}
 use Rattle.bd_cli_scan.specs.Run.{Prints, ReportsMessage, partial_run, run_after}
 use Rattle.bd_cli_args.specs.FindOptions.{FindOptions}
-use Rattle.bd_cursor_request.specs.{Request.Request, declared.token.Token.Token, declared.results.Refused.Refused, Refused.IsRefusedPart, Refused.reason_of, Refused.refused_words}
+use Rattle.bd_cursor_request.specs.{Request.Request, declared.token.Token.Token, declared.results.Refused.Refused, Refused.IsRefusedPart, Refused.Reason, Refused.reason_of, Refused.refused_words}
 use Rattle.bd_cli_find.specs.Options.{refused_text}
 use Rattle.bd_cli_find.specs.Options.{requested_by}
-use Rattle.bd_cli_find.specs.Find.{places_from, IsOutputOfFind, ReadsIfRequested, find_run, output_of_dump}
+use Rattle.bd_cli_find.specs.Find.{AreLinesAt, places_from, IsOutputOfFind, ReadsIfRequested, batch_output, batch_run, cursor_for, find_run, found_run, output_of_dump, output_of_lines}
+use Rattle.bd_cli_find.specs.Find.{counts_of, output_places, places_run}
+use Rattle.bd_cli_find.specs.inside.Find.{StopsAmong, WritesLines}
+use Rattle.bd_cli_find.proofs.BatchLemmas.{led_few}
+use Rattle.bd_cursor_model.specs.{Answer.at_most, Session.OpenCursor, Session.Query}
+use Rattle.bd_cli_print.specs.Printer.{IsNamedText}
+use Rattle.bd_cli_scan.specs.declared.output.OutputFault.TheVariants.{NoMemory, Unwritten}
 use Rattle.bd_cli_scan.proofs.OutputLemmas.{after_input}
 use Rattle.bd_cursor_sort.specs.Selection.{query_to}
 use Rattle.bd_cli_scan.proofs.OutputLemmas.{lines-append}
-use Rattle.bd_io_device.specs.Devices.{Over, Reader, Writer, between, read_words}
+use Rattle.bd_io_device.specs.Devices.{Over, Reader, TakesText, WriteFailsWithin, Writer, between, read_words}
 use Rattle.bd_cli_scan.specs.{declared.input.InputFault.InputFault}
 use Rattle.bd_cli_files.specs.{Load.FailsToLoad, Load.ReportsLoadFault}
 use Rattle.bd_cli_find.proofs.UniqueLemmas.{found_some}
 use Rattle.bd_cli_scan.specs.declared.input.InputFault.TheVariants as faults
 
--- the lines of the documents at the first places
-abbrev pub lines_to : List Doc → List ℕ → ℕ → List ℕ
-lines_to ds ps i = lines (documents_at ds (take i ps))
+-- ---- the lines of documents at places
 
-abbrev pub all_lines : List Doc → List ℕ → List ℕ
-all_lines ds ps = lines (documents_at ds ps)
+module _ (IsText : ℕ → List ℕ → Type 0) where
+  lines_join : (ps qs a b : List ℕ) → AreLinesAt IsText ps a → AreLinesAt IsText qs b → AreLinesAt IsText (ps ++ qs) (a ++ b)
+  lines_join [] qs a b none are = subst (λ (x : List ℕ). AreLinesAt IsText qs (x ++ b)) (sym none) are
+  lines_join (p ∷ ps) qs a b (text, rest, is, others, splits) are =
+      (text, rest ++ b, is, lines_join ps qs rest b others are, ap (λ x. x ++ b) splits ∙ append_assoc text (10 ∷ rest) b)
 
-module _ (ds : List Doc) (ps : List ℕ) where
-  pub split_at_document : (i : ℕ) → all_lines ds ps ≡ lines_to ds ps i ++ lines (documents_at ds (drop i ps))
-  split_at_document i =
-      ap (λ xs. lines (documents_at ds xs)) (sym (take-append-drop i ps)) ∙ ap lines (filter_map-append (slice_get ds) (take i ps) (drop i ps))
-      ∙ lines-append (documents_at ds (take i ps)) (documents_at ds (drop i ps))
+  -- the line of a document
+  abbrev pub IsLineAt : ℕ → List ℕ → Type 0
+  IsLineAt p line = (text : List ℕ) × IsText p text × (line ≡ text ++ 10 ∷ [])
 
-  at_place : (p : ℕ) (d : Doc) → slice_get ds p ≡ Some d → lines (documents_at ds (p ∷ [])) ≡ text (doc (fields_of d)) ++ 10 ∷ []
-  at_place p d is = rw is refl
+  one_line : (p : ℕ) (line : List ℕ) → IsLineAt p line → AreLinesAt IsText (p ∷ []) line
+  one_line p line (text, is, splits) = (text, [], is, refl, splits)
 
-  pub one_more : (i p : ℕ) (d : Doc) → i < length ps → get_or ps i 0 ≡ p → slice_get ds p ≡ Some d → lines_to ds ps (i + 1) ≡ lines_to ds ps i ++ (text (doc (fields_of d)) ++ 10 ∷ [])
-  one_more i p d lt here is =
-      let grown : take (i + 1) ps ≡ take i ps ++ p ∷ [] = take_more ps i 0 lt ∙ ap (λ x. take i ps ++ x ∷ []) here in
-      ap (λ xs. lines (documents_at ds xs)) grown ∙ ap lines (filter_map-append (slice_get ds) (take i ps) (p ∷ []))
-      ∙ lines-append (documents_at ds (take i ps)) (documents_at ds (p ∷ [])) ∙ ap (λ xs. lines_to ds ps i ++ xs) (at_place p d is)
+  module _ (ps : List ℕ) (i : ℕ) (old mid : Writer) (wrote : WritesLines IsText (take i ps) (between old mid)) where
+    -- after the first lines memory ran out
+    pub runs_out : StopsAmong IsText ps (between old mid) NoMemory
+    runs_out = (wrote.0, (take i ps, drop i ps, sym (take-append-drop i ps), wrote.1), wrote.2)
+
+    module _ (new : Writer) (line : List ℕ) (lt : i < length ps) (is : IsLineAt (get_or ps i 0) line) where
+      -- one more line was written
+      pub writes_more : TakesText (between mid new) line → WritesLines IsText (take (i + 1) ps) (between old new)
+      writes_more took = (
+        wrote.0 ++ line,
+        subst (λ (x : List ℕ). AreLinesAt IsText x (wrote.0 ++ line)) (sym (take_more ps i 0 lt))
+            (lines_join (take i ps) (get_or ps i 0 ∷ []) wrote.0 line wrote.1 (one_line (get_or ps i 0) line is)),
+        takes_both old mid new wrote.0 line wrote.2 took,
+      )
+
+      -- the next line was not written
+      pub fails_next : WriteFailsWithin (between mid new) line → StopsAmong IsText ps (between old new) Unwritten
+      fails_next failed =
+          let p = get_or ps i 0 in
+          let others = drop (i + 1) ps in
+          let splits : ps ≡ take i ps ++ p ∷ others = sym (take-append-drop (i + 1) ps)
+          ∙ ap (λ (x : List ℕ). x ++ others) (take_more ps i 0 lt) ∙ append_assoc (take i ps) (p ∷ []) others in
+          (wrote.0, line, (take i ps, p, others, splits, wrote.1, one_line p line is), write_fails_after old mid new wrote.0 line wrote.2 failed)
+
+-- the lines of the documents at places of a dump
+module _ (ds : List Doc) where
+  abbrev lines_of : List ℕ → List ℕ
+  lines_of ps = lines (documents_at ds ps)
+
+  lines_split : (ps qs : List ℕ) → lines_of (ps ++ qs) ≡ lines_of ps ++ lines_of qs
+  lines_split ps qs = ap lines (filter_map-append (slice_get ds) ps qs) ∙ lines-append (documents_at ds ps) (documents_at ds qs)
+
+  abbrev AreInside : List ℕ → Type 0
+  AreInside ps = All (λ p. p < length ds) ps
+
+  named_lines : (ps text : List ℕ) → AreInside ps → AreLinesAt (IsNamedText ds) ps text → text ≡ lines_of ps
+  named_lines [] text inside none = none
+  named_lines (p ∷ ps) text inside (first, rest, is, others, splits) =
+      let there : slice_get ds p ≡ Some (get_or ds p []) = slice_get-get_or ds p [] (All-head (λ p. p < length ds) p ps inside) in
+      let more : rest ≡ lines_of ps = named_lines ps rest (All-tail (λ p. p < length ds) p ps inside) others in
+      let one : lines_of (p ∷ ps) ≡ text_of (doc (fields_of (get_or ds p []))) ++ 10 ∷ lines_of ps = (rw there refl) in
+      splits ∙ ap₂ (λ (x y : List ℕ). x ++ 10 ∷ y) is more ∙ sym one
+
+  first_inside : (ps qs : List ℕ) → AreInside (ps ++ qs) → AreInside ps
+  first_inside [] qs inside = All-nil (λ p. p < length ds)
+  first_inside (p ∷ ps) qs inside =
+      All-cons (λ p. p < length ds) p ps (All-head (λ p. p < length ds) p (ps ++ qs) inside) (first_inside ps qs (All-tail (λ p. p < length ds) p (ps ++ qs) inside))
+
+  second_inside : (ps qs : List ℕ) → AreInside (ps ++ qs) → AreInside qs
+  second_inside [] qs inside = inside
+  second_inside (p ∷ ps) qs inside = second_inside ps qs (All-tail (λ p. p < length ds) p (ps ++ qs) inside)
 
 -- ---- the ends of a run
 
@@ -60,18 +113,43 @@ module _ (program : List ℕ) (out_old out_new : Writer) (err_old err_new : Writ
   refusal_is_output words (inl reported) = inl (refusal_output words, refl, takes_none out_old, reported)
   refusal_is_output words (inr reported) = nothing_output (refusal_output words) reported
 
-  -- the output if no cursor was opened
-  pub refused_output : (size : Option ℕ) (w : Request × Option Token) (bytes : List ℕ) (ds : List Doc) (refused : Refused) → IsRefusedPart (places_from (query_to bytes ds w.0) w.1) refused
-      → ReportsMessage (between err_old err_new) (error_line program (refused_text (reason_of refused))) Failed status ⊎ ReportsMessage (between err_old err_new) (error_line program no_memory) Failed status
-      → Prints program (partial_run (output_of_dump size w bytes ds)) (between out_old out_old) (between err_old err_new) status
-  unfolding refused_words
-  refused_output size w bytes ds refused (inl want) reported = nothing_output (output_of_dump size w bytes ds) (either (rw want at reported))
-    where
-      either : ReportsMessage (between err_old err_new) (error_line program no_memory) Failed status ⊎ ReportsMessage (between err_old err_new) (error_line program no_memory) Failed status
-          → ReportsMessage (between err_old err_new) (error_line program no_memory) Failed status
-      either (inl t) = t
-      either (inr t) = t
-  refused_output size w bytes ds refused (inr led) reported = rw led (refusal_is_output (refused_text (reason_of refused)) reported)
+  module _ (IsText : ℕ → List ℕ → Type 0) (size : Option ℕ) where
+    -- memory ran out before a document was printed
+    nothing_found : (q : Query) (token : Option Token) (places : Result (List ℕ) Reason) → ReportsMessage (between err_old err_new) (error_line program no_memory) Failed status
+        → Prints program (places_run IsText size q token places) (between out_old out_old) (between err_old err_new) status
+    nothing_found q token (Ok ps) reported = inr (inr ([], ([], at_most size ps, refl, refl), takes_none out_old, reported))
+    nothing_found q token (Err why) reported = nothing_output (refusal_output (refused_text why)) reported
+
+    -- the output if no cursor was opened
+    pub refused_output : (w : Request × Option Token) (bytes : List ℕ) (ds : List Doc) (refused : Refused) → IsRefusedPart (places_from (query_to bytes ds w.0) w.1) refused
+        → ReportsMessage (between err_old err_new) (error_line program (refused_text (reason_of refused))) Failed status ⊎ ReportsMessage (between err_old err_new) (error_line program no_memory) Failed status
+        → Prints program (found_run IsText size w bytes ds) (between out_old out_old) (between err_old err_new) status
+    unfolding refused_words
+    refused_output w bytes ds refused (inl want) reported =
+        let q = query_to bytes ds w.0 in
+        nothing_found q w.1 (places_from q w.1) (either (rw want at reported))
+      where
+        either : ReportsMessage (between err_old err_new) (error_line program no_memory) Failed status ⊎ ReportsMessage (between err_old err_new) (error_line program no_memory) Failed status
+            → ReportsMessage (between err_old err_new) (error_line program no_memory) Failed status
+        either (inl t) = t
+        either (inr t) = t
+    refused_output w bytes ds refused (inr led) reported = rw led (refusal_is_output (refused_text (reason_of refused)) reported)
+
+    module _ (c : OpenCursor) where
+      -- the batch was printed, and the line of counts, or memory ran out for it
+      pub batch_printed : WritesLines IsText (at_most size c.remaining) (between out_old out_new)
+          → ReportsMessage (between err_old err_new) (counts_of size c) Done status ⊎ ReportsMessage (between err_old err_new) (error_line program no_memory) Failed status
+          → Prints program (batch_run IsText size c) (between out_old out_new) (between err_old err_new) status
+      batch_printed (printed, are, took) (inl reported) = inl (output_of_lines size c printed, (printed, are, refl), took, reported)
+      batch_printed (printed, are, took) (inr reported) =
+          inr (inr (printed, (at_most size c.remaining, [], sym (append-nil (at_most size c.remaining)), are), took, reported))
+
+      -- standard output was stopped
+      pub batch_stopped : (stopped : OutputFault) → StopsAmong IsText (at_most size c.remaining) (between out_old out_new) stopped
+          → ReportsMessage (between err_old err_new) (error_line program (stop_words stopped)) Failed status
+          → Prints program (batch_run IsText size c) (between out_old out_new) (between err_old err_new) status
+      batch_stopped NoMemory (printed, first, took) reported = inr (inr (printed, first, took, reported))
+      batch_stopped Unwritten (printed, next, is, failed) reported = inr (inl (printed, next, is, failed, reported))
 
 -- an output for an input that was read completely, or that is not needed
 pub output_found : {program : List ℕ} (options : FindOptions) (file : Over Reader) {out err : Over Writer} {status : Status} (bytes : List ℕ) (output : Transcript)
@@ -105,3 +183,51 @@ load_reported {program} options w file out err status (faults.Unread fault) is f
 load_reported {program} options w file out err status (faults.Faulty fault) is (bytes, ds, read, scan, numbered) (inr (f, same, reported)) =
     let output = refusal_output (fault_text (length ds) (fault_view fault)) in
     inr (inr ([], inl (bytes, output, rw is read, rw is (ds, Some (fault_view fault), scan, refl), ([], refl)), takes_none out, reported))
+
+-- ---- the documents of the dump itself
+
+-- a run by the texts of the dump's documents is a run of `find`
+module _ (program : List ℕ) (size : Option ℕ) (ds : List Doc) (out err : Over Writer) (status : Status) where
+  batch_named : (c : OpenCursor) → All (λ p. p < length ds) (at_most size c.remaining) → Prints program (batch_run (IsNamedText ds) size c) out err status
+      → Prints program (partial_run (batch_output size ds c)) out err status
+  batch_named c inside (inl (output, (printed, are, is), took, reported)) =
+      inl (output, is ∙ ap (output_of_lines size c) (named_lines ds (at_most size c.remaining) printed inside are), took, reported)
+  batch_named c inside (inr (inl (printed, next, (ps, p, others, splits, are, one), (prefix, rest, split, some, contents, failed), reported))) =
+      let within = subst (λ (x : List ℕ). All (λ p. p < length ds) x) splits inside in
+      let first : printed ≡ lines_of ds ps = named_lines ds ps printed (first_inside ds ps (p ∷ others) within) are in
+      let line : next ≡ lines_of ds (p ∷ []) =
+      named_lines ds (p ∷ []) next (first_inside ds (p ∷ []) others (second_inside ds ps (p ∷ others) within)) one in
+      let whole : lines_of ds (at_most size c.remaining) ≡ (printed ++ next) ++ lines_of ds others =
+      ap (lines_of ds) splits ∙ lines_split ds ps (p ∷ others) ∙ ap₂ (λ (x y : List ℕ). x ++ y) (sym first)
+      (lines_split ds (p ∷ []) others ∙ ap (λ (x : List ℕ). x ++ lines_of ds others) (sym line)) ∙ sym (append_assoc printed next (lines_of ds others)) in
+      let stopped : WriteFailsWithin out (printed ++ next) =
+      (printed ++ prefix, rest, ap (λ (x : List ℕ). printed ++ x) split ∙ sym (append_assoc printed prefix rest), some, contents, failed) in
+      inr (inl (
+        [],
+        lines_of ds (at_most size c.remaining),
+        (refl, refl),
+        subst (λ (x : List ℕ). WriteFailsWithin out x) (sym whole) (write_fails_first out.before out.after (printed ++ next) (lines_of ds others) stopped),
+        reported,
+      ))
+  batch_named c inside (inr (inr (printed, (ps, others, splits, are), took, reported))) =
+      let within = subst (λ (x : List ℕ). All (λ p. p < length ds) x) splits inside in
+      let first : printed ≡ lines_of ds ps = named_lines ds ps printed (first_inside ds ps others within) are in
+      let whole : lines_of ds (at_most size c.remaining) ≡ printed ++ lines_of ds others =
+      ap (lines_of ds) splits ∙ lines_split ds ps others ∙ ap (λ (x : List ℕ). x ++ lines_of ds others) (sym first) in
+      inr (inr (printed, (lines_of ds others, whole), took, reported))
+
+  limited_inside : (n : ℕ) (size : Option ℕ) (ps : List ℕ) → All (λ p. p < n) ps → All (λ p. p < n) (at_most size ps)
+  limited_inside n None ps inside = inside
+  limited_inside n (Some k) ps inside = All-take (λ p. p < n) k ps inside
+
+  pub found_named : (w : Request × Option Token) (bytes : List ℕ) → Prints program (found_run (IsNamedText ds) size w bytes ds) out err status
+      → Prints program (partial_run (output_of_dump size w bytes ds)) out err status
+  found_named w bytes = let q = query_to bytes ds w.0 in go q refl (places_from q w.1) refl
+    where
+      go : (q : Query) → q.selection.count ≡ length ds → (places : Result (List ℕ) Reason) → places_from q w.1 ≡ places
+          → Prints program (places_run (IsNamedText ds) size q w.1 places) out err status
+          → Prints program (partial_run (output_places size ds q w.1 places)) out err status
+      go q count (Err why) led prints = prints
+      go q count (Ok ps) led prints =
+          let inside = subst (λ (n : ℕ). All (λ p. p < n) ps) count (led_few q w.1 ps led).0 in
+          batch_named (cursor_for 1 q w.1 ps) (limited_inside (length ds) size ps inside) prints

@@ -6,8 +6,8 @@ use Rattle.bd_cursor_request.specs.{Refused.IsRefusedPart, Refused.Reason, Refus
 use Rattle.bd_query_filter.specs.{Fault.refusal_of, declared.fault.FilterFault.FilterFault}
 use Rattle.bd_cli_args.specs.FindOptions.{FindOptions}
 use Rattle.bd_cli_scan.specs.{Run.ReportsMessage, Output.error_line, Output.no_memory, declared.output.Status.Status, declared.output.Status.TheVariants.Failed}
-use Rattle.bd_cli_find.specs.Options.{document_in, search_of, refusal_text, refused_option, refused_text, requested_by}
-use Rattle.bd_cli_find.specs.inside.Options.{ReportsSearchFault, ReportsReason, ReportsRefusal}
+use Rattle.bd_cli_find.specs.Options.{ReportsRefusal, ReportsSearchFault, document_in, search_of, refusal_text, refused_option, refused_text, requested_by, requested_with}
+use Rattle.bd_cli_find.specs.inside.Options.{ReportsReason}
 use Rattle.bd_cli_find.specs.declared.options.SearchFault.{SearchFault}
 use Rattle.bd_cli_find.specs.declared.options.SearchFault.TheVariants as faults
 use Rattle.bd_cursor_request.specs.declared.results.Refused.TheVariants as reasons
@@ -43,12 +43,16 @@ part_refused part next (faults.Message m) is = rw is refl
 
 module _ (options : FindOptions) where
   pub query_refused : (fault : SearchFault) → ReportsSearchFault (document_in (codes "query") options.query) fault → ReportsSearchFault (requested_by options) fault
-  query_refused = part_refused (document_in (codes "query") options.query) (λ query. then_part (document_in (codes "sort") options.sort) (λ sort. search_of options query sort))
+  query_refused = part_refused (document_in (codes "query") options.query) (requested_with options)
 
-  pub sort_refused : (query : Doc) (fault : SearchFault) → document_in (codes "query") options.query ≡ Ok query
-      → ReportsSearchFault (document_in (codes "sort") options.sort) fault → ReportsSearchFault (requested_by options) fault
-  sort_refused query fault q none = rw q (part_refused (document_in (codes "sort") options.sort) (search_of options query) fault none)
+  pub rest_refused : (query : Doc) (fault : SearchFault) → document_in (codes "query") options.query ≡ Ok query
+      → ReportsSearchFault (requested_with options query) fault → ReportsSearchFault (requested_by options) fault
+  rest_refused query fault q none = rw q none
 
-  pub search_refused : (query sort : Doc) (fault : SearchFault) → document_in (codes "query") options.query ≡ Ok query
-      → document_in (codes "sort") options.sort ≡ Ok sort → ReportsSearchFault (search_of options query sort) fault → ReportsSearchFault (requested_by options) fault
-  search_refused query sort fault q s none = rw (q, s) none
+  module _ (query : Doc) where
+    pub sort_refused : (fault : SearchFault) → ReportsSearchFault (document_in (codes "sort") options.sort) fault → ReportsSearchFault (requested_with options query) fault
+    sort_refused = part_refused (document_in (codes "sort") options.sort) (search_of options query)
+
+    pub search_refused : (sort : Doc) (fault : SearchFault) → document_in (codes "sort") options.sort ≡ Ok sort
+        → ReportsSearchFault (search_of options query sort) fault → ReportsSearchFault (requested_with options query) fault
+    search_refused sort fault s none = rw s none

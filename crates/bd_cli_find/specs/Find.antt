@@ -16,7 +16,7 @@ use Rattle.bd_bson_check.specs.{Fault.Fault, Dump.IsDumpScan}
 use Rattle.bd_cli_args.specs.FindOptions.{FindOptions}
 use Rattle.bd_cli_find.specs.Options.{refused_text, requested_by}
 use Rattle.bd_cursor_sort.specs.Selection.{query_to, selection_for}
-use Rattle.bd_cli_scan.specs.{Input.ReadsInput, Run.Run, Run.run_after}
+use Rattle.bd_cli_scan.specs.{Input.ReadsInput, Run.Run, Run.partial_run, Run.run_after}
 use Rattle.bd_cli_scan.specs.declared.output.Status.TheVariants.{Done}
 use Rattle.bd_cli_scan.specs.Output.{Transcript, lines, fault_text, refusal_output}
 use Rattle.bd_extjson_text.specs.Text.{text}
@@ -55,13 +55,18 @@ end_words ends = if ends then codes " documents, end" else codes " documents, mo
 abbrev pub find_count_line : ℕ → Bool → Option PositionedToken → List ℕ
 find_count_line count ends token = decimal count ++ (end_words ends ++ (token_words token ++ 10 ∷ []))
 
+-- the line of counts for a cursor after its first batch, with the token
+abbrev pub counts_of : Option ℕ → OpenCursor → List ℕ
+counts_of size c = let ps = at_most size c.remaining in
+    find_count_line (length ps) (is_empty (remaining_over size c.remaining)) (token_after c.digest c.token ps)
+
+-- the output of `find` for a cursor whose first batch has these lines: the lines, and the line of counts
+abbrev pub output_of_lines : Option ℕ → OpenCursor → List ℕ → Transcript
+output_of_lines size c lines = record { out = lines; err = λ program. counts_of size c; status = Done }
+
 -- the output of `find` for a cursor: the documents of its first batch, and the line of counts with the token
 abbrev pub batch_output : Option ℕ → List Doc → OpenCursor → Transcript
-batch_output size ds c = let ps = at_most size c.remaining in record {
-  out = lines (documents_at ds ps);
-  err = λ program. find_count_line (length ps) (is_empty (remaining_over size c.remaining)) (token_after c.digest c.token ps);
-  status = Done;
-}
+batch_output size ds c = output_of_lines size c (lines (documents_at ds (at_most size c.remaining)))
 
 -- the output of `find` for a query and a token: the first batch of the requested documents, with this size;
 -- or why the token is refused
@@ -107,6 +112,44 @@ find_run options file = let run = run_after (ReadsIfRequested (requested_by opti
   IsNext = run.IsNext;
   IsBegun = λ text. run.IsBegun text ⊎ ((text ≡ []) × (file.after ≡ file.before));
 }
+
+-- ---- by what prints a document
+
+-- These are the lines of the documents at these places, where a text has this property for its place: each text, and a newline.
+abbrev pub AreLinesAt : (ℕ → List ℕ → Type 0) → List ℕ → List ℕ → Type 0
+AreLinesAt IsText [] lines = lines ≡ []
+AreLinesAt IsText (p ∷ ps) lines =
+    (text : List ℕ) × (rest : List ℕ) × IsText p text × AreLinesAt IsText ps rest × (lines ≡ text ++ 10 ∷ rest)
+
+-- These are the lines of the documents at the first of these places.
+abbrev pub AreFirstLines : (ℕ → List ℕ → Type 0) → List ℕ → List ℕ → Type 0
+AreFirstLines IsText ps lines =
+    (printed : List ℕ) × (others : List ℕ) × (ps ≡ printed ++ others) × AreLinesAt IsText printed lines
+
+-- These are the lines of the documents at the first of these places, and this is the line of the next.
+abbrev pub IsNextLine : (ℕ → List ℕ → Type 0) → List ℕ → List ℕ → List ℕ → Type 0
+IsNextLine IsText ps lines next = (printed : List ℕ) × (p : ℕ) × (others : List ℕ) × (ps ≡ printed ++ p ∷ others)
+    × AreLinesAt IsText printed lines × AreLinesAt IsText (p ∷ []) next
+
+-- A run of `find` for a cursor prints its first batch: a piece is the line of a document.
+abbrev pub batch_run : (ℕ → List ℕ → Type 0) → Option ℕ → OpenCursor → Run
+batch_run IsText size c = let ps = at_most size c.remaining in record {
+  IsOutput = λ output. (lines : List ℕ) × AreLinesAt IsText ps lines × (output ≡ output_of_lines size c lines);
+  IsNext = IsNextLine IsText ps;
+  IsBegun = AreFirstLines IsText ps;
+}
+
+-- A run of `find` for a query and a token prints the first batch of the requested documents, or why the token is refused.
+abbrev pub places_run : (ℕ → List ℕ → Type 0) → Option ℕ → Query → Option Token → Result (List ℕ) Reason → Run
+places_run IsText size q token (Ok ps) = batch_run IsText size (cursor_for 1 q token ps)
+places_run IsText size q token (Err why) = partial_run (refusal_output (refused_text why))
+
+-- A run of `find` over a well-formed dump, where what prints a document gives each place a text with this property.
+abbrev pub found_run : (ℕ → List ℕ → Type 0) → Option ℕ → Request × Option Token → List ℕ → List Doc → Run
+found_run IsText size w bytes ds =
+    let q = query_to bytes ds w.0 in places_run IsText size q w.1 (places_from q w.1)
+
+-- ---- in terms of documents
 
 -- the request of a filter, a sort, a skip and a limit, in terms of documents instead of their numbers
 abbrev pub document_request : Filter → List SortPath → ℕ → ℕ → DocumentRequest Doc

@@ -1,6 +1,6 @@
 -- What the options of `find` request, or why they are refused.
-use Rattle.std.specs.Prelude.{ℕ, nat_le, Bool, true, List, [], ◌++◌, codes, Option, Some, None}
-use Rattle.std.specs.Prelude.{Result, Ok, Err, IsErr, if◌then◌else◌}
+use Rattle.std.specs.Prelude.{◌≡◌, ◌⊎◌, ℕ, nat_le, Bool, true, List, [], ◌++◌, codes, Option, Some, None}
+use Rattle.std.specs.Prelude.{Result, Ok, Err, IsErr, if◌then◌else◌, string_bytes}
 use Rattle.std.specs.{List.join_with_byte, Option.ok_or}
 use Rattle.bd_value.specs.{Limits.greatest_count, Tree.Doc}
 use Rattle.bd_extjson_fault.specs.{JsonFault.json_fault_words, TextFault.text_fault}
@@ -10,10 +10,15 @@ use Rattle.bd_extjson.specs.Read.{reading}
 use Rattle.bd_path.specs.{Path.path_fault_words, declared.path.PathFault.PathFault}
 use Rattle.bd_query_filter.specs.Fault.{Refusal, filter_fault_words}
 use Rattle.bd_cursor_request.specs.{declared.results.Refused.Refused, declared.token.Token.Token}
-use Rattle.bd_cursor_request.specs.Refused.{Reason, bad_filter, plain, refused_words, then_part, error_as}
+use Rattle.bd_cursor_request.specs.Refused.{Reason, bad_filter, plain, reason_of, refused_words, then_part, error_as}
 use Rattle.bd_cursor_request.specs.Request.{Request, named_index, request_of, token_part}
 use Rattle.bd_cli_args.specs.FindOptions.{FindOptions}
+use Rattle.bd_io_device.specs.Devices.{Over, Writer}
+use Rattle.bd_cli_scan.specs.{Run.ReportsMessage, Output.error_line, declared.output.Status.Status}
+use Rattle.bd_cli_scan.specs.declared.output.Status.TheVariants.{Failed}
 use Rattle.bd_cli_files.specs.{Pack.byte_text}
+use Rattle.bd_cli_find.specs.declared.options.SearchFault.{SearchFault}
+use Rattle.bd_cli_find.specs.declared.options.SearchFault.TheVariants as faults
 use Rattle.bd_cursor_request.specs.declared.results.Refused.TheVariants as reasons
 
 -- ---- the texts of faults
@@ -73,13 +78,29 @@ search_of options query sort =
     then_part (error_as index_fault_text (named_index options.index)) (λ _.
     then_part (error_as refused_text (after_part options.after)) (λ token. Ok (request, token)))))
 
+-- What a query and the options request, or the message of the first refusal: of the sort's text, then the rest.
+abbrev pub requested_with : FindOptions → Doc → Result (Request × Option Token) (List ℕ)
+requested_with options query = then_part (document_in (codes "sort") options.sort) (search_of options query)
+
 -- What the options of `find` request, and the token after which it resumes; or the message of the first refusal:
 -- of the query's text, the sort's text, then the rest.
 abbrev pub requested_by : FindOptions → Result (Request × Option Token) (List ℕ)
-requested_by options =
-    then_part (document_in (codes "query") options.query) (λ query.
-    then_part (document_in (codes "sort") options.sort) (λ sort. search_of options query sort))
+requested_by options = then_part (document_in (codes "query") options.query) (requested_with options)
 
 -- The options of `find` are refused, whatever the file contains.
 abbrev pub RequestsNothing : FindOptions → Type 0
 RequestsNothing options = IsErr (requested_by options)
+
+-- ---- how a refusal is reported
+
+-- The fault reports the message with which the part is refused, or that memory ran out.
+abbrev pub ReportsSearchFault : {Given : Type 0} → Result Given (List ℕ) → SearchFault → Type 0
+ReportsSearchFault part faults.NoMemory = Unit {0}
+ReportsSearchFault part (faults.Refused refused) = part ≡ Err (refused_text (reason_of refused))
+ReportsSearchFault part (faults.Message message) = part ≡ Err (string_bytes message)
+
+-- The line of the refusal was written; for a filter it may say instead that memory ran out.
+abbrev pub ReportsRefusal : List ℕ → Over Writer → Reason → Status → Type 0
+ReportsRefusal program err (plain refused) status = ReportsMessage err (error_line program (refused_text (plain refused))) Failed status
+ReportsRefusal program err (bad_filter r) status = ReportsMessage err (error_line program (refusal_text r)) Failed status
+    ⊎ ReportsMessage err (error_line program (codes "no memory")) Failed status

@@ -1,31 +1,31 @@
 //! The first batch of a request, and its output.
 
-ghost use Rattle.std.specs.Prelude.{◌≡◌, ◌++◌, ◌<◌, ◌≤◌, ◌⊎◌, IfErr, IfOk, MatchOption, OnOk, Some, if◌then◌else◌, length, option_map, string_bytes, true};
+ghost use Rattle.std.specs.Prelude.{◌≡◌, ◌++◌, ◌∷◌, [], ◌<◌, ◌≤◌, ◌⊎◌, ℕ, List, IfErr, IfOk, MatchOption, OnOk, Some, if◌then◌else◌, length, option_map, string_bytes, true};
 ghost use Rattle.std.specs.List.{All};
 ghost use Rattle.bd_value.specs.Limits.{greatest_count};
-ghost use Rattle.bd_io_device.specs.Devices.{TakesText, over};
+ghost use Rattle.bd_io_device.specs.Devices.{over};
 ghost use Rattle.bd_path.specs.PathNames.{path_text};
 ghost use Rattle.bd_cursor_model.specs.{Session.OpenCursor, Session.cursor_of, Laws.new_state};
-ghost use Rattle.bd_bson_dump.specs.{Collection.bytes_of, Collection.documents, Collection.documents_at};
+ghost use Rattle.bd_bson_dump.specs.{Collection.bytes_of, Collection.documents};
 ghost use Rattle.bd_cursor_sort.specs.Selection.{query_of};
 ghost use Rattle.bd_cursor.specs.{Access.way_of, SessionView.dump_of, SessionView.hint_of, SessionView.positioned_token, SessionView.state_of};
 ghost use Rattle.bd_cursor_request.specs.Request.{request_view};
 ghost use Rattle.bd_cursor_request.specs.declared.results.Refused.TheVariants.{NoMemory as memory};
-ghost use Rattle.bd_cli_scan.specs.Output.{error_line, lines, no_memory};
-ghost use Rattle.bd_cli_scan.specs.Run.{Prints, ReportsMessage, StopsWithin, partial_run};
+ghost use Rattle.bd_cli_scan.specs.Output.{error_line, no_memory};
+ghost use Rattle.bd_cli_scan.specs.Run.{Prints, ReportsMessage};
 ghost use Rattle.bd_cli_scan.specs.declared.output.Status.TheVariants.{Done, Failed};
 ghost use Rattle.bd_cli_find.specs.Options.{fits_batch};
-ghost use Rattle.bd_cli_find.specs.Find.{end_words, find_count_line, batch_output};
-ghost use Rattle.bd_cli_find.specs.inside.Find.{AwaitsFirst, IsOpenedOn, IsReady, index_way};
-ghost use Rattle.bd_cli_find.specs.Find.{output_of_dump, token_words};
+ghost use Rattle.bd_cli_find.specs.Find.{batch_run, end_words, find_count_line, found_run, token_words};
+ghost use Rattle.bd_cli_find.specs.inside.Find.{AwaitsFirst, IsOpenedOn, IsReady, StopsAmong, WritesLines, index_way};
 
 use crate::options::{Search, report_refused};
 use bd_bson_dump::Dump;
+use bd_cli_print::PlacePrinter;
 use bd_cli_scan::Status;
 use bd_cli_scan::output::{OutputFault, push_number, report_no_memory, report_stop, status_of};
 use bd_cursor::{Choice, Session};
 use bd_cursor_request::{Batch, Refused, Token};
-use bd_extjson_text::TextBuffer;
+use bd_extjson_text::append_few;
 use bd_io_device::{Output, write_all};
 use bd_path::Path;
 use bd_value::{GREATEST_COUNT, NoMemory};
@@ -40,25 +40,29 @@ const DOCUMENTS_MORE: &str = " documents, more";
 /// Before a token.
 const TOKEN: &str = ", token ";
 
-/// Prints the first batch, of this size, of a search in a dump; without a size all of its documents.
-pub(crate) fn print_found<O: Output, E: Output>(
+/// Prints the first batch, of this size, of a search in a dump; without a size all of its documents. The printer has a document
+/// for each place of the dump.
+pub fn print_found<P: PlacePrinter, O: Output, E: Output>(
     alloc: Global,
     program: &str,
     dump: Dump,
     search: Search,
     size: Option<u32>,
+    printer: &P,
     out: &mut O,
     err: &mut E,
 ) -> Status
     requires within_limit { length (documents dump) ≤ greatest_count }
     requires fits { fits_batch size ≡ true }
-    ensures { Prints program.now (partial_run (output_of_dump size
-        (request_view search.request, search.token) (bytes_of dump) (documents dump)))
+    requires printable { (place : ℕ) → place < length (documents dump) →
+        P.can_print printer.now dump place }
+    ensures { Prints program.now (found_run (P.is_text printer.now dump) size
+        (request_view search.request, search.token) (bytes_of dump) (documents dump))
         (over O.state out.old out.new) (over E.state err.old err.new) result }
 {
     let mut session = Session::new(alloc, dump);
     match open_first(alloc, &mut session, search) {
-        Ok(id) => print_batch(alloc, program, &mut session, id, size, out, err),
+        Ok(id) => print_batch(alloc, program, &mut session, id, size, printer, out, err),
         Err(refused) => report_refused(alloc, program, &refused, err),
     }
 }
@@ -95,26 +99,28 @@ fn choose(alloc: Global, session: &mut Session, index: Option<Path>) -> Result<C
 }
 
 /// Prints the first batch of a cursor.
-fn print_batch<O: Output, E: Output>(
+fn print_batch<P: PlacePrinter, O: Output, E: Output>(
     alloc: Global,
     program: &str,
     session: &mut Session,
     id: u64,
     size: Option<u32>,
+    printer: &P,
     out: &mut O,
     err: &mut E,
 ) -> Status
     requires ready { IsReady (state_of session.now) id (length (documents (dump_of session.now))) }
     requires fits { fits_batch size ≡ true }
+    requires printable { (place : ℕ) → place < length (documents (dump_of session.now)) →
+        P.can_print printer.now (dump_of session.now) place }
     ensures { (cursor : OpenCursor) → cursor_of id (state_of session.old).cursors ≡ Some cursor →
-        Prints program.now
-        (partial_run (batch_output size (documents (dump_of session.old)) cursor))
+        Prints program.now (batch_run (P.is_text printer.now (dump_of session.old)) size cursor)
         (over O.state out.old out.new) (over E.state err.old err.new) result }
 {
     let Ok(batch) = session.next(id, most_of(size)) else {
         return report_no_memory(program, err);
     };
-    match write_documents(alloc, session.dump(), &batch.places, out) {
+    match write_documents(alloc, printer, session.dump(), &batch.places, out) {
         Ok(()) => report_batch(alloc, program, &batch, err),
         Err(fault) => report_stop(program, fault, err),
     }
@@ -130,25 +136,43 @@ fn most_of(size: Option<u32>) -> u64
     }
 }
 
-/// Writes the documents with these numbers, one per line. If memory runs out, what was written is a prefix of the lines.
-fn write_documents<O: Output>(
+/// Writes the documents for these places, one per line. If memory runs out, the lines of the first of them were written.
+fn write_documents<P: PlacePrinter, O: Output>(
     alloc: Global,
+    printer: &P,
     dump: &Dump,
     places: &[u32],
     out: &mut O,
 ) -> Result<(), OutputFault>
-    requires { All (λ p. p < length (documents dump.now)) places.now }
-    ensures wrote { OnOk result (TakesText
-        (over O.state out.old out.new) (lines (documents_at (documents dump.now) places.now))) }
-    ensures stops { IfErr result (StopsWithin
-        (over O.state out.old out.new) (lines (documents_at (documents dump.now) places.now))) }
+    requires { All (P.can_print printer.now dump.now) places.now }
+    ensures wrote { OnOk result (WritesLines
+        (P.is_text printer.now dump.now) places.now (over O.state out.old out.new)) }
+    ensures stops { IfErr result (StopsAmong
+        (P.is_text printer.now dump.now) places.now (over O.state out.old out.new)) }
 {
-    let mut buffer = TextBuffer::new(alloc);
+    let mut buffer = Vec::new(alloc);
     for place in places {
-        let line = buffer.line(dump.document(*place).value())?;
+        let line = line_at(printer, dump, *place, &mut buffer)?;
         write_all(out, line)?;
     }
     Ok(())
+}
+
+/// The line of the document for a place, in a buffer that has no other use.
+#[inline(always)]
+fn line_at<'a, P: PlacePrinter>(
+    printer: &P,
+    dump: &Dump,
+    place: u32,
+    buffer: &'a mut Vec<u8>,
+) -> Result<&'a [u8], NoMemory>
+    requires { P.can_print printer.now dump.now place }
+    ensures { IfOk result (λ line. (text : List ℕ) × P.is_text printer.now dump.now place text
+        × (line.now ≡ text ++ 10 ∷ [])) }
+{
+    let end = printer.append(dump, place, buffer, 0)?;
+    let end = append_few(b"\n", buffer, end)?;
+    Ok(&buffer[..end])
 }
 
 /// Reports how many documents a batch has, whether nothing remains, and the token after it.

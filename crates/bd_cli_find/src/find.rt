@@ -11,6 +11,7 @@ use crate::batch::print_found;
 use crate::options::{SearchFault, read_search, report_refused};
 use bd_cli_args::FindOptions;
 use bd_cli_files::load::{load, report_load_fault};
+use bd_cli_print::NamedPrinter;
 use bd_cli_scan::Status;
 use bd_cli_scan::output::{report_error, report_no_memory};
 use bd_io_device::{Input, Output};
@@ -38,7 +39,16 @@ pub fn find<R: Input, O: Output, E: Output>(
         Err(SearchFault::Message(message)) => return report_error(program, &message, err),
     };
     match load(alloc, input) {
-        Ok(dump) => print_found(alloc, program, dump, search, options.batch, out, err),
+        Ok(dump) => print_found(
+            alloc,
+            program,
+            dump,
+            search,
+            options.batch,
+            &NamedPrinter,
+            out,
+            err,
+        ),
         Err(fault) => report_load_fault(alloc, program, &fault, err),
     }
 }

@@ -9,8 +9,9 @@ ghost use Rattle.bd_cursor_request.specs.Refused.{reason_of, refused_words, erro
 ghost use Rattle.bd_cursor_request.specs.Request.{named_index, request_of, request_view};
 ghost use Rattle.bd_cli_scan.specs.Output.{error_line};
 ghost use Rattle.bd_cli_find.specs.Options.{after_part, batch_part, document_in};
-ghost use Rattle.bd_cli_find.specs.inside.Options.{ReportsSearchFault, ReportsReason, ReportsRefusal};
-ghost use Rattle.bd_cli_find.specs.Options.{fits_batch, index_fault_text, json_fault_text, refusal_text, refused_option, requested_by, search_of};
+ghost use Rattle.bd_cli_find.specs.inside.Options.{ReportsReason};
+ghost use Rattle.bd_cli_find.specs.Options.{ReportsRefusal, ReportsSearchFault, fits_batch, index_fault_text, json_fault_text, refusal_text, refused_option, requested_by};
+ghost use Rattle.bd_cli_find.specs.Options.{requested_with, search_of};
 ghost use Rattle.bd_cli_find.specs.declared.options.SearchFault.TheVariants.{NoMemory as no_memory};
 
 use bd_cli_args::FindOptions;
@@ -66,6 +67,21 @@ pub(crate) fn read_search(alloc: Global, options: &FindOptions) -> Result<Search
     ensures fault { IfErr result (ReportsSearchFault (requested_by options.now)) }
 {
     let query = read_text(alloc, "query", &options.query)?;
+    read_search_with(alloc, query, options)
+}
+
+/// What a query requests with the other options of `find`. The text of the query in the options is not read.
+pub fn read_search_with(
+    alloc: Global,
+    query: Document,
+    options: &FindOptions,
+) -> Result<Search, SearchFault>
+    ensures search { IfOk result (λ s.
+        requested_with options.now (pairs query) ≡ Ok (request_view s.request, s.token)) }
+    ensures fits { OnOk result (fits_batch options.now.batch ≡ true) }
+    ensures index { IfOk result (λ s. option_map path_text s.index ≡ options.now.index) }
+    ensures fault { IfErr result (ReportsSearchFault (requested_with options.now (pairs query))) }
+{
     let sort = read_text(alloc, "sort", &options.sort)?;
     search_of(alloc, query, sort, options)
 }
@@ -114,8 +130,9 @@ fn read_text(alloc: Global, name: &str, text: &Option<String>) -> Result<Documen
     }
 }
 
-/// The message for a text that is no document.
-fn json_message(alloc: Global, name: &str, fault: JsonFault) -> Result<String, NoMemory>
+/// The message for a text that is no document, after the name of its option: the byte of the fault, but for `NotADocument`, and what
+/// is wrong.
+pub fn json_message(alloc: Global, name: &str, fault: JsonFault) -> Result<String, NoMemory>
     ensures { IfOk result (λ s. string_bytes s ≡ json_fault_text name.now fault) }
 {
     let mut message = String::from_str(alloc, name)?;
@@ -219,7 +236,7 @@ fn filter_message(alloc: Global, fault: &FilterFault) -> Result<String, NoMemory
 }
 
 /// Reports why a filter, a sort, a number or a token is refused. It takes memory only for the path of a filter's fault.
-pub(crate) fn report_refused<E: Output>(
+pub fn report_refused<E: Output>(
     alloc: Global,
     program: &str,
     refused: &Refused,

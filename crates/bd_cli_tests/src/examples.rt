@@ -1,9 +1,12 @@
-//! The examples of use in the roots of `bd_cli`, `bd_cli_args`, `bd_cli_main`, `bd_cli_scan`, `bd_cli_files` and `bd_cli_find`.
+//! The examples of use in the roots of `bd_cli`, `bd_cli_args`, `bd_cli_main`, `bd_cli_print`, `bd_cli_scan`, `bd_cli_files` and
+//! `bd_cli_find`.
+use bd_bson_dump::read_dump;
 use bd_cli::run;
 use bd_cli_args::{FindOptions, Order, WideOrder, WordsFault, parse_wide_words, parse_words};
 use bd_cli_files::pack::pack;
 use bd_cli_find::find::find;
 use bd_cli_main::{is_standard_input, report, requests_version};
+use bd_cli_print::{NamedPrinter, PlacePrinter};
 use bd_cli_scan::Status;
 use bd_cli_scan::check::check;
 use bd_io_device::{MemoryInput, MemoryOutput};
@@ -53,6 +56,16 @@ fn find_in_a_dump(rt: HostRuntime) -> Result<(), Fail> {
     let status = find(alloc, "bsonfind", &options, &mut file, &mut out, &mut err);
     assert!(rt; status == Status::Done);
     assert!(rt; err.bytes() == b"0 documents, end\n".as_slice());
+    Ok(())
+}
+
+#[test]
+fn print_a_document(rt: HostRuntime) -> Result<(), Fail> {
+    let alloc = rt.alloc();
+    let dump = read_dump(alloc, vec![in alloc; 5, 0, 0, 0, 0]?)?;
+    let mut buffer = Vec::new(alloc);
+    let end = NamedPrinter.append(&dump, 0, &mut buffer, 0)?;
+    assert!(rt; &buffer[..end] == b"{}".as_slice());
     Ok(())
 }
 

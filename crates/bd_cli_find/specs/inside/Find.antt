@@ -7,7 +7,10 @@ use Rattle.bd_cursor_model.specs.Session.{IndexKey, OpenCursor, Query, State, cu
 use Rattle.bd_cursor.specs.{Access.Way, Access.by_none, Access.by_one}
 use Rattle.bd_cursor_request.specs.{declared.results.Refused.Refused, declared.token.Token.Token}
 use Rattle.bd_cursor_request.specs.Refused.{IsRefusedPart}
-use Rattle.bd_cli_find.specs.Find.{places_from, cursor_for}
+use Rattle.bd_io_device.specs.Devices.{Over, TakesText, WriteFailsAfter, Writer}
+use Rattle.bd_cli_scan.specs.declared.output.OutputFault.{OutputFault}
+use Rattle.bd_cli_scan.specs.declared.output.OutputFault.TheVariants.{NoMemory, Unwritten}
+use Rattle.bd_cli_find.specs.Find.{AreFirstLines, AreLinesAt, IsNextLine, places_from, cursor_for}
 
 -- the state of a session in which no cursor was opened
 abbrev pub before_first : List IndexKey → State
@@ -37,3 +40,13 @@ pub record IsReady (s : State) (id : ℕ) (count : ℕ) : Type 0 where
   pub is_there : cursor_of id s.cursors ≡ Some cursor
   pub inside : All (λ p. p < count) cursor.remaining
   pub few : length cursor.remaining ≤ greatest_count
+
+-- The writer took the lines of the documents at these places.
+abbrev pub WritesLines : (ℕ → List ℕ → Type 0) → List ℕ → Over Writer → Type 0
+WritesLines IsText ps out = (lines : List ℕ) × AreLinesAt IsText ps lines × TakesText out lines
+
+-- The writer took the lines of the documents at the first of these places, and then memory ran out, or a write failed in the next line.
+abbrev pub StopsAmong : (ℕ → List ℕ → Type 0) → List ℕ → Over Writer → OutputFault → Type 0
+StopsAmong IsText ps out NoMemory = (lines : List ℕ) × AreFirstLines IsText ps lines × TakesText out lines
+StopsAmong IsText ps out Unwritten =
+    (lines : List ℕ) × (next : List ℕ) × IsNextLine IsText ps lines next × WriteFailsAfter out lines next

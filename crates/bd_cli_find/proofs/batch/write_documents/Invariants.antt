@@ -1,7 +1,7 @@
-use Rattle.bd_bson_dump.specs.Collection.{documents}
-use Rattle.bd_io_device.specs.Devices.{TakesText, over}
-use Rattle.bd_cli_find.proofs.FindLemmas.{lines_to}
+use Rattle.std.proofs.Common.{take}
+use Rattle.bd_io_device.specs.Devices.{over}
+use Rattle.bd_cli_find.specs.inside.Find.{WritesLines}
 use Rattle.bd_cli_find.proofs.batch.write_documents.Given as goal
 
 abbrev pub invariant-loop-place : goal.invariant-loop-place
-invariant-loop-place g l = TakesText (over g.O.Output.state l.initial.out l.out) (lines_to (documents l.dump) l.places l.place-index)
+invariant-loop-place g l = WritesLines (g.P.PlacePrinter.is_text l.printer l.dump) (take l.place-index l.places) (over g.O.Output.state l.initial.out l.out)

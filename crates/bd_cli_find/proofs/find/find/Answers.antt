@@ -1,6 +1,6 @@
-use Rattle.std.proofs.Common.{◌≡◌, ap, None, [], arith, List, ℕ, refl, sym, inl, inr, subst, true≢false}
+use Rattle.std.proofs.Common.{◌≡◌, ap, None, Option, [], arith, List, ℕ, refl, sym, inl, inr, subst, true≢false}
 use Rattle.std.specs.Prelude.{string_bytes}
-use Rattle.bd_cursor_request.specs.{Refused.reason_of, Request.request_view}
+use Rattle.bd_cursor_request.specs.{Refused.reason_of, Request.Request, Request.request_view, declared.token.Token.Token}
 use Rattle.bd_cli_args.specs.FindOptions.{FindOptions}
 use Rattle.bd_bson_dump.specs.Collection.{bytes_of, documents}
 use Rattle.bd_cli_find.specs.{Options.refused_text, Find.output_of_dump}
@@ -40,14 +40,20 @@ print_found-requires-clause-within_limit g c =
     let short = loaded.0.2 in
     omega (arith, few, short)
 
+pub print_found-requires-clause-printable : goal.print_found-requires-clause-printable
+print_found-requires-clause-printable g c = λ place lt. lt
+
 pub returns-in-Ok-load-clause-found : goal.returns-in-Ok-load-clause-found
 returns-in-Ok-load-clause-found g c =
     let loaded = c.in-Ok-load.ensures.loaded in
     let ds = documents c.in-Ok-load.dump in
     let bytes = bytes_of c.in-Ok-load.dump in
     let batch : c.options.inside.batch ≡ c.args.options.now.batch = ap (λ (o : FindOptions). o.batch) c.options.view_is in
+    let w : Request × Option Token = (request_view c.in-Ok.search.request, c.in-Ok.search.token) in
+    let printed = finds.found_named c.args.program.now c.args.options.now.batch ds (over g.O.Output.state c.args.out.now c.print_found.new.out)
+    (over g.E.Output.state c.args.err.now c.print_found.new.err) c.print_found.result w bytes (rw batch at c.print_found.ensures) in
     finds.output_found c.args.options.now (over g.R.Input.state c.args.input.now c.load.new.input) bytes
-    (output_of_dump c.args.options.now.batch (request_view c.in-Ok.search.request, c.in-Ok.search.token) bytes ds) (rw c.in-Ok.ensures.search loaded.0) (rw c.in-Ok.ensures.search (ds, None, loaded.1, refl)) (rw batch at c.print_found.ensures)
+    (output_of_dump c.args.options.now.batch w bytes ds) (rw c.in-Ok.ensures.search loaded.0) (rw c.in-Ok.ensures.search (ds, None, loaded.1, refl)) printed
 
 pub returns-in-Ok-load-clause-unread : goal.returns-in-Ok-load-clause-unread
 returns-in-Ok-load-clause-unread g c none = let taken = rw c.in-Ok.ensures.search at none in absurd (true≢false (sym taken))
